@@ -1,0 +1,38 @@
+ghost use Rattle.std.specs.Prelude.{◌≡◌, ◌<◌, ◌≤◌, ◌==◌, ℕ, length, position, IfNone};
+ghost use Rattle.mely_event.specs.HandlerTable.{row_at, fault_in};
+
+use crate::handlers::MOST_HANDLERS;
+
+/// Why rows make no table of handlers.
+#[derive(Clone, Copy, Debug, PartialEq, Eq)]
+pub enum TableFault {
+    /// There are more than [`MOST_HANDLERS`] rows.
+    TooMany { count: usize },
+
+    /// This row is the first with penalty 0.
+    ZeroPenalty { handler: u8 },
+}
+
+/// The first handler whose penalty is 0.
+fn first_without_penalty(rows: &[(u32, u32)]) -> Option<usize>
+    ensures { result ≡ position (λ row. row.1 == 0) rows.now }
+{
+    rows.iter().position(|row| row.1 == 0)
+}
+
+/// Why the rows make no table, and nothing where they do.
+pub(crate) fn find_fault(rows: &[(u32, u32)]) -> Option<TableFault>
+    ensures fault { result ≡ fault_in rows.now }
+    ensures few { IfNone result (length rows.now ≤ 32) }
+    ensures divisors { IfNone result ((h : ℕ) → h < length rows.now → 0 < (row_at rows.now h).1) }
+{
+    if rows.len() > MOST_HANDLERS {
+        return Some(TableFault::TooMany { count: rows.len() });
+    }
+    match first_without_penalty(rows) {
+        Some(handler) => Some(TableFault::ZeroPenalty {
+            handler: handler as u8,
+        }),
+        None => None,
+    }
+}

@@ -1,0 +1,128 @@
+ghost use Rattle.std.specs.Prelude.{◌≡◌, ◌≤◌, ◌-◌, OnOk, vec_len, vec_capacity};
+
+use crate::{Colour, Event, Fits, Handlers, Kept, Memory, TableFault, Trail};
+use std::test::Fail;
+
+/// A state that counts the letters in its events' loads.
+#[derive(Drop)]
+struct Ledger {
+    colour: Colour,
+    trail: Vec<Event>,
+    letters: usize,
+}
+
+impl Trail for Ledger {
+    type Frame = ();
+
+    ghost trail_of = { λ s. s.trail.items };
+
+    ghost colour_of = { λ s. s.colour };
+
+    ghost frame_of = { λ s. tt };
+
+    ghost spare_of = { λ s. vec_capacity s.trail - vec_len s.trail };
+
+    ghost alike = { λ s t. (s.trail.items ≡ t.trail.items) × (s.colour ≡ t.colour) × (s.letters ≡ t.letters) };
+
+    fn trail(&self) -> &[Event] {
+        &self.trail
+    }
+
+    fn reserve(&mut self, n: usize) -> Result<(), Memory> {
+        self.trail.reserve(n)?;
+        Ok(())
+    }
+
+    ghost use Rattle.std.proofs.Common.{refl, ◌∙◌};
+
+    ghost alike_itself = { λ s. (refl, refl, refl) };
+
+    ghost alike_onward = { λ r s t one other. (one.0 ∙ other.0, one.1 ∙ other.1, one.2 ∙ other.2) };
+
+    ghost alike_trail = { λ s t same. same.0 };
+
+    ghost alike_colour = { λ s t same. same.1 };
+
+    ghost alike_frame = { λ s t same. refl };
+}
+
+impl Fits<Vec<u8>> for Ledger {
+    ghost fits_under = { λ frame colour event load. Unit {0} };
+}
+
+impl Kept for Ledger {
+    type Note = Event;
+
+    type Frame = ();
+
+    ghost history_of = { λ s. s.trail.items };
+
+    ghost pass_of = { λ event. event.arg };
+
+    ghost frame_of = { λ s. tt };
+
+    fn notes(&self) -> u64 {
+        self.trail.len() as u64
+    }
+}
+
+/// Makes room for one event through the bound alone, and answers how many are there.
+fn with_room<S: Fits<Vec<u8>>>(state: &mut S) -> Result<usize, Memory>
+    ensures same { S.alike state.old state.new }
+    ensures room { OnOk result (1 ≤ S.spare_of state.new) }
+{
+    state.reserve(1)?;
+    Ok(state.trail().len())
+}
+
+#[test]
+fn weight_is_the_time_over_the_penalty_rounded_down(rt: HostRuntime) {
+    let Ok(handlers) = Handlers::new(&[(60, 2), (7, 2)]) else {
+        panic!(rt; "no table");
+    };
+    assert_eq!(rt; handlers.len(), 2);
+    for (handler, time, penalty, weight) in [(0, 60, 2, 30), (1, 7, 2, 3)] {
+        assert!(rt; (handler as usize) < handlers.len());
+        assert_eq!(rt; handlers.time(handler), time);
+        assert_eq!(rt; handlers.penalty(handler), penalty);
+        assert_eq!(rt; handlers.weight(handler), weight);
+    }
+}
+
+#[test]
+fn a_table_has_at_most_32_rows_and_no_penalty_0(rt: HostRuntime) {
+    let rows = [(1, 1); 33];
+    assert!(rt; Handlers::new(&rows[..32]).is_ok());
+    assert!(rt; Handlers::new(&[]).is_ok());
+    let cases: [(&[(u32, u32)], TableFault); 3] = [
+        (&rows, TableFault::TooMany { count: 33 }),
+        (&[(60, 2), (5, 0)], TableFault::ZeroPenalty { handler: 1 }),
+        (
+            &[(1, 1), (1, 0), (1, 0)],
+            TableFault::ZeroPenalty { handler: 1 },
+        ),
+    ];
+    for (rows, fault) in cases {
+        assert_eq!(rt; Handlers::new(rows).err(), Some(fault));
+    }
+    assert_eq!(rt;
+        Handlers::new(&[(1, 0); 33]).err(),
+        Some(TableFault::TooMany { count: 33 })
+    );
+}
+
+#[test]
+fn a_state_makes_room_through_its_bounds(rt: HostRuntime) -> Result<(), Fail> {
+    let event = Event { handler: 0, arg: 7 };
+    let mut ledger = Ledger {
+        colour: Colour(2),
+        trail: vec![in rt.alloc(); event]?,
+        letters: 0,
+    };
+    assert_eq!(rt; with_room(&mut ledger), Ok(1));
+    assert_eq!(rt; ledger.trail(), [event].as_slice());
+    assert_eq!(rt; ledger.notes(), 1);
+    assert_eq!(rt; ledger.colour, Colour(2));
+    assert_eq!(rt; ledger.letters, 0);
+    Ok(())
+}

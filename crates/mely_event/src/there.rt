@@ -1,0 +1,7 @@
+use crate::mark::Mark;
+
+/// A chain has a mark of that colour already; the mark that was to be added is handed back.
+#[derive(Clone, Copy, Debug, PartialEq, Eq)]
+pub struct There {
+    pub mark: Mark,
+}
