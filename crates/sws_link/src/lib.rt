@@ -1,0 +1,161 @@
+//! What the server asks of the outside: a source of bytes, a sink for bytes, and a folder of files.
+//!
+//! A server that reads and writes the machine itself can promise nothing of what it sends, since no
+//! contract knows what a socket or a disk holds. So everything of the server is written over the
+//! traits of this crate. An object of the outside *tells* contracts what it holds, as far as that is
+//! known: a source the bytes that are left, a sink the bytes that were written, a folder its files.
+//! An object that tells nothing goes on telling nothing. Each object also has a count of its faults,
+//! which never falls, and every answer `Failed` comes only where that count rose in the call.
+//!
+//! [`MemSource`], [`MemSink`] and [`MemFolder`] hold their contents in memory, tell all of them, and
+//! fail at the calls that they are told to. [`SureSource`], [`SureSink`] and [`SureFolder`] are the
+//! same without faults. Adapters of the machine's own files and streams tell nothing and count errors.
+//!
+//! ```text
+//! let mut source = SureSource::new(bytes);
+//! let mut sink = SureSink::new(alloc);
+//! let mut piece = [0; 4096];
+//! while let Got::Took(count) = source.read(&mut piece) {
+//!     if sink.write_all(&piece[..count]) != Put::Done {
+//!         break;
+//!     }
+//! }
+//! ```
+#![tactic(auto)]
+
+ghost use Rattle.std.specs.Prelude.{◌≡◌, ◌<◌, List, ℕ, Bool, IsTrue, Option, length};
+ghost use Rattle.sws_link.specs.Counts.{Count, HasCause};
+ghost use Rattle.sws_link.specs.Contents.{TakesWithin, Takes, Puts};
+ghost use Rattle.sws_link.specs.Told.{FolderTells};
+ghost use Rattle.sws_link.specs.Folders.{Opens, Gives, TakesOfFile, at_file_after_open, is_file};
+
+mod calls;
+mod copying;
+mod mem_folder;
+mod mem_sink;
+mod mem_source;
+mod sure_folder;
+mod sure_sink;
+mod sure_source;
+#[cfg(test)]
+mod tests;
+
+pub use mem_folder::MemFolder;
+pub use mem_sink::MemSink;
+pub use mem_source::MemSource;
+pub use sure_folder::SureFolder;
+pub use sure_sink::SureSink;
+pub use sure_source::SureSource;
+
+/// Want of memory: an allocation was refused.
+#[derive(Clone, Copy, Debug, PartialEq, Eq)]
+pub struct Memory;
+
+/// What a read answers.
+#[derive(Clone, Copy, Debug, PartialEq, Eq)]
+pub enum Got {
+    /// So many bytes were taken, and stand at the front of the room.
+    Took(usize),
+    /// Nothing is left.
+    End,
+    /// The outside failed, and nothing was taken.
+    Failed,
+}
+
+/// What a write answers.
+#[derive(Clone, Copy, Debug, PartialEq, Eq)]
+pub enum Put {
+    /// All bytes were written.
+    Done,
+    /// The outside failed, and a front of the bytes was written.
+    Failed,
+    /// There was no memory, and a front of the bytes was written.
+    Memory,
+}
+
+/// Bytes that are read in order, as those of standard input.
+pub trait Source {
+    /// The bytes that are left, where they are known.
+    ghost left: { Self → Option (List ℕ) };
+
+    /// How often a read has failed.
+    ghost faults: { Self → Count };
+
+    /// Takes at least one of the bytes that are left, and at most as many as there is room for.
+    fn read(&mut self, into: &mut [u8]) -> Got
+        requires { 0 < length into.old }
+        ensures within { TakesWithin result (length into.old) }
+        ensures bytes { Takes (left self.old) (left self.new) result into.new }
+        ensures cause { HasCause (faults self.old) (faults self.new) (result ≡ Got.Failed) };
+}
+
+/// Where bytes are written in order, as standard output.
+pub trait Sink {
+    /// The bytes that were written, where they are known.
+    ghost written: { Self → Option (List ℕ) };
+
+    /// How often a write has failed.
+    ghost faults: { Self → Count };
+
+    /// Writes all the bytes.
+    fn write_all(&mut self, bytes: &[u8]) -> Put
+        ensures bytes { Puts (written self.old) (written self.new) result bytes.now }
+        ensures cause { HasCause (faults self.old) (faults self.new) (result ≡ Put.Failed) };
+}
+
+/// What opening a folder answers.
+#[derive(Clone, Copy, Debug, PartialEq, Eq)]
+pub enum Opened {
+    /// The folder is open, and none of its files was given.
+    Ready,
+    /// The outside failed, and all is as before.
+    Failed,
+    /// There was no memory, and all is as before.
+    Memory,
+}
+
+/// What the step to the next file answers.
+#[derive(Clone, Copy, Debug, PartialEq, Eq)]
+pub enum NextFile {
+    /// The next file is current; its name has `len` bytes, of which the first 1,024 were copied.
+    File { len: usize },
+    /// All files were given.
+    End,
+    /// The outside failed, and no file was given.
+    Failed,
+    /// There was no memory, and no file was given.
+    Memory,
+}
+
+/// Files that are given one after another, each with its name and its bytes.
+pub trait Folder {
+    /// The path, the files and how far they were given, where these are known.
+    ghost tells: { Self → Option FolderTells };
+
+    /// Whether a file is current: the last `next` gave it, and the folder was not opened since.
+    ghost at_file: { Self → Bool };
+
+    /// How often a call has failed.
+    ghost faults: { Self → Count };
+
+    /// Opens the folder at a path, with all its files still to be given.
+    fn open(&mut self, path: &str) -> Opened
+        ensures opens { Opens (tells self.old) (tells self.new) result path.now }
+        ensures at_file { at_file self.new ≡ at_file_after_open (at_file self.old) result }
+        ensures cause { HasCause (faults self.old) (faults self.new) (result ≡ Opened.Failed) };
+
+    /// Goes to the next file, and copies its name, or the first 1,024 bytes of a longer one.
+    fn next(&mut self, name: &mut [u8; 1024]) -> NextFile
+        ensures gives { Gives (tells self.old) (tells self.new) result name.new }
+        ensures at_file { at_file self.new ≡ is_file result }
+        ensures cause { HasCause (faults self.old) (faults self.new) (result ≡ NextFile.Failed) };
+
+    /// Takes of the current file what a [`Source`] with its bytes would give.
+    fn read(&mut self, into: &mut [u8]) -> Got
+        requires room { 0 < length into.old }
+        requires file { IsTrue (at_file self.old) }
+        ensures within { TakesWithin result (length into.old) }
+        ensures bytes { TakesOfFile (tells self.old) (tells self.new) result into.new }
+        ensures at_file { IsTrue (at_file self.new) }
+        ensures cause { HasCause (faults self.old) (faults self.new) (result ≡ Got.Failed) };
+}

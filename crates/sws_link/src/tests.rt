@@ -1,0 +1,120 @@
+//! What the forms in memory give with ample memory.
+
+use crate::{
+    Folder, Got, MemFolder, MemSink, MemSource, NextFile, Opened, Put, Sink, Source, SureFolder,
+    SureSink, SureSource,
+};
+use std::alloc::{AllocError, Global};
+use std::test::Fail;
+
+fn files_of_a_site(alloc: Global) -> Result<Vec<(Vec<u8>, Vec<u8>)>, AllocError> {
+    let mut files = Vec::new(alloc);
+    files.push((b"index.html".to_vec(alloc)?, b"hi\n".to_vec(alloc)?))?;
+    files.push((b"empty.css".to_vec(alloc)?, Vec::new(alloc)))?;
+    Ok(files)
+}
+
+/// Three reads of two bytes each, through the bound.
+fn three_reads<R: Source>(source: &mut R) -> [Got; 3] {
+    let mut room = [0; 2];
+    [
+        source.read(&mut room),
+        source.read(&mut room),
+        source.read(&mut room),
+    ]
+}
+
+#[test]
+fn a_source_gives_its_bytes_and_fails_where_it_is_told_to(rt: HostRuntime) -> Result<(), Fail> {
+    let mut sure = SureSource::new(b"abc".to_vec(rt.alloc())?);
+    assert_eq!(rt;
+        three_reads(&mut sure),
+        [Got::Took(2), Got::Took(1), Got::End]
+    );
+
+    let mut failing = MemSource::new(b"abc".to_vec(rt.alloc())?, vec![in rt.alloc(); 2]?);
+    assert_eq!(rt;
+        three_reads(&mut failing),
+        [Got::Took(2), Got::Failed, Got::Took(1)]
+    );
+    Ok(())
+}
+
+/// Two writes through the bound.
+fn two_writes<O: Sink>(sink: &mut O) -> [Put; 2] {
+    [sink.write_all(b"ab"), sink.write_all(b"c")]
+}
+
+#[test]
+fn a_sink_keeps_what_is_written_and_nothing_of_a_failing_call(rt: HostRuntime) -> Result<(), Fail> {
+    let mut sure = SureSink::new(rt.alloc());
+    assert_eq!(rt; two_writes(&mut sure), [Put::Done, Put::Done]);
+    assert_eq!(rt; sure.written(), b"abc".as_slice());
+
+    let mut failing = MemSink::new(rt.alloc(), vec![in rt.alloc(); 1]?);
+    assert_eq!(rt; two_writes(&mut failing), [Put::Failed, Put::Done]);
+    assert_eq!(rt; failing.written(), b"c".as_slice());
+    Ok(())
+}
+
+/// Opens a folder and goes over its files, through the bound: what the calls answer.
+fn opened_and_listed<F: Folder>(folder: &mut F) -> (Opened, [NextFile; 3]) {
+    let mut name = [0; 1024];
+    (
+        folder.open("site"),
+        [
+            folder.next(&mut name),
+            folder.next(&mut name),
+            folder.next(&mut name),
+        ],
+    )
+}
+
+#[test]
+fn a_folder_gives_its_files_in_their_order(rt: HostRuntime) -> Result<(), Fail> {
+    let mut sure = SureFolder::new(rt.alloc(), files_of_a_site(rt.alloc())?);
+    let all = [
+        NextFile::File { len: 10 },
+        NextFile::File { len: 9 },
+        NextFile::End,
+    ];
+    assert_eq!(rt; opened_and_listed(&mut sure), (Opened::Ready, all));
+    assert_eq!(rt;
+        opened_and_listed(&mut sure),
+        (Opened::Ready, all),
+        "opened again"
+    );
+
+    let mut failing = MemFolder::new(
+        rt.alloc(),
+        files_of_a_site(rt.alloc())?,
+        vec![in rt.alloc(); 1, 3]?,
+    );
+    let some = [
+        NextFile::File { len: 10 },
+        NextFile::Failed,
+        NextFile::File { len: 9 },
+    ];
+    assert_eq!(rt; opened_and_listed(&mut failing), (Opened::Failed, some));
+    Ok(())
+}
+
+#[test]
+fn a_folder_copies_names_and_lends_bytes(rt: HostRuntime) -> Result<(), Fail> {
+    let mut folder = MemFolder::new(
+        rt.alloc(),
+        files_of_a_site(rt.alloc())?,
+        Vec::new(rt.alloc()),
+    );
+    let mut name = [0; 1024];
+    let mut room = [0; 2];
+    assert_eq!(rt; folder.open("site"), Opened::Ready);
+    assert_eq!(rt; folder.next(&mut name), NextFile::File { len: 10 });
+    assert_eq!(rt; &name[..10], b"index.html".as_slice());
+    assert_eq!(rt; folder.read(&mut room), Got::Took(2));
+    assert_eq!(rt; room, *b"hi");
+    assert_eq!(rt; folder.read(&mut room), Got::Took(1));
+    assert_eq!(rt; room[0], b'\n');
+    assert_eq!(rt; folder.read(&mut room), Got::End);
+    Ok(())
+}

@@ -1,0 +1,4 @@
+pub mod CutLaws
+pub mod RequestInLaws
+mod CuttingLemmas
+mod ViewLemmas

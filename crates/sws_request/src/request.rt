@@ -1,0 +1,118 @@
+//! What a head says.
+ghost use Rattle.std.specs.Prelude.{◌≡◌, ◌<◌, ◌≤◌, length, IfOk, OnErr, Some, option_map, slice_get};
+ghost use Rattle.sws_request.specs.Request.{IsRequest, IsNoRequest};
+
+use httparse::Status;
+use httparse::spans::{EMPTY_HEADER_SPAN, HeaderSpan, Span, parse_request};
+use std::marker::Model;
+
+/// The most fields that a request has.
+pub const MAX_FIELDS: usize = 64;
+
+/// The head is no request.
+#[derive(Clone, Copy, Debug, PartialEq, Eq)]
+pub struct NotARequest;
+
+/// A request, whose parts are slices of its head.
+#[derive(Drop)]
+pub struct RequestView<'b> {
+    head: &'b [u8],
+    method: Span,
+    target: Span,
+    minor: u8,
+    fields: usize,
+    spans: [HeaderSpan; MAX_FIELDS],
+}
+
+impl<'b> Model for RequestView<'b> {
+    ghost use Rattle.sws_request.specs.Request.{Request};
+
+    ghost Value = { Request };
+
+    ghost use Rattle.sws_request.specs.View.{shown, IsInside};
+
+    ghost view = { shown };
+
+    ghost invariant = { IsInside };
+}
+
+impl<'b> RequestView<'b> {
+    /// The method, as `GET`: letters count as they are (RFC 9110, section 9.1).
+    pub fn method(&self) -> &'b [u8]
+        ensures { result.now ≡ self.now.method }
+    {
+        self.method.of(self.head)
+    }
+
+    /// The target, as the request line has it (RFC 9112, section 3.2).
+    pub fn target(&self) -> &'b [u8]
+        ensures { result.now ≡ self.now.target }
+    {
+        self.target.of(self.head)
+    }
+
+    /// The minor version: 0 for `HTTP/1.0`, 1 for `HTTP/1.1`.
+    pub fn minor(&self) -> u8
+        ensures minor { result ≡ self.now.minor }
+        ensures known { result ≤ 1 }
+    {
+        self.minor
+    }
+
+    /// How many fields there are, [`MAX_FIELDS`] at most.
+    pub fn fields(&self) -> usize
+        ensures count { result ≡ length self.now.fields }
+        ensures few { result ≤ 64 }
+    {
+        self.fields
+    }
+
+    /// The name and the value of a field, the first of which has number 0.
+    pub fn field(&self, i: usize) -> (&'b [u8], &'b [u8])
+        requires { i < length self.now.fields }
+        ensures { slice_get self.now.fields i ≡ Some (result.0.now, result.1.now) }
+    {
+        let head = self.head;
+        let span = self.spans[i];
+        (span.name.of(head), span.value.of(head))
+    }
+
+    /// The name of a field.
+    pub fn name(&self, i: usize) -> &'b [u8]
+        requires { i < length self.now.fields }
+        ensures { option_map (λ field. field.0) (slice_get self.now.fields i) ≡ Some result.now }
+    {
+        self.field(i).0
+    }
+
+    /// The value of a field, without the white space around it (RFC 9110, section 5.5).
+    pub fn value(&self, i: usize) -> &'b [u8]
+        requires { i < length self.now.fields }
+        ensures { option_map (λ field. field.1) (slice_get self.now.fields i) ≡ Some result.now }
+    {
+        self.field(i).1
+    }
+}
+
+/// The request that a whole head says.
+///
+/// Empty lines in front of it are dropped (RFC 9112, section 2.2). What is left is a request where `httparse`'s
+/// grammar reads it to its last byte, with [`MAX_FIELDS`] fields at most; else the answer is `NotARequest`.
+pub fn view(head: &[u8]) -> Result<RequestView<'_>, NotARequest>
+    ensures request { IfOk result (λ view. IsRequest head.now view) }
+    ensures refused { OnErr result (IsNoRequest head.now) }
+    ensures short { IfOk result (λ view. length view.target ≤ length head.now) }
+{
+    let mut spans = [EMPTY_HEADER_SPAN; MAX_FIELDS];
+    match parse_request(head, &mut spans) {
+        Ok(Status::Complete(found)) if found.len == head.len() => Ok(RequestView {
+            head,
+            method: found.method,
+            target: found.path,
+            minor: found.version,
+            fields: found.headers,
+            spans,
+        }),
+        _ => Err(NotARequest),
+    }
+}
