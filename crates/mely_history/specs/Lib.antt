@@ -1,0 +1,9 @@
+pub mod Setup
+pub mod Entries
+pub mod History
+pub mod Legal
+pub mod Judging
+pub mod Tallies
+pub mod Account
+pub mod Owing
+pub mod Batches

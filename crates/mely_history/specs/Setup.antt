@@ -1,0 +1,30 @@
+use Rattle.std.specs.Prelude.{ℕ, Bool, ◌&&◌, Option, None, Some, nat_le, if◌then◌else◌}
+use Rattle.mely_event.specs.declared.handlers.Handlers.{Handlers}
+use Rattle.mely_history.specs.declared.shape.Shape.{Shape}
+use Rattle.mely_history.specs.declared.setup.Setup.{Setup}
+use Rattle.mely_history.specs.declared.setup_fault.SetupFault.{SetupFault}
+use Rattle.mely_history.specs.declared.setup_fault.SetupFault.TheVariants.{OutOfRange}
+
+-- the numbers of a setup, and its table
+abbrev pub shape_of : Setup → Shape
+shape_of s = s.shape
+
+abbrev pub colours_of : Setup → ℕ
+colours_of s = s.colours
+
+abbrev pub handlers_of : Setup → Handlers
+handlers_of s = s.handlers
+
+-- the number is in the range
+abbrev pub is_between : ℕ → ℕ → ℕ → Bool
+is_between low n high = nat_le low n && nat_le n high
+
+-- the first number that is out of range, in the order of the fields, with the colours third
+abbrev pub first_out_of_range : Shape → ℕ → Option SetupFault
+first_out_of_range shape colours =
+    if is_between 1 shape.cores 64 then
+    if is_between 1 shape.shards 64 then
+    if is_between 1 colours 65536 then
+    if is_between 1 shape.batch 1000 then
+    if is_between 1 shape.group 64 then None
+    else Some (OutOfRange 5) else Some (OutOfRange 4) else Some (OutOfRange 3) else Some (OutOfRange 2) else Some (OutOfRange 1)

@@ -1,0 +1,113 @@
+ghost use Rattle.std.specs.Prelude.{◌≡◌, ◌≤◌, IfOk, IfErr};
+
+use crate::setup_fault::SetupFault;
+use crate::shape::Shape;
+use mely_event::Handlers;
+
+/// What a run is made with: its shape, how many colours there are, and the table of its handlers.
+#[derive(Clone, Copy, Debug)]
+pub struct Setup {
+    shape: Shape,
+    colours: u32,
+    handlers: Handlers,
+    pub ghost cores_in: { (1 ≤ shape.cores) × (shape.cores ≤ 64) },
+    pub ghost shards_in: { (1 ≤ shape.shards) × (shape.shards ≤ 64) },
+    pub ghost colours_in: { (1 ≤ colours) × (colours ≤ 65536) },
+    pub ghost batch_in: { (1 ≤ shape.batch) × (shape.batch ≤ 1000) },
+    pub ghost group_in: { (1 ≤ shape.group) × (shape.group ≤ 64) },
+}
+
+impl Setup {
+    ghost use Rattle.std.specs.Prelude.{None, Some};
+    ghost use Rattle.mely_history.specs.Setup.{first_out_of_range, shape_of, colours_of, handlers_of};
+
+    /// A setup of these numbers. It takes no memory.
+    ///
+    /// # Errors
+    ///
+    /// `OutOfRange` exactly where a number is out of its range, with the first such field: 1 for the
+    /// cores (1 to 64), 2 for the shards (1 to 64), 3 for the colours (1 to 65,536), 4 for the batch
+    /// (1 to 1,000), 5 for the group (1 to 64).
+    pub fn new(shape: &Shape, colours: u32, handlers: Handlers) -> Result<Setup, SetupFault>
+        ensures made { IfOk result (λ _. first_out_of_range shape.now colours ≡ None) }
+        ensures shape { IfOk result (λ setup. shape_of setup ≡ shape.now) }
+        ensures colours { IfOk result (λ setup. colours_of setup ≡ colours) }
+        ensures handlers { IfOk result (λ setup. handlers_of setup ≡ handlers) }
+        ensures refused { IfErr result (λ fault. first_out_of_range shape.now colours ≡ Some fault) }
+    {
+        if shape.cores < 1 || shape.cores > 64 {
+            return Err(SetupFault::OutOfRange { field: 1 });
+        }
+        if shape.shards < 1 || shape.shards > 64 {
+            return Err(SetupFault::OutOfRange { field: 2 });
+        }
+        if colours < 1 || colours > 65_536 {
+            return Err(SetupFault::OutOfRange { field: 3 });
+        }
+        if shape.batch < 1 || shape.batch > 1_000 {
+            return Err(SetupFault::OutOfRange { field: 4 });
+        }
+        if shape.group < 1 || shape.group > 64 {
+            return Err(SetupFault::OutOfRange { field: 5 });
+        }
+        Ok(Setup {
+            shape: *shape,
+            colours,
+            handlers,
+        })
+    }
+
+    /// How many cores there are.
+    pub fn cores(&self) -> u16
+        ensures value { result ≡ (shape_of self.now).cores }
+        ensures range { (1 ≤ result) × (result ≤ 64) }
+    {
+        self.shape.cores
+    }
+
+    /// How many shards there are.
+    pub fn shards(&self) -> u16
+        ensures value { result ≡ (shape_of self.now).shards }
+        ensures range { (1 ≤ result) × (result ≤ 64) }
+    {
+        self.shape.shards
+    }
+
+    /// How many events a turn runs at most.
+    pub fn batch(&self) -> u16
+        ensures value { result ≡ (shape_of self.now).batch }
+        ensures range { (1 ≤ result) × (result ≤ 1000) }
+    {
+        self.shape.batch
+    }
+
+    /// The time left that a colour must exceed to be stolen.
+    pub fn steal_cost(&self) -> u32
+        ensures { result ≡ (shape_of self.now).steal_cost }
+    {
+        self.shape.steal_cost
+    }
+
+    /// How many cores stand in one group.
+    pub fn group(&self) -> u16
+        ensures value { result ≡ (shape_of self.now).group }
+        ensures range { (1 ≤ result) × (result ≤ 64) }
+    {
+        self.shape.group
+    }
+
+    /// How many colours there are, from colour 0 on.
+    pub fn colours(&self) -> u32
+        ensures value { result ≡ colours_of self.now }
+        ensures range { (1 ≤ result) × (result ≤ 65536) }
+    {
+        self.colours
+    }
+
+    /// The table of handlers.
+    pub fn handlers(&self) -> &Handlers
+        ensures { result.now ≡ handlers_of self.now }
+    {
+        &self.handlers
+    }
+}

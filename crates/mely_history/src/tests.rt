@@ -1,0 +1,218 @@
+use crate::{Entry, Judged, Setup, SetupFault, Shape, judge};
+use mely_event::{Colour, Event, Handlers};
+use std::test::Fail;
+
+/// Two cores, one shard, batch 1 and cost 15, with two handlers of weight 10.
+fn small(rt: &HostRuntime) -> Result<Setup, Fail> {
+    let shape = Shape {
+        cores: 2,
+        shards: 1,
+        batch: 1,
+        steal_cost: 15,
+        group: 4,
+    };
+    let handlers = Handlers::new(&[(10, 1), (10, 1)]).ok().ok_or("no table")?;
+    Ok(Setup::new(&shape, 2, handlers).ok().ok_or("no setup")?)
+}
+
+fn reg(colour: u16, handler: u8, arg: u16, by: u16) -> Entry {
+    Entry::Reg {
+        colour: Colour(colour),
+        event: Event { handler, arg },
+        by,
+    }
+}
+
+fn take(colour: u16, core: u16, count: u16) -> Entry {
+    Entry::Take {
+        colour: Colour(colour),
+        core,
+        count,
+    }
+}
+
+fn fin(colour: u16, core: u16, count: u16) -> Entry {
+    Entry::Fin {
+        colour: Colour(colour),
+        core,
+        count,
+    }
+}
+
+fn steal(colour: u16, from: u16, to: u16) -> Entry {
+    Entry::Steal {
+        colour: Colour(colour),
+        from,
+        to,
+    }
+}
+
+#[test]
+fn the_worked_history_is_legal_and_its_take_is_needed(rt: HostRuntime) -> Result<(), Fail> {
+    let setup = small(&rt)?;
+    let history = [
+        reg(0, 1, 1, 2),
+        reg(1, 0, 0, 2),
+        take(0, 0, 1),
+        reg(1, 0, 0, 0),
+        take(1, 1, 1),
+        fin(1, 1, 1),
+        fin(0, 0, 1),
+    ];
+    assert_eq!(rt; judge(&setup, &history), Judged::Legal);
+    let without = [
+        history[0], history[1], history[3], history[4], history[5], history[6],
+    ];
+    assert_eq!(rt; judge(&setup, &without), Judged::NotAllowed { at: 5 });
+    assert_eq!(rt; judge(&setup, &[]), Judged::Legal);
+    Ok(())
+}
+
+#[test]
+fn each_row_of_the_table_refuses_what_it_should(rt: HostRuntime) -> Result<(), Fail> {
+    let setup = small(&rt)?;
+    // two events wait on colour 1, which core 1 owns; one was run on colour 0, and nothing waits
+    let before = [
+        reg(1, 0, 0, 2),
+        reg(1, 1, 0, 2),
+        reg(0, 0, 0, 2),
+        take(0, 0, 1),
+        fin(0, 0, 1),
+    ];
+    let cases = [
+        ("a colour that is not there", reg(2, 0, 0, 0)),
+        ("a handler that is not there", reg(1, 2, 0, 0)),
+        ("a take by another core", take(1, 0, 1)),
+        ("a take of more than the batch", take(1, 1, 2)),
+        ("a take of nothing", take(0, 0, 0)),
+        ("a finish of what does not run", fin(1, 1, 1)),
+        ("a second finish", fin(0, 0, 1)),
+        ("a steal from another than the owner", steal(1, 0, 1)),
+        ("a steal to the owner", steal(1, 1, 1)),
+        ("a steal to no core", steal(1, 1, 2)),
+        ("a steal of an empty colour", steal(0, 0, 1)),
+    ];
+    for (what, entry) in cases {
+        let history = [before[0], before[1], before[2], before[3], before[4], entry];
+        assert_eq!(rt;
+            judge(&setup, &history),
+            Judged::NotAllowed { at: 5 },
+            "{what}"
+        );
+    }
+    let stolen = [
+        before[0],
+        before[1],
+        steal(1, 1, 0),
+        take(1, 0, 1),
+        take(1, 0, 1),
+    ];
+    assert_eq!(rt;
+        judge(&setup, &stolen),
+        Judged::NotAllowed { at: 4 },
+        "a take while it runs"
+    );
+    let running = [
+        before[0],
+        before[1],
+        before[0],
+        take(1, 1, 1),
+        steal(1, 1, 0),
+    ];
+    assert_eq!(rt;
+        judge(&setup, &running),
+        Judged::NotAllowed { at: 4 },
+        "a steal while it runs"
+    );
+    let other = [before[0], before[1], take(1, 1, 1), fin(1, 0, 1)];
+    assert_eq!(rt;
+        judge(&setup, &other),
+        Judged::NotAllowed { at: 3 },
+        "a finish by another core"
+    );
+    let cheap = [before[0], steal(1, 1, 0)];
+    assert_eq!(rt;
+        judge(&setup, &cheap),
+        Judged::NotAllowed { at: 1 },
+        "a steal below the cost"
+    );
+    Ok(())
+}
+
+#[test]
+fn an_entry_tells_its_colour_and_its_pass(rt: HostRuntime) {
+    for (entry, pass) in [
+        (reg(3, 0, 0, 5), 5),
+        (take(3, 1, 2), 1),
+        (fin(3, 1, 2), 1),
+        (steal(3, 1, 0), 0),
+    ] {
+        assert_eq!(rt; entry.colour(), Colour(3));
+        assert_eq!(rt; entry.pass(), pass);
+    }
+}
+
+#[test]
+fn a_setup_is_made_at_the_limits_and_refused_just_beyond(rt: HostRuntime) -> Result<(), Fail> {
+    let handlers = Handlers::new(&[(60, 2)]).ok().ok_or("no table")?;
+    let most = Shape {
+        cores: 64,
+        shards: 64,
+        batch: 1_000,
+        steal_cost: 7,
+        group: 64,
+    };
+    let least = Shape {
+        cores: 1,
+        shards: 1,
+        batch: 1,
+        steal_cost: 0,
+        group: 1,
+    };
+    assert!(rt; Setup::new(&least, 1, handlers).is_ok());
+    let setup = Setup::new(&most, 65_536, handlers).ok().ok_or("no setup")?;
+    assert_eq!(rt;
+        (setup.cores(), setup.shards(), setup.batch()),
+        (64, 64, 1_000)
+    );
+    assert_eq!(rt;
+        (setup.steal_cost(), setup.group(), setup.colours()),
+        (7, 64, 65_536)
+    );
+    assert_eq!(rt; setup.handlers().len(), 1);
+    let cases = [
+        (Shape { cores: 0, ..most }, 1, 1),
+        (
+            Shape {
+                cores: 65,
+                shards: 0,
+                ..most
+            },
+            1,
+            1,
+        ),
+        (Shape { shards: 0, ..most }, 1, 2),
+        (Shape { shards: 65, ..most }, 0, 2),
+        (most, 0, 3),
+        (Shape { batch: 0, ..most }, 65_537, 3),
+        (Shape { batch: 0, ..most }, 1, 4),
+        (
+            Shape {
+                batch: 1_001,
+                group: 0,
+                ..most
+            },
+            1,
+            4,
+        ),
+        (Shape { group: 0, ..most }, 1, 5),
+        (Shape { group: 65, ..most }, 1, 5),
+    ];
+    for (shape, colours, field) in cases {
+        assert_eq!(rt;
+            Setup::new(&shape, colours, handlers).err(),
+            Some(SetupFault::OutOfRange { field })
+        );
+    }
+    Ok(())
+}
