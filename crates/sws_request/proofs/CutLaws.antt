@@ -2,8 +2,8 @@
 use Rattle.std.specs.Prelude.{◌≡◌, ◌≢◌, ℕ, ◌≤◌, Bool, true, false, nat_le, List, ◌++◌, length, take}
 use Rattle.std.proofs.Common.{refl, sym, ap, subst, arith, length-append, length-take, take_all, leb-true, leb-false}
 use Rattle.std.proofs.lemmas.List.{take-append-le, take-take}
-use Rattle.sws_request.specs.declared.Cut.{Cut}
-use Rattle.sws_request.specs.declared.Cut.TheVariants.{Head, TooLong, NotYet}
+use Rattle.sws_request.specs.declared.cuts.Cut.{Cut}
+use Rattle.sws_request.specs.declared.cuts.Cut.TheVariants.{Head, TooLong, NotYet}
 use Rattle.sws_request.specs.Head.{IsHead, BeginsWithHead, IsCutOf}
 use Rattle.sws_request.specs.HeadLaws.{find_cut}
 use Rattle.sws_request.specs.Cuts.{cut_of}

@@ -6,7 +6,7 @@ use Rattle.std.proofs.Common.{refl, sym, ap, ◌∙◌, subst, inl, inr, arith, 
 use Rattle.std.proofs.lemmas.List.{get_or-take, take_more, take_rest, take-append-drop, take-take, take_all, drop-drop}
 use Rattle.std.proofs.lemmas.List.Elements.{All-from_get_or}
 use Rattle.memchr.specs.Find.{NoneBefore, Nowhere, Passes, is_byte}
-use Rattle.sws_request.specs.declared.Cut.TheVariants.{Head}
+use Rattle.sws_request.specs.declared.cuts.Cut.TheVariants.{Head}
 use Rattle.sws_request.specs.Head.{IsLine, IsEmptyLine, IsHead, HasNoHeadWithin, IsCutOf}
 use Rattle.sws_request.specs.HeadLaws.{IsNotFeed, EndsAt, NeverEnds, Leads, Leads-blank, Leads-other, EndsAt-last, EndsAt-line, NeverEnds-line, NeverEnds-no_feed}
 

@@ -1,8 +1,8 @@
 -- Where the head of a request ends in the bytes of a connection (RFC 9112, section 2.2).
 use Rattle.std.specs.Prelude.{◌≡◌, ◌≢◌, ℕ, ◌<◌, ◌≤◌, ◌⊎◌, List, [], ◌∷◌, ◌++◌, length, take, All}
 use Rattle.std.specs.List.{flat_map}
-use Rattle.sws_request.specs.declared.Cut.{Cut}
-use Rattle.sws_request.specs.declared.Cut.TheVariants.{Head, TooLong, NotYet}
+use Rattle.sws_request.specs.declared.cuts.Cut.{Cut}
+use Rattle.sws_request.specs.declared.cuts.Cut.TheVariants.{Head, TooLong, NotYet}
 
 -- the lines, one after another
 abbrev pub joined : List (List ℕ) → List ℕ

@@ -2,8 +2,8 @@
 use Rattle.std.specs.Prelude.{◌≡◌, ◌≢◌, ℕ, ◌+◌, ◌-◌, ◌<◌, ◌≤◌, ◌⊎◌, ◌==◌, Bool, true, false, nat_le, List, [], ◌∷◌, ◌++◌, length, take, All}
 use Rattle.std.proofs.Common.{zero, suc, refl, sym, ap, ◌∙◌, subst, inl, inr, arith, append_assoc, append-nil, length-append, true-eqb, false-eqb, leb-true, leb-false}
 use Rattle.std.proofs.lemmas.List.Elements.{All-nil, All-cons, All-head, All-tail}
-use Rattle.sws_request.specs.declared.Cut.{Cut}
-use Rattle.sws_request.specs.declared.Cut.TheVariants.{Head, TooLong, NotYet}
+use Rattle.sws_request.specs.declared.cuts.Cut.{Cut}
+use Rattle.sws_request.specs.declared.cuts.Cut.TheVariants.{Head, TooLong, NotYet}
 use Rattle.sws_request.specs.Head.{joined, line_feed, IsLine, IsEmptyLine, IsOtherLine, IsRestOfHead, IsHead, HasNoHeadWithin, head_limit, IsCutOf}
 
 -- ---- lines

@@ -1,6 +1,6 @@
 //! The end of a head.
 ghost use Rattle.std.specs.Prelude.{◌≡◌, ◌≢◌, ◌↔◌, false, ℕ, List, ◌++◌, length, IsTrue, IfSome, MatchOption};
-ghost use Rattle.sws_request.specs.declared.Cut.{Cut as CutValue};
+ghost use Rattle.sws_request.specs.declared.cuts.Cut.{Cut as CutValue};
 ghost use Rattle.sws_request.specs.Head.{IsCutOf, IsEmptyLine, BeginsWithHead, HasNoHeadWithin};
 ghost use Rattle.sws_request.specs.HeadLaws.{EndsAt, NeverEnds};
 ghost use Rattle.sws_request.specs.Cuts.{cut_of};

@@ -1,6 +1,6 @@
 //! What a head says.
-ghost use Rattle.std.specs.Prelude.{◌≡◌, ◌<◌, ◌≤◌, length, IfOk, OnErr, Some, option_map, slice_get};
-ghost use Rattle.sws_request.specs.Request.{IsRequest, IsNoRequest};
+ghost use Rattle.std.specs.Prelude.{◌≡◌, ◌<◌, ◌≤◌, ℕ, List, length, IfOk, OnErr, Some, option_map, slice_get};
+ghost use Rattle.sws_request.specs.Request.{Request, IsRequest, IsNoRequest, SaysRequest};
 
 use httparse::Status;
 use httparse::spans::{EMPTY_HEADER_SPAN, HeaderSpan, Span, parse_request};
@@ -116,3 +116,9 @@ pub fn view(head: &[u8]) -> Result<RequestView<'_>, NotARequest>
         _ => Err(NotARequest),
     }
 }
+
+/// `httparse` drops the same empty lines by itself: what it reads from the front of a head is what it reads behind them.
+pub fn empty_lines_change_nothing()
+    ensures dropped { (head : List ℕ) (request : Request) → IsRequest head request → SaysRequest head request }
+    ensures kept { (head : List ℕ) (request : Request) → SaysRequest head request → IsRequest head request }
+{}

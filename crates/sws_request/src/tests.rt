@@ -1,6 +1,4 @@
-use crate::Cut;
-use crate::head::{cut, cut_is_stable};
-use crate::request::{NotARequest, view};
+use crate::{Cut, NotARequest, cut, cut_is_stable, empty_lines_change_nothing, view};
 use std::process::Abort;
 
 /// A text, and then a byte so many times.
@@ -65,6 +63,7 @@ fn a_view_shows_the_parts_of_a_request(rt: HostRuntime) {
         }
         Err(NotARequest) => assert!(rt; false, "the head is a request"),
     }
+    empty_lines_change_nothing();
 }
 
 #[test]

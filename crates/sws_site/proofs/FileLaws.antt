@@ -1,0 +1,27 @@
+-- The first file of a name.
+use Rattle.std.proofs.Common.{◌≡◌, ℕ, ◌<◌, ◌≤◌, suc, Bool, true, false, List, [], ◌∷◌, length, None, refl, ap, ◌∙◌, arith}
+use Rattle.std.specs.Prelude.{All, Some, if◌then◌else◌}
+use Rattle.std.specs.Str.{bytes_eq}
+use Rattle.std.proofs.lemmas.Slice.Eq.{bytes_eq-Decides}
+use Rattle.sws_site.specs.Files.{File, file_named}
+use Rattle.sws_site.specs.Limits.{IsWithinLimits}
+
+-- names of another length differ
+other_name : (a b : List ℕ) → length a < length b → bytes_eq a b ≡ false
+other_name a b shorter = by_test (bytes_eq a b) refl
+  where
+    by_test : (t : Bool) → bytes_eq a b ≡ t → bytes_eq a b ≡ false
+    by_test false is = is
+    by_test true is = (let same = ap length ((bytes_eq-Decides a b).0 is) in absurd (omega arith))
+
+no_file-longer : (files : List File) (name : List ℕ) → All (λ file. length file.0 ≤ 1024) files → 1024 < length name
+    → file_named name files ≡ None
+no_file-longer [] name short long = refl
+no_file-longer (file ∷ files) name short long =
+    let here : length file.0 ≤ 1024 = short 0 file (omega arith) in
+    ap (λ t. if t then Some file else file_named name files) (other_name file.0 name (omega arith))
+    ∙ no_file-longer files name (λ k d h. short (suc k) d (omega arith)) long
+
+-- a site has no file of a name that is too long
+pub file_named-long : (files : List File) (name : List ℕ) → IsWithinLimits files → 1024 < length name → file_named name files ≡ None
+file_named-long files name within long = no_file-longer files name within.names long

@@ -1,0 +1,172 @@
+-- What reading the files of a folder finds.
+use Rattle.std.proofs.Common.{◌≡◌, ℕ, ◌+◌, ◌<◌, ◌≤◌, List, [], ◌∷◌, ◌++◌, length, take, drop, Option, Some, None, slice_get, refl, sym, ap, ◌∙◌, subst, arith, take_all, append_assoc, drop_of_length-le, drop-cons, take-suc, add-one, get_or, Ok, Err, inl, inr}
+use Rattle.std.proofs.lemmas.Option.{slice_get_cases}
+use Rattle.std.specs.Prelude.{min}
+use Rattle.std.specs.Option.{option_or}
+use Rattle.sws_link.specs.Told.{FolderTells}
+use Rattle.std.proofs.lemmas.List.{take-take, take-append-le, length-take-le}
+use Rattle.std.proofs.Math.Seq.{take-append-add, take-append_seam}
+use Rattle.sws_link.specs.Folders.{Gives, TakesOfFile}
+use Rattle.sws_link.specs.declared.Got.{Got}
+use Rattle.sws_link.specs.declared.Got.TheVariants.{Took}
+use Rattle.sws_link.specs.declared.NextFile.TheVariants.{File as NextOne}
+use Rattle.sws_site.specs.declared.site_faults.SiteFault.{SiteFault}
+use Rattle.sws_site.specs.declared.site_faults.SiteFault.TheVariants.{TooManyFiles, LongName, TooManyBytes, Fault, Memory}
+use Rattle.sws_site.specs.Files.{File}
+use Rattle.sws_site.specs.Limits.{bytes_of, first_limit, limit_of, limit_met}
+use Rattle.sws_site.specs.Loading.{IsFresh, Loads, IsSameFolder}
+use Rattle.sws_site.specs.Steps.{HasRead, HasReadMore, HasReadAll, StepsTo, StepFails, HasLoaded}
+use Rattle.sws_site.proofs.LimitLaws.{limit_met-none, limit_met-files, limit_met-name, limit_met-bytes, length-push}
+
+pub HasRead-nil : (folder : Option FolderTells) (bytes : List ℕ) → bytes ≡ [] → HasRead folder folder bytes
+HasRead-nil None bytes none = refl
+HasRead-nil (Some before) bytes none = (before.left, refl, ap (λ (read : List ℕ). read ++ before.left) (sym none))
+
+-- ---- one file
+
+pub StepsTo-file : (len : ℕ) (before middle after : Option FolderTells) (name kept contents : List ℕ) (file : File)
+    → Gives before middle (NextOne len) name → len ≤ 1024 → kept ≡ take len name → HasReadAll middle after contents
+    → file ≡ (kept, contents) → StepsTo before after (Some file)
+StepsTo-file len None None after name kept contents file gives few is read same = read
+StepsTo-file len None (Some middle) after name kept contents file gives few is read same = cc
+StepsTo-file len (Some before) None after name kept contents file gives few is read same =
+    let no : None ≡ Some (record before { given = before.given + 1; left = gives.file.1 }) = gives.given in cc
+StepsTo-file len (Some before) (Some middle) after name kept contents file gives few is read same =
+    let given : middle ≡ record before { given = before.given + 1; left = gives.file.1 } =
+    (let e : Some middle ≡ Some (record before { given = before.given + 1; left = gives.file.1 }) = gives.given in cc) in
+    let contents_are : gives.file.1 ≡ contents = sym (ap (λ (t : FolderTells). t.left) given) ∙ read.0 in
+    let len_is = gives.len_is in
+    let least : min len 1024 ≡ len = omega arith in
+    let name_is : kept ≡ gives.file.0 =
+    is ∙ ap (λ n. take n name) (sym least) ∙ gives.copied ∙ take_all 1024 gives.file.0 (omega (arith, len_is)) in
+    let file_is : gives.file ≡ file = (λ i. (sym name_is i, contents_are i)) ∙ sym same in
+    (gives.next ∙ ap Some file_is, read.1 ∙ ap (λ (t : FolderTells). Some (record t { left = [] })) given)
+
+-- ---- all files
+
+pub HasLoaded-nil : (folder : Option FolderTells) (files : List File) → IsFresh folder → files ≡ [] → HasLoaded folder folder files
+HasLoaded-nil None files fresh none = refl
+HasLoaded-nil (Some before) files fresh none = (
+  before.left,
+  ap (λ n. Some (record before { given = n })) (fresh ∙ ap length (sym none)),
+  none ∙ ap (λ (f : List File). take (length f) before.files) (sym none),
+  ap (λ (f : List File). first_limit f (drop (length f) before.files)) (sym none),
+)
+
+-- the file at a place begins the files from there
+from_place : (files : List File) (i : ℕ) (file : File) → slice_get files i ≡ Some file
+    → (drop i files ≡ file ∷ drop (i + 1) files) × (take (i + 1) files ≡ take i files ++ file ∷ [])
+from_place files i file at = elim (slice_get_cases files i).1 [
+  | inl found ↦ (
+      let same : found.0 ≡ file = (let e : Some found.0 ≡ Some file = sym found.2 ∙ at in cc) in
+      let value : get_or files i found.0 ≡ file = found.3 ∙ same in (
+        drop-cons files i found.0 found.1 ∙ ap (λ n. get_or files i found.0 ∷ drop n files) (sym (add-one i)) ∙ ap (λ f. f ∷ drop (i + 1) files) value,
+        ap (λ n. take n files) (add-one i) ∙ take-suc files i found.0 found.1 ∙ ap (λ f. take i files ++ f ∷ []) value,
+      ))
+  | inr past ↦ (let e : None ≡ Some file = sym past.1 ∙ at in absurd (cc))
+]
+
+-- the next file decides, where it meets a limit
+next_decides : (first before : FolderTells) (files : List File) (file : File) (found : Option SiteFault) → HasLoaded (Some first) (Some before) files
+    → slice_get before.files before.given ≡ Some file → limit_met files file ≡ found
+    → limit_of first.files ≡ option_or found (first_limit (files ++ file ∷ []) (drop (length files + 1) first.files))
+next_decides first before files file found (left, now, is, limit) at met =
+    let same : before ≡ record first { given = length files; left = left } = cc in
+    let place = from_place first.files (length files) file (subst (λ (t : FolderTells). slice_get t.files t.given ≡ Some file) same at) in
+    limit ∙ ap (first_limit files) place.0
+    ∙ ap (λ (f : Option SiteFault). option_or f (first_limit (files ++ file ∷ []) (drop (length files + 1) first.files))) met
+
+pub HasLoaded-step : (first before after : Option FolderTells) (files : List File) (file : File) → HasLoaded first before files
+    → StepsTo before after (Some file) → length files + 1 ≤ 4096 → length file.0 ≤ 1024 → bytes_of files + length file.1 ≤ 268435456
+    → HasLoaded first after (files ++ file ∷ [])
+HasLoaded-step None None after files file loaded step few short fits = step
+HasLoaded-step None (Some before) after files file loaded step few short fits = cc
+HasLoaded-step (Some first) None after files file (left, now, is, limit) step few short fits = cc
+HasLoaded-step (Some first) (Some before) after files file (left, now, is, limit) (at, next) few short fits =
+    let same : before ≡ record first { given = length files; left = left } = cc in
+    let place = from_place first.files (length files) file (subst (λ (t : FolderTells). slice_get t.files t.given ≡ Some file) same at) in
+    let count : length (files ++ file ∷ []) ≡ length files + 1 = length-push files file in (
+      [],
+      next ∙ ap (λ (t : FolderTells). Some (record t { given = t.given + 1; left = [] })) same ∙ ap (λ n. Some (record first { given = n; left = [] })) (sym count),
+      ap (λ (f : List File). f ++ file ∷ []) is ∙ sym place.1 ∙ ap (λ n. take n first.files) (sym count),
+      next_decides first before files file None (left, now, is, limit) at (limit_met-none files file few short fits)
+          ∙ ap (λ n. first_limit (files ++ file ∷ []) (drop n first.files)) (sym count),
+    )
+
+pub HasLoaded-end : (first before after : Option FolderTells) (files : List File) → HasLoaded first before files
+    → StepsTo before after None → Loads first (Ok files)
+HasLoaded-end None before after files loaded step = tt
+HasLoaded-end (Some first) None after files (left, now, is, limit) step = cc
+HasLoaded-end (Some first) (Some before) after files (left, now, is, limit) (end, next) =
+    let same : before ≡ record first { given = length files; left = left } = cc in
+    let whole : length files ≡ length first.files = subst (λ (t : FolderTells). t.given ≡ length t.files) same end in (
+      is ∙ ap (λ n. take n first.files) whole ∙ take_all (length first.files) first.files (omega arith),
+      limit ∙ ap (first_limit files) (drop_of_length-le first.files (let le : length first.files ≤ length files = omega arith in le)),
+    )
+
+pub HasLoaded-fails : (first before : Option FolderTells) (files : List File) (number room : ℕ) (fault : SiteFault) → HasLoaded first before files
+    → StepFails number room before fault → number ≡ length files + 1 → bytes_of files + room ≡ 268435456 → Loads first (Err fault)
+HasLoaded-fails None before files number room _ loaded fails n all = tt
+HasLoaded-fails (Some first) None files number room _ (left, now, is, limit) fails n all = cc
+HasLoaded-fails (Some first) (Some before) files number room (TooManyFiles found) loaded (is_found, file, at, many) n all =
+    next_decides first before files file (Some (TooManyFiles (length files + 1))) loaded at (limit_met-files files file (omega arith))
+    ∙ ap (λ k. Some (TooManyFiles k)) (sym (is_found ∙ n))
+HasLoaded-fails (Some first) (Some before) files number room (LongName found) loaded (is_found, file, at, few, long) n all =
+    next_decides first before files file (Some (LongName (length files + 1))) loaded at (limit_met-name files file (omega arith) long)
+    ∙ ap (λ k. Some (LongName k)) (sym (is_found ∙ n))
+HasLoaded-fails (Some first) (Some before) files number room (TooManyBytes found) loaded (is_found, file, at, few, short, over) n all =
+    next_decides first before files file (Some (TooManyBytes (length files + 1))) loaded at (limit_met-bytes files file (omega arith) short (omega arith))
+    ∙ ap (λ k. Some (TooManyBytes k)) (sym (is_found ∙ n))
+HasLoaded-fails (Some first) (Some before) files number room Fault loaded fails n all = tt
+HasLoaded-fails (Some first) (Some before) files number room Memory loaded fails n all = tt
+
+pub IsSameFolder-refl : (folder : Option FolderTells) → IsSameFolder folder folder
+IsSameFolder-refl None = refl
+IsSameFolder-refl (Some folder) = (refl, refl)
+
+pub IsSameFolder-trans : (a b c : Option FolderTells) → IsSameFolder a b → IsSameFolder b c → IsSameFolder a c
+IsSameFolder-trans None None c first second = second
+IsSameFolder-trans None (Some b) c first second = cc
+IsSameFolder-trans (Some a) None c first second = absurd first
+IsSameFolder-trans (Some a) (Some b) None first second = absurd second
+IsSameFolder-trans (Some a) (Some b) (Some c) first second = (second.0 ∙ first.0, second.1 ∙ first.1)
+
+-- ---- a read of the current file
+
+-- the room behind the bytes that were read, after a read into it
+pub read_behind : (old items held room rest others : List ℕ) (filled count len : ℕ) → held ≡ items → length items ≡ len → take filled items ≡ old
+    → filled + count ≤ len → count ≤ length room
+    → take (filled + count) (take len ((take filled held ++ (room ++ rest)) ++ others)) ≡ old ++ take count room
+read_behind old items held room rest others filled count len is_held is_len front within few =
+    let read : List ℕ = take filled held in
+    let filled_is : length read ≡ filled = length-take-le filled held (let l = ap length is_held in omega arith) in
+    let old_is : read ≡ old = ap (take filled) is_held ∙ front in
+    take-take (filled + count) len ((read ++ (room ++ rest)) ++ others) within
+    ∙ ap (take (filled + count)) (append_assoc read (room ++ rest) others)
+    ∙ ap (λ n. take (n + count) (read ++ ((room ++ rest) ++ others))) (sym filled_is)
+    ∙ take-append-add read ((room ++ rest) ++ others) count
+    ∙ ap (λ (x : List ℕ). read ++ take count x) (append_assoc room rest others)
+    ∙ ap (λ (x : List ℕ). read ++ x) (take-append-le count room (rest ++ others) few)
+    ∙ ap (λ (x : List ℕ). x ++ take count room) old_is
+
+pub HasReadMore-took : (before now : Option FolderTells) (got : Got) (count : ℕ) (room old new : List ℕ) → got ≡ Took count
+    → TakesOfFile before now got room → 0 < count → count ≤ length room → new ≡ old ++ take count room
+    → HasReadMore before now (Took count) old new
+HasReadMore-took before now got count room old new is takes some few is_new = (
+  take count room,
+  is_new,
+  (let long = length-take-le count room few in omega arith),
+  by_folder before (subst (λ (g : Got). TakesOfFile before now g room) is takes),
+)
+  where
+    by_folder : (folder : Option FolderTells) → TakesOfFile folder now (Took count) room → HasRead folder now (take count room)
+    by_folder None none = none
+    by_folder (Some folder) read = read
+
+-- the bytes that were there before the room was made
+pub room_behind : (old items zeros : List ℕ) (filled len : ℕ) → items ≡ take len old ++ zeros → filled ≡ length old → filled ≤ len
+    → take filled items ≡ old
+room_behind old items zeros filled len is filled_is within =
+    ap (take filled) (is ∙ ap (λ (x : List ℕ). x ++ zeros) (take_all len old (omega arith)))
+    ∙ ap (λ n. take n (old ++ zeros)) filled_is
+    ∙ take-append_seam old zeros

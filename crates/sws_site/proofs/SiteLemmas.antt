@@ -1,0 +1,50 @@
+-- The responses of a site.
+use Rattle.std.proofs.Common.{◌≡◌, ℕ, Bool, true, false, List, [], ◌∷◌, ◌++◌, length, Option, Some, None, ap, ◌∙◌}
+use Rattle.std.specs.Prelude.{IfSome}
+use Rattle.httpdate.specs.declared.date.HttpDate.{HttpDate}
+use Rattle.sws_site.specs.declared.statuses.Status.{Status}
+use Rattle.sws_site.specs.declared.statuses.Status.TheVariants.{Success, NotModified}
+use Rattle.sws_site.specs.declared.built_responses.BuiltResponse.{BuiltResponse}
+use Rattle.sws_site.specs.declared.stored.StoredFile.{StoredFile}
+use Rattle.sws_site.specs.Statuses.{status_text}
+use Rattle.sws_site.specs.ResponseHeads.{head_text}
+use Rattle.sws_site.specs.Files.{file_head, not_modified_head}
+use Rattle.sws_site.specs.Fixed.{fixed_head, fixed_body, plain_text}
+use Rattle.sws_site.specs.BuiltResponses.{IsBuilt, built_head, IsRefusal}
+use Rattle.sws_site.specs.Stored.{HasHeads, file_of}
+
+-- either head
+pub built_head-text : (status : Status) (date : Option HttpDate) (kind : List ℕ) (response : BuiltResponse) (closes : Bool) → IsBuilt status date kind response
+    → built_head response closes ≡ head_text (record { status = status; closes = closes; date = date; kind = kind; len = length response.body.items })
+built_head-text status date kind response true built = built.closing_head
+built_head-text status date kind response false built = built.open_head
+
+pub built_head-file : (date : Option HttpDate) (stored : StoredFile) (closes : Bool) → HasHeads date stored
+    → built_head stored.response closes ≡ file_head date (file_of stored) closes
+unfolding file_head
+built_head-file date stored closes heads = built_head-text Success date _ stored.response closes heads
+
+pub built_head-not_modified : (date : Option HttpDate) (response : BuiltResponse) (closes : Bool) → IsBuilt NotModified date [] response
+    → response.body.items ≡ [] → built_head response closes ≡ not_modified_head date closes
+unfolding not_modified_head
+built_head-not_modified date response closes built none =
+    built_head-text NotModified date [] response closes built
+    ∙ ap (λ (body : List ℕ). head_text (record { status = NotModified; closes = closes; date = date; kind = []; len = length body })) none
+
+pub built_head-refusal : (status : Status) (response : BuiltResponse) (closes : Bool) → IsRefusal status response
+    → built_head response closes ≡ fixed_head status closes
+unfolding fixed_head
+built_head-refusal status response closes refusal =
+    built_head-text status None plain_text response closes refusal.heads
+    ∙ ap (λ (body : List ℕ). head_text (record { status = status; closes = closes; date = None; kind = plain_text; len = length body })) refusal.body
+
+-- the line that tells the status
+pub fixed_body-text : (status : Status) (body : List ℕ) → body ≡ ([] ++ status_text status) ++ 10 ∷ [] → body ≡ fixed_body status
+unfolding fixed_body
+fixed_body-text status body is = is
+
+-- the head of the response that refuses with a code, where there is one
+pub fixed_head-found : (found : Option Status) (response : BuiltResponse) (closes : Bool) (head : List ℕ) → IfSome found (λ status. IsRefusal status response)
+    → head ≡ built_head response closes → IfSome found (λ status. head ≡ fixed_head status closes)
+fixed_head-found None response closes head refuses is = tt
+fixed_head-found (Some status) response closes head refuses is = is ∙ built_head-refusal status response closes refuses

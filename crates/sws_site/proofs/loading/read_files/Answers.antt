@@ -1,0 +1,63 @@
+use Rattle.std.proofs.Common.{◌≡◌, ◌≤◌, ◌+◌, ◌++◌, ◌∷◌, [], zero, suc, List, length, Option, ◌∙◌, ap, sym, subst, arith}
+use Rattle.std.proofs.lemmas.List.{map-append, length-map}
+use Rattle.std.proofs.lemmas.List.Elements.{All-append}
+use Rattle.sws_link.proofs.CountLaws.{IsLater-same, IsLater-trans}
+use Rattle.httpdate.specs.declared.date.HttpDate.{HttpDate}
+use Rattle.sws_site.specs.declared.stored.StoredFile.{StoredFile}
+use Rattle.sws_site.specs.Files.{File}
+use Rattle.sws_site.specs.Limits.{IsWithinLimits, bytes_of}
+use Rattle.sws_site.specs.Steps.{HasLoaded}
+use Rattle.sws_site.specs.Stored.{file_of, files_of, HasHeads, AllHaveHeads}
+use Rattle.sws_site.proofs.LimitLaws.{IsWithinLimits-nil, IsWithinLimits-push, bytes_of-push}
+use Rattle.sws_site.proofs.LoadLemmas.{HasLoaded-nil, HasLoaded-step, HasLoaded-fails, IsSameFolder-refl, IsSameFolder-trans}
+use Rattle.sws_site.proofs.loading.read_files.Goals as goal
+
+AllHaveHeads-nil : (date : Option HttpDate) → AllHaveHeads date []
+AllHaveHeads-nil date k d h = absurd (omega arith)
+
+AllHaveHeads-one : (date : Option HttpDate) (file : StoredFile) → HasHeads date file → AllHaveHeads date (file ∷ [])
+AllHaveHeads-one date file has zero d h = has
+AllHaveHeads-one date file has (suc k) d h = absurd (omega arith)
+
+pub files-init : goal.files-init
+files-init g c =
+    let none : files_of c.new-files.result.items ≡ [] = ap files_of c.new-files.ensures.items in record {
+      loaded = HasLoaded-nil (g.F.Folder.tells c.args.folder.now) (files_of c.new-files.result.items) c.requires none;
+      limits = subst IsWithinLimits (sym none) IsWithinLimits-nil;
+      room = ap (λ (files : List File). bytes_of files + 268435456) none;
+      heads = subst (AllHaveHeads c.args.date.now) (sym c.new-files.ensures.items) (AllHaveHeads-nil c.args.date.now);
+      same = IsSameFolder-refl (g.F.Folder.tells c.args.folder.now);
+      later = IsLater-same (g.F.Folder.faults c.args.folder.now);
+    }
+
+pub files-preserved : goal.files-preserved
+files-preserved g c =
+    let files : List File = files_of c.files.files.items in
+    let file : File = file_of c.in-Ok-Some.file in
+    let steps = rw c.in-Ok-Some.field-0-is at c.in-Ok-Some.ensures.steps in
+    let within = rw c.in-Ok-Some.field-0-is at c.in-Ok-Some.ensures.within in
+    let heads = rw c.in-Ok-Some.field-0-is at c.in-Ok-Some.ensures.heads in
+    let more : files_of c.push.new.self.items ≡ files ++ file ∷ [] =
+    ap files_of c.in-Ok.ensures.items ∙ map-append file_of c.files.files.items (c.in-Ok-Some.file ∷ []) in
+    let count : length files + 1 ≤ 4096 = (let long = length-map c.files.files.items file_of in let few = within.count in omega arith) in
+    let bytes : bytes_of files + length file.1 ≤ 268435456 = (let room = c.files.invariant.room in let fits = within.bytes in omega arith) in
+    record {
+      loaded = subst (HasLoaded (g.F.Folder.tells c.args.folder.now) (g.F.Folder.tells c.next_file.new.folder)) (sym more)
+          (HasLoaded-step (g.F.Folder.tells c.args.folder.now) (g.F.Folder.tells c.files.folder) (g.F.Folder.tells c.next_file.new.folder) files file
+          c.files.invariant.loaded steps count within.name bytes);
+      limits = subst IsWithinLimits (sym more) (IsWithinLimits-push files file c.files.invariant.limits count within.name bytes);
+      room = (let total = ap bytes_of more ∙ bytes_of-push files file in let room = c.files.invariant.room in omega arith);
+      heads = subst (AllHaveHeads c.args.date.now) (sym c.in-Ok.ensures.items)
+          (All-append (HasHeads c.args.date.now) c.files.files.items (c.in-Ok-Some.file ∷ []) c.files.invariant.heads
+          (AllHaveHeads-one c.args.date.now c.in-Ok-Some.file heads));
+      same = IsSameFolder-trans (g.F.Folder.tells c.args.folder.now) (g.F.Folder.tells c.files.folder) (g.F.Folder.tells c.next_file.new.folder)
+          c.files.invariant.same c.in-Ok-Some.ensures.same;
+      later = IsLater-trans (g.F.Folder.faults c.args.folder.now) (g.F.Folder.faults c.files.folder) (g.F.Folder.faults c.next_file.new.folder)
+          c.files.invariant.later c.in-Ok-Some.ensures.cause.later;
+    }
+
+pub returns-in-Err-clause-loads : goal.returns-in-Err-clause-loads
+returns-in-Err-clause-loads g c =
+    HasLoaded-fails (g.F.Folder.tells c.args.folder.now) (g.F.Folder.tells c.files.folder) (files_of c.files.files.items)
+    (c.len.result + 1) c.files.room c.in-Err.fault c.files.invariant.loaded c.in-Err.ensures.fails
+    (let long = length-map c.files.files.items file_of in omega arith) c.files.invariant.room

@@ -1,0 +1,20 @@
+use Rattle.std.proofs.Common.{◌≡◌, ◌+◌, ◌-◌, length}
+use Rattle.sws_link.specs.Counts.{IsLater}
+use Rattle.sws_site.specs.Limits.{IsWithinLimits, bytes_of, max_bytes}
+use Rattle.sws_site.specs.Loading.{IsSameFolder}
+use Rattle.sws_site.specs.Steps.{HasLoaded}
+use Rattle.sws_site.specs.Stored.{files_of, AllHaveHeads}
+use Rattle.sws_site.proofs.loading.read_files.Given as goal
+
+abbrev pub invariant-files : goal.invariant-files
+invariant-files g l = record {
+  loaded : HasLoaded (g.F.Folder.tells l.fn.folder) (g.F.Folder.tells l.folder) (files_of l.files.items);
+  limits : IsWithinLimits (files_of l.files.items);
+  room : bytes_of (files_of l.files.items) + l.room ≡ max_bytes;
+  heads : AllHaveHeads l.date l.files.items;
+  same : IsSameFolder (g.F.Folder.tells l.fn.folder) (g.F.Folder.tells l.folder);
+  later : IsLater (g.F.Folder.faults l.fn.folder) (g.F.Folder.faults l.folder);
+}
+
+abbrev pub decreases-files : goal.decreases-files
+decreases-files g l = 4096 - length l.files.items

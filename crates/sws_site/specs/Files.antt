@@ -1,0 +1,24 @@
+-- The files of a site, and the heads of the responses about one of them.
+use Rattle.std.specs.Prelude.{ℕ, Bool, List, [], length, find, Option}
+use Rattle.std.specs.Str.{bytes_eq}
+use Rattle.httpdate.specs.declared.date.HttpDate.{HttpDate}
+use Rattle.sws_site.specs.declared.statuses.Status.TheVariants.{Success, NotModified}
+use Rattle.sws_site.specs.ContentTypes.{content_type}
+use Rattle.sws_site.specs.ResponseHeads.{head_text}
+
+-- a name and the contents
+abbrev pub File : Type 0
+File = List ℕ × List ℕ
+
+-- the first file of the name
+abbrev pub file_named : List ℕ → List File → Option File
+file_named name files = find (λ file. bytes_eq file.0 name) files
+
+-- the head of the response that sends a file of a site of this date
+unfoldable pub file_head : Option HttpDate → File → Bool → List ℕ
+file_head date file closes =
+    head_text (record { status = Success; closes = closes; date = date; kind = content_type file.0; len = length file.1 })
+
+-- the head of the response that a file was not modified since
+unfoldable pub not_modified_head : Option HttpDate → Bool → List ℕ
+not_modified_head date closes = head_text (record { status = NotModified; closes = closes; date = date; kind = []; len = 0 })

@@ -1,0 +1,7 @@
+-- What the parts of a head say together.
+use Rattle.sws_site.specs.declared.heads.HeadParts.{HeadParts}
+use Rattle.sws_site.specs.ResponseHeads.{ResponseHead}
+
+abbrev pub head_of : HeadParts → ResponseHead
+head_of parts =
+    record { status = parts.status; closes = parts.closes; date = parts.date.now; kind = parts.kind.now; len = parts.len }

@@ -1,0 +1,15 @@
+pub mod Statuses
+pub mod ContentTypes
+pub mod ResponseHeads
+pub mod Fixed
+pub mod Files
+pub mod Sites
+pub mod Limits
+pub mod Loading
+pub mod Steps
+pub mod HeadParts
+pub mod BuiltResponses
+pub mod Refusals
+pub mod Stored
+pub mod StoredSites
+pub mod StoredPages

@@ -1,0 +1,70 @@
+-- What a folder tells from one file to the next, while they are read.
+use Rattle.std.specs.Prelude.{◌≡◌, ℕ, ◌+◌, ◌<◌, ◌≤◌, List, [], ◌++◌, length, take, drop, Option, Some, None, slice_get, ⊤}
+use Rattle.sws_link.specs.Told.{FolderTells}
+use Rattle.sws_link.specs.declared.Got.{Got}
+use Rattle.sws_link.specs.declared.Got.TheVariants.{Took, End, Failed}
+use Rattle.sws_site.specs.declared.site_faults.SiteFault.{SiteFault}
+use Rattle.sws_site.specs.declared.site_faults.SiteFault.TheVariants.{TooManyFiles, LongName, TooManyBytes, Fault, Memory}
+use Rattle.sws_site.specs.Files.{File}
+use Rattle.sws_site.specs.Limits.{max_files, max_name, first_limit, limit_of}
+
+-- these bytes of the current file were read
+abbrev pub HasRead : Option FolderTells → Option FolderTells → List ℕ → Type 0
+HasRead None now bytes = now ≡ None
+HasRead (Some before) now bytes =
+    (rest : List ℕ) × (now ≡ Some (record before { left = rest })) × (before.left ≡ bytes ++ rest)
+
+-- all of it was read
+abbrev pub HasReadAll : Option FolderTells → Option FolderTells → List ℕ → Type 0
+HasReadAll None now bytes = now ≡ None
+HasReadAll (Some before) now bytes = (before.left ≡ bytes) × (now ≡ Some (record before { left = [] }))
+
+-- a read of the current file put what it took behind the bytes that were there
+abbrev pub HasReadMore : Option FolderTells → Option FolderTells → Got → List ℕ → List ℕ → Type 0
+HasReadMore before now (Took count) old new =
+    (more : List ℕ) × (new ≡ old ++ more) × (0 < length more) × HasRead before now more
+HasReadMore before now End old new = (new ≡ old) × HasReadAll before now []
+HasReadMore before now Failed old new = (new ≡ old) × (now ≡ before)
+
+-- it is more than there is room for
+abbrev pub ReadFails : ℕ → ℕ → Option FolderTells → SiteFault → Type 0
+ReadFails number room before (TooManyFiles count) = ⊥
+ReadFails number room before (LongName found) = ⊥
+ReadFails number room None (TooManyBytes found) = ⊤
+ReadFails number room (Some before) (TooManyBytes found) = (found ≡ number) × (room < length before.left)
+ReadFails number room before Fault = ⊤
+ReadFails number room before Memory = ⊤
+
+-- the next file was read, or there is none
+abbrev pub StepsTo : Option FolderTells → Option FolderTells → Option File → Type 0
+StepsTo None now file = now ≡ None
+StepsTo (Some before) now None = (before.given ≡ length before.files) × (now ≡ Some before)
+StepsTo (Some before) now (Some file) =
+    (slice_get before.files before.given ≡ Some file) × (now ≡ Some (record before { given = before.given + 1; left = [] }))
+
+-- a file of this number is within the limits, where there is room for so many bytes
+pub record IsWithin (number room : ℕ) (file : File) : Type 0 where
+  pub count : number ≤ max_files
+  pub name : length file.0 ≤ max_name
+  pub bytes : length file.1 ≤ room
+
+-- the limit that the next file meets
+abbrev pub StepFails : ℕ → ℕ → Option FolderTells → SiteFault → Type 0
+StepFails number room None _ = ⊤
+StepFails number room (Some before) (TooManyFiles found) =
+    (found ≡ number) × (file : File) × (slice_get before.files before.given ≡ Some file) × (max_files < number)
+StepFails number room (Some before) (LongName found) =
+    (found ≡ number) × (file : File) × (slice_get before.files before.given ≡ Some file) × (number ≤ max_files) × (max_name < length file.0)
+StepFails number room (Some before) (TooManyBytes found) =
+    (found ≡ number) × (file : File) × (slice_get before.files before.given ≡ Some file) × (number ≤ max_files)
+    × (length file.0 ≤ max_name) × (room < length file.1)
+StepFails number room (Some before) Fault = ⊤
+StepFails number room (Some before) Memory = ⊤
+
+-- the files so far are the first ones, and the first limit that all meet is that of the others beside them
+abbrev pub HasLoaded : Option FolderTells → Option FolderTells → List File → Type 0
+HasLoaded None now files = now ≡ None
+HasLoaded (Some before) now files =
+    (left : List ℕ) × (now ≡ Some (record before { given = length files; left = left }))
+    × (files ≡ take (length files) before.files)
+    × (limit_of before.files ≡ first_limit files (drop (length files) before.files))

@@ -1,0 +1,48 @@
+-- The files of a site as they are stored, and where the first file of each name stands.
+use Rattle.std.specs.Prelude.{◌≡◌, ℕ, List, suc, map, All, if◌then◌else◌, Option, Some, None, Vec, [], ◌∷◌, Result, Ok, Err}
+use Rattle.std.specs.Str.{bytes_eq}
+use Rattle.std.specs.Ordering.{nat_cmp}
+use Rattle.std.specs.Cmp.Lexicographic.{slice_cmp}
+use Rattle.std.specs.BTreeMap.{BTreeMap, get_by}
+use Rattle.std.specs.declared.alloc.Global.{Global}
+use Rattle.httpdate.specs.declared.date.HttpDate.{HttpDate}
+use Rattle.sws_link.specs.Told.{FolderTells}
+use Rattle.sws_site.specs.declared.site_faults.SiteFault.{SiteFault}
+use Rattle.sws_site.specs.declared.statuses.Status.TheVariants.{Success}
+use Rattle.sws_site.specs.declared.stored.StoredFile.{StoredFile}
+use Rattle.sws_site.specs.ContentTypes.{content_type}
+use Rattle.sws_site.specs.Files.{File}
+use Rattle.sws_site.specs.Loading.{Loads}
+use Rattle.sws_site.specs.BuiltResponses.{IsBuilt}
+
+-- the name and the contents
+abbrev pub file_of : StoredFile → File
+file_of stored = (stored.name.items, stored.response.body.items)
+
+abbrev pub files_of : List StoredFile → List File
+files_of stored = map file_of stored
+
+-- its heads are those of a site of this date
+abbrev pub HasHeads : Option HttpDate → StoredFile → Type 0
+HasHeads date stored = IsBuilt Success date (content_type stored.name.items) stored.response
+
+abbrev pub AllHaveHeads : Option HttpDate → List StoredFile → Type 0
+AllHaveHeads date files = All (HasHeads date) files
+
+-- `Loads` of the files as they are stored
+abbrev pub LoadsStored : Option FolderTells → Result (Vec StoredFile Global) SiteFault → Type 0
+LoadsStored folder (Ok files) = Loads folder (Ok (files_of files.items))
+LoadsStored folder (Err fault) = Loads folder (Err fault)
+
+-- the place of the first file of the name, where the first of them has this place
+abbrev pub place_from : ℕ → List ℕ → List StoredFile → Option ℕ
+place_from place name [] = None
+place_from place name (file ∷ files) = if bytes_eq file.name.items name then Some place else place_from (suc place) name files
+
+-- the place that is kept of a name
+abbrev pub kept_place : BTreeMap (Vec ℕ Global) ℕ → List ℕ → Option ℕ
+kept_place places name = get_by (λ key. slice_cmp nat_cmp name key.items) places
+
+-- the place of the first file of each name is kept
+abbrev pub FindsPlaces : List StoredFile → BTreeMap (Vec ℕ Global) ℕ → Type 0
+FindsPlaces files places = (name : List ℕ) → kept_place places name ≡ place_from 0 name files

@@ -1,0 +1,15 @@
+-- What a page shows, of its fields.
+use Rattle.std.specs.Prelude.{◌≡◌, []}
+use Rattle.sws_site.specs.declared.statuses.Status.TheVariants.{NotModified}
+use Rattle.sws_site.specs.declared.pages.Page.TheInside.{Inside}
+use Rattle.sws_site.specs.Sites.{SiteFile}
+use Rattle.sws_site.specs.BuiltResponses.{IsBuilt}
+use Rattle.sws_site.specs.Stored.{file_of, HasHeads}
+
+abbrev pub shown : Inside → SiteFile
+shown page = record { file = file_of page.file.now; date = page.date }
+
+pub record IsOfSite (page : Inside) : Type 0 where
+  pub heads : HasHeads page.date page.file.now
+  pub not_modified : IsBuilt NotModified page.date [] page.not_modified.now
+  pub no_content : page.not_modified.now.body.items ≡ []

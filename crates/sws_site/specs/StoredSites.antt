@@ -1,0 +1,20 @@
+-- What a site shows, of its fields.
+use Rattle.std.specs.Prelude.{◌≡◌, []}
+use Rattle.sws_site.specs.declared.statuses.Status.TheVariants.{NotModified}
+use Rattle.sws_site.specs.declared.sites.Site.TheInside.{Inside}
+use Rattle.sws_site.specs.Limits.{IsWithinLimits}
+use Rattle.sws_site.specs.Sites.{SiteFiles}
+use Rattle.sws_site.specs.BuiltResponses.{IsBuilt}
+use Rattle.sws_site.specs.Refusals.{AreRefusals}
+use Rattle.sws_site.specs.Stored.{files_of, AllHaveHeads, FindsPlaces}
+
+abbrev pub shown : Inside → SiteFiles
+shown site = record { files = files_of site.files.items; date = site.date }
+
+pub record IsStored (site : Inside) : Type 0 where
+  pub limits : IsWithinLimits (files_of site.files.items)
+  pub heads : AllHaveHeads site.date site.files.items
+  pub places : FindsPlaces site.files.items site.places
+  pub not_modified : IsBuilt NotModified site.date [] site.not_modified
+  pub no_content : site.not_modified.body.items ≡ []
+  pub refusals : AreRefusals site.refusals

@@ -1,0 +1,59 @@
+//! A response that is built once and sent many times.
+ghost use Rattle.std.specs.Prelude.{◌≡◌, IfOk};
+ghost use Rattle.sws_site.specs.BuiltResponses.{IsBuilt, built_head};
+
+use crate::heads::{HeadParts, make_head};
+use crate::statuses::Status;
+use httpdate::HttpDate;
+use std::alloc::{AllocError, Global};
+
+/// The body of a response, and its head for a connection that stays open and for one that ends.
+#[derive(Drop)]
+pub(crate) struct BuiltResponse {
+    pub(crate) body: Vec<u8>,
+    pub(crate) open_head: Vec<u8>,
+    pub(crate) closing_head: Vec<u8>,
+}
+
+impl BuiltResponse {
+    /// The response of this status with a body of this media type, of a site of this date.
+    pub(crate) fn new(
+        alloc: Global,
+        status: Status,
+        date: &Option<HttpDate>,
+        kind: &[u8],
+        body: Vec<u8>,
+    ) -> Result<BuiltResponse, AllocError>
+        ensures built { IfOk result (IsBuilt status date.now kind.now) }
+        ensures body { IfOk result (λ response. response.body.items ≡ body.items) }
+    {
+        let open = HeadParts {
+            status,
+            closes: false,
+            date,
+            kind,
+            len: body.len(),
+        };
+        let closing = HeadParts {
+            closes: true,
+            ..open
+        };
+        let open_head = make_head(alloc, &open)?;
+        let closing_head = make_head(alloc, &closing)?;
+        Ok(BuiltResponse {
+            body,
+            open_head,
+            closing_head,
+        })
+    }
+
+    /// The head for a connection that ends, or for one that stays open.
+    pub(crate) fn head(&self, closes: bool) -> &[u8]
+        ensures { result.now ≡ built_head self.now closes }
+    {
+        if closes {
+            return &self.closing_head;
+        }
+        &self.open_head
+    }
+}

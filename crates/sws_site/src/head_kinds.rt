@@ -1,0 +1,10 @@
+//! Which head of a page.
+
+/// Which head of a page a response begins with.
+#[derive(Clone, Copy, Debug, PartialEq, Eq)]
+pub struct HeadKind {
+    /// The file is sent: a head of 200. Else the file was not modified: a head of 304.
+    pub changed: bool,
+    /// The connection ends with the response.
+    pub closes: bool,
+}

@@ -1,0 +1,35 @@
+//! The files of a site, with the heads of the responses that send them.
+//!
+//! A site is loaded once from a [`Folder`](sws_link::Folder), within fixed limits: at most 4,096 files, 268,435,456 bytes of
+//! contents, and names of 1,024 bytes. All that a response needs is built then: the two heads of each file, with and without
+//! `Connection: close`, those that say that a file was not modified, and the responses that refuse. So a server answers out of a
+//! site without taking memory and without copying a byte: every head and every body is lent.
+//!
+//! ```text
+//! let site = Site::load(alloc, &mut folder, Some(784111777))?;
+//! match site.lookup(b"index.html") {
+//!     Some(page) => send(page.head(HeadKind { changed: true, closes: false }), page.body()),
+//!     None => send(site.fixed(404, false)),
+//! }
+//! ```
+#![tactic(auto)]
+
+mod built_responses;
+mod content_types;
+mod head_kinds;
+mod heads;
+mod loading;
+mod pages;
+mod refusals;
+mod site_faults;
+mod sites;
+mod statuses;
+mod stored;
+#[cfg(test)]
+mod tests;
+
+pub use head_kinds::HeadKind;
+pub use pages::Page;
+pub use site_faults::SiteFault;
+pub use sites::Site;
+pub use statuses::Status;

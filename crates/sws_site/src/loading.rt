@@ -1,0 +1,155 @@
+//! Reading the files of a folder.
+ghost use Rattle.std.specs.Prelude.{◌≡◌, ◌<◌, ◌≤◌, IfOk, IfErr, OnErr, IfSome, IsTrue, Ok, Err, length, option_map};
+ghost use Rattle.sws_link.specs.Counts.{HasCause};
+ghost use Rattle.sws_site.specs.Limits.{max_bytes, IsWithinLimits};
+ghost use Rattle.sws_site.specs.Loading.{IsFresh, IsSameFolder};
+ghost use Rattle.sws_site.specs.Steps.{HasReadMore, HasReadAll, ReadFails, StepsTo, IsWithin, StepFails};
+ghost use Rattle.sws_site.specs.Stored.{file_of, files_of, HasHeads, AllHaveHeads, LoadsStored};
+
+use crate::site_faults::SiteFault;
+use crate::stored::StoredFile;
+use httpdate::HttpDate;
+use std::alloc::{AllocError, Global};
+use sws_link::{Folder, Got, NextFile};
+
+/// The most files of a site.
+const MAX_FILES: u32 = 4096;
+
+/// The most bytes of all their contents.
+const MAX_BYTES: usize = 268435456;
+
+/// How many bytes of a file are asked for at first, and how many at most at a time.
+const FIRST_PIECE: usize = 4096;
+
+const MAX_PIECE: usize = 65536;
+
+/// How many bytes more are asked for: what the buffer has spare, or else as many again as it holds.
+fn next_piece(filled: usize, spare: usize) -> usize
+    ensures some { 0 < result }
+    ensures few { result ≤ MAX_PIECE }
+{
+    if spare > 0 {
+        return spare.min(MAX_PIECE);
+    }
+    filled.max(FIRST_PIECE).min(MAX_PIECE)
+}
+
+/// Reads more of the current file, to behind the bytes that were read of it.
+fn read_more<F: Folder>(folder: &mut F, bytes: &mut Vec<u8>) -> Result<Got, AllocError>
+    requires file { IsTrue (F.at_file folder.old) }
+    requires room { length bytes.old.items ≤ max_bytes }
+    ensures reads { IfOk result (λ got. HasReadMore (F.tells folder.old) (F.tells folder.new) got bytes.old.items bytes.new.items) }
+    ensures fails { OnErr result (F.tells folder.new ≡ F.tells folder.old) }
+    ensures file { IsTrue (F.at_file folder.new) }
+    ensures cause { HasCause (F.faults folder.old) (F.faults folder.new) (result ≡ Ok Got.Failed) }
+{
+    let filled = bytes.len();
+    let piece = next_piece(filled, bytes.capacity() - filled);
+    bytes.resize(filled + piece, 0)?;
+    let got = folder.read(&mut bytes[filled..]);
+    match got {
+        Got::Took(count) => bytes.truncate(filled + count),
+        Got::End => bytes.truncate(filled),
+        Got::Failed => bytes.truncate(filled),
+    }
+    Ok(got)
+}
+
+/// Reads the current file into a buffer of its own, if it has at most `room` bytes.
+fn read_file<F: Folder>(
+    alloc: Global,
+    folder: &mut F,
+    number: u32,
+    room: usize,
+) -> Result<Vec<u8>, SiteFault>
+    requires file { IsTrue (F.at_file folder.old) }
+    requires room { room ≤ max_bytes }
+    ensures reads { IfOk result (λ bytes. HasReadAll (F.tells folder.old) (F.tells folder.new) bytes.items) }
+    ensures fits { IfOk result (λ bytes. length bytes.items ≤ room) }
+    ensures fails { IfErr result (ReadFails number room (F.tells folder.old)) }
+    ensures same { IsSameFolder (F.tells folder.old) (F.tells folder.new) }
+    ensures cause { HasCause (F.faults folder.old) (F.faults folder.new) (result ≡ Err SiteFault.Fault) }
+{
+    let mut bytes = Vec::new(alloc);
+    'pieces: while bytes.len() <= room {
+        match read_more(folder, &mut bytes)? {
+            Got::Took(_) => {}
+            Got::End => {
+                bytes.shrink_to_fit();
+                return Ok(bytes);
+            }
+            Got::Failed => return Err(SiteFault::Fault),
+        }
+    }
+    Err(SiteFault::TooManyBytes { number })
+}
+
+/// Reads the next file, which has this number, if there is one; `room` bytes of contents are still free.
+fn next_file<F: Folder>(
+    alloc: Global,
+    folder: &mut F,
+    date: &Option<HttpDate>,
+    number: u32,
+    room: usize,
+) -> Result<Option<StoredFile>, SiteFault>
+    requires { room ≤ max_bytes }
+    ensures steps { IfOk result (λ file. StepsTo (F.tells folder.old) (F.tells folder.new) (option_map file_of file)) }
+    ensures within { IfOk result (λ file. IfSome file (λ file. IsWithin number room (file_of file))) }
+    ensures heads { IfOk result (λ file. IfSome file (HasHeads date.now)) }
+    ensures fails { IfErr result (StepFails number room (F.tells folder.old)) }
+    ensures same { IsSameFolder (F.tells folder.old) (F.tells folder.new) }
+    ensures cause { HasCause (F.faults folder.old) (F.faults folder.new) (result ≡ Err SiteFault.Fault) }
+{
+    let mut name = [0u8; 1024];
+    let len = match folder.next(&mut name) {
+        NextFile::File { len } => len,
+        NextFile::End => return Ok(None),
+        NextFile::Failed => return Err(SiteFault::Fault),
+        NextFile::Memory => return Err(SiteFault::Memory),
+    };
+    if number > MAX_FILES {
+        return Err(SiteFault::TooManyFiles { count: number });
+    }
+    if len > name.len() {
+        return Err(SiteFault::LongName { number });
+    }
+    let contents = match read_file(alloc, folder, number, room) {
+        Ok(contents) => contents,
+        Err(fault) => return Err(fault),
+    };
+    match StoredFile::new(alloc, date, &name[..len], contents) {
+        Ok(file) => Ok(Some(file)),
+        Err(_) => Err(SiteFault::Memory),
+    }
+}
+
+/// Reads all files of a folder, of which none was given.
+pub(crate) fn read_files<F: Folder>(
+    alloc: Global,
+    folder: &mut F,
+    date: &Option<HttpDate>,
+) -> Result<Vec<StoredFile>, SiteFault>
+    requires { IsFresh (F.tells folder.old) }
+    ensures loads { LoadsStored (F.tells folder.old) result }
+    ensures limits { IfOk result (λ files. IsWithinLimits (files_of files.items)) }
+    ensures heads { IfOk result (λ files. AllHaveHeads date.now files.items) }
+    ensures same { IsSameFolder (F.tells folder.old) (F.tells folder.new) }
+    ensures cause { HasCause (F.faults folder.old) (F.faults folder.new) (result ≡ Err SiteFault.Fault) }
+{
+    let mut files = Vec::new(alloc);
+    let mut room = MAX_BYTES;
+    'files: loop {
+        let number = files.len() as u32 + 1;
+        match next_file(alloc, folder, date, number, room) {
+            Ok(Some(file)) => {
+                room -= file.response.body.len();
+                match files.push(file) {
+                    Ok(()) => {}
+                    Err(_) => return Err(SiteFault::Memory),
+                }
+            }
+            Ok(None) => return Ok(files),
+            Err(fault) => return Err(fault),
+        }
+    }
+}

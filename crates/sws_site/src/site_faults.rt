@@ -1,0 +1,28 @@
+//! Why a folder is no site.
+use std::alloc::AllocError;
+
+/// Why a folder could not be loaded as a site. Files are counted from 1, in the folder's order.
+#[derive(Clone, Copy, Debug, PartialEq, Eq)]
+pub enum SiteFault {
+    /// The folder has more than 4,096 files; `count` is 4,097.
+    TooManyFiles { count: u32 },
+    /// The name of this file has more than 1,024 bytes.
+    LongName { number: u32 },
+    /// The contents up to and with this file have more than 268,435,456 bytes.
+    TooManyBytes { number: u32 },
+    /// The folder failed.
+    Fault,
+    /// An allocation was refused.
+    Memory,
+}
+
+impl From<AllocError> for SiteFault {
+    ghost use Rattle.std.specs.Prelude.{◌≡◌};
+    ghost use Rattle.sws_site.specs.declared.site_faults.SiteFault.TheVariants.{Memory};
+
+    ghost from_gives = { λ error fault. fault ≡ Memory };
+
+    fn from(_error: AllocError) -> SiteFault {
+        SiteFault::Memory
+    }
+}

@@ -1,0 +1,190 @@
+//! A whole site.
+ghost use Rattle.std.specs.Prelude.{◌≡◌, ◌≤◌, length, Err, IfOk, IfSome, Some, None};
+ghost use Rattle.sws_link.specs.Counts.{HasCause};
+ghost use Rattle.httpdate.specs.declared.date.HttpDate.{HttpDate as Date};
+ghost use Rattle.sws_site.specs.Fixed.{IsFixed, IsFixedHead, IsFixedBody};
+ghost use Rattle.sws_site.specs.Limits.{IsWithinLimits};
+ghost use Rattle.sws_site.specs.Sites.{found_in, IsDateAt};
+ghost use Rattle.sws_site.specs.Loading.{IsFresh, LoadsSite, IsSameFolder};
+ghost use Rattle.sws_site.specs.Stored.{FindsPlaces, files_of, AllHaveHeads};
+
+use crate::built_responses::BuiltResponse;
+use crate::loading::read_files;
+use crate::pages::Page;
+use crate::refusals::Refusals;
+use crate::site_faults::SiteFault;
+use crate::statuses::Status;
+use crate::stored::StoredFile;
+use httpdate::HttpDate;
+use std::alloc::{AllocError, Global};
+use std::collections::BTreeMap;
+use std::marker::Model;
+use sws_link::Folder;
+
+/// The files of a folder as they were when it was loaded, and when they were last modified, if that is known.
+#[derive(Drop)]
+pub struct Site {
+    files: Vec<StoredFile>,
+    /// The place of the first file of each name.
+    places: BTreeMap<Vec<u8>, usize>,
+    date: Option<HttpDate>,
+    not_modified: BuiltResponse,
+    refusals: Refusals,
+}
+
+impl Model for Site {
+    ghost use Rattle.sws_site.specs.Sites.{SiteFiles};
+
+    ghost Value = { SiteFiles };
+
+    ghost use Rattle.sws_site.specs.StoredSites.{shown, IsStored};
+
+    ghost view = { shown };
+
+    ghost invariant = { IsStored };
+}
+
+/// The date so many seconds after the beginning of 1970.
+fn http_date(date: Option<u64>) -> Option<HttpDate>
+    requires { IfSome date (λ secs. secs ≤ 253402300799) }
+    ensures { IsDateAt date result }
+{
+    let secs = date?;
+    match HttpDate::from_unix_secs(secs) {
+        Ok(date) => Some(date),
+        Err(_) => unreachable!(),
+    }
+}
+
+/// The place of the first file of each name: the last files are put first, and an earlier one takes the place of a later one.
+fn find_places(alloc: Global, files: &[StoredFile]) -> Result<BTreeMap<Vec<u8>, usize>, AllocError>
+    ensures { IfOk result (FindsPlaces files.now) }
+{
+    let mut places = BTreeMap::new(alloc);
+    let mut start = files.len();
+    'files: while start > 0 {
+        start -= 1;
+        let name = Vec::from_slice(alloc, &files[start].name)?;
+        places.insert(name, start)?;
+    }
+    Ok(places)
+}
+
+impl Site {
+    /// Loads all files of an open folder, of which none was given yet.
+    ///
+    /// `date` is when the files were last modified, in seconds after the beginning of 1970, if that is to be told.
+    ///
+    /// # Errors
+    ///
+    /// The first file that meets a limit decides, and of its limits the first in the order `TooManyFiles`, `LongName`,
+    /// `TooManyBytes`. `Fault` comes only where the folder failed in this call, and `Memory` where an allocation was refused.
+    pub fn load<F: Folder>(
+        alloc: Global,
+        folder: &mut F,
+        date: Option<u64>,
+    ) -> Result<Site, SiteFault>
+        requires fresh { IsFresh (F.tells folder.old) }
+        requires date { IfSome date (λ secs. secs ≤ 253402300799) }
+        ensures loads { LoadsSite (F.tells folder.old) result }
+        ensures date { IfOk result (λ site. IsDateAt date site.date) }
+        ensures same { IsSameFolder (F.tells folder.old) (F.tells folder.new) }
+        ensures cause { HasCause (F.faults folder.old) (F.faults folder.new) (result ≡ Err SiteFault.Fault) }
+    {
+        let date = http_date(date);
+        let files = match read_files(alloc, folder, &date) {
+            Ok(files) => files,
+            Err(fault) => return Err(fault),
+        };
+        match Site::new(alloc, date, files) {
+            Ok(site) => Ok(site),
+            Err(_) => Err(SiteFault::Memory),
+        }
+    }
+
+    /// The site of these files.
+    fn new(
+        alloc: Global,
+        date: Option<HttpDate>,
+        files: Vec<StoredFile>,
+    ) -> Result<Site, AllocError>
+        requires limits { IsWithinLimits (files_of files.items) }
+        requires heads { AllHaveHeads date files.items }
+        ensures files { IfOk result (λ site. site.files ≡ files_of files.items) }
+        ensures date { IfOk result (λ site. site.date ≡ date) }
+    {
+        let places = find_places(alloc, &files)?;
+        let not_modified = BuiltResponse::new(
+            alloc,
+            Status::NotModified,
+            &date,
+            b"",
+            Vec::new(alloc),
+        )?;
+        let refusals = Refusals::new(alloc)?;
+        Ok(Site {
+            files,
+            places,
+            date,
+            not_modified,
+            refusals,
+        })
+    }
+
+    /// The first file of the name, in the folder's order. It takes time in the logarithm of the number of files.
+    pub fn lookup(&self, name: &[u8]) -> Option<Page<'_>>
+        ensures { result ≡ found_in self.now name.now }
+    {
+        match self.places.get(name) {
+            Some(place) => Some(Page {
+                file: &self.files[*place],
+                not_modified: &self.not_modified,
+                date: self.date,
+            }),
+            None => None,
+        }
+    }
+
+    /// The head and the body of the response of this code that is the same for each site.
+    ///
+    /// `code` is 400, 404, 405, 431 or 501.
+    pub fn fixed(&self, code: u16, closes: bool) -> (&[u8], &[u8])
+        requires { IsFixed code }
+        ensures head { IsFixedHead code closes result.0.now }
+        ensures body { IsFixedBody code result.1.now }
+    {
+        let response = self.refusals.with_code(code);
+        (response.head(closes), &response.body)
+    }
+
+    /// How many files the site has.
+    pub fn files(&self) -> usize
+        ensures { result ≡ length self.now.files }
+    {
+        self.files.len()
+    }
+
+    /// When the files were last modified, in seconds after the beginning of 1970, if that is known.
+    pub fn date(&self) -> Option<u64>
+        ensures { IsDateAt result self.now.date }
+    {
+        match &self.date {
+            Some(date) => Some(date.unix_secs()),
+            None => None,
+        }
+    }
+
+    /// The same as a date.
+    pub fn http_date(&self) -> &Option<HttpDate>
+        ensures { result.now ≡ self.now.date }
+    {
+        &self.date
+    }
+
+    /// A law, which does nothing when it runs: every site is within the limits that [`Site::load`] keeps.
+    pub fn limits(&self)
+        ensures { IsWithinLimits self.now.files }
+    {
+        let _ = &self.files;
+    }
+}

@@ -1,0 +1,34 @@
+//! A file as a site stores it.
+ghost use Rattle.std.specs.Prelude.{◌≡◌, IfOk};
+ghost use Rattle.sws_site.specs.Stored.{HasHeads, file_of};
+
+use crate::built_responses::BuiltResponse;
+use crate::content_types::content_type_of;
+use crate::statuses::Status;
+use httpdate::HttpDate;
+use std::alloc::{AllocError, Global};
+
+/// The name of a file, and the response that sends the file.
+#[derive(Drop)]
+pub(crate) struct StoredFile {
+    pub(crate) name: Vec<u8>,
+    pub(crate) response: BuiltResponse,
+}
+
+impl StoredFile {
+    /// The file of this name and these contents, of a site of this date.
+    pub(crate) fn new(
+        alloc: Global,
+        date: &Option<HttpDate>,
+        name: &[u8],
+        contents: Vec<u8>,
+    ) -> Result<StoredFile, AllocError>
+        ensures heads { IfOk result (HasHeads date.now) }
+        ensures file { IfOk result (λ stored. file_of stored ≡ (name.now, contents.items)) }
+    {
+        let kind = content_type_of(name);
+        let response = BuiltResponse::new(alloc, Status::Success, date, kind, contents)?;
+        let name = Vec::from_slice(alloc, name)?;
+        Ok(StoredFile { name, response })
+    }
+}
