@@ -1,0 +1,125 @@
+//! A taken part of a colour.
+ghost use Rattle.std.specs.Prelude.{◌≡◌, ◌<◌, ◌≤◌, ◌+◌, ◌-◌, ◌^◌, ◌++◌, ◌∷◌, [], ℕ, List, Option, length, OnSome, IfSome, IfNone, MatchOption, All};
+ghost use Rattle.std.specs.Borrow.{Lends, sem};
+
+use mely_event::{Colour, Event, Fits, Trail};
+use std::marker::Model;
+use std::snapshot::Snapshot;
+
+/// A taken part of a colour: its state, moved out of its home, and the events that are to be run on it, each with its load.
+///
+/// Each event fits the load beside it, under the frame of the state that was given and the colour. The turn keeps that frame,
+/// whatever is written to the state through [`Turn::state`], so what [`Turn::next`] hands out fits. A turn has no `Drop`: it is
+/// spent by a finish, which takes the state home.
+pub struct Turn<S: Fits<P>, P> {
+    colour: Colour,
+    core: u16,
+    count: u16,
+    state: S,
+    /// The state as it was given. It is for contracts alone and holds no bytes.
+    given: Snapshot<S>,
+    /// The events that are left, the next one last.
+    events: Vec<(Event, Option<P>)>,
+}
+
+impl<S: Fits<P>, P> Model for Turn<S, P> {
+    ghost use Rattle.mely_queue.specs.Taken.{Taken};
+
+    ghost Value = { Taken S P };
+
+    ghost use Rattle.std.specs.Prelude.{reverse};
+    ghost use Rattle.mely_queue.specs.Taken.{EachFits};
+
+    ghost view = { λ t. record { colour = t.colour; core = t.core; count = t.count; state = t.state; given = t.given.value; events = reverse t.events.items } };
+
+    ghost invariant = { λ t. EachFits (S.Fits.fits_under (S.Trail.frame_of t.given.value) t.colour) t.events.items };
+}
+
+impl<S: Fits<P>, P> Turn<S, P> {
+    ghost use Rattle.mely_queue.specs.Taken.{Taken, EachFits};
+    ghost use Rattle.mely_queue.specs.TurnLends.{lends_state};
+
+    /// A turn of these events, of which there are 1 to 1,000. The state is of this colour.
+    pub fn new(colour: Colour, core: u16, state: S, events: Vec<(Event, Option<P>)>) -> Turn<S, P>
+        requires some { 1 ≤ length events.items }
+        requires few { length events.items ≤ 1000 }
+        requires of_colour { S.colour_of state ≡ colour }
+        requires fit { EachFits (S.fits_under (S.frame_of state) colour) events.items }
+        ensures { result ≡ record { colour = colour; core = core; count = length events.items; state = state; given = state; events = events.items } }
+    {
+        let count = events.len() as u16;
+        let given = Snapshot::of(&state);
+        let mut events = events;
+        events.reverse();
+        Turn {
+            colour,
+            core,
+            count,
+            state,
+            given,
+            events,
+        }
+    }
+
+    /// The colour that was taken.
+    pub fn colour(&self) -> Colour
+        ensures { result ≡ self.now.colour }
+    {
+        self.colour
+    }
+
+    /// The core that took it.
+    pub fn core(&self) -> u16
+        ensures { result ≡ self.now.core }
+    {
+        self.core
+    }
+
+    /// How many events were taken.
+    pub fn count(&self) -> u16
+        ensures { result ≡ self.now.count }
+    {
+        self.count
+    }
+
+    /// How many of them have not been handed out.
+    pub fn left(&self) -> usize
+        ensures { result ≡ length self.now.events }
+    {
+        self.events.len()
+    }
+
+    /// Hands out the next event with its load, in the order in which they were taken, and nothing where none is left.
+    pub fn next(&mut self) -> Option<(Event, Option<P>)>
+        ensures next { MatchOption result ((self.old.events ≡ []) × (self.new ≡ self.old)) (λ first. self.old.events ≡ first ∷ self.new.events) }
+        ensures fits { IfSome result (λ first. S.fits_under (S.frame_of self.old.given) self.old.colour first.0 first.1) }
+        ensures rest { self.new ≡ record self.old { events = self.new.events } }
+    {
+        self.events.pop()
+    }
+
+    /// The state, for the handler of an event to read and write.
+    pub fn state(&mut self) -> &mut S
+        ensures* writes_back { sem 𝓛 (lends_state S.row P.row S.Frame.row (record { fits_under = S.fits_under }) (record { trail_of = S.trail_of; colour_of = S.colour_of; frame_of = S.frame_of; spare_of = S.spare_of; alike = S.alike }) self.entry result) }
+        ensures value { result.now ≡ self.old.state }
+    {
+        &mut self.state
+    }
+
+    /// The state as it is. Events that were not handed out are dropped with the turn.
+    pub fn into_state(self) -> S
+    where
+        P: Drop,
+        ensures { result ≡ self.state }
+    {
+        let Turn {
+            colour: _,
+            core: _,
+            count: _,
+            state,
+            given: _,
+            events: _,
+        } = self;
+        state
+    }
+}
