@@ -1,0 +1,6 @@
+pub mod AnswerLaws
+pub mod LengthLaws
+pub mod ResponseLaws
+mod FieldLemmas
+mod AnswerLemmas
+mod TargetLemmas

@@ -1,0 +1,14 @@
+use Rattle.std.proofs.Common.{refl, ap, ◌∙◌}
+use Rattle.std.specs.Prelude.{if◌then◌else◌, []}
+use Rattle.sws_site.specs.Files.{file_head}
+use Rattle.sws_answer.specs.Answers.{response}
+use Rattle.sws_answer.proofs.answering.send_file.Goals as goal
+
+pub returns : goal.returns
+unfolding response file_head
+returns c = record {
+  code = c.code.ensures;
+  closes = refl;
+  head = c.parts_of.ensures.head ∙ c.head-head.ensures;
+  body = c.parts_of.ensures.body ∙ ap (λ b. if c.args.is_head then [] else b) c.body.ensures;
+}

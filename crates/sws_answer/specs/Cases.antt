@@ -1,0 +1,53 @@
+-- The status of the answer to a request: the first of a table of cases (RFC 9110, sections 9, 13 and 15; RFC 9112, section 3).
+use Rattle.std.specs.Prelude.{ℕ, Bool, not, ◌==◌, ◌&&◌, ◌||◌, if◌then◌else◌, nat_lt, List, [], ◌∷◌, length, codes, Option, option_and_then, is_none}
+use Rattle.std.specs.List.{list_any}
+use Rattle.std.specs.Str.{bytes_eq}
+use Rattle.sws_request.specs.Request.{Request}
+use Rattle.sws_site.specs.declared.statuses.Status.{Status}
+use Rattle.sws_site.specs.declared.statuses.Status.TheVariants.{Success, NotModified, BadRequest, NotFound, MethodNotAllowed, NotImplemented}
+use Rattle.sws_site.specs.Files.{File, file_named}
+use Rattle.sws_site.specs.Sites.{SiteFiles}
+use Rattle.sws_answer.specs.Fields.{values_of}
+use Rattle.sws_answer.specs.Targets.{path_and_query, name_of}
+use Rattle.sws_answer.specs.Conditions.{is_unmodified}
+
+-- there is more than one field Host, or none with HTTP/1.1 (RFC 9112, section 3.2)
+abbrev pub lacks_host : Request → Bool
+lacks_host asked =
+    let hosts = length (values_of (codes "host") asked.fields) in
+    nat_lt 1 hosts || (hosts == 0 && asked.minor == 1)
+
+abbrev pub is_one_of : List (List ℕ) → List ℕ → Bool
+is_one_of words word = list_any (bytes_eq word) words
+
+-- the methods that a file has (RFC 9110, sections 9.3.1 and 9.3.2)
+abbrev pub file_methods : List (List ℕ)
+file_methods = codes "GET" ∷ codes "HEAD" ∷ []
+
+-- the methods that are known, and that no file has (RFC 9110, section 9.3; RFC 5789)
+abbrev pub other_methods : List (List ℕ)
+other_methods =
+    codes "OPTIONS" ∷ codes "POST" ∷ codes "PUT" ∷ codes "DELETE" ∷ codes "PATCH" ∷ codes "TRACE" ∷ codes "CONNECT" ∷ []
+
+-- the file that the request names
+abbrev pub file_for : SiteFiles → Request → Option File
+file_for site asked = option_and_then (λ name. file_named name site.files) (name_of asked.target)
+
+-- the status of the first case that holds
+abbrev pub first_case : List (Bool × Status) → Status → Status
+first_case [] otherwise = otherwise
+first_case (row ∷ rows) otherwise = if row.0 then row.1 else first_case rows otherwise
+
+-- the cases of a request, with the status of each
+abbrev pub request_cases : SiteFiles → Request → List (Bool × Status)
+request_cases site asked =
+    (lacks_host asked, BadRequest)
+    ∷ (is_one_of other_methods asked.method, MethodNotAllowed)
+    ∷ (not (is_one_of file_methods asked.method), NotImplemented)
+    ∷ (is_none (path_and_query asked.target), BadRequest)
+    ∷ (is_none (file_for site asked), NotFound)
+    ∷ (is_unmodified site.date asked.fields, NotModified)
+    ∷ []
+
+unfoldable pub request_status : SiteFiles → Request → Status
+request_status site asked = first_case (request_cases site asked) Success

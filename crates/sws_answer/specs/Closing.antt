@@ -1,0 +1,31 @@
+-- Whether a request lets its connection be used again (RFC 9112, sections 6 and 9.3).
+use Rattle.std.specs.Prelude.{ℕ, Bool, not, ◌==◌, ◌&&◌, ◌||◌, List, codes, length}
+use Rattle.std.specs.List.{list_any, list_all}
+use Rattle.sws_request.specs.Request.{Request}
+use Rattle.sws_answer.specs.Fields.{Field, is_named, has_field, has_member}
+
+-- a field by which the client asks for the end of the connection (RFC 9112, section 9.6)
+abbrev pub is_close_field : Field → Bool
+is_close_field field = is_named (codes "connection") field && has_member (codes "close") field.1
+
+abbrev pub asks_to_close : List Field → Bool
+asks_to_close fields = list_any is_close_field fields
+
+-- one or more digits 0
+abbrev pub is_zero : List ℕ → Bool
+is_zero value = not (length value == 0) && list_all (λ byte. byte == 48) value
+
+-- a field that gives a length other than 0 (RFC 9110, section 8.6)
+abbrev pub is_length_field : Field → Bool
+is_length_field field = is_named (codes "content-length") field && not (is_zero field.1)
+
+abbrev pub has_content_length : List Field → Bool
+has_content_length fields = list_any is_length_field fields
+
+-- content may follow the head (RFC 9112, section 6.3)
+abbrev pub announces_content : List Field → Bool
+announces_content fields = has_field (codes "transfer-encoding") fields || has_content_length fields
+
+-- the connection ends after the response to this request, whatever it is
+abbrev pub is_closing : Request → Bool
+is_closing request = request.minor == 0 || asks_to_close request.fields || announces_content request.fields

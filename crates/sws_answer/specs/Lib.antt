@@ -1,0 +1,10 @@
+pub mod Fields
+pub mod Targets
+pub mod Conditions
+pub mod Closing
+pub mod Asked
+pub mod Cases
+pub mod Answers
+pub mod Responses
+pub mod AnswerValues
+pub mod FileAnswers

@@ -1,0 +1,198 @@
+//! The answer to one head.
+ghost use Rattle.std.specs.Prelude.{◌≡◌, ◌≤◌, Bool, true, false, not, ◌||◌, length, [], codes, if◌then◌else◌, None, Some};
+ghost use Rattle.sws_site.specs.declared.statuses.Status.{Status as StatusValue};
+ghost use Rattle.sws_site.specs.Sites.{SiteFile};
+ghost use Rattle.sws_answer.specs.Cases.{lacks_host, is_one_of, file_methods, other_methods};
+ghost use Rattle.sws_answer.specs.Answers.{is_head_request, response, request_answer, answer_of};
+ghost use Rattle.sws_answer.specs.FileAnswers.{IsRefusal, name_answer};
+ghost use Rattle.percent_encoding.specs.Percent.{percent_decode as decoded};
+ghost use Rattle.sws_answer.specs.Targets.{with_index};
+ghost use Rattle.sws_answer.specs.AnswerValues.{asked_value, Sends};
+ghost use Rattle.sws_answer.specs.Closing.{is_closing};
+ghost use Rattle.sws_answer.specs.Conditions.{is_unmodified};
+
+use crate::answers::Answer;
+use crate::asking::Asked;
+use crate::closing::closes_connection;
+use crate::conditions::is_not_modified;
+use crate::fields::count_of;
+use crate::path_room::PathRoom;
+use crate::targets::{behind_first_slash, path_part, write_name};
+use sws_parts::Parts;
+use sws_request::RequestView;
+use sws_site::{HeadKind, Page, Site, Status};
+
+/// Whether the request has not the one field Host that it needs.
+fn is_without_host(request: &RequestView<'_>) -> bool
+    ensures { result ≡ lacks_host request.now }
+{
+    let hosts = count_of(request, b"host");
+    hosts > 1 || hosts == 0 && request.minor() == 1
+}
+
+/// Whether the method is known, and no method of a file.
+fn is_other_method(method: &[u8]) -> bool
+    ensures { result ≡ is_one_of other_methods method.now }
+{
+    method == b"OPTIONS".as_slice()
+        || method == b"POST".as_slice()
+        || method == b"PUT".as_slice()
+        || method == b"DELETE".as_slice()
+        || method == b"PATCH".as_slice()
+        || method == b"TRACE".as_slice()
+        || method == b"CONNECT".as_slice()
+}
+
+/// Whether a file has the method.
+fn is_file_method(method: &[u8]) -> bool
+    ensures { result ≡ is_one_of file_methods method.now }
+{
+    method == b"GET".as_slice() || method == b"HEAD".as_slice()
+}
+
+/// Whether the content is left out of the response.
+fn leaves_content_out(request: &RequestView<'_>) -> bool
+    ensures { result ≡ is_head_request request.now }
+{
+    request.method() == b"HEAD".as_slice()
+}
+
+/// The parts of a response, of which the content may be left out.
+fn parts_of<'s>(head: &'s [u8], body: &'s [u8], is_head: bool) -> Parts<'s>
+    ensures head { result.head ≡ head.now }
+    ensures body { result.body ≡ (if is_head then [] else body.now) }
+{
+    if is_head {
+        return Parts::new(head, b"");
+    }
+    Parts::new(head, body)
+}
+
+/// The response that refuses.
+fn refuse<'s>(site: &'s Site, status: Status, closes: bool, is_head: bool) -> Answer<'s>
+    requires { IsRefusal status }
+    ensures { Sends result (response site.now.date status None closes is_head) }
+{
+    let code = status.code();
+    let (head, body) = site.fixed(code, closes);
+    Answer {
+        parts: parts_of(head, body, is_head),
+        closes,
+        code,
+    }
+}
+
+/// The response that sends a file.
+fn send_file<'s>(page: &Page<'s>, closes: bool, is_head: bool) -> Answer<'s>
+    ensures { Sends result (response page.now.date StatusValue.Success (Some page.now.file) closes is_head) }
+{
+    let head = page.head(HeadKind {
+        changed: true,
+        closes,
+    });
+    Answer {
+        parts: parts_of(head, page.body(), is_head),
+        closes,
+        code: Status::Success.code(),
+    }
+}
+
+/// The response that a file was not modified.
+fn say_not_modified<'s>(page: &Page<'s>, closes: bool, is_head: bool) -> Answer<'s>
+    ensures { Sends result (response page.now.date StatusValue.NotModified (Some page.now.file) closes is_head) }
+{
+    let head = page.head(HeadKind {
+        changed: false,
+        closes,
+    });
+    Answer {
+        parts: parts_of(head, b"", is_head),
+        closes,
+        code: Status::NotModified.code(),
+    }
+}
+
+/// The answer to a request whose target names a file.
+fn answer_file<'s>(
+    site: &'s Site,
+    request: &RequestView<'_>,
+    page: &Page<'s>,
+    closes: bool,
+    is_head: bool,
+) -> Answer<'s>
+    requires { page.now.date ≡ site.now.date }
+    ensures modified { is_unmodified site.now.date request.now.fields ≡ false → Sends result (response site.now.date StatusValue.Success (Some page.now.file) closes is_head) }
+    ensures not_modified { is_unmodified site.now.date request.now.fields ≡ true → Sends result (response site.now.date StatusValue.NotModified (Some page.now.file) closes is_head) }
+{
+    if is_not_modified(site.http_date(), request) {
+        return say_not_modified(page, closes, is_head);
+    }
+    send_file(page, closes, is_head)
+}
+
+/// The answer to a request for the path, which stands without its first slash.
+fn answer_path<'s>(
+    site: &'s Site,
+    request: &RequestView<'_>,
+    path: &[u8],
+    closes: bool,
+    is_head: bool,
+    room: &mut PathRoom,
+) -> Answer<'s>
+    ensures { Sends result (name_answer site.now request.now (with_index (decoded path.now)) closes is_head) }
+{
+    if !write_name(path, room) {
+        site.limits();
+        return refuse(site, Status::NotFound, closes, is_head);
+    }
+    match site.lookup(room.bytes()) {
+        Some(page) => answer_file(site, request, &page, closes, is_head),
+        None => refuse(site, Status::NotFound, closes, is_head),
+    }
+}
+
+/// Whether the connection ends after the response, unless that closes by itself.
+fn closes_after(request: &RequestView<'_>, last: bool) -> bool
+    ensures { result ≡ (is_closing request.now || last) }
+{
+    closes_connection(request) || last
+}
+
+/// The answer to a request.
+fn answer_request<'s>(
+    site: &'s Site,
+    request: &RequestView<'_>,
+    last: bool,
+    room: &mut PathRoom,
+) -> Answer<'s>
+    ensures { Sends result (request_answer site.now request.now last) }
+{
+    let closes = closes_after(request, last);
+    let is_head = leaves_content_out(request);
+    if is_without_host(request) {
+        return refuse(site, Status::BadRequest, true, is_head);
+    }
+    if is_other_method(request.method()) {
+        return refuse(site, Status::MethodNotAllowed, closes, is_head);
+    }
+    if !is_file_method(request.method()) {
+        return refuse(site, Status::NotImplemented, closes, is_head);
+    }
+    match behind_first_slash(request.target()) {
+        Some(rest) => answer_path(site, request, path_part(rest), closes, is_head, room),
+        None => refuse(site, Status::BadRequest, true, is_head),
+    }
+}
+
+/// The answer to what was asked. With `last` it is the last one of its connection, and closes it.
+///
+/// `room` serves for the name of the file; what was in it before does not matter.
+pub fn answer<'s>(site: &'s Site, asked: &Asked<'_>, last: bool, room: &mut PathRoom) -> Answer<'s>
+    ensures { Sends result (answer_of site.now (asked_value asked.now) last) }
+{
+    match asked {
+        Asked::Request(request) => answer_request(site, request, last, room),
+        Asked::NotARequest => refuse(site, Status::BadRequest, true, false),
+        Asked::TooLong => refuse(site, Status::HeaderFieldsTooLarge, true, false),
+    }
+}

@@ -1,0 +1,14 @@
+//! What is sent.
+
+use sws_parts::Parts;
+
+/// What is sent for a head, lent for `'s`, the life of the site.
+#[derive(Drop)]
+pub struct Answer<'s> {
+    /// The head and the body.
+    pub parts: Parts<'s>,
+    /// The connection ends after them.
+    pub closes: bool,
+    /// The status code: 200, 304, 400, 404, 405, 431 or 501.
+    pub code: u16,
+}
