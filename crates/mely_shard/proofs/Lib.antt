@@ -1,0 +1,12 @@
+pub mod Cells
+pub mod FirstCells
+pub mod Ending
+pub mod DrainedLaws
+pub mod TurnLaws
+pub mod ExampleLaws
+pub mod Registering
+pub mod Finishing
+pub mod Taking
+pub mod Exposing
+pub mod Stealing
+pub mod OnceLaws

@@ -1,0 +1,46 @@
+-- What the other calls leave of a turn, and of what is a shard's own.
+use Rattle.std.proofs.Common.{◌≡◌, ℕ, List, [], ◌∷◌, ◌++◌, Option, Some, take, sym, ◌∙◌, ap, subst, arith, add-zero}
+use Rattle.std.specs.List.{slice_get}
+use Rattle.std.proofs.lemmas.List.{take-append-le}
+use Rattle.mely_event.specs.declared.colour.Colour.{Colour}
+use Rattle.mely_event.specs.declared.event.Event.{Event}
+use Rattle.mely_history.specs.declared.entry.Entry.TheVariants.{Reg}
+use Rattle.mely_history.specs.History.{registered_of, begun_of, ended_of}
+use Rattle.mely_history.specs.Legal.{IsRunningOn, IsLegal}
+use Rattle.mely_history.specs.Account.{Account, account_of}
+use Rattle.mely_history.proofs.AccountLaws.{account-with, account_with}
+use Rattle.mely_history.proofs.LegalAccounts.{begun_within}
+use Rattle.mely_queue.specs.Taken.{Taken}
+use Rattle.mely_shard.specs.Contents.{Contents, IsOwn, KeepsFrame, TurnStands}
+
+-- a colour of the shard is one after each call
+pub own_stays : {S P : Type 0} (old new : Contents S P) (c : Colour) → KeepsFrame old new → IsOwn old c → IsOwn new c
+own_stays old new c frame own = record { there = rw (frame.same_setup) own.there; here = rw (frame.same_setup, frame.same_shard) own.here }
+
+module _ {S P F : Type 0} (trail : S → List Event) (colour : S → Colour) (frame : S → F) (fits : F → Colour → Event → Option P → Type 0) (old new : Contents S P) (turn : Taken S P) (stays : KeepsFrame old new) where
+  -- a turn stands where the history is the same
+  pub turn_stays : new.history ≡ old.history → TurnStands trail colour frame fits old turn → TurnStands trail colour frame fits new turn
+  turn_stays same stands = record {
+    away = subst (λ h. IsRunningOn h turn.colour turn.core turn.count) (sym same) stands.away;
+    trailed = stands.trailed ∙ ap (λ h. take (begun_of h turn.colour) (registered_of h turn.colour)) (sym same);
+    coloured = stands.coloured;
+    framed = λ i given is. stands.framed i given (subst (λ gs. slice_get gs i ≡ Some given) stays.same_givens is);
+    fit = stands.fit;
+  }
+
+  -- a registration, also on its own colour, leaves a turn as it stands
+  pub turn_registered : (c : Colour) (event : Event) (by : ℕ) → IsLegal old.setup old.history → new.history ≡ old.history ++ Reg c event by ∷ [] → TurnStands trail colour frame fits old turn → TurnStands trail colour frame fits new turn
+  turn_registered c event by legal more stands =
+      let k = turn.colour in
+      let with : account_of old.setup new.history k ≡ account_with k (account_of old.setup old.history k) (Reg c event by) = ap (λ h. account_of old.setup h k) more ∙ account-with old.setup old.history (Reg c event by) k in
+      let begun : begun_of new.history k ≡ begun_of old.history k = ap (λ (s : Account). s.begun) with ∙ add-zero (begun_of old.history k) in
+      let ended : ended_of new.history k ≡ ended_of old.history k = ap (λ (s : Account). s.ended) with ∙ add-zero (ended_of old.history k) in
+      let within = begun_within old.setup old.history k legal in
+      let runs = stands.away.running in
+      record {
+        away = record { running = omega (arith, begun, ended, runs); last = ap (λ (s : Account). s.last) with ∙ stands.away.last };
+        trailed = stands.trailed ∙ sym (ap (λ n. take n (registered_of new.history k)) begun ∙ ap (take (begun_of old.history k)) (ap (λ (s : Account). s.registered) with) ∙ take-append-le (begun_of old.history k) (registered_of old.history k) _ within);
+        coloured = stands.coloured;
+        framed = λ i given is. stands.framed i given (subst (λ gs. slice_get gs i ≡ Some given) stays.same_givens is);
+        fit = stands.fit;
+      }

@@ -1,0 +1,67 @@
+use Rattle.std.specs.Prelude.{◌≡◌, ◌≤◌, ◌==◌, ℕ, Bool, Option, None, Some, length, min, take, sum, ◌&&◌, is_some, is_none, nat_lt, if◌then◌else◌}
+use Rattle.mely_event.specs.declared.colour.Colour.{Colour}
+use Rattle.mely_history.specs.declared.registered.Registered.{Registered}
+use Rattle.mely_history.specs.declared.registered.Registered.TheVariants.{Woke, Told, Running}
+use Rattle.mely_history.specs.declared.no_take.NoTake.{NoTake}
+use Rattle.mely_history.specs.declared.no_take.NoTake.TheVariants.{Elsewhere, Busy, Empty}
+use Rattle.mely_history.specs.declared.after.After.{After}
+use Rattle.mely_history.specs.declared.after.After.TheVariants.{More, Idle}
+use Rattle.mely_history.specs.declared.no_steal.NoSteal.{NoSteal}
+use Rattle.mely_history.specs.declared.no_steal.NoSteal.TheVariants as steals
+use Rattle.mely_history.specs.declared.no_steal.NoSteal.TheVariants.{Own, Cheap}
+use Rattle.mely_queue.specs.Waiting.{registered_in, taken}
+use Rattle.mely_queue.specs.Taken.{Taken}
+use Rattle.mely_shard.specs.declared.cell.Cell.{Cell}
+
+-- what a registration is told, where events waited before it or not
+abbrev pub reply_of : {S P : Type 0} → Cell S P → Bool → Registered
+reply_of cell waited =
+    if is_none cell.home then Running cell.core
+    else if waited then Told cell.owner cell.queue.started (sum cell.queue.weights)
+    else Woke cell.owner cell.queue.started (sum cell.queue.weights)
+
+-- why a core may not take a colour, memory aside
+abbrev pub no_take_of : {S P : Type 0} → Cell S P → ℕ → Option NoTake
+no_take_of cell core =
+    if core == cell.owner then
+    if is_none cell.home then Some (Busy cell.core)
+    else if nat_lt 0 (length cell.queue.events) then None
+    else Some (Empty (registered_in cell.queue))
+    else Some (Elsewhere cell.owner)
+
+-- what is left after a finish
+abbrev pub after_of : {S P : Type 0} → Cell S P → After
+after_of cell = if nat_lt 0 (length cell.queue.events) then More cell.queue.started (sum cell.queue.weights) else Idle
+
+-- the state and the first events are moved out
+pub record CellTakes {S P : Type 0} (Alike : S → S → Type 0) (spare : S → ℕ) (old new : Cell S P) (colour : Colour) (core batch : ℕ) (turn : Taken S P) : Type 0 where
+  pub home : S
+  pub was : old.home ≡ Some home
+  pub alike : Alike home turn.state
+  pub room : min batch (length old.queue.events) ≤ spare turn.state
+  pub made : turn ≡ record { colour = colour; core = core; count = min batch (length old.queue.events); state = turn.state; given = turn.state; events = take batch old.queue.events }
+  pub left : new ≡ record old { queue = taken old.queue (min batch (length old.queue.events)); home = None; core = core; count = min batch (length old.queue.events) }
+
+-- only the spare of the state at home may be greater
+pub record CellKeepsState {S P : Type 0} (Alike : S → S → Type 0) (old new : Cell S P) : Type 0 where
+  pub home : S
+  pub was : old.home ≡ Some home
+  pub state : S
+  pub alike : Alike home state
+  pub left : new ≡ record old { home = Some state }
+
+-- why a core may not steal a colour, memory aside
+abbrev pub no_steal_of : {S P : Type 0} → Cell S P → ℕ → ℕ → Option NoSteal
+no_steal_of cell to cost =
+    if to == cell.owner then Some Own
+    else if is_none cell.home then Some (steals.Busy cell.core)
+    else if nat_lt 0 (length cell.queue.events) then
+    if nat_lt cost (sum cell.queue.weights) then None
+    else Some (Cheap (sum cell.queue.weights))
+    else Some (steals.Empty (registered_in cell.queue))
+
+abbrev pub cell_is_drained : {S P : Type 0} → Cell S P → Bool
+cell_is_drained cell = is_some cell.home && (length cell.queue.events == 0)
+
+abbrev pub ready_of : {S P : Type 0} → Cell S P → Option (ℕ × ℕ × ℕ)
+ready_of cell = if is_some cell.home && nat_lt 0 (length cell.queue.events) then Some (cell.owner, cell.queue.started, sum cell.queue.weights) else None

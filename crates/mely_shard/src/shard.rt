@@ -1,0 +1,293 @@
+ghost use Rattle.std.specs.Prelude.{◌≡◌, ◌<◌, ◌≤◌, ◌+◌, ◌-◌, ◌/◌, ◌%◌, ◌^◌, ◌++◌, ◌∷◌, [], ℕ, List, Option, ◌≢◌, length, IfOk, IfErr, OnOk, OnErr, option_copied, IsTrue, ◌↔◌};
+
+use crate::cell::{Cell, all_drained, cells_of, take_apart};
+use mely_event::{Colour, Event, Fits, Memory, Trail, Unregistered};
+use mely_history::{After, Entry, NoSteal, NoTake, Registered, Setup, Stolen};
+use mely_queue::Turn;
+use std::alloc::Global;
+use std::marker::Model;
+use std::snapshot::Snapshot;
+
+/// The colours of one shard: their queues, their states and their history, as one plain value.
+///
+/// Its four calls [`register`](Shard::register), [`take`](Shard::take), [`finish`](Shard::finish)
+/// and [`steal`](Shard::steal) are the four entries of a legal history, one each: a call appends the
+/// entry that is allowed, or is refused and changes nothing but spare room. Contracts see a shard as
+/// its setup, its number, its history, and a lane for each of its colours: the state where it is at
+/// home, the state that was given at first, and the queued events with their loads. The type keeps
+/// that the history is legal and that the lanes are what it says. A call takes constant time in the
+/// number of colours and in the length of the history, but for growth.
+#[derive(Drop)]
+pub struct Shard<S: Fits<P>, P> {
+    setup: Setup,
+    shard: u16,
+    history: Vec<Entry>,
+    cells: Vec<Cell<S, P>>,
+    running: usize,
+
+    /// Empty lists with room for what [`into_parts`](Shard::into_parts) hands out.
+    states: Vec<S>,
+    queues: Vec<Vec<(Event, Option<P>)>>,
+}
+
+impl<S: Fits<P>, P> Model for Shard<S, P> {
+    ghost use Rattle.mely_shard.specs.Contents.{Contents};
+
+    ghost Value = { Contents S P };
+
+    ghost use Rattle.std.specs.Prelude.{map, length, vec_len, vec_capacity, ◌+◌, ◌-◌};
+    ghost use Rattle.mely_shard.specs.Kept.{lane_of, IsKeptShard, HasRoom};
+
+    ghost view = { λ s. record { setup = s.setup; shard = s.shard; history = s.history.items; lanes = map lane_of s.cells.items; spare = vec_capacity s.history - (length s.history.items + s.running) } };
+
+    ghost invariant = { λ s. IsKeptShard S.trail_of S.colour_of S.frame_of S.fits_under s.setup s.shard s.history.items s.cells.items s.running (vec_capacity s.history) × HasRoom (vec_len s.states) (vec_capacity s.states) (vec_len s.queues) (vec_capacity s.queues) (length s.cells.items) };
+}
+
+impl<S: Fits<P>, P> Shard<S, P> {
+    ghost use Rattle.mely_shard.specs.Contents.{Contents, IsOwn, lane_at, Registers, RegisteredAs, HasSameContents, Takes, KeepsStates, NoTakeAs, Finishes, AfterAs, TurnStands, IsKept, ReadyAs, Steals, NoStealAs, AreFirstStates, IsFirst, KeepsFrame, IsRoomier, StandsOnce};
+    ghost use Rattle.mely_history.specs.Setup.{shape_of};
+    ghost use Rattle.mely_event.specs.declared.colour.Colour.{Colour};
+    ghost use Rattle.std.specs.Prelude.{map, Some};
+    ghost use Rattle.mely_history.specs.Legal.{MayRegister, IsDrained};
+    ghost use Rattle.mely_history.specs.History.{IsRunning};
+
+    /// A shard at first, in which nothing was registered. There is a state for each colour `c` of the
+    /// setup with `c % shards == shard`, in ascending order, each with an empty trail, all with one
+    /// frame. Beside the states it takes memory for the colours and for what
+    /// [`into_parts`](Shard::into_parts) hands out.
+    ///
+    /// # Errors
+    ///
+    /// `Memory`: the states are dropped.
+    pub fn new(
+        alloc: Global,
+        setup: &Setup,
+        shard: u16,
+        states: Vec<S>,
+    ) -> Result<Shard<S, P>, Memory>
+    where
+        S: Drop,
+        P: Drop,
+        requires numbered { shard < (shape_of setup.now).shards }
+        requires first { AreFirstStates S.trail_of S.colour_of S.frame_of setup.now shard states.items }
+        ensures made { IfOk result (λ made. IsFirst setup.now shard states.items made) }
+        ensures kept { IfOk result (λ made. IsKept S.trail_of S.colour_of S.frame_of S.fits_under made) }
+    {
+        let cells = cells_of(alloc, setup, shard, states)?;
+        let Ok(states) = Vec::with_capacity(alloc, cells.len()) else {
+            return Err(Memory);
+        };
+        let Ok(queues) = Vec::with_capacity(alloc, cells.len()) else {
+            return Err(Memory);
+        };
+        Ok(Shard {
+            setup: *setup,
+            shard,
+            history: Vec::new(alloc),
+            cells,
+            running: 0,
+            states,
+            queues,
+        })
+    }
+
+    /// The history, and the states and the queued events by colour, in the order of the colours. It
+    /// takes no memory.
+    pub fn into_parts(self) -> (Vec<Entry>, Vec<S>, Vec<Vec<(Event, Option<P>)>>)
+    where
+        S: Drop,
+        P: Drop,
+        requires { (c : Colour) → IsOwn self c → ¬ IsRunning self.history c }
+        ensures history { result.0.items ≡ self.history }
+        ensures states { map (λ state. Some state) result.1.items ≡ map (λ lane. lane.state) self.lanes }
+        ensures queues { map (λ queue. queue.items) result.2.items ≡ map (λ lane. lane.events) self.lanes }
+    {
+        let Shard {
+            history,
+            cells,
+            mut states,
+            mut queues,
+            ..
+        } = self;
+        take_apart(cells, &mut states, &mut queues);
+        (history, states, queues)
+    }
+
+    /// Whether no colour of the shard runs and nothing is queued. It takes no memory, and time
+    /// linear in the number of the shard's colours.
+    pub fn is_drained(&self) -> bool
+        ensures { IsTrue result ↔ IsDrained self.now.history }
+    {
+        all_drained(&self.cells)
+    }
+
+    /// The entries so far, the oldest first.
+    pub fn history(&self) -> &[Entry]
+        ensures value { result.now ≡ self.now.history }
+        ensures kept { IsKept S.trail_of S.colour_of S.frame_of S.fits_under self.now }
+    {
+        &self.history
+    }
+
+    /// Registers an event behind the others of its colour.
+    pub fn register(
+        &mut self,
+        colour: Colour,
+        event: Event,
+        load: Option<P>,
+        by: u16,
+    ) -> Result<Registered, Unregistered<P>>
+        requires own { IsOwn self.old colour }
+        requires may { MayRegister self.old.setup colour event }
+        requires fit { (lane : _) → lane_at self.old colour ≡ Some lane → S.fits_under (S.frame_of lane.given) colour event load }
+        ensures ok { IfOk result (λ _. Registers self.old self.new colour event load by) }
+        ensures reply { IfOk result (λ reply. RegisteredAs self.old.setup self.old.history self.new.history colour reply) }
+        ensures err { OnErr result (HasSameContents self.old self.new) }
+        ensures back { IfErr result (λ refused. (refused.event ≡ event) × (refused.load ≡ load)) }
+        ensures kept { IsKept S.trail_of S.colour_of S.frame_of S.fits_under self.new }
+        ensures frame { KeepsFrame self.old self.new }
+    {
+        let Ok(()) = self.history.reserve(self.running + 1) else {
+            return Err(Unregistered { event, load });
+        };
+        let weight = self.setup.handlers().weight(event.handler);
+        let place = (colour.0 / self.setup.shards()) as usize;
+        let reply = self.cells[place].register(event, load, weight)?;
+        self.history.push_reserved(Entry::Reg { colour, event, by });
+        Ok(reply)
+    }
+
+    /// Moves the state of a colour and its first events out.
+    pub fn take(&mut self, colour: Colour, core: u16) -> Result<Turn<S, P>, NoTake>
+        requires own { IsOwn self.old colour }
+        ensures ok { IfOk result (λ turn. Takes (IsRoomier S.alike S.spare_of) S.spare_of self.old self.new colour core turn) }
+        ensures stands { IfOk result (λ turn. TurnStands S.trail_of S.colour_of S.frame_of S.fits_under self.new turn) }
+        ensures err { OnErr result (KeepsStates (IsRoomier S.alike S.spare_of) self.old self.new) }
+        ensures refusal { IfErr result (λ refusal. NoTakeAs self.old.setup self.old.history colour core refusal) }
+        ensures kept { IsKept S.trail_of S.colour_of S.frame_of S.fits_under self.new }
+        ensures frame { KeepsFrame self.old self.new }
+    {
+        let place = (colour.0 / self.setup.shards()) as usize;
+        let cell = &mut self.cells[place];
+        if let Some(refusal) = cell.no_take(core) {
+            return Err(refusal);
+        }
+        let Ok(()) = self.history.reserve(self.running + 2) else {
+            return Err(NoTake::Memory);
+        };
+        let batch = self.setup.batch();
+        let Ok(turn) = cell.take(colour, core, batch) else {
+            return Err(NoTake::Memory);
+        };
+        let count = turn.count();
+        self.history.push_reserved(Entry::Take {
+            colour,
+            core,
+            count,
+        });
+        self.running += 1;
+        Ok(turn)
+    }
+
+    /// Takes the state of a turn home.
+    pub fn finish(&mut self, turn: Turn<S, P>) -> After
+    where
+        S: Drop,
+        P: Drop,
+        requires own { IsOwn self.old turn.colour }
+        requires spent { turn.events ≡ [] }
+        requires stands { TurnStands S.trail_of S.colour_of S.frame_of S.fits_under self.old turn }
+        ensures home { Finishes self.old self.new turn }
+        ensures reply { AfterAs self.old.setup self.new.history turn.colour result }
+        ensures kept { IsKept S.trail_of S.colour_of S.frame_of S.fits_under self.new }
+        ensures frame { KeepsFrame self.old self.new }
+    {
+        let colour = turn.colour();
+        let core = turn.core();
+        let count = turn.count();
+        let place = (colour.0 / self.setup.shards()) as usize;
+        self.history.push_reserved(Entry::Fin {
+            colour,
+            core,
+            count,
+        });
+        self.running -= 1;
+        self.cells[place].finish(count, turn.into_state())
+    }
+
+    /// Makes room for this many entries, beside the room for running turns.
+    pub fn reserve(&mut self, entries: usize) -> Result<(), Memory>
+        ensures ok { OnOk result (entries ≤ self.new.spare) }
+        ensures not_lower { self.old.spare ≤ self.new.spare }
+        ensures contents { HasSameContents self.old self.new }
+        ensures kept { IsKept S.trail_of S.colour_of S.frame_of S.fits_under self.new }
+        ensures frame { KeepsFrame self.old self.new }
+    {
+        if entries > usize::MAX - self.running {
+            return Err(Memory);
+        }
+        match self.history.reserve(self.running + entries) {
+            Ok(()) => Ok(()),
+            Err(_) => Err(Memory),
+        }
+    }
+
+    /// The state of a colour, where it does not run.
+    pub fn state(&self, colour: Colour) -> Option<&S>
+        requires { IsOwn self.now colour }
+        ensures { (lane : _) → lane_at self.now colour ≡ Some lane → option_copied result ≡ lane.state }
+    {
+        let place = (colour.0 / self.setup.shards()) as usize;
+        self.cells[place].home.as_ref()
+    }
+
+    /// The owner, how many events were started, and the worth of a colour that is ready.
+    pub fn ready(&self, colour: Colour) -> Option<(u16, u64, u128)>
+        requires { IsOwn self.now colour }
+        ensures { ReadyAs self.now.setup self.now.history colour result }
+    {
+        let place = (colour.0 / self.setup.shards()) as usize;
+        self.cells[place].ready()
+    }
+
+    /// Moves a colour with all that is queued to another core.
+    pub fn steal(&mut self, colour: Colour, to: u16) -> Result<Stolen, NoSteal>
+        requires own { IsOwn self.old colour }
+        requires core { to < (shape_of self.old.setup).cores }
+        ensures ok { IfOk result (λ stolen. Steals self.old self.new colour to stolen) }
+        ensures err { OnErr result (HasSameContents self.old self.new) }
+        ensures refusal { IfErr result (λ refusal. NoStealAs self.old.setup self.old.history colour to refusal) }
+        ensures spare { 1 ≤ self.old.spare → IfErr result (λ refusal. refusal ≢ NoSteal.Memory) }
+        ensures kept { IsKept S.trail_of S.colour_of S.frame_of S.fits_under self.new }
+        ensures frame { KeepsFrame self.old self.new }
+    {
+        let place = (colour.0 / self.setup.shards()) as usize;
+        let cell = &mut self.cells[place];
+        if let Some(refusal) = cell.no_steal(to, self.setup.steal_cost()) {
+            return Err(refusal);
+        }
+        let Ok(()) = self.history.reserve(self.running + 1) else {
+            return Err(NoSteal::Memory);
+        };
+        let from = cell.owner;
+        cell.owner = to;
+        let started = cell.queue.started();
+        let worth = cell.queue.time_left();
+        self.history
+            .push_reserved(Entry::Steal { colour, from, to });
+        Ok(Stolen {
+            from,
+            started,
+            worth,
+        })
+    }
+
+    /// The law of this type, for contracts alone: whatever calls were made on a shard, refused or
+    /// not, each event that was registered on a colour is, once, among those that were run, those of
+    /// the turn that is out, or those that are queued with their loads. A call does nothing.
+    pub fn events_stand_once(&self)
+        ensures { (c : Colour) (lane : _) → IsOwn self.now c → lane_at self.now c ≡ Some lane → StandsOnce self.now c lane }
+    {
+        let _history = self.history();
+    }
+}

@@ -1,0 +1,345 @@
+ghost use Rattle.std.specs.Prelude.{◌≡◌, ◌≤◌, ◌<◌, ◌+◌, ◌-◌, ◌++◌, ◌∷◌, [], length, vec_len, vec_capacity, IfOk, OnOk};
+ghost use Rattle.mely_shard.specs.Contents.{IsOwn, KeepsFrame, TurnStands};
+ghost use Rattle.mely_shard.specs.Examples.{IsExample};
+
+use crate::Shard;
+use mely_event::{Colour, Event, Fits, Handlers, Memory, Trail};
+use mely_history::{After, Judged, NoSteal, NoTake, Registered, Setup, Shape, Stolen, judge};
+use mely_queue::Turn;
+use std::alloc::{AllocError, Global};
+use std::test::Fail;
+
+/// A state that is its trail, and adds up the loads.
+#[derive(Drop)]
+struct Tally {
+    colour: Colour,
+    trail: Vec<Event>,
+    total: u64,
+}
+
+impl Trail for Tally {
+    type Frame = ();
+
+    ghost trail_of = { λ s. s.trail.items };
+
+    ghost colour_of = { λ s. s.colour };
+
+    ghost frame_of = { λ s. tt };
+
+    ghost spare_of = { λ s. vec_capacity s.trail - vec_len s.trail };
+
+    ghost alike = { λ s t. (s.trail.items ≡ t.trail.items) × (s.colour ≡ t.colour) × (s.total ≡ t.total) };
+
+    fn trail(&self) -> &[Event] {
+        &self.trail
+    }
+
+    fn reserve(&mut self, n: usize) -> Result<(), Memory> {
+        self.trail.reserve(n)?;
+        Ok(())
+    }
+
+    ghost use Rattle.std.proofs.Common.{refl, ◌∙◌};
+
+    ghost alike_itself = { λ s. (refl, refl, refl) };
+
+    ghost alike_onward = { λ r s t one other. (one.0 ∙ other.0, one.1 ∙ other.1, one.2 ∙ other.2) };
+
+    ghost alike_trail = { λ s t same. same.0 };
+
+    ghost alike_colour = { λ s t same. same.1 };
+
+    ghost alike_frame = { λ s t same. refl };
+}
+
+impl Fits<u32> for Tally {
+    ghost fits_under = { λ frame colour event load. Unit {0} };
+}
+
+impl Tally {
+    /// Runs an event.
+    fn run(&mut self, event: Event, load: Option<u32>)
+        requires { vec_len self.old.trail < vec_capacity self.old.trail }
+        ensures trail { self.new.trail.items ≡ self.old.trail.items ++ event ∷ [] }
+        ensures colour { self.new.colour ≡ self.old.colour }
+        ensures spare { vec_capacity self.new.trail - vec_len self.new.trail + 1 ≡ vec_capacity self.old.trail - vec_len self.old.trail }
+    {
+        self.trail.push_reserved(event);
+        self.total = self.total.wrapping_add(u64::from(load.unwrap_or(0)));
+    }
+}
+
+/// A state at first.
+fn blank(alloc: Global, colour: u16) -> Tally
+    ensures trail { result.trail.items ≡ [] }
+    ensures colour { result.colour ≡ record { 0 = colour } }
+{
+    Tally {
+        colour: Colour(colour),
+        trail: Vec::new(alloc),
+        total: 0,
+    }
+}
+
+/// Runs what a turn has, and takes its state home.
+fn run_and_finish(shard: &mut Shard<Tally, u32>, mut turn: Turn<Tally, u32>) -> After
+    requires own { IsOwn shard.old turn.colour }
+    requires stands { TurnStands ⟦<Tally as Trail>⟧.trail_of ⟦<Tally as Trail>⟧.colour_of ⟦<Tally as Trail>⟧.frame_of ⟦<Tally as Fits<u32>>⟧.fits_under shard.old turn }
+    requires room { length turn.events ≤ ⟦<Tally as Trail>⟧.spare_of turn.state }
+    ensures { KeepsFrame shard.old shard.new }
+{
+    while let Some((event, load)) = turn.next() {
+        turn.state().run(event, load);
+    }
+    shard.finish(turn)
+}
+
+/// Four colours on two cores in one shard, batch 10, and one handler of weight 30.
+fn example(alloc: Global, steal_cost: u32) -> Result<Shard<Tally, u32>, Fail>
+    ensures { IfOk result IsExample }
+{
+    let shape = Shape {
+        cores: 2,
+        shards: 1,
+        batch: 10,
+        steal_cost,
+        group: 1,
+    };
+    let Ok(handlers) = Handlers::new(&[(60, 2)]) else {
+        return Err(Fail::from("no table"));
+    };
+    let Ok(setup) = Setup::new(&shape, 4, handlers) else {
+        return Err(Fail::from("no setup"));
+    };
+    let mut states = Vec::new(alloc);
+    states.push(blank(alloc, 0))?;
+    states.push(blank(alloc, 1))?;
+    states.push(blank(alloc, 2))?;
+    states.push(blank(alloc, 3))?;
+    match Shard::new(alloc, &setup, 0, states) {
+        Ok(shard) => Ok(shard),
+        Err(_) => Err(Fail::from("no shard")),
+    }
+}
+
+/// Registers an event of handler 0 by pass 2.
+fn register(shard: &mut Shard<Tally, u32>, colour: u16) -> Option<Registered>
+    requires is { IsExample shard.old }
+    requires colour { colour < 4 }
+    ensures { IsExample shard.new }
+{
+    let event = Event { handler: 0, arg: 0 };
+    shard.register(Colour(colour), event, Some(5), 2).ok()
+}
+
+/// Takes a colour, runs what was taken and finishes, and answers how many events that were.
+fn take_turn(shard: &mut Shard<Tally, u32>, colour: u16, core: u16) -> Result<(u16, After), NoTake>
+    requires is { IsExample shard.old }
+    requires colour { colour < 4 }
+    ensures { IsExample shard.new }
+{
+    let turn = shard.take(Colour(colour), core)?;
+    let count = turn.count();
+    Ok((count, run_and_finish(shard, turn)))
+}
+
+fn steal(shard: &mut Shard<Tally, u32>, colour: u16, to: u16) -> Result<Stolen, NoSteal>
+    requires is { IsExample shard.old }
+    requires colour { colour < 4 }
+    requires core { to < 2 }
+    ensures { IsExample shard.new }
+{
+    shard.steal(Colour(colour), to)
+}
+
+fn ready(shard: &Shard<Tally, u32>, colour: u16) -> Option<(u16, u64, u128)>
+    requires is { IsExample shard.now }
+    requires colour { colour < 4 }
+{
+    shard.ready(Colour(colour))
+}
+
+/// What the loads that were run on a colour add up to.
+fn total_at(shard: &Shard<Tally, u32>, colour: u16) -> Option<u64>
+    requires is { IsExample shard.now }
+    requires colour { colour < 4 }
+{
+    Some(shard.state(Colour(colour))?.total)
+}
+
+fn register_meanwhile(
+    shard: &mut Shard<Tally, u32>,
+    turn: &Turn<Tally, u32>,
+    colour: u16,
+) -> Option<Registered>
+    requires is { IsExample shard.old }
+    requires colour { colour < 4 }
+    requires stands { TurnStands ⟦<Tally as Trail>⟧.trail_of ⟦<Tally as Trail>⟧.colour_of ⟦<Tally as Trail>⟧.frame_of ⟦<Tally as Fits<u32>>⟧.fits_under shard.old turn.now }
+    ensures is { IsExample shard.new }
+    ensures frame { KeepsFrame shard.old shard.new }
+    ensures stands { TurnStands ⟦<Tally as Trail>⟧.trail_of ⟦<Tally as Trail>⟧.colour_of ⟦<Tally as Trail>⟧.frame_of ⟦<Tally as Fits<u32>>⟧.fits_under shard.new turn.now }
+{
+    let _history = shard.history();
+    let event = Event { handler: 0, arg: 0 };
+    match shard.register(Colour(colour), event, Some(5), 2) {
+        Ok(reply) => Some(reply),
+        Err(_) => None,
+    }
+}
+
+/// A take of the colour of a turn that is out.
+fn take_meanwhile(shard: &mut Shard<Tally, u32>, turn: &Turn<Tally, u32>) -> Option<NoTake>
+    requires is { IsExample shard.old }
+    requires own { IsOwn shard.old turn.now.colour }
+    requires stands { TurnStands ⟦<Tally as Trail>⟧.trail_of ⟦<Tally as Trail>⟧.colour_of ⟦<Tally as Trail>⟧.frame_of ⟦<Tally as Fits<u32>>⟧.fits_under shard.old turn.now }
+    ensures is { IsExample shard.new }
+    ensures frame { KeepsFrame shard.old shard.new }
+    ensures stands { TurnStands ⟦<Tally as Trail>⟧.trail_of ⟦<Tally as Trail>⟧.colour_of ⟦<Tally as Trail>⟧.frame_of ⟦<Tally as Fits<u32>>⟧.fits_under shard.new turn.now }
+{
+    match shard.take(turn.colour(), 0) {
+        Err(refusal) => Some(refusal),
+        Ok(_) => unreachable!(),
+    }
+}
+
+/// A steal of the colour of a turn that is out.
+fn steal_meanwhile(shard: &mut Shard<Tally, u32>, turn: &Turn<Tally, u32>) -> Option<NoSteal>
+    requires is { IsExample shard.old }
+    requires own { IsOwn shard.old turn.now.colour }
+    requires stands { TurnStands ⟦<Tally as Trail>⟧.trail_of ⟦<Tally as Trail>⟧.colour_of ⟦<Tally as Trail>⟧.frame_of ⟦<Tally as Fits<u32>>⟧.fits_under shard.old turn.now }
+    ensures is { IsExample shard.new }
+    ensures frame { KeepsFrame shard.old shard.new }
+    ensures stands { TurnStands ⟦<Tally as Trail>⟧.trail_of ⟦<Tally as Trail>⟧.colour_of ⟦<Tally as Trail>⟧.frame_of ⟦<Tally as Fits<u32>>⟧.fits_under shard.new turn.now }
+{
+    match shard.steal(turn.colour(), 1) {
+        Err(refusal) => Some(refusal),
+        Ok(_) => unreachable!(),
+    }
+}
+
+/// What the calls on a running colour answer.
+#[derive(Clone, Copy)]
+struct Meanwhile {
+    count: u16,
+    registered: Option<Registered>,
+    no_take: Option<NoTake>,
+    no_steal: Option<NoSteal>,
+    after: After,
+}
+
+/// Takes a colour, registers, takes and steals it while it runs, and finishes.
+fn take_turn_with_calls(shard: &mut Shard<Tally, u32>, colour: u16) -> Result<Meanwhile, NoTake>
+    requires is { IsExample shard.old }
+    requires colour { colour < 4 }
+    ensures { IsExample shard.new }
+{
+    let turn = shard.take(Colour(colour), 0)?;
+    let registered = register_meanwhile(shard, &turn, colour);
+    let no_take = take_meanwhile(shard, &turn);
+    let no_steal = steal_meanwhile(shard, &turn);
+    Ok(Meanwhile {
+        count: turn.count(),
+        registered,
+        no_take,
+        no_steal,
+        after: run_and_finish(shard, turn),
+    })
+}
+
+#[test]
+fn calls_on_one_shard_answer_in_order(rt: HostRuntime) -> Result<(), Fail> {
+    let shard = &mut example(rt.alloc(), 20)?;
+    assert_eq!(rt;
+        register(shard, 2),
+        Some(Registered::Woke {
+            owner: 0,
+            started: 0,
+            worth: 30
+        })
+    );
+    assert_eq!(rt;
+        register(shard, 2),
+        Some(Registered::Told {
+            owner: 0,
+            started: 0,
+            worth: 60
+        })
+    );
+    assert_eq!(rt; take_turn(shard, 2, 1), Err(NoTake::Elsewhere { owner: 0 }));
+    let turn = take_turn_with_calls(shard, 2).ok().ok_or("not taken")?;
+    assert_eq!(rt; turn.count, 2);
+    assert_eq!(rt; turn.registered, Some(Registered::Running { core: 0 }));
+    assert_eq!(rt; turn.no_take, Some(NoTake::Busy { core: 0 }));
+    assert_eq!(rt; turn.no_steal, Some(NoSteal::Busy { core: 0 }));
+    assert_eq!(rt;
+        turn.after,
+        After::More {
+            started: 2,
+            worth: 30
+        }
+    );
+    assert_eq!(rt; steal(shard, 2, 0), Err(NoSteal::Own));
+    assert_eq!(rt; shard.reserve(1), Ok(()));
+    assert_eq!(rt;
+        steal(shard, 2, 1),
+        Ok(Stolen {
+            from: 0,
+            started: 2,
+            worth: 30
+        })
+    );
+    assert_eq!(rt; take_turn(shard, 2, 1), Ok((1, After::Idle)));
+    assert_eq!(rt;
+        take_turn(shard, 2, 1),
+        Err(NoTake::Empty { registered: 3 })
+    );
+    assert_eq!(rt; steal(shard, 2, 0), Err(NoSteal::Empty { registered: 3 }));
+    assert_eq!(rt; steal(shard, 0, 1), Err(NoSteal::Empty { registered: 0 }));
+    assert_eq!(rt; shard.history().len(), 8);
+    Ok(())
+}
+
+#[test]
+fn a_steal_at_the_cost_is_cheap(rt: HostRuntime) -> Result<(), Fail> {
+    let shard = &mut example(rt.alloc(), 30)?;
+    assert!(rt; shard.is_drained());
+    assert_eq!(rt; ready(shard, 2), None);
+    assert!(rt; register(shard, 2).is_some());
+    assert!(rt; !shard.is_drained());
+    assert_eq!(rt; ready(shard, 2), Some((0, 0, 30)));
+    assert_eq!(rt; steal(shard, 2, 1), Err(NoSteal::Cheap { worth: 30 }));
+    Ok(())
+}
+
+/// What a drained shard comes apart into: how many entries, what the loads of each colour add up to, and how many lists of
+/// queued events.
+fn parts_of(
+    alloc: Global,
+    shard: Shard<Tally, u32>,
+) -> Result<Option<(usize, Vec<u64>, usize)>, AllocError> {
+    if !shard.is_drained() {
+        return Ok(None);
+    }
+    let (history, states, queues) = shard.into_parts();
+    let mut totals = Vec::new(alloc);
+    for state in &states {
+        totals.push(state.total)?;
+    }
+    Ok(Some((history.len(), totals, queues.len())))
+}
+
+#[test]
+fn a_shard_comes_apart_into_what_it_held(rt: HostRuntime) -> Result<(), Fail> {
+    let mut shard = example(rt.alloc(), 30)?;
+    assert!(rt; register(&mut shard, 3).is_some());
+    assert_eq!(rt; take_turn(&mut shard, 3, 1), Ok((1, After::Idle)));
+    assert_eq!(rt; total_at(&shard, 3), Some(5));
+    shard.events_stand_once();
+    let totals = vec![in rt.alloc(); 0, 0, 0, 5]?;
+    assert_eq!(rt; parts_of(rt.alloc(), shard)?, Some((3, totals, 4)));
+
+    let mut shard = example(rt.alloc(), 30)?;
+    assert!(rt; register(&mut shard, 3).is_some());
+    assert_eq!(rt; parts_of(rt.alloc(), shard)?, None);
+    Ok(())
+}

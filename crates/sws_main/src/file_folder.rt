@@ -1,0 +1,108 @@
+//! The files below a folder of the machine.
+ghost use Rattle.std.specs.Prelude.{◌≡◌, None, is_some};
+ghost use Rattle.sws_link.specs.Counts.{kept_count};
+
+use crate::file_walk::FileWalk;
+use std::fs::{self, File};
+use std::io::{self, ErrorKind, Read};
+use sws_link::{Folder, Got, NextFile, Opened};
+
+/// Gives the regular files below a folder, of which nothing is known, and counts the machine's errors.
+#[derive(Drop)]
+pub struct FileFolder<'r> {
+    rt: &'r HostRuntime,
+    walk: Option<FileWalk<'r>>,
+    /// The current file.
+    file: Option<File>,
+    faults: u64,
+}
+
+impl<'r> FileFolder<'r> {
+    /// A folder that was not opened yet.
+    pub fn new(rt: &'r HostRuntime) -> Self {
+        FileFolder {
+            rt,
+            walk: None,
+            file: None,
+            faults: 0,
+        }
+    }
+}
+
+/// Whether an allocation of this program was refused; every other error is one of the machine.
+fn is_want_of_memory(error: &io::Error) -> bool {
+    error.kind() == ErrorKind::OutOfMemory && error.raw_os_error().is_none()
+}
+
+/// Opens the next file, copies its name as far as there is room, and gives it with the length of its name.
+fn open_next(
+    rt: &HostRuntime,
+    walk: &mut FileWalk<'_>,
+    name: &mut [u8; 1024],
+) -> io::Result<Option<(File, usize)>> {
+    let Some(entry) = walk.next_file()? else {
+        return Ok(None);
+    };
+    let file = fs::open(rt, entry.path())?;
+    let given = walk.name_of(&entry).as_bytes();
+    let count = given.len().min(name.len());
+    name[..count].copy_from_slice(&given[..count]);
+    Ok(Some((file, given.len())))
+}
+
+impl<'r> Folder for FileFolder<'r> {
+    ghost tells = { λ _. None };
+
+    ghost at_file = { λ folder. is_some folder.file };
+
+    ghost faults = { λ folder. kept_count folder.faults };
+
+    fn open(&mut self, path: &str) -> Opened {
+        match FileWalk::new(self.rt, path) {
+            Ok(walk) => {
+                self.walk = Some(walk);
+                self.file = None;
+                Opened::Ready
+            }
+            Err(error) if is_want_of_memory(&error) => Opened::Memory,
+            Err(_) => {
+                self.faults = self.faults.saturating_add(1);
+                Opened::Failed
+            }
+        }
+    }
+
+    fn next(&mut self, name: &mut [u8; 1024]) -> NextFile {
+        self.file = None;
+        let Some(walk) = &mut self.walk else {
+            return NextFile::End;
+        };
+        match open_next(self.rt, walk, name) {
+            Ok(Some((file, len))) => {
+                self.file = Some(file);
+                NextFile::File { len }
+            }
+            Ok(None) => NextFile::End,
+            Err(error) if is_want_of_memory(&error) => NextFile::Memory,
+            Err(_) => {
+                self.faults = self.faults.saturating_add(1);
+                NextFile::Failed
+            }
+        }
+    }
+
+    fn read(&mut self, into: &mut [u8]) -> Got {
+        let answer = match &mut self.file {
+            Some(file) => file.read(into),
+            None => unreachable!(),
+        };
+        match answer {
+            Ok(0) => Got::End,
+            Ok(count) => Got::Took(count),
+            Err(_) => {
+                self.faults = self.faults.saturating_add(1);
+                Got::Failed
+            }
+        }
+    }
+}

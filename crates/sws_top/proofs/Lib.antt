@@ -1,0 +1,7 @@
+mod InputLemmas
+mod WordLemmas
+mod SendingLemmas
+mod PartLemmas
+mod SiteLemmas
+mod AnswerLemmas
+mod RunLemmas
