@@ -1,0 +1,139 @@
+#!/usr/bin/env python3
+"""Measures `sws answer` and a shard beside their peers, in one run, and prints a table.
+
+    bench/measure.py [--runs N]
+
+It wants the two programs built (`./sws` builds the server, `rt run` in crates/shard_loop the event loop) and cargo with Debian's librust-httparse-dev, librust-httpdate-dev,
+librust-memchr-dev and librust-percent-encoding-dev. All that it makes stands in a new folder below the system's
+temporary one, about 400 MB, and is removed at the end. No traffic leaves the machine: both programs read a file and
+write to a file or to nothing. Times are seconds on a processor (user and system), the least of all runs, so that they say
+little of what else the machine does.
+"""
+import argparse
+import os
+import random
+import shutil
+import subprocess
+import sys
+import tempfile
+
+TOP = os.path.dirname(os.path.dirname(os.path.abspath(__file__)))
+SWS = os.path.join(TOP, "crates", "sws_main", "out", "sws_main")
+LOOP = os.path.join(TOP, "crates", "shard_loop", "out", "shard_loop")
+PEER = os.path.join(TOP, "bench", "peer")
+
+BROWSER_HEAD = "\r\n".join([
+    "GET / HTTP/1.1", "Host: localhost:8080",
+    "User-Agent: Mozilla/5.0 (X11; Linux x86_64; rv:128.0) Gecko/20100101 Firefox/128.0",
+    "Accept: text/html,application/xhtml+xml,application/xml;q=0.9,*/*;q=0.8",
+    "Accept-Language: en-US,en;q=0.5", "Accept-Encoding: gzip, deflate, br",
+    "Connection: keep-alive", "Upgrade-Insecure-Requests: 1",
+    "Sec-Fetch-Dest: document", "Sec-Fetch-Mode: navigate", "", "",
+]).encode()
+
+
+def run(words, given, out):
+    """Runs a program once: its seconds on a processor, and its largest resident size in bytes."""
+    child = subprocess.Popen(words, stdin=given, stdout=out)
+    _, status, usage = os.wait4(child.pid, 0)
+    if status != 0:
+        sys.exit(f"measure: {words} ended with {status}")
+    return usage.ru_utime + usage.ru_stime, usage.ru_maxrss * 1024
+
+
+def alternate(programs, runs):
+    """The least of each program's seconds and sizes, with the runs of all in turn."""
+    seen = {name: [] for name in programs}
+    for _ in range(runs):
+        for name, (words, given) in programs.items():
+            with open(given, "rb") as source:
+                seen[name].append(run(words, source, subprocess.DEVNULL))
+    return {name: tuple(min(column) for column in zip(*rows)) for name, rows in seen.items()}
+
+
+def put(path, content):
+    os.makedirs(os.path.dirname(path), exist_ok=True)
+    with open(path, "wb") as file:
+        file.write(content)
+    return path
+
+
+def heads(folder, runs, peer):
+    """Microseconds a request: what 64 pipelined heads take beyond what no head takes."""
+    site = os.path.join(folder, "small")
+    put(os.path.join(site, "index.html"), b"hi\n")
+    none = put(os.path.join(folder, "none"), b"")
+    many = put(os.path.join(folder, "many"), BROWSER_HEAD * 64)
+    programs = {}
+    for name, words in (("sws", [SWS, "answer", site]), ("peer", [peer, site])):
+        programs[name, 0] = (words, none)
+        programs[name, 64] = (words, many)
+    seen = alternate(programs, runs)
+    for name in ("sws", "peer"):
+        micros = (seen[name, 64][0] - seen[name, 0][0]) / 64 * 1e6
+        print(f"| a browser's head, 64 in a row | {name} | {micros:.2f} us a request |")
+
+
+def loading(folder):
+    """Seconds and bytes of loading 4,096 files of 200 MB in all, beside `cat` of the same files."""
+    site = os.path.join(folder, "large")
+    some = random.Random(1).randbytes(65_536)
+    left = 200_000_000
+    for number in range(4096):
+        size = left // (4096 - number)
+        left -= size
+        put(os.path.join(site, f"d{number % 16}", f"f{number}.bin"), some[:size])
+    none = put(os.path.join(folder, "none"), b"")
+    everything = ["find", site, "-type", "f", "-exec", "cat", "{}", "+"]
+    seen = alternate({"sws": ([SWS, "answer", site], none), "cat": (everything, none)}, 7)
+    print(f"| loading 4,096 files, 200 MB | sws | {seen['sws'][0] * 1000:.0f} ms, {seen['sws'][1] / 1e6:.0f} MB |")
+    print(f"| reading the same files | cat | {seen['cat'][0] * 1000:.0f} ms |")
+
+
+def large_body(folder, peer):
+    """Seconds and bytes of answering one request for 100 MB."""
+    site = os.path.join(folder, "body")
+    put(os.path.join(site, "big.bin"), b"x" * 100_000_000)
+    get = put(os.path.join(folder, "get"), b"GET /big.bin HTTP/1.1\r\nHost: x\r\n\r\n")
+    seen = alternate({"sws": ([SWS, "answer", site], get), "peer": ([peer, site], get)}, 7)
+    for name in ("sws", "peer"):
+        print(f"| a body of 100 MB | {name} | {seen[name][0] * 1000:.0f} ms, {seen[name][1] / 1e6:.0f} MB |")
+
+
+def shard(folder, peer):
+    """Nanoseconds an event: a million events on 1,024 colours, registered, taken, run by an empty handler and finished."""
+    none = put(os.path.join(folder, "none"), b"")
+    for batch in (1, 10):
+        programs = {}
+        for name, program in (("shard", LOOP), ("peer", peer)):
+            for events in (0, 1_000_000):
+                programs[name, events] = ([program, str(events), str(batch)], none)
+        seen = alternate(programs, 9)
+        for name in ("shard", "peer"):
+            nanos = (seen[name, 1_000_000][0] - seen[name, 0][0]) * 1000
+            print(f"| an event in batches of {batch} | {name} | {nanos:.0f} ns |")
+
+
+def main():
+    words = argparse.ArgumentParser(description="Measures the answer command beside its peers.")
+    words.add_argument("--runs", type=int, default=400, help="runs of each program over heads (default 400)")
+    runs = words.parse_args().runs
+    for program in (SWS, LOOP):
+        if not os.access(program, os.X_OK):
+            sys.exit(f"measure: {program} isn't built")
+    subprocess.run(["cargo", "build", "--release", "--offline", "--quiet"], cwd=PEER, check=True)
+    peers = os.path.join(PEER, "target", "release")
+    peer = os.path.join(peers, "answer")
+    folder = tempfile.mkdtemp(prefix="sws-measure-")
+    try:
+        print("| what | program | figure |\n|---|---|---|")
+        heads(folder, runs, peer)
+        loading(folder)
+        large_body(folder, peer)
+        shard(folder, os.path.join(peers, "shard"))
+    finally:
+        shutil.rmtree(folder)
+
+
+if __name__ == "__main__":
+    main()

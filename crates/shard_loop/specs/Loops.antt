@@ -1,0 +1,21 @@
+-- The one shard of the loop, and its first states.
+use Rattle.std.specs.Prelude.{◌≡◌, ℕ, List, [], Some, length, slice_get}
+use Rattle.mely_event.specs.HandlerTable.{rows_of}
+use Rattle.mely_history.specs.Setup.{shape_of, colours_of, handlers_of}
+use Rattle.mely_shard.specs.Contents.{Contents}
+use Rattle.shard_loop.specs.declared.tally.Tally.{Tally}
+
+-- 1,024 colours on one core, and one handler
+pub record IsLoop {S P : Type 0} (has : Contents S P) : Type 0 where
+  pub colours : colours_of has.setup ≡ 1024
+  pub shards : (shape_of has.setup).shards ≡ 1
+  pub handlers : length (rows_of (handlers_of has.setup)) ≡ 1
+  pub number : has.shard ≡ 0
+
+-- one state for each of the first colours, on which nothing was run
+pub record AreBlankBelow (count : ℕ) (states : List Tally) : Type 0 where
+  pub many : length states ≡ count
+  pub each : (i : ℕ) (state : Tally) → slice_get states i ≡ Some state → (state.colour ≡ record { 0 = i }) × (state.trail.items ≡ [])
+
+abbrev pub AreBlank : List Tally → Type 0
+AreBlank states = AreBlankBelow 1024 states

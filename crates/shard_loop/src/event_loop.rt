@@ -1,0 +1,160 @@
+//! The loop: register, take, run, finish.
+ghost use Rattle.std.specs.Prelude.{◌≡◌, ◌<◌, ◌≤◌, ℕ, length, All, IfOk, IfSome};
+ghost use Rattle.mely_shard.specs.Contents.{IsOwn, KeepsFrame, TurnStands};
+ghost use Rattle.shard_loop.specs.Loops.{IsLoop, AreBlank};
+
+use crate::tally::{Tally, blank};
+use mely_event::{Colour, Event, Fits, Handlers, Memory, Trail};
+use mely_history::{After, Registered, Setup, Shape};
+use mely_queue::Turn;
+use mely_shard::Shard;
+use std::alloc::Global;
+use std::collections::VecDeque;
+
+/// How many colours there are.
+const COLOURS: u16 = 1024;
+
+/// A state for each colour.
+fn blank_states(alloc: Global) -> Result<Vec<Tally>, Memory>
+    ensures { IfOk result (λ states. AreBlank states.items) }
+{
+    let mut states = Vec::new(alloc);
+    for colour in 0..COLOURS {
+        states.push(blank(alloc, colour))?;
+    }
+    Ok(states)
+}
+
+/// The one shard, on one core.
+fn make_shard(alloc: Global, batch: u16) -> Option<Shard<Tally, u32>>
+    ensures { IfSome result IsLoop }
+{
+    let shape = Shape {
+        cores: 1,
+        shards: 1,
+        batch,
+        steal_cost: 0,
+        group: 1,
+    };
+    let Ok(handlers) = Handlers::new(&[(1, 1)]) else {
+        return None;
+    };
+    let Ok(setup) = Setup::new(&shape, 1024, handlers) else {
+        return None;
+    };
+    let Ok(states) = blank_states(alloc) else {
+        return None;
+    };
+    match Shard::new(alloc, &setup, 0, states) {
+        Ok(shard) => Some(shard),
+        Err(_) => None,
+    }
+}
+
+/// Registers one event, and notes its colour where that woke.
+fn register(
+    shard: &mut Shard<Tally, u32>,
+    colour: u16,
+    ready: &mut VecDeque<u16>,
+) -> Result<(), Memory>
+    requires is { IsLoop shard.old }
+    requires colour { colour < 1024 }
+    requires known { All (λ c. c < 1024) ready.old.items }
+    ensures is { IsLoop shard.new }
+    ensures known { All (λ c. c < 1024) ready.new.items }
+{
+    let event = Event { handler: 0, arg: 0 };
+    match shard.register(Colour(colour), event, None, 0) {
+        Ok(Registered::Woke { .. }) => match ready.push_back(colour) {
+            Ok(()) => Ok(()),
+            Err(_) => Err(Memory),
+        },
+        Ok(_) => Ok(()),
+        Err(_) => Err(Memory),
+    }
+}
+
+/// Registers so many events on the colours in turn.
+fn register_all(
+    shard: &mut Shard<Tally, u32>,
+    events: u32,
+    ready: &mut VecDeque<u16>,
+) -> Result<(), Memory>
+    requires is { IsLoop shard.old }
+    requires known { All (λ c. c < 1024) ready.old.items }
+    ensures is { IsLoop shard.new }
+    ensures known { All (λ c. c < 1024) ready.new.items }
+{
+    'events: for number in 0..events {
+        let colour = (number % 1024) as u16;
+        match register(shard, colour, ready) {
+            Ok(()) => {}
+            Err(_) => return Err(Memory),
+        }
+    }
+    Ok(())
+}
+
+/// Runs what a turn has, and takes its state home.
+fn run_and_finish(shard: &mut Shard<Tally, u32>, mut turn: Turn<Tally, u32>) -> After
+    requires own { IsOwn shard.old turn.colour }
+    requires stands { TurnStands ⟦<Tally as Trail>⟧.trail_of ⟦<Tally as Trail>⟧.colour_of ⟦<Tally as Trail>⟧.frame_of ⟦<Tally as Fits<u32>>⟧.fits_under shard.old turn }
+    requires room { length turn.events ≤ ⟦<Tally as Trail>⟧.spare_of turn.state }
+    ensures { KeepsFrame shard.old shard.new }
+{
+    while let Some((event, load)) = turn.next() {
+        turn.state().run(event, load);
+    }
+    shard.finish(turn)
+}
+
+/// Takes a colour, runs what was taken and finishes, and answers how many events that were.
+fn take_turn(shard: &mut Shard<Tally, u32>, colour: u16) -> Option<(u16, After)>
+    requires is { IsLoop shard.old }
+    requires colour { colour < 1024 }
+    ensures { IsLoop shard.new }
+{
+    match shard.take(Colour(colour), 0) {
+        Ok(turn) => {
+            let count = turn.count();
+            Some((count, run_and_finish(shard, turn)))
+        }
+        Err(_) => None,
+    }
+}
+
+/// Takes the next ready colour, and notes it again where more of it waits; answers how many events were run.
+fn step(shard: &mut Shard<Tally, u32>, ready: &mut VecDeque<u16>) -> Option<u16>
+    requires is { IsLoop shard.old }
+    requires known { All (λ c. c < 1024) ready.old.items }
+    ensures is { IsLoop shard.new }
+    ensures known { All (λ c. c < 1024) ready.new.items }
+{
+    let colour = ready.pop_front()?;
+    match take_turn(shard, colour) {
+        Some((count, After::More { .. })) => match ready.push_back(colour) {
+            Ok(()) => Some(count),
+            Err(_) => None,
+        },
+        Some((count, After::Idle)) => Some(count),
+        None => None,
+    }
+}
+
+/// Registers so many events on the colours, runs them all in turns of at most `batch`, and answers how many were run;
+/// nothing for want of memory, or where the batch is out of its range.
+pub fn run(alloc: Global, events: u32, batch: u16) -> Option<u64> {
+    let mut shard = make_shard(alloc, batch)?;
+    let mut ready = VecDeque::new(alloc);
+    if register_all(&mut shard, events, &mut ready).is_err() {
+        return None;
+    }
+    let mut ran = 0u64;
+    'turns: for _ in 0..events {
+        match step(&mut shard, &mut ready) {
+            Some(count) => ran = ran.saturating_add(u64::from(count)),
+            None => break 'turns,
+        }
+    }
+    if shard.is_drained() { Some(ran) } else { None }
+}
