@@ -1,0 +1,5 @@
+pub mod SeenLaws
+mod Lists
+mod Claims
+mod Keeps
+mod Calls

@@ -1,0 +1,75 @@
+-- The kinds of step, each by what its seat knows before and after it, and what two of them come to in a row.
+use Rattle.std.specs.Prelude.{◌≡◌, ◌≢◌, ◌<◌, ◌≤◌, ℕ, false, List, [], ◌∷◌, ◌++◌, Option, Some, None}
+use Rattle.std.specs.List.{AllByRecursion}
+use Rattle.atomic_table.specs.Table.{Me}
+use Rattle.mely_lock.specs.declared.claim.Claim.{Claim}
+use Rattle.mely_lock.specs.declared.view.View.{View}
+use Rattle.mely_lock.specs.Seen.{notes_of, OthersSince}
+use Rattle.mely_lock.specs.Views.{view, outside, within, shares_of}
+
+module _ {N F : Type 0} where
+  -- the claim, once its pass has seen so much
+  abbrev pub having_seen : Claim N F → List N → Claim N F
+  having_seen c history = record c { front = history }
+
+  -- dealing out a pass: the seat keeps its claims but the first, which a new seat has
+  abbrev pub kept_of : View N F → View N F
+  kept_of v = view (others v.claims) v.inside where
+    others : List (Claim N F) → List (Claim N F)
+    others [] = []
+    others (c ∷ cs) = cs
+
+  abbrev pub dealt_of : View N F → View N F
+  dealt_of v = view (first v.claims) false where
+    first : List (Claim N F) → List (Claim N F)
+    first [] = []
+    first (c ∷ cs) = c ∷ []
+
+  -- taking in another seat: the claims of both
+  abbrev pub joined : View N F → View N F → View N F
+  joined v w = view (v.claims ++ w.claims) v.inside
+
+-- a seat: what it knows, and the slots in its hand
+abbrev pub Seat : Type 0 → Type 0 → Type 0 → Type 0
+Seat W N F = Me (Option W) (View N F)
+
+module _ {W N F : Type 0} where
+  -- a pass outside, with nothing in its hand
+  abbrev pub waiting : Claim N F → Seat W N F
+  waiting c = (outside c, [])
+
+  -- a pass inside, with the slot in its hand
+  abbrev pub holding : Claim N F → Option W → Seat W N F
+  holding c slot = (within c, (0, slot) ∷ [])
+
+  -- after a note: the pass has seen the history of the value in its hand
+  abbrev pub Noted : (W → List N) → Seat W N F → Seat W N F → Type 0
+  Noted history_of m m' = (c : Claim N F) (x : W) → m ≡ holding c (Some x) → m' ≡ holding (having_seen c (history_of x)) (Some x)
+
+  -- after leaving: the pass is outside
+  abbrev pub Left : Seat W N F → Seat W N F → Type 0
+  Left m m' = (c : Claim N F) (x : W) → m ≡ holding c (Some x) → m' ≡ waiting c
+
+  -- the value x was put back, a note made if it had grown, and the pass left
+  abbrev pub Leaves : (W → List N) → Seat W N F → W → Seat W N F → Type 0
+  Leaves history_of m x m' = (c : Claim N F) → m ≡ holding c None → m' ≡ waiting (having_seen c (history_of x))
+
+module _ {W N F : Type 0} (history_of : W → List N) (pass_of : N → ℕ) (frame_of : W → F) where
+  -- the value is one that the pass may find: its history goes on from what the pass had seen, and its frame is the old one
+  abbrev pub Meets : Claim N F → W → Type 0
+  Meets c x = OthersSince pass_of c.number c.front (history_of x) × (frame_of x ≡ c.frame)
+
+  -- after a try that found this number in word 0: refused, unless that was 0; else inside, with the slot and all seen
+  abbrev pub Tried : Seat W N F → ℕ → Seat W N F → Type 0
+  Tried m found m' = (found ≢ 0 → m' ≡ m) × (found ≡ 0 → (c : Claim N F) → m ≡ waiting c → (x : W) × (m' ≡ holding (having_seen c (history_of x)) (Some x)) × Meets c x)
+
+  -- the pass came in, and took the value x out of the slot
+  abbrev pub Enters : Seat W N F → W → Seat W N F → Type 0
+  Enters m x m' = (c : Claim N F) → m ≡ waiting c → (m' ≡ holding (having_seen c (history_of x)) None) × Meets c x
+
+  -- the lock was closed with a seat of these claims, which are those of all passes: the value x goes on from each
+  pub record Closes (frame : F) (passes : ℕ) (claims : List (Claim N F)) (x : W) : Type 0 where
+    pub framed : frame_of x ≡ frame
+    pub fronts : AllByRecursion (λ c. OthersSince pass_of c.number c.front (history_of x)) claims
+    pub each : (n : ℕ) → n < passes → 0 < shares_of n claims
+    pub strangers : (n : ℕ) → passes ≤ n → notes_of pass_of n (history_of x) ≡ []

@@ -1,0 +1,62 @@
+-- What the seats of a lock know. A seat is what a thread makes its steps with, and each pass has one.
+use Rattle.std.specs.Prelude.{◌≡◌, ◌==◌, ℕ, zero, suc, ◌+◌, Bool, true, false, List, [], ◌∷◌, length, sum_by, count_by, Option, Some, None}
+use mathlib.Core.Option.{some}
+use lib.ListN.{get_elem?}
+use Rattle.mely_lock.specs.declared.claim.Claim.{Claim}
+use Rattle.mely_lock.specs.declared.view.View.{View}
+
+module _ {N F : Type 0} where
+  abbrev pub claim : ℕ → List N → F → Claim N F
+  claim n front frame = record { number = n; front = front; frame = frame }
+
+  abbrev pub view : List (Claim N F) → Bool → View N F
+  view claims inside = record { claims = claims; inside = inside }
+
+  -- a pass that is outside, and one that is inside
+  abbrev pub outside : Claim N F → View N F
+  outside c = view (c ∷ []) false
+
+  abbrev pub within : Claim N F → View N F
+  within c = view (c ∷ []) true
+
+  -- a seat that is no pass's
+  abbrev pub nobody : View N F
+  nobody = view [] false
+
+  -- the claims of m passes from the number n on, which have seen nothing
+  abbrev pub first_claims : ℕ → ℕ → F → List (Claim N F)
+  first_claims n zero frame = []
+  first_claims n (suc m) frame = claim n [] frame ∷ first_claims (n + 1) m frame
+
+  -- the first seat has the claims of all passes, until they are dealt out
+  abbrev pub first_view : ℕ → F → View N F
+  first_view passes frame = view (first_claims 0 passes frame) false
+
+  -- how many of the claims are of the number n
+  abbrev pub shares_of : ℕ → List (Claim N F) → ℕ
+  shares_of n claims = count_by (λ c. c.number == n) claims
+
+  -- how often the seats have the number n, together
+  abbrev pub times_held : ℕ → List (View N F) → ℕ
+  times_held n views = sum_by (λ v. shares_of n v.claims) views
+
+  -- how many claims the seats have, together
+  abbrev pub claims_held : List (View N F) → ℕ
+  claims_held views = sum_by (λ v. length v.claims) views
+
+  -- one of these claims is of this number, and has this front
+  abbrev pub HasClaim : List (Claim N F) → ℕ → List N → Type 0
+  HasClaim claims n front = (k : ℕ) × (c : Claim N F) × (get_elem? claims k ≡ some c) × (c.number ≡ n) × (c.front ≡ front)
+
+  -- the number, the front and the frame of the first claim, which is a pass's only one
+  abbrev pub head_number : List (Claim N F) → ℕ
+  head_number [] = 0
+  head_number (c ∷ cs) = c.number
+
+  abbrev pub head_front : List (Claim N F) → List N
+  head_front [] = []
+  head_front (c ∷ cs) = c.front
+
+  abbrev pub head_frame : List (Claim N F) → Option F
+  head_frame [] = None
+  head_frame (c ∷ cs) = Some c.frame

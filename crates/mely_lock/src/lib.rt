@@ -1,0 +1,47 @@
+//! A lock round a value that keeps a history, entered with a pass.
+//!
+//! Several threads share a value whose history grows by notes ([`mely_event::Kept`]), as the queues of a shard do in an
+//! event-driven runtime: each change is a note, and each note has the number of the pass that made it. [`Ticketed::new`] puts the
+//! value behind a lock and deals out the passes, one for each caller. [`Ticketed::enter`] waits until nobody is inside and gives
+//! the value, [`Held::leave`] puts it back, and once all passes are back [`Ticketed::close`] gives the value for good.
+//!
+//! ```text
+//! let (lock, mut passes) = Ticketed::new(alloc, diary, 2)?;
+//! ..
+//! let mut held = lock.enter(rt, &mut pass);
+//! let wrote = held.value().add(pass.number(), text);
+//! held.leave(&mut pass);
+//! ```
+//!
+//! A contract of most locks can only say of the value what always holds of it. With a pass it says where a call stands: the
+//! history that [`Ticketed::enter`] finds begins with all that the pass had seen, and only notes of other passes lie between. After
+//! [`Held::leave`] the pass has seen the whole. So the calls that are made with a pass stand in the one history of the lock, each
+//! once, in the order in which they were made, whatever other threads do.
+//!
+//! The word that says who is inside is the ticket of a ticket lock without its queue: who comes first is not said, nor that anybody
+//! does. A waiting thread sleeps between two tries. The lock, its passes and what is held may cross threads where the value may. It stands on
+//! `atomic_table`, whose rule this crate gives: `specs/Rule.antt` has it in five parts, and `specs/Steps.antt` the kinds of step.
+#![tactic(auto)]
+
+mod about;
+mod claim;
+mod closing;
+mod dealing;
+mod held;
+mod lending;
+mod pass;
+mod passing;
+mod steps;
+#[cfg(test)]
+mod tests;
+mod ticketed;
+mod ticketing;
+mod view;
+
+pub use about::About;
+pub use claim::Claim;
+pub use held::Held;
+pub use pass::Pass;
+pub use ticketed::Ticketed;
+pub use ticketing::Ticketing;
+pub use view::View;

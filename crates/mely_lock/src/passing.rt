@@ -1,0 +1,72 @@
+//! How a pass comes in and goes out, step by step.
+ghost use Rattle.std.specs.Prelude.{◌≡◌, ◌<◌, ◌^◌, length, IfSome, IfNone};
+ghost use Rattle.mely_lock.specs.Seen.{GrewIf};
+ghost use Rattle.mely_lock.specs.Steps.{waiting, holding, Enters, Leaves};
+ghost use Rattle.mely_lock.specs.Words.{lock_id};
+
+use crate::claim::Claim;
+use crate::steps::{Leaving, Noting, Trying};
+use crate::ticketed::Ticketed;
+use crate::ticketing::Place;
+use mely_event::Kept;
+use std::sync::Wait;
+
+/// The greatest number that word 0 can have.
+const LAST_TICKET: u64 = 65_536;
+
+impl<V: Kept> Ticketed<V> {
+    /// Goes in if nobody is inside, and takes the value out.
+    fn try_enter(&self, place: &mut Place<V>, number: u16) -> Option<V>
+        requires table { place.old.table_id ≡ lock_id self.now }
+        requires outside { (c : Claim V.Note V.Frame) × (place.old.me ≡ waiting c) × (c.number ≡ number) }
+        ensures table { place.new.table_id ≡ place.old.table_id }
+        ensures refused { IfNone result (place.new.me ≡ place.old.me) }
+        ensures entered { IfSome result (λ x. Enters V.history_of V.pass_of V.frame_of place.old.me x place.new.me) }
+    {
+        let shared = &self.room.shared;
+        let ticket = u64::from(number) + 1;
+        let found = shared.compare_exchange::<Trying<V>>(place, 0, 0, ticket);
+        if found != 0 {
+            return None;
+        }
+        shared.exchange(place, 0, None)
+    }
+
+    /// Tries until nobody else is inside.
+    pub(crate) fn go_in<R: Wait>(&self, rt: &R, place: &mut Place<V>, number: u16) -> V
+        requires table { place.old.table_id ≡ lock_id self.now }
+        requires outside { (c : Claim V.Note V.Frame) × (place.old.me ≡ waiting c) × (c.number ≡ number) }
+        ensures table { place.new.table_id ≡ place.old.table_id }
+        ensures entered { Enters V.history_of V.pass_of V.frame_of place.old.me result place.new.me }
+    {
+        for _ in rt.forever() {
+            if let Some(value) = self.try_enter(place, number) {
+                return value;
+            }
+            // It sleeps while the pass that it found is inside.
+            let found = self.room.shared.peek(0);
+            if 0 < found && found <= LAST_TICKET {
+                self.room.shared.park(rt, 0, found as u32);
+            }
+        }
+        unreachable!()
+    }
+
+    /// Puts the value back, makes a note if its history has grown, and goes out.
+    pub(crate) fn put_back(&self, place: &mut Place<V>, value: V, grown: bool)
+        requires table { place.old.table_id ≡ lock_id self.now }
+        requires inside { (c : Claim V.Note V.Frame) × (place.old.me ≡ holding c None) × (V.frame_of value ≡ c.frame) × GrewIf V.pass_of grown c.number c.front (V.history_of value) }
+        requires fits { length (V.history_of value) < 2 ^ 64 }
+        ensures table { place.new.table_id ≡ place.old.table_id }
+        ensures left { Leaves V.history_of place.old.me value place.new.me }
+    {
+        let shared = &self.room.shared;
+        let taken = shared.exchange(place, 0, Some(value));
+        let None = taken else { unreachable!() };
+        if grown {
+            shared.fetch_add::<Noting<V>>(place, 1, 1);
+        }
+        shared.store::<Leaving>(place, 0, 0);
+        shared.wake_one(0);
+    }
+}

@@ -1,0 +1,82 @@
+//! The kinds of step. A seat makes each of them in one atomic step on a word, so between two steps of one pass any number of
+//! steps of others may lie; each kind says why its own seat's knowledge stands all the same.
+//!
+//! Two more steps touch the slot alone: who has come in takes the value out of it, and puts it back before a note. Nobody else
+//! can: the slot is then in that seat's hand.
+use crate::view::View;
+use atomic_table::{Join, Play, Split};
+use mely_event::Kept;
+use std::marker::PhantomData;
+
+/// A compare-exchange of word 0 from 0 to the pass's number and one, made by a pass that is outside.
+///
+/// Where it found another number than 0 somebody is inside, and nothing changes. Where it found 0 nobody was, so the value was at
+/// home: the pass has its slot, and has seen its whole history.
+pub(crate) struct Trying<V> {
+    kept: PhantomData<V>,
+}
+
+impl<V: Kept> Play<Option<V>, View<V::Note, V::Frame>> for Trying<V> {
+    ghost use Rattle.mely_lock.specs.Steps.{Tried};
+
+    ghost then = { λ _. Tried V.history_of V.pass_of V.frame_of };
+}
+
+/// One more in word 1, made by the pass inside once its value has one note more and is back in the slot.
+///
+/// While a pass is inside no other changes word 1, so it has the length of the history again.
+pub(crate) struct Noting<V> {
+    kept: PhantomData<V>,
+}
+
+impl<V: Kept> Play<Option<V>, View<V::Note, V::Frame>> for Noting<V> {
+    ghost use Rattle.mely_lock.specs.Steps.{Noted};
+
+    ghost then = { λ _ m _. Noted V.history_of m };
+}
+
+/// A store of 0 in word 0, made by the pass inside, with the value in the slot.
+///
+/// The value goes home with the history that the pass has seen, and whoever comes in next finds it so.
+pub(crate) struct Leaving;
+
+impl<V, N, F> Play<Option<V>, View<N, F>> for Leaving {
+    ghost use Rattle.mely_lock.specs.Steps.{Left};
+
+    ghost then = { λ _ m _. Left m };
+}
+
+/// A load that makes a new seat. It is no pass's, so it claims nothing.
+pub(crate) struct Sitting;
+
+impl<S, N, F> Play<S, View<N, F>> for Sitting {
+    ghost use Rattle.std.specs.Prelude.{◌≡◌};
+    ghost use Rattle.mely_lock.specs.Views.{nobody};
+
+    ghost then = { λ _ _ _ m. m.0 ≡ nobody };
+}
+
+/// The cut of a seat in two, made by `new` for each pass: the first claim goes to the new seat.
+///
+/// No number is in two seats afterwards, since the first seat keeps the others alone.
+pub(crate) struct Dealing;
+
+impl<N, F> Split<View<N, F>> for Dealing {
+    ghost use Rattle.mely_lock.specs.Steps.{kept_of, dealt_of};
+
+    ghost left = { kept_of };
+
+    ghost right = { dealt_of };
+}
+
+/// The join of two seats that are outside, made by `close` for each pass: one has the claims of both, and the other none.
+pub(crate) struct TakingIn;
+
+impl<N, F> Join<View<N, F>> for TakingIn {
+    ghost use Rattle.mely_lock.specs.Steps.{joined};
+    ghost use Rattle.mely_lock.specs.Views.{nobody};
+
+    ghost both = { joined };
+
+    ghost spent = { nobody };
+}
