@@ -1,9 +1,10 @@
 #!/usr/bin/env python3
-"""Measures `sws answer` and a shard beside their peers, in one run, and prints a table.
+"""Measures `sws answer`, a shard and a lock beside their peers, in one run, and prints a table.
 
     bench/measure.py [--runs N]
 
-It wants the two programs built (`./sws` builds the server, `rt run` in crates/shard_loop the event loop) and cargo with Debian's librust-httparse-dev, librust-httpdate-dev,
+It wants the three programs built (`./sws` builds the server, `rt run` in crates/shard_loop
+and crates/lock_loop the others) and cargo with Debian's librust-httparse-dev, librust-httpdate-dev,
 librust-memchr-dev and librust-percent-encoding-dev. All that it makes stands in a new folder below the system's
 temporary one, about 400 MB, and is removed at the end. No traffic leaves the machine: both programs read a file and
 write to a file or to nothing. Times are seconds on a processor (user and system), the least of all runs, so that they say
@@ -20,6 +21,7 @@ import tempfile
 TOP = os.path.dirname(os.path.dirname(os.path.abspath(__file__)))
 SWS = os.path.join(TOP, "crates", "sws_main", "out", "sws_main")
 LOOP = os.path.join(TOP, "crates", "shard_loop", "out", "shard_loop")
+LOCK = os.path.join(TOP, "crates", "lock_loop", "out", "lock_loop")
 PEER = os.path.join(TOP, "bench", "peer")
 
 BROWSER_HEAD = "\r\n".join([
@@ -114,11 +116,26 @@ def shard(folder, peer):
             print(f"| an event in batches of {batch} | {name} | {nanos:.0f} ns |")
 
 
+def lock(folder, peer):
+    """Nanoseconds a pair of going in and out of one lock, by how many threads do."""
+    none = put(os.path.join(folder, "none"), b"")
+    pairs = 320_000
+    for threads in (1, 2, 4, 64):
+        programs = {}
+        for name, words in (("ticketed", [LOCK, "ticketed"]), ("mutex", [LOCK, "mutex"]), ("peer", [peer])):
+            for count in (0, pairs // threads):
+                programs[name, count > 0] = (words + [str(threads), str(count)], none)
+        seen = alternate(programs, 9)
+        for name in ("ticketed", "mutex", "peer"):
+            nanos = (seen[name, True][0] - seen[name, False][0]) / pairs * 1e9
+            print(f"| in and out of a lock, {threads} threads | {name} | {nanos:.0f} ns |")
+
+
 def main():
     words = argparse.ArgumentParser(description="Measures the answer command beside its peers.")
     words.add_argument("--runs", type=int, default=400, help="runs of each program over heads (default 400)")
     runs = words.parse_args().runs
-    for program in (SWS, LOOP):
+    for program in (SWS, LOOP, LOCK):
         if not os.access(program, os.X_OK):
             sys.exit(f"measure: {program} isn't built")
     subprocess.run(["cargo", "build", "--release", "--offline", "--quiet"], cwd=PEER, check=True)
@@ -131,6 +148,7 @@ def main():
         loading(folder)
         large_body(folder, peer)
         shard(folder, os.path.join(peers, "shard"))
+        lock(folder, os.path.join(peers, "lock"))
     finally:
         shutil.rmtree(folder)
 

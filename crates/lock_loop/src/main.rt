@@ -1,0 +1,39 @@
+//! `lock_loop KIND THREADS COUNT`: threads that go into one lock and out again, so many times each.
+//!
+//! KIND is `ticketed`, for the lock that is entered with a pass, or `mutex`, for std's. It is what the cost of a lock is
+//! measured by.
+#![tactic(auto)]
+
+mod turns;
+
+use std::process::ExitCode;
+use std::{env, io};
+
+/// Which lock, how many threads, and how often each goes in.
+fn order(rt: &HostRuntime) -> Option<(bool, u16, u64)> {
+    let mut words = env::args(rt).ok()?.skip(1);
+    let is_ticketed = words.next()?.as_str() == "ticketed";
+    let threads = words.next()?.as_str().parse::<u16>().ok()?;
+    let count = words.next()?.as_str().parse::<u64>().ok()?;
+    Some((is_ticketed, threads, count))
+}
+
+fn main(rt: HostRuntime) -> io::Result<ExitCode> {
+    let Some((is_ticketed, threads, count)) = order(&rt) else {
+        eprintln!(rt; "usage: lock_loop ticketed|mutex THREADS COUNT")?;
+        return Ok(ExitCode::from(2));
+    };
+    if threads == 0 {
+        return Ok(ExitCode::from(2));
+    }
+    let went = if is_ticketed {
+        turns::through_ticketed(&rt, threads, count)
+    } else {
+        turns::through_mutex(&rt, threads, count)
+    };
+    if went.is_err() {
+        return Ok(ExitCode::from(7));
+    }
+    println!(rt; "{threads} threads went in {count} times each")?;
+    Ok(ExitCode::SUCCESS)
+}

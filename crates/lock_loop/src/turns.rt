@@ -1,0 +1,112 @@
+//! Going in and out.
+ghost use Rattle.std.specs.Prelude.{◌≡◌, ◌<◌, length, All};
+ghost use Rattle.mely_lock.specs.Words.{IsPassOf, IsOutside};
+
+use mely_event::{Kept, Memory};
+use mely_lock::{Pass, Ticketed};
+use std::alloc::Global;
+use std::sync::{Mutex, Wait};
+use std::thread;
+use std::thread::Threads;
+
+/// A value with an empty history.
+#[derive(Drop)]
+struct Board {
+    notes: Vec<u8>,
+}
+
+impl Kept for Board {
+    type Note = u8;
+
+    type Frame = ();
+
+    ghost history_of = { λ b. b.notes.items };
+
+    ghost pass_of = { λ note. note };
+
+    ghost frame_of = { λ b. tt };
+
+    fn notes(&self) -> u64 {
+        self.notes.len() as u64
+    }
+}
+
+/// Goes in and out so many times.
+fn pass_through<R: Wait>(rt: &R, lock: &Ticketed<Board>, pass: &mut Pass<Board>, count: u64)
+    requires { IsPassOf ⟦<Board as Kept>⟧.frame_of lock.now pass.old × IsOutside pass.old }
+    ensures { IsPassOf ⟦<Board as Kept>⟧.frame_of lock.now pass.new × IsOutside pass.new }
+{
+    for _turn in 0..count {
+        let held = lock.enter(rt, pass);
+        held.leave(pass);
+    }
+}
+
+/// Each pass goes in and out so many times, from a thread of its own.
+fn pass_from_threads<R: Threads + Wait + Sync>(
+    rt: &R,
+    lock: &Ticketed<Board>,
+    passes: &mut [Pass<Board>],
+    threads: usize,
+    count: u64,
+)
+    requires threads { 0 < threads }
+    requires passes { All (λ p. IsPassOf ⟦<Board as Kept>⟧.frame_of lock.now p × IsOutside p) passes.old }
+{
+    thread::for_each_mut(
+        rt,
+        passes,
+        threads,
+        &|_, pass: &mut Pass<Board>|
+            requires { IsPassOf (λ (b : Board). tt) lock.now pass.now × IsOutside pass.now }
+            ensures { IsPassOf (λ (b : Board). tt) lock.entry.now pass.exit.now × IsOutside pass.exit.now }
+        { pass_through(rt, lock, pass, count) },
+    );
+}
+
+/// So many threads go into the lock that is entered with a pass.
+pub fn through_ticketed<R: Threads + Wait + AllocGlobal + Sync>(
+    rt: &R,
+    threads: u16,
+    count: u64,
+) -> Result<(), Memory>
+    requires { 0 < threads }
+{
+    let alloc = rt.alloc();
+    let board = Board {
+        notes: Vec::new(alloc),
+    };
+    let (lock, mut passes) = Ticketed::new(alloc, board, threads)?;
+    pass_from_threads(rt, &lock, &mut passes, threads as usize, count);
+    Ok(())
+}
+
+/// Goes into a mutex and out so many times.
+fn lock_often<R: Wait>(rt: &R, lock: &Mutex<u64>, count: u64) {
+    for _turn in 0..count {
+        let mut value = lock.lock(rt);
+        *value = value.wrapping_add(1);
+    }
+}
+
+/// So many threads go into std's mutex.
+pub fn through_mutex<R: Threads + Wait + AllocGlobal + Sync>(
+    rt: &R,
+    threads: u16,
+    count: u64,
+) -> Result<(), Memory>
+    requires { 0 < threads }
+{
+    let mut slots = Vec::new(rt.alloc());
+    for slot in 0..threads {
+        slots.push(slot)?;
+    }
+    let lock = Mutex::new(0u64);
+    thread::for_each_mut(
+        rt,
+        &mut slots,
+        threads as usize,
+        &|_, _slot: &mut u16| { lock_often(rt, &lock, count) },
+    );
+    Ok(())
+}

@@ -1,0 +1,196 @@
+-- Laws of lists of marks with at most one a colour.
+use Rattle.std.proofs.Common.{◌≡◌, ◌<◌, ◌≤◌, ◌+◌, ℕ, get_or, set, take, drop, true, false, not, cond, eqb, List, [], ◌∷◌, ◌++◌, None, Some, length, All, suc, zero, arith, refl, sym, ap, ◌∙◌, inl, inr}
+use Rattle.std.specs.Option.{option_or}
+use Rattle.std.proofs.lemmas.Bool.{cases_Bool, cases_eq, cond_both, eqb-true, eqb-false, eq-eqb, ne_eqb, not-true}
+use Rattle.std.proofs.lemmas.Option.{none-some}
+use Rattle.std.proofs.lemmas.List.Elements.{All-nil, All-cons, All-head, All-tail, All-push, All-filter, All-map, All-weaker}
+use Rattle.std.proofs.lemmas.List.{length_push, get_or_default}
+use Rattle.std.proofs.lemmas.List.Edits.{map_over_more}
+use Rattle.mely_event.specs.declared.colour.Colour.{Colour}
+use Rattle.mely_event.specs.declared.mark.Mark.{Mark}
+use Rattle.mely_steal.specs.Marks.{is_of, mark_of, without, replaced, IsOneEach, AreApart}
+
+-- where the first mark isn't of the colour, and none behind it is
+pub none-parts : (c : Colour) (x : Mark) (xs : List Mark) → mark_of c (x ∷ xs) ≡ None → (is_of c x ≡ false) × (mark_of c xs ≡ None)
+none-parts c x xs h = elim (cases_Bool (is_of c x)) [
+  | inl t ↦ absurd (none-some x (sym h ∙ ap (λ b. cond b (Some x) (mark_of c xs)) t))
+  | inr f ↦ (f, sym (ap (λ b. cond b (Some x) (mark_of c xs)) f) ∙ h)
+]
+
+-- two colours of one number have the same mark
+pub mark_of-same : (c d : Colour) (xs : List Mark) → c.0 ≡ d.0 → mark_of c xs ≡ mark_of d xs
+mark_of-same c d xs e = ap (λ n. mark_of (record { 0 = n }) xs) e
+
+pub mark_of-append : (c : Colour) (xs ys : List Mark) → mark_of c (xs ++ ys) ≡ option_or (mark_of c xs) (mark_of c ys)
+mark_of-append c [] ys = refl
+mark_of-append c (x ∷ xs) ys = elim (is_of c x) as (λ b. cond b (Some x) (mark_of c (xs ++ ys)) ≡ option_or (cond b (Some x) (mark_of c xs)) (mark_of c ys)) [
+  | true ↦ refl
+  | false ↦ mark_of-append c xs ys
+]
+
+-- what a list without a colour has of that colour
+pub mark_of-without_same : (c d : Colour) (xs : List Mark) → c.0 ≡ d.0 → mark_of c (without d xs) ≡ None
+mark_of-without_same c d [] e = refl
+mark_of-without_same c d (x ∷ xs) e = elim (cases_Bool (is_of d x)) [
+  | inl t ↦ ap (λ b. mark_of c (cond (not b) (x ∷ without d xs) (without d xs))) t ∙ mark_of-without_same c d xs e
+  | inr f ↦ ap (λ b. mark_of c (cond (not b) (x ∷ without d xs) (without d xs))) f
+      ∙ (ap (λ n. cond (eqb x.colour.0 n) (Some x) (mark_of c (without d xs))) e
+      ∙ (ap (λ b. cond b (Some x) (mark_of c (without d xs))) f
+      ∙ mark_of-without_same c d xs e))
+]
+
+-- what it has of another colour
+pub mark_of-without_other : (c d : Colour) (xs : List Mark) → (c.0 ≡ d.0 → ⊥) → mark_of c (without d xs) ≡ mark_of c xs
+mark_of-without_other c d [] ne = refl
+mark_of-without_other c d (x ∷ xs) ne = elim (cases_Bool (is_of d x)) [
+  | inl t ↦ ap (λ b. mark_of c (cond (not b) (x ∷ without d xs) (without d xs))) t
+      ∙ (mark_of-without_other c d xs ne
+      ∙ sym (ap (λ b. cond b (Some x) (mark_of c xs)) (ne_eqb x.colour.0 c.0 (λ e. ne (sym e ∙ eqb-true x.colour.0 d.0 t)))))
+  | inr f ↦ ap (λ b. mark_of c (cond (not b) (x ∷ without d xs) (without d xs))) f
+      ∙ ap (λ o. cond (is_of c x) (Some x) o) (mark_of-without_other c d xs ne)
+]
+
+-- a colour that has no mark has none in a part of the list
+pub none-without : (c d : Colour) (xs : List Mark) → mark_of c xs ≡ None → mark_of c (without d xs) ≡ None
+none-without c d xs h = elim (cases_eq c.0 d.0) [
+  | inl e ↦ mark_of-without_same c d xs e
+  | inr ne ↦ mark_of-without_other c d xs ne ∙ h
+]
+
+-- a list without a colour that has no mark is the list
+pub without-none : (c : Colour) (xs : List Mark) → mark_of c xs ≡ None → without c xs ≡ xs
+without-none c [] h = refl
+without-none c (x ∷ xs) h =
+    let parts = none-parts c x xs h in
+    ap (λ b. cond (not b) (x ∷ without c xs) (without c xs)) parts.0 ∙ ap (λ ys. x ∷ ys) (without-none c xs parts.1)
+
+-- a mark that replaces another is of its colour
+pub replaced-colour : (new x : Mark) → (cond (is_of new.colour x) new x).colour.0 ≡ x.colour.0
+replaced-colour new x = cond_both (is_of new.colour x) new x (λ m. m.colour.0 ≡ x.colour.0) (λ t. sym (eqb-true x.colour.0 new.colour.0 t)) (λ f. refl)
+
+-- a colour that has no mark has none after a replacement
+pub none-replaced : (new : Mark) (c : Colour) (xs : List Mark) → mark_of c xs ≡ None → mark_of c (replaced new xs) ≡ None
+none-replaced new c [] h = refl
+none-replaced new c (x ∷ xs) h =
+    let parts = none-parts c x xs h in
+    let here : is_of c (cond (is_of new.colour x) new x) ≡ false = ap (λ n. eqb n c.0) (replaced-colour new x) ∙ parts.0 in
+    ap (λ b. cond b (Some (cond (is_of new.colour x) new x)) (mark_of c (replaced new xs))) here ∙ none-replaced new c xs parts.1
+
+-- what a list has of another colour than that of the replaced mark
+pub mark_of-replaced_other : (new : Mark) (c : Colour) (xs : List Mark) → (c.0 ≡ new.colour.0 → ⊥) → mark_of c (replaced new xs) ≡ mark_of c xs
+mark_of-replaced_other new c [] ne = refl
+mark_of-replaced_other new c (x ∷ xs) ne = elim (cases_Bool (is_of new.colour x)) [
+  | inl t ↦
+      let off : is_of c x ≡ false = ne_eqb x.colour.0 c.0 (λ e. ne (sym e ∙ eqb-true x.colour.0 new.colour.0 t)) in
+      let out : is_of c new ≡ false = ne_eqb new.colour.0 c.0 (λ e. ne (sym e)) in
+      ap (λ b. mark_of c (cond b new x ∷ replaced new xs)) t
+      ∙ (ap (λ b. cond b (Some new) (mark_of c (replaced new xs))) out
+      ∙ (mark_of-replaced_other new c xs ne
+      ∙ sym (ap (λ b. cond b (Some x) (mark_of c xs)) off)))
+  | inr f ↦ ap (λ b. mark_of c (cond b new x ∷ replaced new xs)) f ∙ ap (λ o. cond (is_of c x) (Some x) o) (mark_of-replaced_other new c xs ne)
+]
+
+-- what it has of that colour, where a mark of the colour was there
+pub mark_of-replaced_same : (new old : Mark) (c : Colour) (xs : List Mark) → c.0 ≡ new.colour.0 → mark_of c xs ≡ Some old → mark_of c (replaced new xs) ≡ Some new
+mark_of-replaced_same new old c [] e h = absurd (none-some old h)
+mark_of-replaced_same new old c (x ∷ xs) e h = elim (cases_Bool (is_of new.colour x)) [
+  | inl t ↦
+      ap (λ b. mark_of c (cond b new x ∷ replaced new xs)) t
+      ∙ ap (λ b. cond b (Some new) (mark_of c (replaced new xs))) (eq-eqb new.colour.0 c.0 (sym e))
+  | inr f ↦
+      let off : is_of c x ≡ false = ap (λ n. eqb x.colour.0 n) e ∙ f in
+      ap (λ b. mark_of c (cond b new x ∷ replaced new xs)) f
+      ∙ (ap (λ b. cond b (Some x) (mark_of c (replaced new xs))) off
+      ∙ mark_of-replaced_same new old c xs e (sym (ap (λ b. cond b (Some x) (mark_of c xs)) off) ∙ h))
+]
+
+-- at most one mark a colour, after a mark of a new colour
+pub IsOneEach-push : (xs : List Mark) (m : Mark) → IsOneEach xs → mark_of m.colour xs ≡ None → IsOneEach (xs ++ m ∷ [])
+IsOneEach-push [] m one h = (refl, tt)
+IsOneEach-push (x ∷ xs) m one h =
+    let parts = none-parts m.colour x xs h in
+    let apart : is_of x.colour m ≡ false = ne_eqb m.colour.0 x.colour.0 (λ e. eqb-false x.colour.0 m.colour.0 parts.0 (sym e)) in (
+      mark_of-append x.colour xs (m ∷ []) ∙ (ap (λ o. option_or o (mark_of x.colour (m ∷ []))) one.0 ∙ ap (λ b. cond b (Some m) None) apart),
+      IsOneEach-push xs m one.1 parts.1,
+    )
+
+-- and in a part of the list
+pub IsOneEach-without : (c : Colour) (xs : List Mark) → IsOneEach xs → IsOneEach (without c xs)
+IsOneEach-without c [] one = tt
+IsOneEach-without c (x ∷ xs) one = cond_both (not (is_of c x)) (x ∷ without c xs) (without c xs) IsOneEach
+    (λ t. (none-without x.colour c xs one.0, IsOneEach-without c xs one.1))
+    (λ f. IsOneEach-without c xs one.1)
+
+-- and after a replacement
+pub IsOneEach-replaced : (new : Mark) (xs : List Mark) → IsOneEach xs → IsOneEach (replaced new xs)
+IsOneEach-replaced new [] one = tt
+IsOneEach-replaced new (x ∷ xs) one =
+    let r : Mark = cond (is_of new.colour x) new x in
+    (none-replaced new r.colour xs (mark_of-same r.colour x.colour xs (replaced-colour new x) ∙ one.0), IsOneEach-replaced new xs one.1)
+
+-- a colour takes at most one mark
+pub length-without : (c : Colour) (xs : List Mark) → IsOneEach xs → length xs ≤ length (without c xs) + 1
+length-without c [] one = omega arith
+length-without c (x ∷ xs) one = elim (cases_Bool (is_of c x)) [
+  | inl t ↦
+      let same : without c xs ≡ xs = without-none c xs (mark_of-same c x.colour xs (sym (eqb-true x.colour.0 c.0 t)) ∙ one.0) in
+      let less : without c (x ∷ xs) ≡ xs = ap (λ b. cond (not b) (x ∷ without c xs) (without c xs)) t ∙ same in
+      rw less (omega arith)
+  | inr f ↦
+      let more : without c (x ∷ xs) ≡ x ∷ without c xs = ap (λ b. cond (not b) (x ∷ without c xs) (without c xs)) f in
+      let rest = length-without c xs one.1 in
+      rw more (omega arith)
+]
+
+-- without the greatest colour the others are below it
+pub below-without : (n : ℕ) (xs : List Mark) → All (λ m. m.colour.0 < suc n) xs → All (λ m. m.colour.0 < n) (without (record { 0 = n }) xs)
+below-without n [] below = All-nil (λ m. m.colour.0 < n)
+below-without n (x ∷ xs) below =
+    let P : Mark → Type 0 = λ m. m.colour.0 < suc n in
+    let Q : Mark → Type 0 = λ m. m.colour.0 < n in
+    let c : Colour = record { 0 = n } in
+    let rest = below-without n xs (All-tail P x xs below) in
+    let first : x.colour.0 < suc n = All-head P x xs below in
+    cond_both (not (is_of c x)) (x ∷ without c xs) (without c xs) (λ ys. All Q ys)
+    (λ t. let ne : x.colour.0 ≡ n → ⊥ = eqb-false x.colour.0 n (not-true (is_of c x) t) in All-cons Q x (without c xs) (omega arith) rest)
+    (λ f. rest)
+
+-- there are at most as many marks as colours
+pub length-le : (n : ℕ) (xs : List Mark) → All (λ m. m.colour.0 < n) xs → IsOneEach xs → length xs ≤ n
+length-le zero [] below one = omega arith
+length-le zero (x ∷ xs) below one = let P : Mark → Type 0 = λ m. m.colour.0 < zero in let never : x.colour.0 < zero = All-head P x xs below in absurd (omega arith)
+length-le (suc n) xs below one =
+    let c : Colour = record { 0 = n } in
+    let rest = length-le n (without c xs) (below-without n xs below) (IsOneEach-without c xs one) in
+    let less = length-without c xs one in
+    omega arith
+
+-- the list with a mark more, one less, and one replaced is as it should be
+pub AreApart-push : (xs : List Mark) (n : ℕ) (m : Mark) → AreApart (record { marks = xs; colours = n }) → m.colour.0 < n → mark_of m.colour xs ≡ None → AreApart (record { marks = xs ++ m ∷ []; colours = n })
+AreApart-push xs n m kept lt none = record { below = All-push (λ x. x.colour.0 < n) xs m kept.below lt; apart = IsOneEach-push xs m kept.apart none }
+
+pub AreApart-without : (c : Colour) (xs : List Mark) (n : ℕ) → AreApart (record { marks = xs; colours = n }) → AreApart (record { marks = without c xs; colours = n })
+AreApart-without c xs n kept = record { below = All-filter (λ m. not (is_of c m)) (λ x. x.colour.0 < n) xs kept.below; apart = IsOneEach-without c xs kept.apart }
+
+pub AreApart-replaced : (new : Mark) (xs : List Mark) (n : ℕ) → AreApart (record { marks = xs; colours = n }) → AreApart (record { marks = replaced new xs; colours = n })
+AreApart-replaced new xs n kept =
+    let P : Mark → Type 0 = λ m. m.colour.0 < n in
+    record {
+      below = All-map P (λ m. cond (is_of new.colour m) new m) xs (All-weaker P (λ m. P (cond (is_of new.colour m) new m)) (λ m lt. rw (replaced-colour new m) lt) xs kept.below);
+      apart = IsOneEach-replaced new xs kept.apart;
+    }
+
+-- there is room for a mark of a colour that has none
+pub room-push : (xs : List Mark) (n : ℕ) (m : Mark) → AreApart (record { marks = xs; colours = n }) → m.colour.0 < n → mark_of m.colour xs ≡ None → length xs < n
+room-push xs n m kept lt none =
+    let more = AreApart-push xs n m kept lt none in
+    let fits : length (xs ++ m ∷ []) ≤ n = length-le n (xs ++ m ∷ []) more.below more.apart in
+    let long : length (xs ++ m ∷ []) ≡ length xs + 1 = length_push xs m in
+    omega arith
+
+-- one step of a loop that replaces in place
+pub replaced_more : (new : Mark) (xs ys : List Mark) (i : ℕ) (d : Mark) → i < length xs → length ys ≡ length xs → ys ≡ replaced new (take i xs) ++ drop i xs
+    → set ys i (cond (is_of new.colour (get_or ys i d)) new (get_or ys i d)) ≡ replaced new (take (i + 1) xs) ++ drop (i + 1) xs
+replaced_more new xs ys i d lt long so =
+    let within : i < length ys = omega arith in
+    map_over_more (λ m. cond (is_of new.colour m) new m) xs ys i (get_or ys i d) lt so (get_or_default ys i d (get_or ys i d) within)

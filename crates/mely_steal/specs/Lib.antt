@@ -1,0 +1,4 @@
+pub mod Classes
+pub mod Victims
+pub mod Marks
+pub mod Stealing

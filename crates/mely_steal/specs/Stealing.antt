@@ -1,0 +1,42 @@
+-- The marks that are worth a steal.
+use Rattle.std.specs.Prelude.{◌<◌, ◌==◌, nat_lt, ℕ, Bool, false, List, [], ◌∷◌, ◌++◌, Option, All, find, if◌then◌else◌}
+use Rattle.std.specs.Option.{option_or, option_map_or}
+use Rattle.mely_event.specs.declared.mark.Mark.{Mark}
+use Rattle.mely_steal.specs.Classes.{class_of}
+use Rattle.mely_steal.specs.Marks.{IsOneEach, mark_of, without, replaced}
+
+-- marks of classes 1 to 3 in the order in which each entered its class, the number of colours and the cost of a steal
+pub record Worthy : Type 0 where
+  pub marks : List Mark
+  pub colours : ℕ
+  pub cost : ℕ
+
+-- the time left of the mark's colour pays for a steal: its class isn't 0
+abbrev pub is_worthy : ℕ → Mark → Bool
+is_worthy cost mark = nat_lt cost mark.worth
+
+-- each colour is one of the colours, and has at most one mark, which is worth more than a steal costs
+pub record AreWorthy (q : Worthy) : Type 0 where
+  pub below : All (λ mark. mark.colour.0 < q.colours) q.marks
+  pub apart : IsOneEach q.marks
+  pub worthy : All (λ mark. q.cost < mark.worth) q.marks
+
+-- the marks after this one entered its class: behind all others, and nowhere where its class is 0
+abbrev pub entered : ℕ → Mark → List Mark → List Mark
+entered cost mark marks = if is_worthy cost mark then marks ++ mark ∷ [] else marks
+
+-- the mark of this colour is of the same class
+abbrev pub keeps_class : ℕ → Mark → List Mark → Bool
+keeps_class cost new marks = option_map_or (λ old. class_of old.worth cost == class_of new.worth cost) (mark_of new.colour marks) false
+
+-- the marks after the mark of a colour became this one: it keeps its place within its class, and enters a class that it wasn't in
+abbrev pub changed : ℕ → Mark → List Mark → List Mark
+changed cost new marks = if keeps_class cost new marks then replaced new marks else entered cost new (without new.colour marks)
+
+-- the first mark of a class
+abbrev pub first_of : ℕ → ℕ → List Mark → Option Mark
+first_of cost class marks = find (λ mark. class_of mark.worth cost == class) marks
+
+-- the mark that a thief takes: the first of the highest class that has one
+abbrev pub pick_of : ℕ → List Mark → Option Mark
+pick_of cost marks = option_or (option_or (first_of cost 3 marks) (first_of cost 2 marks)) (first_of cost 1 marks)
