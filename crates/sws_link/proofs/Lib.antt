@@ -1,3 +1,5 @@
 pub mod CountLaws
 pub mod ContentLaws
 mod FolderLemmas
+mod PlayLemmas
+mod WireLemmas

@@ -5,3 +5,10 @@ pub mod Folders
 pub mod Calls
 pub mod Memories
 pub mod FolderFiles
+pub mod Scripts
+pub mod Links
+pub mod LinkItems
+pub mod Playing
+pub mod Played
+pub mod MemLinks
+pub mod MemLinkViews

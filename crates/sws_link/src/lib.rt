@@ -1,15 +1,19 @@
-//! What the server asks of the outside: a source of bytes, a sink for bytes, and a folder of files.
+//! What the server asks of the outside: a source of bytes, a sink for bytes, a folder of files, and links to
+//! clients.
 //!
 //! A server that reads and writes the machine itself can promise nothing of what it sends, since no
 //! contract knows what a socket or a disk holds. So everything of the server is written over the
 //! traits of this crate. An object of the outside *tells* contracts what it holds, as far as that is
-//! known: a source the bytes that are left, a sink the bytes that were written, a folder its files.
-//! An object that tells nothing goes on telling nothing. Each object also has a count of its faults,
-//! which never falls, and every answer `Failed` comes only where that count rose in the call.
+//! known: a source the bytes that are left, a sink the bytes that were written, a folder its files, a
+//! link its input, what was taken of it and what was written. An object that tells nothing goes on
+//! telling nothing. Each object also has a count of its faults, which never falls, and every answer
+//! `Failed` comes only where that count rose in the call. A link counts likewise how often it was not
+//! ready. A link that answers as the lines of a script say tells these lines as well.
 //!
-//! [`MemSource`], [`MemSink`] and [`MemFolder`] hold their contents in memory, tell all of them, and
-//! fail at the calls that they are told to. [`SureSource`], [`SureSink`] and [`SureFolder`] are the
-//! same without faults. Adapters of the machine's own files and streams tell nothing and count errors.
+//! [`MemSource`], [`MemSink`], [`MemFolder`] and [`MemLink`] hold their contents in memory, tell all of
+//! them, and fail at the calls that they are told to. [`SureSource`], [`SureSink`], [`SureFolder`] and
+//! [`SureLink`] are the same without faults. Adapters of the machine's own files and streams tell
+//! nothing and count errors.
 //!
 //! ```text
 //! let mut source = SureSource::new(bytes);
@@ -28,22 +32,31 @@ ghost use Rattle.sws_link.specs.Counts.{Count, HasCause};
 ghost use Rattle.sws_link.specs.Contents.{TakesWithin, Takes, Puts};
 ghost use Rattle.sws_link.specs.Told.{FolderTells};
 ghost use Rattle.sws_link.specs.Folders.{Opens, Gives, TakesOfFile, at_file_after_open, is_file};
+ghost use Rattle.sws_link.specs.Links.{LinkTells, Reads, Writes, Shuts};
 
 mod calls;
 mod copying;
+mod link_item;
 mod mem_folder;
+mod mem_link;
 mod mem_sink;
 mod mem_source;
+mod playing;
 mod sure_folder;
+mod sure_link;
 mod sure_sink;
 mod sure_source;
 #[cfg(test)]
 mod tests;
+mod wire;
 
+pub use link_item::LinkItem;
 pub use mem_folder::MemFolder;
+pub use mem_link::MemLink;
 pub use mem_sink::MemSink;
 pub use mem_source::MemSource;
 pub use sure_folder::SureFolder;
+pub use sure_link::SureLink;
 pub use sure_sink::SureSink;
 pub use sure_source::SureSource;
 
@@ -158,4 +171,59 @@ pub trait Folder {
         ensures bytes { TakesOfFile (tells self.old) (tells self.new) result into.new }
         ensures at_file { IsTrue (at_file self.new) }
         ensures cause { HasCause (faults self.old) (faults self.new) (result ≡ Got.Failed) };
+}
+
+/// What a read of a link answers.
+#[derive(Clone, Copy, Debug, PartialEq, Eq)]
+pub enum LinkRead {
+    /// So many bytes were taken, and stand at the front of the room.
+    Took(usize),
+    /// All input was taken.
+    End,
+    /// Nothing has come yet, and nothing was taken.
+    NotReady,
+    /// The outside failed, and nothing was taken.
+    Failed,
+}
+
+/// What a write of a link answers.
+#[derive(Clone, Copy, Debug, PartialEq, Eq)]
+pub enum LinkWrite {
+    /// So many bytes of the piece were written, the first ones.
+    Wrote(usize),
+    /// The peer takes nothing yet, and nothing was written.
+    NotReady,
+    /// The outside failed, and a front of the piece was written.
+    Failed,
+    /// There was no memory, and a front of the piece was written.
+    Memory,
+}
+
+/// The two ways of a connection to one client. No call changes the whole input: a read moves bytes from what
+/// is left to what was taken.
+pub trait Link {
+    /// The bytes that were taken, are left and were written, and the answers to come, where these are known.
+    ghost tells: { Self → Option LinkTells };
+
+    /// How often a call has failed.
+    ghost faults: { Self → Count };
+
+    /// How often a call found the link not ready.
+    ghost waits: { Self → Count };
+
+    /// Takes at least one of the bytes that are left, and at most as many as there is room for, unless the link
+    /// is at its end, not ready, or at fault.
+    fn read(&mut self, into: &mut [u8]) -> LinkRead
+        requires { 0 < length into.old }
+        ensures reads { Reads tells faults waits self.old (length into.old) result into.new self.new };
+
+    /// Writes at least one byte of the piece, and as many as the peer takes, unless the link is not ready or at
+    /// fault.
+    fn write(&mut self, bytes: &[u8]) -> LinkWrite
+        requires { 0 < length bytes.now }
+        ensures writes { Writes tells faults waits self.old bytes.now result self.new };
+
+    /// Ends the connection, which changes nothing that the link tells.
+    fn shut(&mut self)
+        ensures shuts { Shuts tells faults waits self.old self.new };
 }

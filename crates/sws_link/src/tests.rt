@@ -1,8 +1,8 @@
 //! What the forms in memory give with ample memory.
 
 use crate::{
-    Folder, Got, MemFolder, MemSink, MemSource, NextFile, Opened, Put, Sink, Source, SureFolder,
-    SureSink, SureSource,
+    Folder, Got, Link, LinkItem, LinkRead, LinkWrite, MemFolder, MemLink, MemSink, MemSource,
+    NextFile, Opened, Put, Sink, Source, SureFolder, SureLink, SureSink, SureSource,
 };
 use std::alloc::{AllocError, Global};
 use std::test::Fail;
@@ -116,5 +116,118 @@ fn a_folder_copies_names_and_lends_bytes(rt: HostRuntime) -> Result<(), Fail> {
     assert_eq!(rt; folder.read(&mut room), Got::Took(1));
     assert_eq!(rt; room[0], b'\n');
     assert_eq!(rt; folder.read(&mut room), Got::End);
+    Ok(())
+}
+
+/// Five reads of two bytes each, through the bound.
+fn five_reads<L: Link>(link: &mut L) -> [LinkRead; 5] {
+    let mut room = [0; 2];
+    [
+        link.read(&mut room),
+        link.read(&mut room),
+        link.read(&mut room),
+        link.read(&mut room),
+        link.read(&mut room),
+    ]
+}
+
+#[test]
+fn a_link_gives_its_items_in_order(rt: HostRuntime) -> Result<(), Fail> {
+    let mut items = Vec::new(rt.alloc());
+    items.push(LinkItem::Bytes(b"abc".to_vec(rt.alloc())?))?;
+    items.push(LinkItem::Wait(1))?;
+    items.push(LinkItem::Fill(1))?;
+    let mut sure = SureLink::new(rt.alloc(), items, None);
+    assert_eq!(rt;
+        five_reads(&mut sure),
+        [
+            LinkRead::Took(2),
+            LinkRead::Took(1),
+            LinkRead::NotReady,
+            LinkRead::Took(1),
+            LinkRead::End
+        ]
+    );
+
+    let mut items = Vec::new(rt.alloc());
+    items.push(LinkItem::Bytes(b"abc".to_vec(rt.alloc())?))?;
+    items.push(LinkItem::Fail)?;
+    items.push(LinkItem::Bytes(b"d".to_vec(rt.alloc())?))?;
+    let mut failing = MemLink::new(rt.alloc(), items, None, None, vec![in rt.alloc(); 2]?);
+    assert_eq!(rt;
+        five_reads(&mut failing),
+        [
+            LinkRead::Took(2),
+            LinkRead::Failed,
+            LinkRead::Took(1),
+            LinkRead::Failed,
+            LinkRead::Failed
+        ]
+    );
+    Ok(())
+}
+
+#[test]
+fn a_link_copies_the_bytes_of_its_items(rt: HostRuntime) -> Result<(), Fail> {
+    let mut items = Vec::new(rt.alloc());
+    items.push(LinkItem::Bytes(b"xy".to_vec(rt.alloc())?))?;
+    items.push(LinkItem::Fill(3))?;
+    let mut link = SureLink::new(rt.alloc(), items, None);
+    let mut room = [0; 4];
+    assert_eq!(rt; link.read(&mut room), LinkRead::Took(2));
+    assert_eq!(rt; &room[..2], b"xy".as_slice());
+    assert_eq!(rt; link.read(&mut room), LinkRead::Took(3));
+    assert_eq!(rt; &room[..3], b"aaa".as_slice());
+    link.shut();
+    assert_eq!(rt; link.read(&mut room), LinkRead::End);
+    Ok(())
+}
+
+/// Three writes of a piece of five bytes, through the bound.
+fn three_writes<L: Link>(link: &mut L) -> [LinkWrite; 3] {
+    [
+        link.write(b"abcde"),
+        link.write(b"abcde"),
+        link.write(b"abcde"),
+    ]
+}
+
+#[test]
+fn a_link_takes_as_much_as_its_bounds_allow(rt: HostRuntime) -> Result<(), Fail> {
+    let mut whole = SureLink::new(rt.alloc(), Vec::new(rt.alloc()), None);
+    assert_eq!(rt; three_writes(&mut whole), [LinkWrite::Wrote(5); 3]);
+    assert_eq!(rt; whole.written(), b"abcdeabcdeabcde".as_slice());
+
+    let mut stepped = SureLink::new(rt.alloc(), Vec::new(rt.alloc()), Some(2));
+    assert_eq!(rt; three_writes(&mut stepped), [LinkWrite::Wrote(2); 3]);
+
+    let mut nothing = SureLink::new(rt.alloc(), Vec::new(rt.alloc()), Some(0));
+    assert_eq!(rt; three_writes(&mut nothing), [LinkWrite::NotReady; 3]);
+
+    let mut cut = MemLink::new(
+        rt.alloc(),
+        Vec::new(rt.alloc()),
+        None,
+        Some(7),
+        Vec::new(rt.alloc()),
+    );
+    assert_eq!(rt;
+        three_writes(&mut cut),
+        [LinkWrite::Wrote(5), LinkWrite::Wrote(2), LinkWrite::Failed]
+    );
+    assert_eq!(rt; cut.written(), b"abcdeab".as_slice());
+
+    let mut failing = MemLink::new(
+        rt.alloc(),
+        Vec::new(rt.alloc()),
+        Some(3),
+        None,
+        vec![in rt.alloc(); 2]?,
+    );
+    assert_eq!(rt;
+        three_writes(&mut failing),
+        [LinkWrite::Wrote(3), LinkWrite::Failed, LinkWrite::Wrote(3)]
+    );
+    assert_eq!(rt; failing.written(), b"abcabc".as_slice());
     Ok(())
 }

@@ -1,0 +1,156 @@
+-- What was written at the end of a connection.
+use Rattle.std.specs.Prelude.{◌||◌}
+use Rattle.std.proofs.Common.{inl, inr, ◌⊎◌, ◌≡◌, ℕ, ◌+◌, ◌-◌, ◌≤◌, Bool, true, false, nat_le, List, [], ◌++◌, length, take, Option, Some, None, refl, sym, ap, ◌∙◌, subst, arith, append_assoc, append-nil, length-append, take_all, leb-true}
+use Rattle.std.proofs.Math.Seq.{take-append-add}
+use Rattle.std.proofs.lemmas.List.{take-append-le}
+use Rattle.std.proofs.lemmas.List.Concat.{flat_map-append}
+use Rattle.sws_link.specs.declared.Link.{Ghosts as LinkWords}
+use Rattle.sws_link.specs.Contents.{IsPrefix}
+use Rattle.sws_link.specs.Counts.{Rose}
+use Rattle.sws_link.specs.Links.{LinkTells, input_of}
+use Rattle.sws_request.specs.declared.cuts.Cut.TheVariants.{NotYet}
+use Rattle.sws_request.specs.Cuts.{cut_of}
+use Rattle.sws_site.specs.Sites.{SiteFiles}
+use Rattle.sws_parts.specs.Unsent.{unsent_bytes}
+use Rattle.sws_answer.specs.Answers.{text_of}
+use Rattle.sws_answer.specs.Responses.{answers, answers_to, responses_of, texts_of, answer_limit, input_limit}
+use Rattle.sws_answer.proofs.ResponseLaws.{answers-not_yet}
+use Rattle.sws_conn.specs.declared.End.{End}
+use Rattle.sws_conn.specs.declared.End.TheVariants as ending
+use Rattle.sws_conn.specs.declared.Next.TheVariants as next
+use Rattle.sws_conn.specs.Standing.{Standing, Connection, later_unless}
+use Rattle.sws_conn.specs.Step.{has_all_input, wait_limit}
+use Rattle.sws_conn.specs.Sound.{IsSound, IsReadyTo, IsEnded, IsDone, Course, IsTold, IsUncut, IsToldBy}
+use Rattle.sws_conn.specs.Path.{told_by_link}
+use Rattle.sws_conn.specs.Serving.{Serves, RoseBy, BeginsResponses}
+use Rattle.sws_conn.proofs.PartLemmas.{nothing-rest, front-first}
+use Rattle.sws_conn.proofs.Since.{SameInput, Since, SinceLink}
+
+-- the answers to what was taken, followed by whatever may come, are those that were given, and more
+responses-given : (c : Standing) (taken sent more : List ℕ) (k : Course c taken sent) (bytes : List ℕ) → take input_limit bytes ≡ k.consumed ++ more
+    → responses_of c.site bytes ≡ texts_of k.given ++ texts_of (later_unless c.closes (answers (answer_limit - c.answered) c.site more))
+unfolding responses_of answers_to
+responses-given c taken sent more k bytes is =
+    ap (λ b. texts_of (answers answer_limit c.site b)) is ∙ ap texts_of (k.given_first more)
+    ∙ flat_map-append text_of k.given (later_unless c.closes (answers (answer_limit - c.answered) c.site more))
+
+-- all that was taken counts
+taken-few : (c : Standing) (taken sent : List ℕ) → Course c taken sent → length taken ≤ input_limit
+taken-few c taken sent k = let few = k.read_few in let is = k.read_is in omega arith
+
+-- what was written begins the responses to what was taken
+written-first : (c : Standing) (tells : LinkTells) (taken sent : List ℕ) → Course c taken sent → IsTold c (Some tells) taken sent
+    → IsPrefix tells.written (responses_of c.site tells.taken)
+written-first c tells taken sent k (taken_is, writes, left) =
+    let later = texts_of (later_unless c.closes (answers (answer_limit - c.answered) c.site c.buffer)) in
+    let rest = front-first c.parts in
+    let all : take input_limit tells.taken ≡ k.consumed ++ c.buffer =
+    ap (take input_limit) taken_is ∙ take_all input_limit taken (taken-few c taken sent k) ∙ k.taken_is in
+    let unsent : unsent_bytes c.parts ≡ (writes.front ++ writes.prefix.0) ++ rest.0 = rest.1 ∙ ap (λ f. f ++ rest.0) writes.prefix.1 in
+    let given : texts_of k.given ≡ sent ++ ((writes.front ++ writes.prefix.0) ++ rest.0) = sym k.sent_is ∙ ap (λ u. sent ++ u) unsent in (
+      writes.prefix.0 ++ (rest.0 ++ later),
+      responses-given c taken sent c.buffer k tells.taken all
+          ∙ ap (λ g. g ++ later) given
+          ∙ append_assoc sent ((writes.front ++ writes.prefix.0) ++ rest.0) later
+          ∙ ap (λ l. sent ++ l) (append_assoc (writes.front ++ writes.prefix.0) rest.0 later ∙ append_assoc writes.front writes.prefix.0 (rest.0 ++ later))
+          ∙ sym (append_assoc sent writes.front (writes.prefix.0 ++ (rest.0 ++ later)))
+          ∙ ap (λ w. w ++ (writes.prefix.0 ++ (rest.0 ++ later))) (sym writes.is),
+    )
+
+-- where all is done, what was written is the responses to the whole input
+written-whole : (c : Standing) (tells : LinkTells) (taken sent : List ℕ) → Course c taken sent → IsTold c (Some tells) taken sent
+    → c.end ≡ Some ending.Done → IsDone c → tells.written ≡ responses_of c.site (input_of tells)
+written-whole c tells taken sent k (taken_is, writes, left) end done = by_last done.last
+  where
+    written_is : tells.written ≡ texts_of k.given
+    written_is = writes.is ∙ ap (λ f. sent ++ f) (writes.none (subst IsUncut (sym end) tt))
+        ∙ ap (λ u. sent ++ u) (sym (nothing-rest c.parts done.nothing)) ∙ k.sent_is
+
+    by_more : (more : List ℕ) → take input_limit (input_of tells) ≡ k.consumed ++ more
+        → later_unless c.closes (answers (answer_limit - c.answered) c.site more) ≡ [] → tells.written ≡ responses_of c.site (input_of tells)
+    by_more more is none = sym (responses-given c taken sent more k (input_of tells) is
+        ∙ ap (λ l. texts_of k.given ++ texts_of l) none ∙ append-nil (texts_of k.given) ∙ sym written_is)
+
+    no_longer : length k.consumed ≤ input_limit
+    no_longer = let few = taken-few c taken sent k in let long = ap length k.taken_is in omega (arith, length-append k.consumed c.buffer)
+
+    -- more input doesn't count behind a closing answer
+    by_close : c.closes ≡ true → tells.written ≡ responses_of c.site (input_of tells)
+    by_close closes =
+        let behind = c.buffer ++ tells.left in
+        by_more (take (input_limit - length k.consumed) behind)
+        (ap (λ t. take input_limit (t ++ tells.left)) (taken_is ∙ k.taken_is)
+        ∙ ap (take input_limit) (append_assoc k.consumed c.buffer tells.left)
+        ∙ ap (λ n. take n (k.consumed ++ behind)) (let few = no_longer in let sum : input_limit ≡ length k.consumed + (input_limit - length k.consumed) = omega arith in sum)
+        ∙ take-append-add k.consumed behind (input_limit - length k.consumed))
+        (ap (λ t. later_unless t (answers (answer_limit - c.answered) c.site (take (input_limit - length k.consumed) behind))) closes)
+
+    -- all input that counts was taken
+    all_taken : (ended : Bool) → ended ≡ c.input_ended → (ended || nat_le input_limit c.read) ≡ true → take input_limit (input_of tells) ≡ taken
+    all_taken true e all =
+        ap (λ l. take input_limit (tells.taken ++ l)) (left (sym e)) ∙ ap (take input_limit) (append-nil tells.taken ∙ taken_is)
+        ∙ take_all input_limit taken (taken-few c taken sent k)
+    all_taken false e all =
+        let full = leb-true input_limit c.read all in let long = k.read_is in
+        ap (λ t. take input_limit (t ++ tells.left)) taken_is ∙ take-append-le input_limit taken tells.left (omega arith)
+        ∙ take_all input_limit taken (taken-few c taken sent k)
+
+    by_input : c.closes ≡ false → cut_of c.buffer ≡ NotYet → has_all_input c ≡ true → tells.written ≡ responses_of c.site (input_of tells)
+    by_input goes_on not_yet all = by_more c.buffer (all_taken c.input_ended refl all ∙ k.taken_is)
+        (ap (λ t. later_unless t (answers (answer_limit - c.answered) c.site c.buffer)) goes_on
+        ∙ answers-not_yet (answer_limit - c.answered) c.site c.buffer not_yet)
+
+    by_last : (c.closes ≡ true) ⊎ ((c.closes ≡ false) × (cut_of c.buffer ≡ NotYet) × (has_all_input c ≡ true)) → tells.written ≡ responses_of c.site (input_of tells)
+    by_last (inl closes) = by_close closes
+    by_last (inr (goes_on, not_yet, all)) = by_input goes_on not_yet all
+
+module _ {L : Type 0} (x : LinkWords L) where
+  -- a connection that has ended, over the link that was handed in
+  pub serves : (site : SiteFiles) (first now : L) (c : Standing) (end : End) → c.site ≡ site → c.end ≡ Some end → IsEnded c
+      → IsSound x (record { standing = c; link = Some now }) → Since x first c now → Serves site (x.tells first) (x.tells now) end
+  unfolding SameInput
+  serves site first now c end same end_is ended sound since = by_tells (x.tells first) (x.tells now) since.input sound.told
+    where
+      by_tells : (before after : Option LinkTells) → SameInput before after → IsTold c after sound.taken sound.sent → Serves site before after end
+      by_tells None after input told = input
+      by_tells (Some before) after (tells, is, input) told =
+          let says : IsTold c (Some tells) sound.taken sound.sent = subst (λ o. IsTold c o sound.taken sound.sent) is told in (
+            tells,
+            is,
+            record {
+              input = input;
+              prefix = subst (λ s. IsPrefix tells.written (responses_of s tells.taken)) same (written-first c tells sound.taken sound.sent sound.course says);
+              whole = λ e.
+                  let done : c.end ≡ Some ending.Done = end_is ∙ ap Some e in
+                  written-whole c tells sound.taken sound.sent sound.course says done (ended.done done)
+                  ∙ ap (λ s. responses_of s (input_of tells)) same ∙ ap (responses_of site) input;
+            },
+          )
+
+  -- the same of a closed connection, with its counts
+  pub served : (site : SiteFiles) (first now : L) (k : Connection L) (end : End) → k.standing.site ≡ site → k.standing.pending ≡ next.Nothing
+      → k.standing.end ≡ Some end → k.link ≡ Some now → IsSound x k → SinceLink x first k.standing k.link
+      → Serves site (x.tells first) (x.tells now) end × (end ≡ ending.Fault → Rose (x.faults first) (x.faults now))
+      × (end ≡ ending.Idle → RoseBy wait_limit (x.waits first) (x.waits now))
+  unfolding SinceLink
+  served site first now k end same closed end_is link_is sound since =
+      let ended : IsEnded k.standing = subst (λ p. IsReadyTo p k.standing) closed sound.ready in
+      let is : IsSound x (record { standing = k.standing; link = Some now }) =
+      subst (λ o. IsSound x (record { standing = k.standing; link = o })) link_is sound in
+      let over : Since x first k.standing now = subst (SinceLink x first k.standing) link_is since in (
+        serves site first now k.standing end same end_is ended is over,
+        λ e. over.failed (end_is ∙ ap Some e),
+        λ e. subst (λ n. RoseBy n (x.waits first) (x.waits now)) (ended.idle (end_is ∙ ap Some e)) over.waited,
+      )
+
+  -- at every moment
+  pub begins_responses : (k : Connection L) → IsSound x k → BeginsResponses k.standing.site (told_by_link x k.link)
+  begins_responses k sound = by_link k.link sound.told
+    where
+      by_tells : (tells : Option LinkTells) → IsTold k.standing tells sound.taken sound.sent → BeginsResponses k.standing.site tells
+      by_tells None told = tt
+      by_tells (Some tells) told = written-first k.standing tells sound.taken sound.sent sound.course told
+
+      by_link : (link : Option L) → IsToldBy x k.standing link sound.taken sound.sent → BeginsResponses k.standing.site (told_by_link x link)
+      by_link None told = tt
+      by_link (Some link) told = by_tells (x.tells link) told

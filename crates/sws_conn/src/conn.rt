@@ -1,0 +1,162 @@
+//! A connection.
+ghost use Rattle.std.specs.Prelude.{◌≡◌, ◌≢◌, ◌≤◌, ◌<◌, ◌^◌, ◌↔◌, IfOk, IsSome, Some, None};
+ghost use Rattle.sws_conn.specs.Standing.{told_next, told_end};
+ghost use Rattle.sws_conn.specs.Step.{Steps, StepsFrom, Opens, IsFresh};
+ghost use Rattle.sws_conn.specs.Sound.{IsSound, unopened};
+ghost use Rattle.sws_conn.specs.Path.{FollowsScript, told_by_link};
+ghost use Rattle.sws_conn.specs.Serving.{BeginsResponses};
+ghost use Rattle.sws_conn.specs.Shown.{shown};
+ghost use Rattle.std.specs.Option.{option_copied};
+
+use crate::buffer::Buffer;
+use crate::talking::{Talking, close_step, look_step, parse_step, read_step, told, write_step};
+use crate::{End, Next};
+use std::alloc::Global;
+use std::marker::Model;
+use sws_answer::PathRoom;
+use sws_link::{Link, Memory};
+use sws_parts::Parts;
+use sws_site::Site;
+
+/// A connection over a link, which does one step at a time.
+#[derive(Drop)]
+pub struct Conn<'s, L: Link> {
+    talking: Talking<'s>,
+    link: Option<L>,
+}
+
+impl<'s, L: Link> Model for Conn<'s, L> {
+    ghost use Rattle.sws_conn.specs.Standing.{Connection};
+
+    ghost Value = { Connection L };
+
+    ghost use Rattle.sws_conn.specs.Shown.{shown};
+    ghost use Rattle.sws_conn.specs.Sound.{IsSound};
+
+    ghost view = { λ conn. record { standing = shown conn.talking; link = conn.link } };
+
+    ghost invariant = { λ conn. IsSound L.Link (record { standing = shown conn.talking; link = conn.link }) };
+}
+
+impl<'s, L: Link + Drop> Conn<'s, L> {
+    /// A connection that waits for its link. All room is made here that it will need; where that was refused, the
+    /// answer is `Memory`.
+    pub fn new(alloc: Global, site: &'s Site) -> Result<Conn<'s, L>, Memory>
+        ensures new { IfOk result (λ conn. conn ≡ record { standing = unopened site.now; link = None }) }
+        ensures sound { IfOk result (λ conn. IsSound L.Link conn) }
+    {
+        let buffer = Buffer::new(alloc)?;
+        let room = PathRoom::new(alloc)?;
+        site.limits();
+        Ok(Conn {
+            talking: Talking {
+                site,
+                pending: Next::Open,
+                buffer,
+                input_ended: false,
+                waits: 0,
+                parts: Parts::new(b"", b""),
+                closes: false,
+                answered: 0,
+                end: None,
+                read: 0,
+                written: 0,
+                room,
+            },
+            link: None,
+        })
+    }
+
+    /// Gives the connection its link, of which nothing was taken or written; hands it back where there is one
+    /// already.
+    pub fn open(&mut self, link: L) -> Result<Next, L>
+        requires { IsFresh (L.tells link) }
+        ensures opens { Opens self.old link result self.new }
+        ensures sound { IsSound L.Link self.new }
+    {
+        if self.link.is_some() {
+            return Err(link);
+        }
+        self.link = Some(link);
+        self.talking.pending = Next::Read;
+        Ok(Next::Read)
+    }
+
+    /// Does the pending step, and answers the next one: `Wait` where the link was not ready and the same step is
+    /// pending. Before `open` and after the close it does nothing.
+    pub fn step(&mut self) -> Next
+        ensures steps { Steps L.Link self.old self.new }
+        ensures told { result ≡ told_next self.new.standing }
+        ensures scripted { FollowsScript L.Link self.old self.new }
+        ensures begins { BeginsResponses self.new.standing.site (told_by_link L.Link self.new.link) }
+        ensures sound { IsSound L.Link self.new }
+    {
+        step_over(&mut self.talking, &mut self.link);
+        told(&self.talking)
+    }
+
+    /// The step that comes next, which is never `Wait`.
+    pub fn pending(&self) -> Next
+        ensures pending { result ≡ self.now.standing.pending }
+        ensures never { result ≢ Next.Wait }
+    {
+        self.talking.pending
+    }
+
+    /// How it ended, once it is closed.
+    pub fn end(&self) -> Option<End>
+        ensures end { result ≡ told_end self.now.standing }
+        ensures closed { IsSome result ↔ (self.now.standing.pending ≡ Next.Nothing) }
+    {
+        match self.talking.pending {
+            Next::Nothing => self.talking.end,
+            _ => None,
+        }
+    }
+
+    /// How many bytes were taken, 65,536 at most.
+    pub fn read(&self) -> u64
+        ensures read { result ≡ self.now.standing.read }
+        ensures few { result ≤ 65536 }
+    {
+        self.talking.read
+    }
+
+    /// How many bytes were written.
+    pub fn written(&self) -> u64
+        ensures written { result ≡ self.now.standing.written }
+        ensures few { result < 2 ^ 40 }
+    {
+        self.talking.written
+    }
+
+    /// The link, once it was given.
+    pub fn link(&self) -> Option<&L>
+        ensures { option_copied result ≡ self.now.link }
+    {
+        self.link.as_ref()
+    }
+
+    /// Gives the link up, whether the connection has ended or not.
+    pub fn into_link(self) -> Option<L>
+        ensures { result ≡ self.entry.link }
+    {
+        let Conn { talking: _, link } = self;
+        link
+    }
+}
+
+/// Does the pending step.
+fn step_over<L: Link>(talking: &mut Talking<'_>, link: &mut Option<L>)
+    requires { IsSound L.Link (record { standing = shown talking.old; link = link.old }) }
+    ensures { StepsFrom L.Link (shown talking.old) (shown talking.new) talking.old.pending link.old link.new }
+{
+    match (talking.pending, link) {
+        (Next::Read, Some(link)) => read_step(talking, link),
+        (Next::Parse, _) => parse_step(talking),
+        (Next::Look, _) => look_step(talking),
+        (Next::Write, Some(link)) => write_step(talking, link),
+        (Next::Close, Some(link)) => close_step(talking, link),
+        _ => {}
+    }
+}

@@ -1,0 +1,63 @@
+//! One connection of the server, a step at a time.
+//!
+//! A [`Conn`] reads pieces from its link, cuts heads off them, answers these out of a site and writes what the
+//! peer takes. Each call of [`Conn::step`] makes at most one call of the link, so that a server can give way to
+//! another connection after every step. However the bytes come in pieces and whatever the link answers, what was
+//! written begins the responses to the bytes that were taken. [`serve_one`] runs a connection to its end.
+//!
+//! A connection ends after its last response, at the end of its input or after 65,536 bytes of it, after 30
+//! answers in succession that the link isn't ready, and where the link fails.
+//!
+//! ```text
+//! let mut conn = Conn::new(alloc, &site)?;
+//! conn.open(link)?;
+//! while conn.end().is_none() {
+//!     conn.step();
+//! }
+//! ```
+#![tactic(auto)]
+
+mod buffer;
+mod conn;
+pub mod laws;
+mod serving;
+mod talking;
+#[cfg(test)]
+mod tests;
+
+pub use conn::Conn;
+pub use serving::serve_one;
+
+/// How a connection ended.
+#[derive(Clone, Copy, Debug, PartialEq, Eq)]
+pub enum End {
+    /// All responses were written, or a closing one was.
+    Done,
+    /// The link was not ready 30 times in succession.
+    Idle,
+    /// The link failed.
+    Fault,
+    /// A write of the link found no memory.
+    Memory,
+}
+
+/// The step that comes next.
+#[derive(Clone, Copy, Debug, PartialEq, Eq)]
+pub enum Next {
+    /// The link is to be given.
+    Open,
+    /// The link is read.
+    Read,
+    /// The bytes that were taken are searched for a head.
+    Parse,
+    /// The head is answered.
+    Look,
+    /// The answer is written.
+    Write,
+    /// The same step again, since the link was not ready.
+    Wait,
+    /// The link is shut.
+    Close,
+    /// Nothing more.
+    Nothing,
+}

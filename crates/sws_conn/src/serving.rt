@@ -1,0 +1,46 @@
+//! A whole connection.
+ghost use Rattle.std.specs.Prelude.{◌≡◌, IfOk, IfErr};
+ghost use Rattle.sws_link.specs.Counts.{Rose};
+ghost use Rattle.sws_conn.specs.Step.{IsFresh, wait_limit};
+ghost use Rattle.sws_conn.specs.Serving.{EndsAs, Serves, RoseBy};
+
+use crate::End;
+use crate::conn::Conn;
+use std::alloc::Global;
+use sws_link::Link;
+use sws_site::Site;
+
+/// Runs a connection to its end, and gives the link back with that.
+///
+/// What was written begins the responses to the bytes that were taken; where the end is `Done` it is the responses
+/// to the whole input. A link that tells its answers to come gets exactly what its script says, and ends so, unless
+/// it found no memory in a write. `Fault` comes only where the link's count of faults rose, and `Idle` only where
+/// it was not ready 30 times more, or that count is full.
+///
+/// Where the room for the connection was refused, the link comes back as it was.
+pub fn serve_one<L: Link + Drop>(alloc: Global, site: &Site, link: L) -> Result<(L, End), L>
+    requires { IsFresh (L.tells link) }
+    ensures scripted { IfOk result (λ served. EndsAs site.now (L.tells link) (L.tells served.0) served.1) }
+    ensures serves { IfOk result (λ served. Serves site.now (L.tells link) (L.tells served.0) served.1) }
+    ensures fault { IfOk result (λ served. served.1 ≡ End.Fault → Rose (L.faults link) (L.faults served.0)) }
+    ensures idle { IfOk result (λ served. served.1 ≡ End.Idle → RoseBy wait_limit (L.waits link) (L.waits served.0)) }
+    ensures refused { IfErr result (λ back. back ≡ link) }
+{
+    let mut conn = match Conn::new(alloc, site) {
+        Ok(conn) => conn,
+        Err(_) => return Err(link),
+    };
+    match conn.open(link) {
+        Ok(_) => {}
+        Err(link) => return Err(link),
+    }
+    'steps: loop {
+        if let Some(end) = conn.end() {
+            return match conn.into_link() {
+                Some(link) => Ok((link, end)),
+                None => unreachable!(),
+            };
+        }
+        conn.step();
+    }
+}

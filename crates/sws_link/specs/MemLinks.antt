@@ -1,0 +1,162 @@
+-- What the links in memory hold and tell, and what stands after each call: it follows from the items, the two bounds of writes and the
+-- calls that are to fail alone, but for want of memory.
+use Rattle.std.specs.Prelude.{◌≡◌, ◌⊎◌, ℕ, zero, suc, Bool, true, false, if◌then◌else◌, IsTrue, List, [], ◌∷◌, ◌++◌, length, Option, Some, None}
+use Rattle.sws_link.specs.declared.LinkRead.{LinkRead}
+use Rattle.sws_link.specs.declared.LinkRead.TheVariants as read
+use Rattle.sws_link.specs.declared.LinkWrite.{LinkWrite}
+use Rattle.sws_link.specs.declared.LinkWrite.TheVariants as write
+use Rattle.sws_link.specs.Scripts.{Script, Item, lowered, within, read_of}
+use Rattle.sws_link.specs.Links.{LinkTells, given_by, written_by}
+use Rattle.sws_link.specs.LinkItems.{all_bytes}
+use Rattle.sws_link.specs.Playing.{Played}
+use Rattle.sws_link.specs.Calls.{CallsMade, raised, next_fails}
+
+-- a link whose calls are not counted: what was taken and the items that are left, what was written, the most bytes of one write, and
+-- the most bytes that are written in all
+pub record WireState : Type 0 where
+  pub input : Played
+  pub written : List ℕ
+  pub step : Option ℕ
+  pub cut : Option ℕ
+
+-- a link with calls that fail; the failed calls are its faults
+pub record MemLinkState : Type 0 where
+  pub wire : WireState
+  pub calls : CallsMade
+  pub waits : ℕ
+
+-- a link without faults
+pub record SureLinkState : Type 0 where
+  pub wire : WireState
+  pub waits : ℕ
+
+-- nothing was taken or written
+abbrev pub fresh_wire : List Item → Option ℕ → Option ℕ → WireState
+fresh_wire items step cut = record { input = record { taken = []; items = items }; written = []; step = step; cut = cut }
+
+-- ---- what is told
+
+-- the answers to come, as they stand
+abbrev pub script_of : WireState → Script
+script_of wire = record { items = wire.input.items; step = wire.step; cut = lowered wire.cut (length wire.written) }
+
+-- no script has a step of nothing
+abbrev pub script_by_step : Option ℕ → Script → Option Script
+script_by_step None script = Some script
+script_by_step (Some zero) script = None
+script_by_step (Some (suc limit)) script = Some script
+
+-- where no call is to fail, it answers as its script says
+abbrev pub script_unless : List ℕ → Script → Option Script
+script_unless [] script = script_by_step script.step script
+script_unless (call ∷ failing) script = None
+
+abbrev pub wire_tells : List ℕ → WireState → LinkTells
+wire_tells failing wire = record {
+  taken = wire.input.taken;
+  left = all_bytes wire.input.items;
+  written = wire.written;
+  to_come = script_unless failing (script_of wire);
+}
+
+abbrev pub mem_link_tells : MemLinkState → Option LinkTells
+mem_link_tells link = Some (wire_tells link.calls.failing link.wire)
+
+abbrev pub sure_link_tells : SureLinkState → Option LinkTells
+sure_link_tells link = Some (wire_tells [] link.wire)
+
+-- ---- calls
+
+-- what was read is taken, and the items are those that are left
+abbrev pub wire_after_read : WireState → ℕ → WireState
+wire_after_read wire room =
+    let said = read_of room wire.input.items in
+    record wire { input = record { taken = wire.input.taken ++ said.bytes; items = said.items } }
+
+-- a write fails where so many bytes were written as may be, and isn't ready where a write takes nothing
+abbrev pub write_answer : Option ℕ → Option ℕ → ℕ → LinkWrite
+write_answer None (Some zero) length = write.Failed
+write_answer (Some limit) (Some zero) length = write.Failed
+write_answer None None length = write.Wrote length
+write_answer (Some zero) None length = write.NotReady
+write_answer (Some (suc limit)) None length = write.Wrote (within (Some (suc limit)) length)
+write_answer None (Some (suc left)) length = write.Wrote (within (Some (suc left)) length)
+write_answer (Some zero) (Some (suc left)) length = write.NotReady
+write_answer (Some (suc limit)) (Some (suc left)) length = write.Wrote (within (Some (suc limit)) (within (Some (suc left)) length))
+
+-- what a write may answer
+abbrev pub MayAnswer : WireState → ℕ → LinkWrite → Type 0
+MayAnswer wire count answer = (answer ≡ write.Memory) ⊎ (answer ≡ write_answer wire.step (lowered wire.cut (length wire.written)) count)
+
+-- what the answer says was written
+abbrev pub wire_after_write : WireState → LinkWrite → List ℕ → WireState
+wire_after_write wire answer piece = record wire { written = wire.written ++ written_by answer piece }
+
+-- ---- counts
+
+abbrev pub is_failed_read : LinkRead → Bool
+is_failed_read (read.Took count) = false
+is_failed_read read.End = false
+is_failed_read read.NotReady = false
+is_failed_read read.Failed = true
+
+abbrev pub is_failed_write : LinkWrite → Bool
+is_failed_write (write.Wrote count) = false
+is_failed_write write.NotReady = false
+is_failed_write write.Failed = true
+is_failed_write write.Memory = false
+
+abbrev pub is_waiting_read : LinkRead → Bool
+is_waiting_read (read.Took count) = false
+is_waiting_read read.End = false
+is_waiting_read read.NotReady = true
+is_waiting_read read.Failed = false
+
+abbrev pub is_waiting_write : LinkWrite → Bool
+is_waiting_write (write.Wrote count) = false
+is_waiting_write write.NotReady = true
+is_waiting_write write.Failed = false
+is_waiting_write write.Memory = false
+
+-- one more call was made, and it may have failed
+abbrev pub counted : CallsMade → Bool → CallsMade
+counted calls failed = record {
+  failing = calls.failing;
+  made = raised calls.made;
+  failed = if failed then raised calls.failed else calls.failed;
+}
+
+-- one more, where it wasn't ready
+abbrev pub waited : ℕ → Bool → ℕ
+waited waits waiting = if waiting then raised waits else waits
+
+-- ---- whole calls
+
+-- a read that is to fail takes nothing, and another answers as the items say; either is counted
+pub record FailsOrReads (before : MemLinkState) (room : ℕ) (answer : LinkRead) (into : List ℕ) (after : MemLinkState) : Type 0 where
+  pub answer_is : answer ≡ (if next_fails before.calls then read.Failed else (read_of room before.wire.input.items).answer)
+  pub bytes_are : given_by answer into ≡ (if next_fails before.calls then [] else (read_of room before.wire.input.items).bytes)
+  pub wire_is : after.wire ≡ (if next_fails before.calls then before.wire else wire_after_read before.wire room)
+  pub calls_are : after.calls ≡ counted before.calls (is_failed_read answer)
+  pub waits_are : after.waits ≡ waited before.waits (is_waiting_read answer)
+
+-- a write that is to fail fails, and another answers as the bounds say, but for want of memory; either is counted, and writes nothing
+-- but what it says
+pub record FailsOrWrites (before : MemLinkState) (piece : List ℕ) (answer : LinkWrite) (after : MemLinkState) : Type 0 where
+  pub to_fail : IsTrue (next_fails before.calls) → answer ≡ write.Failed
+  pub else_by_bounds : next_fails before.calls ≡ false → MayAnswer before.wire (length piece) answer
+  pub wire_is : after.wire ≡ wire_after_write before.wire answer piece
+  pub calls_are : after.calls ≡ counted before.calls (is_failed_write answer)
+  pub waits_are : after.waits ≡ waited before.waits (is_waiting_write answer)
+
+-- the same of a link without faults
+pub record SureReads (before : SureLinkState) (room : ℕ) (answer : LinkRead) (into : List ℕ) (after : SureLinkState) : Type 0 where
+  pub answer_is : answer ≡ (read_of room before.wire.input.items).answer
+  pub bytes_are : given_by answer into ≡ (read_of room before.wire.input.items).bytes
+  pub wire_is : after.wire ≡ wire_after_read before.wire room
+  pub waits_are : after.waits ≡ waited before.waits (is_waiting_read answer)
+
+pub record SureWrites (before : SureLinkState) (piece : List ℕ) (answer : LinkWrite) (after : SureLinkState) : Type 0 where
+  pub by_bounds : MayAnswer before.wire (length piece) answer
+  pub wire_is : after.wire ≡ wire_after_write before.wire answer piece
+  pub waits_are : after.waits ≡ waited before.waits (is_waiting_write answer)
