@@ -1,10 +1,10 @@
 #!/usr/bin/env python3
-"""Measures `sws answer`, a shard and a lock beside their peers, in one run, and prints a table.
+"""Measures `sws answer`, a shard, a lock and a chain beside their peers, in one run, and prints a table.
 
     bench/measure.py [--runs N]
 
-It wants the three programs built (`./sws` builds the server, `rt run` in crates/shard_loop
-and crates/lock_loop the others) and cargo with Debian's librust-httparse-dev, librust-httpdate-dev,
+It wants the four programs built (`./sws` builds the server, `rt run` in crates/shard_loop, crates/lock_loop
+and crates/chain_loop the others) and cargo with Debian's librust-httparse-dev, librust-httpdate-dev,
 librust-memchr-dev and librust-percent-encoding-dev. All that it makes stands in a new folder below the system's
 temporary one, about 400 MB, and is removed at the end. No traffic leaves the machine: both programs read a file and
 write to a file or to nothing. Times are seconds on a processor (user and system), the least of all runs, so that they say
@@ -22,6 +22,7 @@ TOP = os.path.dirname(os.path.dirname(os.path.abspath(__file__)))
 SWS = os.path.join(TOP, "crates", "sws_main", "out", "sws_main")
 LOOP = os.path.join(TOP, "crates", "shard_loop", "out", "shard_loop")
 LOCK = os.path.join(TOP, "crates", "lock_loop", "out", "lock_loop")
+CHAIN = os.path.join(TOP, "crates", "chain_loop", "out", "chain_loop")
 PEER = os.path.join(TOP, "bench", "peer")
 
 BROWSER_HEAD = "\r\n".join([
@@ -131,11 +132,27 @@ def lock(folder, peer):
             print(f"| in and out of a lock, {threads} threads | {name} | {nanos:.0f} ns |")
 
 
+def chain(folder, peer):
+    """Nanoseconds a call on a chain of so many marks: a mark taken out and pushed again, or a report."""
+    none = put(os.path.join(folder, "none"), b"")
+    for marks, calls in ((64, 400_000), (4096, 10_000)):
+        for call in ("pop", "pick", "retell"):
+            programs = {}
+            for name, program in (("chain", CHAIN), ("peer", peer)):
+                for count in (0, calls):
+                    programs[name, count] = ([program, call, str(marks), str(count)], none)
+            seen = alternate(programs, 9)
+            what = {"pop": "pop and push", "pick": "pick and push", "retell": "retell"}[call]
+            for name in ("chain", "peer"):
+                nanos = (seen[name, calls][0] - seen[name, 0][0]) / calls * 1e9
+                print(f"| {what}, {marks} marks | {name} | {nanos:.0f} ns |")
+
+
 def main():
     words = argparse.ArgumentParser(description="Measures the answer command beside its peers.")
     words.add_argument("--runs", type=int, default=400, help="runs of each program over heads (default 400)")
     runs = words.parse_args().runs
-    for program in (SWS, LOOP, LOCK):
+    for program in (SWS, LOOP, LOCK, CHAIN):
         if not os.access(program, os.X_OK):
             sys.exit(f"measure: {program} isn't built")
     subprocess.run(["cargo", "build", "--release", "--offline", "--quiet"], cwd=PEER, check=True)
@@ -149,6 +166,7 @@ def main():
         large_body(folder, peer)
         shard(folder, os.path.join(peers, "shard"))
         lock(folder, os.path.join(peers, "lock"))
+        chain(folder, os.path.join(peers, "chain"))
     finally:
         shutil.rmtree(folder)
 

@@ -4,28 +4,32 @@
 //! measured by.
 #![tactic(auto)]
 
+ghost use Rattle.std.specs.Prelude.{◌<◌, IfSome};
+
 mod turns;
 
 use std::process::ExitCode;
 use std::{env, io};
 
 /// Which lock, how many threads, and how often each goes in.
-fn order(rt: &HostRuntime) -> Option<(bool, u16, u64)> {
+fn order(rt: &HostRuntime) -> Option<(bool, u16, u64)>
+    ensures { IfSome result (λ order. 0 < order.1) }
+{
     let mut words = env::args(rt).ok()?.skip(1);
     let is_ticketed = words.next()?.as_str() == "ticketed";
     let threads = words.next()?.as_str().parse::<u16>().ok()?;
     let count = words.next()?.as_str().parse::<u64>().ok()?;
+    if threads == 0 {
+        return None;
+    }
     Some((is_ticketed, threads, count))
 }
 
 fn main(rt: HostRuntime) -> io::Result<ExitCode> {
     let Some((is_ticketed, threads, count)) = order(&rt) else {
-        eprintln!(rt; "usage: lock_loop ticketed|mutex THREADS COUNT")?;
+        eprintln!(rt; "usage: lock_loop ticketed|mutex THREADS COUNT, with at least one thread")?;
         return Ok(ExitCode::from(2));
     };
-    if threads == 0 {
-        return Ok(ExitCode::from(2));
-    }
     let went = if is_ticketed {
         turns::through_ticketed(&rt, threads, count)
     } else {
