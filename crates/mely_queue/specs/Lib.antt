@@ -1,4 +1,3 @@
 pub mod Waiting
 pub mod Kept
 pub mod Taken
-pub mod TurnLends

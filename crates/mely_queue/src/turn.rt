@@ -1,5 +1,5 @@
 //! A taken part of a colour.
-ghost use Rattle.std.specs.Prelude.{◌≡◌, ◌<◌, ◌≤◌, ◌+◌, ◌-◌, ◌^◌, ◌++◌, ◌∷◌, [], ℕ, List, Option, length, OnSome, IfSome, IfNone, MatchOption, All};
+ghost use Rattle.std.specs.Prelude.{◌≡◌, ◌≤◌, ◌∷◌, [], length, MatchOption};
 ghost use Rattle.std.specs.Borrow.{Lends, sem};
 
 use mely_event::{Colour, Event, Fits, Trail};
@@ -8,10 +8,11 @@ use std::snapshot::Snapshot;
 
 /// A taken part of a colour: its state, moved out of its home, and the events that are to be run on it, each with its load.
 ///
-/// Each event fits the load beside it, under the frame of the state that was given and the colour. The turn keeps that frame,
-/// whatever is written to the state through [`Turn::state`], so what [`Turn::next`] hands out fits. A turn has no `Drop`: it is
-/// spent by a finish, which takes the state home.
-pub struct Turn<S: Fits<P>, P> {
+/// Each event that a turn is made of fits the load beside it, under the frame of the state that was given and the colour. The
+/// turn keeps the given state for contracts, whatever is written through [`Turn::state`], and hands its events out unchanged, so
+/// whoever was given a turn of events that fit is handed what fits. A turn has no `Drop`: it is spent by a finish, which takes the
+/// state home.
+pub struct Turn<S, P> {
     colour: Colour,
     core: u16,
     count: u16,
@@ -22,22 +23,18 @@ pub struct Turn<S: Fits<P>, P> {
     events: Vec<(Event, Option<P>)>,
 }
 
-impl<S: Fits<P>, P> Model for Turn<S, P> {
+impl<S, P> Model for Turn<S, P> {
     ghost use Rattle.mely_queue.specs.Taken.{Taken};
 
     ghost Value = { Taken S P };
 
     ghost use Rattle.std.specs.Prelude.{reverse};
-    ghost use Rattle.mely_queue.specs.Taken.{EachFits};
 
     ghost view = { λ t. record { colour = t.colour; core = t.core; count = t.count; state = t.state; given = t.given.value; events = reverse t.events.items } };
-
-    ghost invariant = { λ t. EachFits (S.Fits.fits_under (S.Trail.frame_of t.given.value) t.colour) t.events.items };
 }
 
 impl<S: Fits<P>, P> Turn<S, P> {
     ghost use Rattle.mely_queue.specs.Taken.{Taken, EachFits};
-    ghost use Rattle.mely_queue.specs.TurnLends.{lends_state};
 
     /// A turn of these events, of which there are 1 to 1,000. The state is of this colour.
     pub fn new(colour: Colour, core: u16, state: S, events: Vec<(Event, Option<P>)>) -> Turn<S, P>
@@ -60,6 +57,11 @@ impl<S: Fits<P>, P> Turn<S, P> {
             events,
         }
     }
+}
+
+impl<S, P> Turn<S, P> {
+    ghost use Rattle.mely_queue.specs.Taken.{Taken};
+    ghost use Rattle.mely_queue.specs.contracts.turn.Turn.{the_row};
 
     /// The colour that was taken.
     pub fn colour(&self) -> Colour
@@ -92,7 +94,6 @@ impl<S: Fits<P>, P> Turn<S, P> {
     /// Hands out the next event with its load, in the order in which they were taken, and nothing where none is left.
     pub fn next(&mut self) -> Option<(Event, Option<P>)>
         ensures next { MatchOption result ((self.old.events ≡ []) × (self.new ≡ self.old)) (λ first. self.old.events ≡ first ∷ self.new.events) }
-        ensures fits { IfSome result (λ first. S.fits_under (S.frame_of self.old.given) self.old.colour first.0 first.1) }
         ensures rest { self.new ≡ record self.old { events = self.new.events } }
     {
         self.events.pop()
@@ -100,7 +101,7 @@ impl<S: Fits<P>, P> Turn<S, P> {
 
     /// The state, for the handler of an event to read and write.
     pub fn state(&mut self) -> &mut S
-        ensures* writes_back { sem 𝓛 (lends_state S.row P.row S.Frame.row (record { fits_under = S.fits_under }) (record { trail_of = S.trail_of; colour_of = S.colour_of; frame_of = S.frame_of; spare_of = S.spare_of; alike = S.alike }) self.entry result) }
+        ensures* writes_back { sem 𝓛 (Lends (the_row S.row P.row) S.row self.entry result (λ state. record self.old { state = state })) }
         ensures value { result.now ≡ self.old.state }
     {
         &mut self.state

@@ -1,0 +1,18 @@
+use Rattle.std.proofs.Common.{◌≡◌, ◌≤◌, ◌-◌, length, vec_len, vec_capacity}
+use Rattle.mely_event.specs.HandlerTable.{rows_of}
+use Rattle.mely_event.specs.declared.trail.Trail.{Ghosts as TrailWords}
+use Rattle.mely_history.specs.Setup.{colours_of, handlers_of}
+use Rattle.mely_worker.specs.Conditions.{MayStep}
+use Rattle.mely_worker.specs.declared.tests.ledger.Ledger.{Ledger}
+use Rattle.mely_worker.proofs.tests.follows.Given as goal
+
+-- what contracts see of the state
+abbrev pub ledger_words : TrailWords Ledger (Unit {0})
+ledger_words = record { trail_of = λ s. s.trail.items; colour_of = λ s. s.colour; frame_of = λ s. tt; spare_of = λ s. vec_capacity s.trail - vec_len s.trail; alike = λ s t. (s.trail.items ≡ t.trail.items) × (s.colour ≡ t.colour) × (s.total ≡ t.total) }
+
+abbrev pub invariant-loop-made : goal.invariant-loop-made
+invariant-loop-made l = record {
+  may : MayStep ledger_words (λ f c e p. Unit {0}) l.script.setup 0 tt (λ c core count trail. Unit {0}) l.worker;
+  colours : 2 ≤ colours_of l.script.setup;
+  handlers : 2 ≤ length (rows_of (handlers_of l.script.setup));
+}

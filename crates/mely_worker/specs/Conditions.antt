@@ -1,0 +1,78 @@
+-- The conditions of a step, which it keeps: over the values of an access, so that whoever lends one can state them.
+use Rattle.std.specs.Prelude.{ℕ, ◌≡◌, ◌≤◌, ◌++◌, List, Option, length}
+use Rattle.std.specs.List.{AllByRecursion}
+use Rattle.mely_event.specs.declared.colour.Colour.{Colour}
+use Rattle.mely_event.specs.declared.event.Event.{Event}
+use Rattle.mely_event.specs.declared.trail.Trail.{Ghosts as TrailWords}
+use Rattle.mely_event.specs.HandlerTable.{rows_of}
+use Rattle.mely_history.specs.declared.setup.Setup.{Setup}
+use Rattle.mely_history.specs.Setup.{shape_of, colours_of, handlers_of}
+use Rattle.mely_queue.specs.Taken.{Taken, EachFits}
+use Rattle.mely_worker.specs.declared.phase.Phase.{Phase}
+use Rattle.mely_worker.specs.declared.phase.Phase.TheVariants.{Free, Popped, Picked, Landing, Pushing, Turning}
+use Rattle.mely_worker.specs.declared.phase.Hand.{Hand}
+use Rattle.mely_worker.specs.declared.phase.Hand.TheVariants.{Empty, Marked, Reporting}
+use Rattle.mely_worker.specs.declared.access.Access.{Ghosts as AccessWords}
+use Rattle.mely_worker.specs.declared.app.App.{Ghosts as AppWords}
+use Rattle.mely_worker.specs.Access.{IsColour, IsCore, FitsSetup, events_of}
+use Rattle.mely_worker.specs.WorkerView.{WorkerView}
+
+-- a mark or a report in hand is for a core of the setup, and of a colour of it
+abbrev pub MayDeliver : Setup → Hand → Type 0
+MayDeliver setup Empty = Unit {0}
+MayDeliver setup (Marked core mark) = IsCore setup core × IsColour setup mark.colour
+MayDeliver setup (Reporting core colour started worth) = IsCore setup core × IsColour setup colour
+
+module _ {S P F : Type 0} (t : TrailWords S F) (fits : F → Colour → Event → Option P → Type 0) (setup : Setup) (own : ℕ) (frame : F) (owes : Colour → ℕ → ℕ → List Event → Type 0) where
+  -- the turn meets the condition of its finish, once the events that are left were run
+  pub record WillBeSpent (turn : Taken S P) : Type 0 where
+    pub of_setup : IsColour setup turn.colour
+    pub of_colour : t.colour_of turn.state ≡ turn.colour
+    pub of_frame : t.frame_of turn.state ≡ frame
+    pub events_fit : EachFits (fits frame turn.colour) turn.events
+    pub room : length turn.events ≤ t.spare_of turn.state
+    pub owed : owes turn.colour turn.core turn.count (t.trail_of turn.state ++ events_of turn.events)
+
+  -- what a turning worker has: its turn, what is in hand, and the registrations that are left
+  pub record MayTurn (turn : Taken S P) (hand : Hand) (puts : List (Colour × Event × Option P)) : Type 0 where
+    pub of_turn : WillBeSpent turn
+    pub in_hand : MayDeliver setup hand
+    pub of_puts : AllByRecursion (FitsSetup fits setup frame) puts
+
+  abbrev pub PhaseMayStep : Phase S P → Type 0
+  PhaseMayStep (Free place) = Unit {0}
+  PhaseMayStep (Popped mark) = IsColour setup mark.colour
+  PhaseMayStep (Picked mark victim) = IsColour setup mark.colour × IsCore setup victim
+  PhaseMayStep (Landing mark) = IsColour setup mark.colour
+  PhaseMayStep (Pushing target mark) = IsColour setup mark.colour × IsCore setup target
+  PhaseMayStep (Turning turn hand puts) = MayTurn turn hand puts
+
+  -- the conditions of a step that the worker keeps: it is of this core and this batch, its victims are cores, and what it has meets the conditions of the calls that take it
+  pub record MayStep (w : WorkerView S P) : Type 0 where
+    pub own_core : own ≡ w.core
+    pub core : IsCore setup w.core
+    pub batch : w.batch ≡ (shape_of setup).batch
+    pub victims : AllByRecursion (IsCore setup) w.victims
+    pub phase : PhaseMayStep w.phase
+    pub lost : AllByRecursion (FitsSetup fits setup frame) w.lost
+
+-- the same at an access
+module _ {A S P F : Type 0} (t : TrailWords S F) (fits : F → Colour → Event → Option P → Type 0) (x : AccessWords A S P F) (access : A) where
+  abbrev pub WillBeSpentAt : Taken S P → Type 0
+  WillBeSpentAt turn = WillBeSpent t fits (x.setup_of access) (x.core_of access) (x.frame_of access) (x.owes access) turn
+
+  abbrev pub MayTurnAt : Taken S P → Hand → List (Colour × Event × Option P) → Type 0
+  MayTurnAt turn hand puts = MayTurn t fits (x.setup_of access) (x.core_of access) (x.frame_of access) (x.owes access) turn hand puts
+
+  abbrev pub MayStepAt : WorkerView S P → Type 0
+  MayStepAt w = MayStep t fits (x.setup_of access) (x.core_of access) (x.frame_of access) (x.owes access) w
+
+-- the app uses no more colours and handlers than the setup has, and serves the frame
+pub record AppServes {R S P F : Type 0} (y : AppWords R P S F) (setup : Setup) (frame : F) (app : R) : Type 0 where
+  pub colours : y.colours_of app ≤ colours_of setup
+  pub handlers : y.handlers_of app ≤ length (rows_of (handlers_of setup))
+  pub serves : y.serves app frame
+
+-- the same at an access
+abbrev pub AppServesAt : {A R S P F : Type 0} → AccessWords A S P F → AppWords R P S F → A → R → Type 0
+AppServesAt x y access app = AppServes y (x.setup_of access) (x.frame_of access) app

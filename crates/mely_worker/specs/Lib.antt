@@ -1,0 +1,10 @@
+pub mod Outs
+pub mod Phase
+pub mod Access
+pub mod WorkerView
+pub mod Holdings
+pub mod Kept
+pub mod Rest
+pub mod KeptRest
+pub mod Step
+pub mod Conditions

@@ -1,0 +1,365 @@
+//! A worker on an access with given answers, in whose runs every line of the table occurs.
+ghost use Rattle.std.specs.Prelude.{◌≡◌, IfOk, length};
+ghost use Rattle.mely_event.specs.HandlerTable.{rows_of};
+ghost use Rattle.mely_history.specs.Setup.{shape_of, colours_of, handlers_of};
+ghost use Rattle.mely_worker.specs.Conditions.{MayStepAt, AppServesAt};
+
+mod ledger;
+mod lent;
+mod script;
+
+use crate::{Access, App, Made, Outs, Rested, Worker};
+use ledger::{Counting, Forwarding, Ledger, NOTE};
+use lent::{step_lent, steps_lent};
+use mely_event::{Colour, Event, Fits, Handlers, Mark, Trail};
+use mely_history::{After, NoSteal, NoTake, Registered, Setup, Shape, Stolen};
+use script::{Call, Script};
+use std::alloc::Global;
+use std::cell::Cell;
+use std::process::Abort;
+use std::test::Fail;
+
+fn mark(colour: u16, started: u64, worth: u128) -> Mark {
+    Mark {
+        colour: Colour(colour),
+        started,
+        worth,
+    }
+}
+
+/// Two cores, four colours, batch 2 and two handlers, with these calls to come.
+fn script_of(alloc: Global, calls: &[Call]) -> Result<Script, Fail>
+    ensures cores { IfOk result (λ script. (shape_of script.setup).cores ≡ 2) }
+    ensures colours { IfOk result (λ script. colours_of script.setup ≡ 4) }
+    ensures handlers { IfOk result (λ script. length (rows_of (handlers_of script.setup)) ≡ 2) }
+{
+    let shape = Shape {
+        cores: 2,
+        shards: 1,
+        batch: 2,
+        steal_cost: 0,
+        group: 2,
+    };
+    let Ok(handlers) = Handlers::new(&[(60, 2), (7, 2)]) else {
+        return Err(Fail::from("no table"));
+    };
+    let Ok(setup) = Setup::new(&shape, 4, handlers) else {
+        return Err(Fail::from("no setup"));
+    };
+    Ok(Script {
+        alloc,
+        setup,
+        calls: calls.to_vec(alloc)?,
+        made: 0,
+        astray: false,
+    })
+}
+
+/// Makes a step for each of these names, and answers whether each was named so.
+fn follows(
+    worker: &mut Worker<Ledger, u8>,
+    script: &mut Script,
+    gate: &Counting,
+    steps: &[Made],
+) -> bool
+    requires may { MayStepAt ⟦<Ledger as Trail>⟧ ⟦<Ledger as Fits<u8>>⟧.fits_under ⟦<Script as Access<Ledger, u8>>⟧ script.old worker.old }
+    requires served { AppServesAt ⟦<Script as Access<Ledger, u8>>⟧ ⟦<Forwarding as App>⟧ script.old (record {}) }
+{
+    for made in steps {
+        if worker.step(script, &Forwarding, gate) != *made {
+            return false;
+        }
+    }
+    true
+}
+
+/// Runs a worker of core 0 with victim 1 by a script, and answers what it lost and how often it passed the gate.
+fn run<R: AllocGlobal + Abort>(
+    rt: &R,
+    calls: &[Call],
+    steps: &[Made],
+) -> Result<(Vec<(Colour, Event, Option<u8>)>, u32), Fail> {
+    let mut script = script_of(rt.alloc(), calls)?;
+    let mut worker = match Worker::new(rt.alloc(), 0, vec![in rt.alloc(); 1]?, 2) {
+        Ok(worker) => worker,
+        Err(_) => return Err(Fail::from("no worker")),
+    };
+    let gate = Counting {
+        passes: Cell::new(0),
+    };
+    assert!(rt; follows(&mut worker, &mut script, &gate, steps));
+    assert!(rt; script.is_done());
+    assert!(rt; worker.is_free());
+    Ok((worker.into_lost(), gate.passes.get()))
+}
+
+#[test]
+fn every_line_of_the_table_is_made(rt: HostRuntime) -> Result<(), Fail> {
+    let (lost, passes) = run(
+        &rt,
+        &[
+            Call::Pop(None),
+            Call::Pick(1, Some(mark(2, 4, 50))),
+            Call::Steal(
+                Colour(2),
+                Ok(Stolen {
+                    from: 1,
+                    started: 5,
+                    worth: 60,
+                }),
+            ),
+            Call::Push(0, mark(2, 5, 60)),
+            Call::Pop(Some(mark(2, 5, 60))),
+            Call::Take(Colour(2), None),
+            Call::Register(
+                Colour(0),
+                NOTE,
+                Some(7),
+                Some(Registered::Woke {
+                    owner: 1,
+                    started: 0,
+                    worth: 30,
+                }),
+            ),
+            Call::Push(1, mark(0, 0, 30)),
+            Call::Register(
+                Colour(1),
+                NOTE,
+                None,
+                Some(Registered::Told {
+                    owner: 1,
+                    started: 3,
+                    worth: 40,
+                }),
+            ),
+            Call::Retell(1, Colour(1), 3, 40, true),
+            Call::Finish(
+                Colour(2),
+                7,
+                After::More {
+                    started: 7,
+                    worth: 20,
+                },
+            ),
+            Call::Push(0, mark(2, 7, 20)),
+            Call::Pop(Some(mark(2, 7, 20))),
+            Call::Take(Colour(2), Some(NoTake::Memory)),
+            Call::Push(0, mark(2, 7, 20)),
+        ],
+        &[
+            Made::NoneHere,
+            Made::Picked {
+                colour: Colour(2),
+                victim: 1,
+            },
+            Made::Stole {
+                colour: Colour(2),
+                from: 1,
+            },
+            Made::Landed { colour: Colour(2) },
+            Made::Popped { colour: Colour(2) },
+            Made::Took {
+                colour: Colour(2),
+                count: 2,
+            },
+            Made::Ran {
+                colour: Colour(2),
+                handler: 1,
+            },
+            Made::Registered { colour: Colour(0) },
+            Made::Pushed {
+                colour: Colour(0),
+                core: 1,
+            },
+            Made::Registered { colour: Colour(1) },
+            Made::Told {
+                colour: Colour(1),
+                core: 1,
+                found: true,
+            },
+            Made::Ran {
+                colour: Colour(2),
+                handler: 0,
+            },
+            Made::Finished {
+                colour: Colour(2),
+                more: true,
+            },
+            Made::Pushed {
+                colour: Colour(2),
+                core: 0,
+            },
+            Made::Popped { colour: Colour(2) },
+            Made::Memory,
+            Made::Pushed {
+                colour: Colour(2),
+                core: 0,
+            },
+            Made::Halted,
+        ],
+    )?;
+    assert_eq!(rt; lost.len(), 0);
+    assert_eq!(rt; passes, 2);
+    Ok(())
+}
+
+#[test]
+fn a_mark_that_is_refused_is_dropped(rt: HostRuntime) -> Result<(), Fail> {
+    let found = mark(1, 0, 30);
+    for why in [
+        NoTake::Elsewhere { owner: 1 },
+        NoTake::Busy { core: 1 },
+        NoTake::Empty { registered: 3 },
+    ] {
+        let calls = [
+            Call::Pop(Some(found)),
+            Call::Take(Colour(1), Some(why)),
+            Call::Pop(None),
+        ];
+        let steps = [
+            Made::Popped { colour: Colour(1) },
+            Made::NotTaken { why },
+            Made::NoneHere,
+        ];
+        run(&rt, &calls, &steps)?;
+    }
+    for why in [
+        NoSteal::Own,
+        NoSteal::Busy { core: 1 },
+        NoSteal::Empty { registered: 3 },
+        NoSteal::Cheap { worth: 30 },
+    ] {
+        let calls = [
+            Call::Pop(None),
+            Call::Pick(1, Some(found)),
+            Call::Steal(Colour(1), Err(why)),
+            Call::Pop(None),
+            Call::Pick(1, None),
+            Call::Pop(None),
+        ];
+        let steps = [
+            Made::NoneHere,
+            Made::Picked {
+                colour: Colour(1),
+                victim: 1,
+            },
+            Made::NotStolen { why },
+            Made::NoneHere,
+            Made::NoneThere { victim: 1 },
+            Made::NoneHere,
+        ];
+        run(&rt, &calls, &steps)?;
+    }
+    Ok(())
+}
+
+#[test]
+fn without_memory_a_steal_puts_the_mark_back(rt: HostRuntime) -> Result<(), Fail> {
+    let calls = [
+        Call::Pop(None),
+        Call::Pick(1, Some(mark(3, 2, 90))),
+        Call::Steal(Colour(3), Err(NoSteal::Memory)),
+        Call::Push(1, mark(3, 2, 90)),
+    ];
+    let steps = [
+        Made::NoneHere,
+        Made::Picked {
+            colour: Colour(3),
+            victim: 1,
+        },
+        Made::Memory,
+        Made::Pushed {
+            colour: Colour(3),
+            core: 1,
+        },
+        Made::Halted,
+        Made::Halted,
+    ];
+    run(&rt, &calls, &steps)?;
+    Ok(())
+}
+
+#[test]
+fn without_memory_a_registration_is_kept_and_the_turn_ended(rt: HostRuntime) -> Result<(), Fail> {
+    let calls = [
+        Call::Pop(Some(mark(3, 0, 60))),
+        Call::Take(Colour(3), None),
+        Call::Register(Colour(0), NOTE, Some(7), None),
+        Call::Register(Colour(1), NOTE, None, Some(Registered::Running { core: 1 })),
+        Call::Finish(Colour(3), 7, After::Idle),
+    ];
+    let steps = [
+        Made::Popped { colour: Colour(3) },
+        Made::Took {
+            colour: Colour(3),
+            count: 2,
+        },
+        Made::Ran {
+            colour: Colour(3),
+            handler: 1,
+        },
+        Made::Memory,
+        Made::Registered { colour: Colour(1) },
+        Made::Ran {
+            colour: Colour(3),
+            handler: 0,
+        },
+        Made::Finished {
+            colour: Colour(3),
+            more: false,
+        },
+        Made::Halted,
+    ];
+    let (lost, passes) = run(&rt, &calls, &steps)?;
+    assert_eq!(rt; lost.as_slice(), [(Colour(0), NOTE, Some(7))].as_slice());
+    assert_eq!(rt; passes, 2);
+    Ok(())
+}
+
+/// A worker may be lent to a thread wherever its states and loads may cross, and move into one at rest.
+fn crosses<S: Send, P: Send>(worker: &Worker<S, P>, rested: &Rested<P>) {
+    may_cross(worker);
+    may_cross(rested);
+}
+
+fn may_cross<T: Send>(_value: &T) {}
+
+#[test]
+fn a_worker_rests_and_wakes(rt: HostRuntime) -> Result<(), Fail> {
+    let worker: Worker<Ledger, u8> = match Worker::new(
+        rt.alloc(),
+        3,
+        vec![in rt.alloc(); 2, 0]?,
+        1000,
+    ) {
+        Ok(worker) => worker,
+        Err(_) => return Err(Fail::from("no worker")),
+    };
+    assert!(rt; worker.is_free());
+    assert!(rt; !worker.is_halted());
+    assert_eq!(rt; worker.lost().len(), 0);
+    let rested = worker.rest();
+    let worker: Worker<Ledger, u8> = rested.wake();
+    assert!(rt; worker.is_free());
+    assert_eq!(rt; worker.into_lost().len(), 0);
+    assert!(rt; Outs::<u8>::new().is_empty());
+    Ok(())
+}
+
+#[test]
+fn a_step_on_a_lent_access_is_a_step_on_the_access(rt: HostRuntime) -> Result<(), Fail> {
+    let mut script = script_of(rt.alloc(), &[Call::Pop(None); 3])?;
+    let mut worker: Worker<Ledger, u8> = match Worker::new(rt.alloc(), 0, Vec::new(rt.alloc()), 2) {
+        Ok(worker) => worker,
+        Err(_) => return Err(Fail::from("no worker")),
+    };
+    assert_eq!(rt;
+        step_lent(&mut worker, &mut script, &Forwarding),
+        Made::NoneHere
+    );
+    steps_lent(&mut worker, &mut script, &Forwarding, 2);
+    assert!(rt; script.is_done());
+    assert!(rt; worker.is_free());
+    assert_eq!(rt; worker.into_lost().len(), 0);
+    Ok(())
+}
