@@ -1,13 +1,15 @@
 -- Laws of answers and responses: how one head more is answered, and that what more bytes bring is added behind.
-use Rattle.std.specs.Prelude.{◌≡◌, ◌≢◌, ℕ, ◌+◌, ◌-◌, ◌<◌, Bool, true, false, ◌==◌, if◌then◌else◌, List, [], ◌∷◌, ◌++◌, take, drop}
-use Rattle.std.proofs.Common.{zero, suc, refl, sym, ap, ◌∙◌, arith, append-nil, ne_eqb}
+use Rattle.std.specs.Prelude.{◌≡◌, ◌≢◌, ℕ, ◌+◌, ◌-◌, ◌<◌, Bool, true, false, ◌==◌, if◌then◌else◌, List, [], ◌∷◌, ◌++◌, ◌≤◌, length, take, drop}
+use Rattle.std.specs.List.{flat_map}
+use Rattle.std.proofs.Common.{zero, suc, refl, sym, ap, ◌∙◌, arith, append-nil, length-append, ne_eqb}
 use Rattle.std.proofs.lemmas.List.{take-append-le, drop-append-le}
 use Rattle.std.proofs.lemmas.List.Concat.{flat_map-append}
 use Rattle.std.proofs.lemmas.Bool.{eqb-true}
 use Rattle.sws_request.specs.declared.cuts.Cut.{Cut}
 use Rattle.sws_request.specs.declared.cuts.Cut.TheVariants.{Head, TooLong, NotYet}
 use Rattle.sws_request.specs.Cuts.{cut_of}
-use Rattle.sws_request.proofs.CutLaws.{IsCutOf-cut_of, cut_of-append}
+use Rattle.sws_request.specs.Head.{IsHead, HasNoHeadWithin, head_limit}
+use Rattle.sws_request.proofs.CutLaws.{IsCutOf-cut_of, cut_of-append, cut_of-is}
 use Rattle.sws_site.specs.Sites.{SiteFiles}
 use Rattle.sws_answer.specs.Asked.{too_long, asked_by}
 use Rattle.sws_answer.specs.Answers.{Answer, answer_of, text_of}
@@ -116,6 +118,30 @@ responses_of-append site bytes more =
       is = ap (λ b. texts_of (answers answer_limit site b)) counted.1 ∙ ap texts_of begins.is
           ∙ flat_map-append text_of (answers answer_limit site (take input_limit bytes)) begins.later;
     }
+
+-- ---- nothing is answered where there is nothing
+
+no-head : (bytes : List ℕ) → bytes ≡ [] → IsHead bytes → ⊥
+no-head bytes none head =
+    let long : 1 ≤ length head.first = omega (arith, ap length head.first_line.0.is, length-append head.first_line.0.text (10 ∷ [])) in
+    absurd (omega (
+      arith,
+      ap length none,
+      ap length head.is,
+      length-append (flat_map (λ line. line) head.blank) (head.first ++ head.rest),
+      length-append head.first head.rest,
+    ))
+
+take-nil : (n : ℕ) → take {A = ℕ} n [] ≡ []
+take-nil zero = refl
+take-nil (suc n) = refl
+
+pub responses_of-nil : (site : SiteFiles) → responses_of site [] ≡ []
+unfolding responses_of answers_to
+responses_of-nil site =
+    let none : HasNoHeadWithin head_limit [] = (λ n within head. no-head (take n []) (take-nil n) head) in
+    ap (λ bytes. texts_of (answers answer_limit site bytes)) (take-nil input_limit)
+    ∙ ap texts_of (answers-not_yet answer_limit site [] (cut_of-is [] NotYet (none, omega arith)))
 
 -- the last answer is the 64th
 pub is_last-left : (answered : ℕ) → answered < answer_limit → ((answer_limit - answered) == 1) ≡ (answered + 1 == answer_limit)

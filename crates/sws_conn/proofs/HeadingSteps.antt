@@ -7,7 +7,7 @@ use Rattle.sws_link.specs.declared.LinkRead.TheVariants as read
 use Rattle.sws_link.specs.declared.LinkWrite.{LinkWrite}
 use Rattle.sws_link.specs.declared.LinkWrite.TheVariants as write
 use Rattle.sws_link.specs.Links.{LinkTells, LinkTakes, LinkPuts, given_by, ReadsAs, WritesAs, IsExact, IsWriteWithin, written_by}
-use Rattle.sws_link.specs.Scripts.{Script, Item, read_of, write_of, write_by, write_count, within, lowered}
+use Rattle.sws_link.specs.Scripts.{Script, Item, read_of, write_of, write_by, write_count, within, within_step, lowered}
 use Rattle.sws_request.specs.declared.cuts.Cut.{Cut}
 use Rattle.sws_request.specs.declared.cuts.Cut.TheVariants.{Head, TooLong, NotYet}
 use Rattle.sws_request.specs.Cuts.{cut_of}
@@ -227,9 +227,10 @@ FitsCut : Option ℕ → ℕ → Type 0
 FitsCut None count = ⊤
 FitsCut (Some limit) count = count ≤ limit
 
-within-less : (step : Option ℕ) (count : ℕ) → within step count ≤ count
-within-less None count = omega arith
-within-less (Some limit) count = omega arith
+within_step-less : (step : Option ℕ) (count : ℕ) → within_step step count ≤ count
+within_step-less None count = omega arith
+within_step-less (Some zero) count = omega arith
+within_step-less (Some (suc more)) count = omega arith
 
 wrote_script : (script now : Script) (size count : ℕ) → write.Wrote count ≡ (write_of script size).answer → now ≡ (write_of script size).script
     → (now ≡ record script { cut = lowered script.cut count }) × FitsCut script.cut count
@@ -244,8 +245,8 @@ wrote_script script now size count answer is = by_cut script.cut refl answer is
     by_cut (Some zero) e answer is = cc
     by_cut (Some (suc limit)) e answer is =
         let same : count ≡ write_count script size = cc in
-        let count_is : count ≡ within script.step (within (Some (suc limit)) size) = same ∙ ap (λ o. within script.step (within o size)) (sym e) in
-        let less = within-less script.step (within (Some (suc limit)) size) in
+        let count_is : count ≡ within_step script.step (within (Some (suc limit)) size) = same ∙ ap (λ o. within_step script.step (within o size)) (sym e) in
+        let less = within_step-less script.step (within (Some (suc limit)) size) in
         (is ∙ ap (λ n. record script { cut = lowered script.cut n }) (sym same), subst (λ o. FitsCut o count) e (omega arith))
 
 -- what was written counts against the cut

@@ -1,11 +1,15 @@
 mod PartLemmas
 mod LookLemmas
+mod ReadySteps
 mod SoundSteps
 mod InputLemmas
 mod HeadingSteps
 mod PathSteps
-pub mod PathLaws
 mod Measure
 mod SiteSteps
 mod Since
 mod Served
+mod Kept
+pub mod PathLaws
+pub mod RunLaws
+pub mod ResponseLaws

@@ -13,16 +13,16 @@ use Rattle.sws_request.specs.Cuts.{cut_of}
 use Rattle.sws_site.specs.Sites.{SiteFiles}
 use Rattle.sws_parts.specs.Unsent.{unsent_bytes}
 use Rattle.sws_answer.specs.Answers.{text_of}
-use Rattle.sws_answer.specs.Responses.{answers, answers_to, responses_of, texts_of, answer_limit, input_limit}
+use Rattle.sws_answer.specs.Responses.{answers, answers_to, responses_of, texts_of, is_closed, answer_limit, input_limit}
 use Rattle.sws_answer.proofs.ResponseLaws.{answers-not_yet}
 use Rattle.sws_conn.specs.declared.End.{End}
 use Rattle.sws_conn.specs.declared.End.TheVariants as ending
 use Rattle.sws_conn.specs.declared.Next.TheVariants as next
 use Rattle.sws_conn.specs.Standing.{Standing, Connection, later_unless}
 use Rattle.sws_conn.specs.Step.{has_all_input, wait_limit}
-use Rattle.sws_conn.specs.Sound.{IsSound, IsReadyTo, IsEnded, IsDone, Course, IsTold, IsUncut, IsToldBy}
+use Rattle.sws_conn.specs.Sound.{IsSound, IsReadyTo, IsToRead, IsEnded, IsDone, Course, IsTold, IsUncut, IsToldBy}
 use Rattle.sws_conn.specs.Path.{told_by_link}
-use Rattle.sws_conn.specs.Serving.{Serves, RoseBy, BeginsResponses}
+use Rattle.sws_conn.specs.Serving.{IsLast, Serves, RoseBy, BeginsResponses}
 use Rattle.sws_conn.proofs.PartLemmas.{nothing-rest, front-first}
 use Rattle.sws_conn.proofs.Since.{SameInput, Since, SinceLink}
 
@@ -104,6 +104,44 @@ written-whole c tells taken sent k (taken_is, writes, left) end done = by_last d
     by_last (inl closes) = by_close closes
     by_last (inr (goes_on, not_yet, all)) = by_input goes_on not_yet all
 
+-- and why nothing more comes
+nothing-more : (c : Standing) (tells : LinkTells) (taken sent : List ℕ) → Course c taken sent → IsTold c (Some tells) taken sent → IsDone c
+    → IsLast c.site tells
+unfolding answers_to
+nothing-more c tells taken sent k (taken_is, writes, left) done = by_last done.last
+  where
+    all : take input_limit tells.taken ≡ k.consumed ++ c.buffer
+    all = ap (take input_limit) taken_is ∙ take_all input_limit taken (taken-few c taken sent k) ∙ k.taken_is
+
+    closed : c.closes ≡ true → is_closed (answers_to c.site tells.taken) ≡ true
+    closed closes =
+        ap (λ b. is_closed (answers answer_limit c.site b)) all ∙ ap is_closed (k.given_first c.buffer)
+        ∙ ap (λ t. is_closed (k.given ++ later_unless t (answers (answer_limit - c.answered) c.site c.buffer))) closes
+        ∙ ap is_closed (append-nil k.given) ∙ k.closed_is closes
+
+    by_input : (ended : Bool) → ended ≡ c.input_ended → (ended || nat_le input_limit c.read) ≡ true → IsLast c.site tells
+    by_input true e full = inl (left (sym e))
+    by_input false e full =
+        let most = leb-true input_limit c.read full in let long = k.read_is in let few = k.read_few in
+        inr (inl (ap length taken_is ∙ (let is : length taken ≡ input_limit = omega arith in is)))
+
+    by_last : (c.closes ≡ true) ⊎ ((c.closes ≡ false) × (cut_of c.buffer ≡ NotYet) × (has_all_input c ≡ true)) → IsLast c.site tells
+    by_last (inl closes) = inr (inr (closed closes))
+    by_last (inr (goes_on, not_yet, full)) = by_input c.input_ended refl full
+
+-- where a read is to be made, all that was taken is answered
+pub answered-read : (c : Standing) (tells : LinkTells) (taken sent : List ℕ) → Course c taken sent → IsTold c (Some tells) taken sent → IsToRead c
+    → tells.written ≡ responses_of c.site tells.taken
+answered-read c tells taken sent k (taken_is, writes, left) ready =
+    let all : take input_limit tells.taken ≡ k.consumed ++ c.buffer =
+    ap (take input_limit) taken_is ∙ take_all input_limit taken (taken-few c taken sent k) ∙ k.taken_is in
+    let later = answers (answer_limit - c.answered) c.site c.buffer in
+    writes.is ∙ ap (λ f. sent ++ f) (writes.none (subst IsUncut (sym ready.between.no_end) tt))
+    ∙ ap (λ u. sent ++ u) (sym (nothing-rest c.parts ready.between.nothing)) ∙ k.sent_is ∙ sym (append-nil (texts_of k.given))
+    ∙ ap (λ l. texts_of k.given ++ texts_of l)
+    (sym (ap (λ t. later_unless t later) ready.between.goes_on ∙ answers-not_yet (answer_limit - c.answered) c.site c.buffer ready.not_yet))
+    ∙ sym (responses-given c taken sent c.buffer k tells.taken all)
+
 module _ {L : Type 0} (x : LinkWords L) where
   -- a connection that has ended, over the link that was handed in
   pub serves : (site : SiteFiles) (first now : L) (c : Standing) (end : End) → c.site ≡ site → c.end ≡ Some end → IsEnded c
@@ -119,11 +157,15 @@ module _ {L : Type 0} (x : LinkWords L) where
             is,
             record {
               input = input;
+              few = subst (λ t. length t ≤ input_limit) (sym says.0) (taken-few c sound.taken sound.sent sound.course);
               prefix = subst (λ s. IsPrefix tells.written (responses_of s tells.taken)) same (written-first c tells sound.taken sound.sent sound.course says);
               whole = λ e.
                   let done : c.end ≡ Some ending.Done = end_is ∙ ap Some e in
                   written-whole c tells sound.taken sound.sent sound.course says done (ended.done done)
                   ∙ ap (λ s. responses_of s (input_of tells)) same ∙ ap (responses_of site) input;
+              last = λ e.
+                  let done : c.end ≡ Some ending.Done = end_is ∙ ap Some e in
+                  subst (λ s. IsLast s tells) same (nothing-more c tells sound.taken sound.sent sound.course says (ended.done done));
             },
           )
 

@@ -1,3 +1,4 @@
+pub mod Responses
 pub mod Standing
 pub mod Step
 pub mod Shown
@@ -6,3 +7,4 @@ pub mod Outcome
 pub mod Path
 pub mod Heading
 pub mod Serving
+pub mod Run

@@ -5,7 +5,7 @@ use Rattle.sws_link.specs.declared.LinkRead.{LinkRead}
 use Rattle.sws_link.specs.declared.LinkRead.TheVariants as read
 use Rattle.sws_link.specs.declared.LinkWrite.{LinkWrite}
 use Rattle.sws_link.specs.declared.LinkWrite.TheVariants as write
-use Rattle.sws_link.specs.Links.{LinkTells, Reads, Writes, Shuts}
+use Rattle.sws_link.specs.Links.{LinkTells, Way, read_fault, write_fault, Reads, Writes, Shuts}
 use Rattle.sws_request.specs.declared.cuts.Cut.{Cut}
 use Rattle.sws_request.specs.declared.cuts.Cut.TheVariants.{Head, TooLong, NotYet}
 use Rattle.sws_request.specs.Cuts.{cut_of}
@@ -96,22 +96,25 @@ after_write c write.Failed = ending_as c ending.Fault
 after_write c write.Memory = ending_as c ending.Memory
 
 module _ {L : Type 0} (x : LinkWords L) (before after : Standing) where
-  -- one read of the link was made
+  -- one read of the link was made, which keeps what the link kept of an earlier state
   pub record ReadsOnce (link now : L) : Type 0 where
     pub answer : LinkRead
     pub into : List ℕ
     pub called : Reads x.tells x.faults x.waits link (room_of before) answer into now
+    pub since : (first : L) → x.since first None link → x.since first (read_fault answer) now
     pub becomes : after ≡ after_read before answer into
 
   -- one write of the front of the parts was made
   pub record WritesOnce (link now : L) : Type 0 where
     pub answer : LinkWrite
     pub called : Writes x.tells x.faults x.waits link (front_of before.parts) answer now
+    pub since : (first : L) → x.since first None link → x.since first (write_fault answer) now
     pub becomes : after ≡ after_write before answer
 
   -- the link was shut
   pub record ShutsOnce (link now : L) : Type 0 where
     pub called : Shuts x.tells x.faults x.waits link now
+    pub since : (first : L) (fault : Option Way) → x.since first fault link → x.since first fault now
     pub becomes : after ≡ going_to before next.Nothing
 
   -- the step is done over a link, of which it makes this

@@ -1,9 +1,9 @@
 //! A connection.
-ghost use Rattle.std.specs.Prelude.{◌≡◌, ◌≢◌, ◌≤◌, ◌<◌, ◌^◌, ◌↔◌, IfOk, IsSome, Some, None};
+ghost use Rattle.std.specs.Prelude.{◌≡◌, ◌≢◌, ◌≤◌, ◌<◌, ◌^◌, ◌↔◌, ◌∷◌, [], IfOk, IsSome, Some, None};
 ghost use Rattle.sws_conn.specs.Standing.{told_next, told_end};
 ghost use Rattle.sws_conn.specs.Step.{Steps, StepsFrom, Opens, IsFresh};
 ghost use Rattle.sws_conn.specs.Sound.{IsSound, unopened};
-ghost use Rattle.sws_conn.specs.Path.{FollowsScript, told_by_link};
+ghost use Rattle.sws_conn.specs.Path.{FollowsScript, TakesEvent, TakesOff, HasNoEvents, open_link, path_told, rest_told, told_by_link};
 ghost use Rattle.sws_conn.specs.Serving.{BeginsResponses};
 ghost use Rattle.sws_conn.specs.Shown.{shown};
 ghost use Rattle.std.specs.Option.{option_copied};
@@ -68,10 +68,11 @@ impl<'s, L: Link + Drop> Conn<'s, L> {
     }
 
     /// Gives the connection its link, of which nothing was taken or written; hands it back where there is one
-    /// already.
+    /// already. Where the link tells its answers to come, the opening is the first event of their path.
     pub fn open(&mut self, link: L) -> Result<Next, L>
         requires { IsFresh (L.tells link) }
         ensures opens { Opens self.old link result self.new }
+        ensures path { IfOk result (λ next. TakesOff (open_link ∷ []) (path_told self.old.standing.site (L.tells link)) (rest_told L.Link self.new)) }
         ensures sound { IsSound L.Link self.new }
     {
         if self.link.is_some() {
@@ -83,11 +84,13 @@ impl<'s, L: Link + Drop> Conn<'s, L> {
     }
 
     /// Does the pending step, and answers the next one: `Wait` where the link was not ready and the same step is
-    /// pending. Before `open` and after the close it does nothing.
+    /// pending. Before `open` and after the close it does nothing. Where the link tells its answers to come, the step takes
+    /// its event off the rest of their path.
     pub fn step(&mut self) -> Next
         ensures steps { Steps L.Link self.old self.new }
         ensures told { result ≡ told_next self.new.standing }
         ensures scripted { FollowsScript L.Link self.old self.new }
+        ensures path { TakesEvent L.Link self.old self.new }
         ensures begins { BeginsResponses self.new.standing.site (told_by_link L.Link self.new.link) }
         ensures sound { IsSound L.Link self.new }
     {
@@ -103,10 +106,11 @@ impl<'s, L: Link + Drop> Conn<'s, L> {
         self.talking.pending
     }
 
-    /// How it ended, once it is closed.
+    /// How it ended, once it is closed. Then no event is left of the path.
     pub fn end(&self) -> Option<End>
         ensures end { result ≡ told_end self.now.standing }
         ensures closed { IsSome result ↔ (self.now.standing.pending ≡ Next.Nothing) }
+        ensures path { IsSome result → HasNoEvents (rest_told L.Link self.now) }
     {
         match self.talking.pending {
             Next::Nothing => self.talking.end,

@@ -1,15 +1,47 @@
-//! What holds of the path of a scripted connection.
-ghost use Rattle.std.specs.Prelude.{◌≡◌, ◌+◌, ℕ, ◌∷◌, ◌++◌};
-ghost use Rattle.sws_link.specs.Scripts.{Script};
+//! What holds of the path of a scripted connection, and of the events that a connection runs.
+ghost use Rattle.std.specs.Prelude.{◌≡◌, ℕ, List, Option, Some, [], ◌∷◌, ◌++◌};
+ghost use Rattle.sws_link.specs.Scripts.{Script, wait};
 ghost use Rattle.sws_site.specs.Sites.{SiteFiles};
+ghost use Rattle.sws_site.specs.Limits.{IsWithinLimits};
+ghost use Rattle.sws_conn.specs.declared.End.{End as EndValue};
 ghost use Rattle.sws_conn.specs.declared.Next.{Next as NextValue};
-ghost use Rattle.sws_conn.specs.Step.{going_to};
-ghost use Rattle.sws_conn.specs.Sound.{unopened};
-ghost use Rattle.sws_conn.specs.Path.{Scripted, open_link, events, event_of, scripted_step, path_of, rest_of_path};
+ghost use Rattle.sws_conn.specs.Standing.{Connection};
+ghost use Rattle.sws_conn.specs.Step.{going_to, Steps, IsFresh};
+ghost use Rattle.sws_conn.specs.Sound.{unopened, IsReadyTo, IsSound};
+ghost use Rattle.sws_conn.specs.Outcome.{UnlessMemory};
+ghost use Rattle.sws_conn.specs.Path.{Handler, Scripted, IsPathFrom, open_link, read_piece, parse, resume, close, event_of, scripted_step, path_of, rest_of_path, path_told, rest_told, TakesOff};
+ghost use Rattle.sws_conn.specs.Run.{opened, HasRun, EndsRun};
 
-/// The path begins with the opening, and goes on as the rest of the path of the opened connection. Of any number
-/// of events the first is that of the connection as it stands, and the others are those after its step.
+use sws_link::Link;
+
+/// A connection has one path, and `path_of` is it, for each site that can be loaded. It begins with the opening and ends with
+/// the close. Where a connection stands as it may, the rest of the path begins with the event of the pending step, and what
+/// follows is the rest of the path after that step. `pause` is an example: a link that is not ready once, and then at its end.
 pub fn a_path_is_of_steps()
+    ensures is { (site : SiteFiles) (script : Script) → IsWithinLimits site.files
+        → IsPathFrom (record { standing = unopened site; script = script }) (path_of site script) }
+    ensures alone { (from : Scripted) (one other : List Handler) → IsPathFrom from one → IsPathFrom from other → one ≡ other }
     ensures open { (site : SiteFiles) (script : Script) → path_of site script ≡ open_link ∷ rest_of_path (going_to (unopened site) NextValue.Read) script }
-    ensures step { (more : ℕ) (c : Scripted) → events (more + 1) c ≡ event_of c.standing ++ events more (scripted_step c) }
+    ensures close { (site : SiteFiles) (script : Script) → IsWithinLimits site.files → (before : List Handler) × (path_of site script ≡ before ++ close ∷ []) }
+    ensures pause { (site : SiteFiles) (step cut : Option ℕ) → IsWithinLimits site.files
+        → path_of site (record { items = wait 1 ∷ []; step = step; cut = cut }) ≡ open_link ∷ read_piece ∷ resume ∷ parse ∷ close ∷ [] }
+    ensures step { (c : Scripted) → IsWithinLimits c.standing.site.files → IsReadyTo c.standing.pending c.standing
+        → rest_of_path c.standing c.script ≡ event_of c.standing ++ rest_of_path (scripted_step c).standing (scripted_step c).script }
+{}
+
+/// A run of a connection, from `Conn::open` on and over all calls of `Conn::step`, each of which runs the event of the
+/// pending step. At every moment the connection is sound, and the events so far, with the opening, are a front of the path;
+/// at its end it has served the link, and the events are the whole path. The path is that of a link that told its answers
+/// to come, unless memory ran out.
+pub fn a_run_serves_its_link<L: Link>()
+    ensures start { (site : SiteFiles) (first : L) → IsWithinLimits site.files → IsFresh (L.tells first) → HasRun L.Link site first [] (opened site first) }
+    ensures goes_on { (site : SiteFiles) (first : L) (trail : List Handler) (event : Handler) (before after : Connection L)
+        → HasRun L.Link site first trail before → event_of before.standing ≡ event ∷ [] → Steps L.Link before after
+        → HasRun L.Link site first (trail ++ event ∷ []) after }
+    ensures sound { (site : SiteFiles) (first : L) (trail : List Handler) (conn : Connection L) → HasRun L.Link site first trail conn → IsSound L.Link conn }
+    ensures path { (site : SiteFiles) (first : L) (trail : List Handler) (conn : Connection L) → HasRun L.Link site first trail conn
+        → UnlessMemory conn.standing.end (TakesOff (open_link ∷ trail) (path_told site (L.tells first)) (rest_told L.Link conn)) }
+    ensures ends { (site : SiteFiles) (first : L) (trail : List Handler) (conn : Connection L) (now : L) (end : EndValue)
+        → HasRun L.Link site first trail conn → conn.standing.pending ≡ NextValue.Nothing → conn.link ≡ Some now → conn.standing.end ≡ Some end
+        → EndsRun L.Link site first trail now end }
 {}

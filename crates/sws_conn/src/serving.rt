@@ -1,8 +1,8 @@
 //! A whole connection.
-ghost use Rattle.std.specs.Prelude.{◌≡◌, IfOk, IfErr};
+ghost use Rattle.std.specs.Prelude.{◌≡◌, None, IfOk, IfErr};
 ghost use Rattle.sws_link.specs.Counts.{Rose};
 ghost use Rattle.sws_conn.specs.Step.{IsFresh, wait_limit};
-ghost use Rattle.sws_conn.specs.Serving.{EndsAs, Serves, RoseBy};
+ghost use Rattle.sws_conn.specs.Serving.{EndsAs, Serves, RoseBy, KeepsBy};
 
 use crate::End;
 use crate::conn::Conn;
@@ -15,7 +15,8 @@ use sws_site::Site;
 /// What was written begins the responses to the bytes that were taken; where the end is `Done` it is the responses
 /// to the whole input. A link that tells its answers to come gets exactly what its script says, and ends so, unless
 /// it found no memory in a write. `Fault` comes only where the link's count of faults rose, and `Idle` only where
-/// it was not ready 30 times more, or that count is full.
+/// it was not ready 30 times more, or that count is full. `Done` comes only where the input has ended, 65,536 bytes were
+/// taken or an answer closes, and at a fault of reading all that was taken has been answered.
 ///
 /// Where the room for the connection was refused, the link comes back as it was.
 pub fn serve_one<L: Link + Drop>(alloc: Global, site: &Site, link: L) -> Result<(L, End), L>
@@ -24,6 +25,7 @@ pub fn serve_one<L: Link + Drop>(alloc: Global, site: &Site, link: L) -> Result<
     ensures serves { IfOk result (λ served. Serves site.now (L.tells link) (L.tells served.0) served.1) }
     ensures fault { IfOk result (λ served. served.1 ≡ End.Fault → Rose (L.faults link) (L.faults served.0)) }
     ensures idle { IfOk result (λ served. served.1 ≡ End.Idle → RoseBy wait_limit (L.waits link) (L.waits served.0)) }
+    ensures kept { IfOk result (λ served. L.since link None link → KeepsBy L.Link site.now link served.0 served.1) }
     ensures refused { IfErr result (λ back. back ≡ link) }
 {
     let mut conn = match Conn::new(alloc, site) {

@@ -6,7 +6,7 @@ use Rattle.sws_link.specs.declared.LinkRead.TheVariants as read
 use Rattle.sws_link.specs.Links.{TakesTold, ReadsAs, EndsRead, given_by}
 use Rattle.sws_link.specs.Scripts.{Item, piece, wait, fault, read_of, lowered}
 use Rattle.sws_link.specs.LinkItems.{all_bytes, HasNoFault}
-use Rattle.sws_link.specs.Calls.{CallsMade, next_fails}
+use Rattle.sws_link.specs.Calls.{next_fails}
 use Rattle.sws_link.specs.MemLinks.{WireState, script_unless, wire_tells, wire_after_read}
 
 -- the bytes that a read gives are the next ones

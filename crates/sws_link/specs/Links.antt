@@ -117,6 +117,25 @@ abbrev pub LinkPuts : Option LinkTells → Option LinkTells → LinkWrite → Li
 LinkPuts None now answer piece = now ≡ None
 LinkPuts (Some before) now answer piece = PutsTold before now answer piece
 
+-- ---- a fault
+
+-- the two ways of a link
+pub data Way : Type 0 where
+  reading writing : Way
+
+-- the way in which a call failed, if it did
+abbrev pub read_fault : LinkRead → Option Way
+read_fault (read.Took count) = None
+read_fault read.End = None
+read_fault read.NotReady = None
+read_fault read.Failed = Some reading
+
+abbrev pub write_fault : LinkWrite → Option Way
+write_fault (write.Wrote count) = None
+write_fault write.NotReady = None
+write_fault write.Failed = Some writing
+write_fault write.Memory = None
+
 -- ---- whole calls, of a link that is seen by what it tells and by its two counts
 
 module _ {L : Type 0} (tells : L → Option LinkTells) (faults waits : L → Count) where

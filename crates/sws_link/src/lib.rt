@@ -27,12 +27,12 @@
 //! ```
 #![tactic(auto)]
 
-ghost use Rattle.std.specs.Prelude.{◌≡◌, ◌<◌, List, ℕ, Bool, IsTrue, Option, length};
+ghost use Rattle.std.specs.Prelude.{◌≡◌, ◌<◌, List, ℕ, Bool, IsTrue, Option, None, length};
 ghost use Rattle.sws_link.specs.Counts.{Count, HasCause};
 ghost use Rattle.sws_link.specs.Contents.{TakesWithin, Takes, Puts};
 ghost use Rattle.sws_link.specs.Told.{FolderTells};
 ghost use Rattle.sws_link.specs.Folders.{Opens, Gives, TakesOfFile, at_file_after_open, is_file};
-ghost use Rattle.sws_link.specs.Links.{LinkTells, Reads, Writes, Shuts};
+ghost use Rattle.sws_link.specs.Links.{LinkTells, Way, read_fault, write_fault, Reads, Writes, Shuts};
 
 mod calls;
 mod copying;
@@ -211,19 +211,26 @@ pub trait Link {
     /// How often a call found the link not ready.
     ghost waits: { Self → Count };
 
+    /// What a link keeps of an earlier state over calls, of which the last one failed in this way, or in none. A link that
+    /// holds another object says by it that this is still the same one, and which of its two ways is at fault.
+    ghost since: { Self → Option Way → Self → Type 0 };
+
     /// Takes at least one of the bytes that are left, and at most as many as there is room for, unless the link
     /// is at its end, not ready, or at fault.
     fn read(&mut self, into: &mut [u8]) -> LinkRead
         requires { 0 < length into.old }
-        ensures reads { Reads tells faults waits self.old (length into.old) result into.new self.new };
+        ensures reads { Reads tells faults waits self.old (length into.old) result into.new self.new }
+        ensures since { (first : Self) → since first None self.old → since first (read_fault result) self.new };
 
     /// Writes at least one byte of the piece, and as many as the peer takes, unless the link is not ready or at
     /// fault.
     fn write(&mut self, bytes: &[u8]) -> LinkWrite
         requires { 0 < length bytes.now }
-        ensures writes { Writes tells faults waits self.old bytes.now result self.new };
+        ensures writes { Writes tells faults waits self.old bytes.now result self.new }
+        ensures since { (first : Self) → since first None self.old → since first (write_fault result) self.new };
 
     /// Ends the connection, which changes nothing that the link tells.
     fn shut(&mut self)
-        ensures shuts { Shuts tells faults waits self.old self.new };
+        ensures shuts { Shuts tells faults waits self.old self.new }
+        ensures since { (first : Self) (fault : Option Way) → since first fault self.old → since first fault self.new };
 }

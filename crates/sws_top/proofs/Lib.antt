@@ -1,7 +1,6 @@
-mod InputLemmas
 mod WordLemmas
-mod SendingLemmas
-mod PartLemmas
 mod SiteLemmas
 mod AnswerLemmas
+mod EndLemmas
 mod RunLemmas
+mod PipeLemmas

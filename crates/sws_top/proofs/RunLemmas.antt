@@ -6,34 +6,25 @@ use Rattle.sws_site.proofs.LimitLaws.{limit_of-none}
 use Rattle.sws_top.specs.declared.faults.TopFault.{TopFault}
 use Rattle.sws_top.specs.declared.faults.TopFault.TheVariants.{Usage, ReadFault, WriteFault, Memory, SiteFull}
 use Rattle.sws_top.specs.Words.{Answering}
-use Rattle.sws_top.specs.Faults.{EndsLoading}
 use Rattle.sws_top.specs.Sites.{IsSite, IsNamedSite, MeetsLimit, TellsWithinLimits}
-use Rattle.sws_top.specs.Answered.{HasReadAll, AnswersFrom, AnswersNamed}
+use Rattle.sws_top.specs.Answered.{AnswersFrom, AnswersNamed}
 use Rattle.sws_top.proofs.AnswerLemmas.{nothing_done}
 
 -- a loaded site was answered from
 pub answers_loaded : (words : Option Answering) (named : Answering) (told : Option FolderTells) (loaded : SiteFiles)
-    (input left before written : Option (List ℕ)) (SinkRose : Type 0) (fault : Option TopFault)
-    → Some named ≡ words → IsNamedSite named told loaded → AnswersFrom loaded input left before written SinkRose fault
-    → AnswersNamed words told input left before written SinkRose fault
-answers_loaded words named told loaded input left before written SinkRose fault is only answers other folder site same told_is site_is =
+    (input left before written : Option (List ℕ)) (fault : Option TopFault)
+    → Some named ≡ words → IsNamedSite named told loaded → AnswersFrom loaded input left before written fault
+    → AnswersNamed words told input left before written fault
+answers_loaded words named told loaded input left before written fault is only answers other folder site same told_is site_is =
     let one : named ≡ other = cc in
-    subst (λ (s : SiteFiles). AnswersFrom s input left before written SinkRose fault)
+    subst (λ (s : SiteFiles). AnswersFrom s input left before written fault)
     (only folder site told_is (subst (λ (w : Answering). IsSite w folder site) (sym one) site_is)) answers
 
 -- no site was loaded, and so nothing was read or written
-early : (fault : Option TopFault) → EndsLoading fault → fault ≢ None → HasReadAll fault → ⊥
-early None ends some all = some refl
-early (Some Usage) ends some all = ends
-early (Some ReadFault) ends some all = all
-early (Some WriteFault) ends some all = ends
-early (Some Memory) ends some all = all
-early (Some (SiteFull limit)) ends some all = all
-
-pub answers_nothing : (words : Option Answering) (told : Option FolderTells) (input before : Option (List ℕ)) (SinkRose : Type 0) (fault : Option TopFault)
-    → EndsLoading fault → fault ≢ None → AnswersNamed words told input input before before SinkRose fault
-answers_nothing words told input before SinkRose fault ends some named folder site same told_is site_is =
-    nothing_done site input before SinkRose fault some (early fault ends some)
+pub answers_nothing : (words : Option Answering) (told : Option FolderTells) (input before : Option (List ℕ)) (fault : Option TopFault)
+    → fault ≢ None → AnswersNamed words told input input before before fault
+answers_nothing words told input before fault some named folder site same told_is site_is =
+    nothing_done site input before fault some
 
 -- where nothing outside failed and the site is within its limits, the run can only lack memory
 pub only_lacks_memory : (fault : Option TopFault) (told : Option FolderTells) (FolderRose : Type 0) → fault ≢ Some Usage → fault ≢ Some ReadFault

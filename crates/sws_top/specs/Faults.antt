@@ -1,7 +1,7 @@
 -- How a run ends.
-use Rattle.std.specs.Prelude.{ℕ, Bool, true, false, Option, Some, None, Result, Ok, Err, ⊤}
-use Rattle.sws_link.specs.declared.Put.{Put}
-use Rattle.sws_link.specs.declared.Put.TheVariants.{Done, Failed, Memory as PutMemory}
+use Rattle.std.specs.Prelude.{ℕ, Option, Some, None, Result, Ok, Err, ⊤}
+use Rattle.sws_conn.specs.declared.End.{End}
+use Rattle.sws_conn.specs.declared.End.TheVariants.{Done, Idle, Fault, Memory as EndMemory}
 use Rattle.sws_site.specs.declared.site_faults.SiteFault.{SiteFault}
 use Rattle.sws_site.specs.declared.site_faults.SiteFault.TheVariants.{TooManyFiles, TooManyBytes, LongName}
 use Rattle.sws_top.specs.declared.faults.SiteLimit.{SiteLimit}
@@ -29,13 +29,12 @@ refusal_of (Files count) = TooManyFiles count
 refusal_of (Bytes number) = TooManyBytes number
 refusal_of (Name number) = LongName number
 
--- how a run ends, by what became of the writing and whether the source failed
-abbrev pub ended_by : Put → Bool → Option TopFault
-ended_by Done false = None
-ended_by Done true = Some ReadFault
-ended_by Failed false = Some WriteFault
-ended_by Failed true = Some ReadFault
-ended_by PutMemory failed = Some Memory
+-- how a run ends, by the end of its connection and the fault of the one of source and sink that failed
+abbrev pub ended_by : End → Option TopFault → Option TopFault
+ended_by Done fault = None
+ended_by Idle fault = None
+ended_by Fault fault = fault
+ended_by EndMemory fault = Some Memory
 
 -- the faults that words and site alone can have, before anything is read or written
 abbrev pub IsBeforeInput : Option TopFault → Type 0

@@ -1,5 +1,5 @@
 //! The command `answer`: one connection, from the bytes of its input to the bytes of its responses.
-ghost use Rattle.std.specs.Prelude.{◌≡◌, ◌≤◌, Some, IfSome, IfOk, IsTrue};
+ghost use Rattle.std.specs.Prelude.{◌≡◌, ◌≢◌, ◌≤◌, Some, IfSome, IfOk, IsSome};
 ghost use Rattle.sws_link.specs.Counts.{HasCause, Rose};
 ghost use Rattle.sws_top.specs.Words.{last_second};
 ghost use Rattle.sws_top.specs.WordValues.{told_by};
@@ -8,12 +8,12 @@ ghost use Rattle.sws_top.specs.Sites.{IsNamedSite, OpensFolder, MeetsLimit};
 ghost use Rattle.sws_top.specs.Answered.{AnswersFrom};
 
 use crate::faults::{SiteLimit, TopFault};
-use crate::input::read_input;
-use crate::responding::write_responses;
+use crate::pipe::Pipe;
 use crate::words::Answering;
 use std::alloc::Global;
-use sws_answer::PathRoom;
-use sws_link::{Folder, Opened, Put, Sink, Source};
+use std::snapshot::Snapshot;
+use sws_conn::{End, serve_one};
+use sws_link::{Folder, Opened, Sink, Source};
 use sws_site::{Site, SiteFault};
 
 /// Opens the folder that the words name, and loads its files.
@@ -48,42 +48,67 @@ pub fn open_site<F: Folder>(
     }
 }
 
-/// Reads the input as far as it counts, and writes the responses to what was read.
+/// Runs the connection whose input the source gives, and whose responses the sink takes.
 ///
-/// That the source failed is answered after these were written, and before that the sink failed.
+/// All responses to what was read before the source failed are written.
 pub fn answer_input<R: Source, O: Sink>(
     alloc: Global,
     site: &Site,
     source: &mut R,
     out: &mut O,
 ) -> Result<(), TopFault>
-    ensures answered { AnswersFrom site.now (R.left source.old) (R.left source.new) (O.written out.old) (O.written out.new)
-        (Rose (O.faults out.old) (O.faults out.new)) (fault_of result) }
+    ensures answered { AnswersFrom site.now (R.left source.old) (R.left source.new) (O.written out.old) (O.written out.new) (fault_of result) }
     ensures ends { EndsAnswering (fault_of result) }
     ensures read_cause { HasCause (R.faults source.old) (R.faults source.new) (fault_of result ≡ Some TopFault.ReadFault) }
     ensures write_cause { HasCause (O.faults out.old) (O.faults out.new) (fault_of result ≡ Some TopFault.WriteFault) }
 {
-    let Ok(mut room) = PathRoom::new(alloc) else {
-        return Err(TopFault::Memory);
-    };
-    let Ok(input) = read_input(alloc, source) else {
-        return Err(TopFault::Memory);
-    };
-    let put = write_responses(site, &input.bytes, &mut room, out);
-    ended(put, input.failed)
+    let first_source = Snapshot::of(&*source);
+    let first_out = Snapshot::of(&*out);
+    let pipe = serve(
+        alloc,
+        site,
+        Pipe::new(source, out, &first_source, &first_out),
+    );
+    match pipe.fault {
+        None => Ok(()),
+        Some(fault) => Err(fault),
+    }
 }
 
-/// How a run has ended, by what became of the writing and whether the source failed.
-fn ended(put: Put, failed: bool) -> Result<(), TopFault>
-    ensures fault { fault_of result ≡ ended_by put failed }
-    ensures ends { EndsAnswering (fault_of result) }
-    ensures read { fault_of result ≡ Some TopFault.ReadFault → IsTrue failed }
-    ensures write { fault_of result ≡ Some TopFault.WriteFault → put ≡ Put.Failed }
+/// Runs the connection over the link, which then has the fault by which the run has ended.
+fn serve<'f, 'p, R: Source, O: Sink>(
+    alloc: Global,
+    site: &Site,
+    pipe: Pipe<'f, 'p, R, O>,
+) -> Pipe<'f, 'p, R, O>
+    requires source { pipe.first_source.now.value ≡ pipe.source.now }
+    requires out { pipe.first_out.now.value ≡ pipe.out.now }
+    ensures same_source { result.source.ghost_name ≡ pipe.entry.source.ghost_name }
+    ensures same_out { result.out.ghost_name ≡ pipe.entry.out.ghost_name }
+    ensures answered { AnswersFrom site.now (R.left pipe.entry.source.now) (R.left result.source.now) (O.written pipe.entry.out.now)
+        (O.written result.out.now) result.fault }
+    ensures ends { EndsAnswering result.fault }
+    ensures read_cause { HasCause (R.faults pipe.entry.source.now) (R.faults result.source.now) (result.fault ≡ Some TopFault.ReadFault) }
+    ensures write_cause { HasCause (O.faults pipe.entry.out.now) (O.faults result.out.now) (result.fault ≡ Some TopFault.WriteFault) }
 {
-    match (put, failed) {
-        (Put::Memory, _) => Err(TopFault::Memory),
-        (_, true) => Err(TopFault::ReadFault),
-        (Put::Failed, false) => Err(TopFault::WriteFault),
-        (Put::Done, false) => Ok(()),
+    match serve_one(alloc, site, pipe) {
+        Ok((pipe, end)) => {
+            let fault = fault_at(end, pipe.fault);
+            pipe.with_fault(fault)
+        }
+        Err(pipe) => pipe.with_fault(Some(TopFault::Memory)),
+    }
+}
+
+/// The fault by which a run has ended, by the end of its connection and the fault that the link kept.
+fn fault_at(end: End, kept: Option<TopFault>) -> Option<TopFault>
+    requires { end ≢ End.Idle }
+    ensures { result ≡ ended_by end kept }
+{
+    match end {
+        End::Done => None,
+        End::Fault => kept,
+        End::Memory => Some(TopFault::Memory),
+        End::Idle => unreachable!(),
     }
 }

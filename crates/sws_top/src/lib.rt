@@ -23,9 +23,8 @@ ghost use Rattle.sws_top.specs.Answered.{AnswersNamed};
 
 mod answering;
 mod faults;
-mod input;
 mod outcomes;
-mod responding;
+mod pipe;
 #[cfg(test)]
 mod tests;
 mod words;
@@ -67,7 +66,7 @@ pub fn sws<F: Folder, R: Source, O: Sink>(
     ensures opened { OpensNamed (answering_of (map string_bytes words.now)) (F.tells folder.old) (F.tells folder.new) result.fault }
     ensures untouched { IsBeforeInput result.fault → (source.new ≡ source.old) × (out.new ≡ out.old) }
     ensures answered { AnswersNamed (answering_of (map string_bytes words.now)) (F.tells folder.old) (R.left source.old) (R.left source.new)
-        (O.written out.old) (O.written out.new) (Rose (O.faults out.old) (O.faults out.new)) result.fault }
+        (O.written out.old) (O.written out.new) result.fault }
 
     // words in the grammar, a site within its limits and no fault outside: all was done, or there was no memory
     ensures complete { answering_of (map string_bytes words.now) ≢ None → TellsWithinLimits (F.tells folder.old)
@@ -93,7 +92,7 @@ fn run<F: Folder, R: Source, O: Sink>(
     ensures opened { OpensNamed (answering_of (map string_bytes words.now)) (F.tells folder.old) (F.tells folder.new) (fault_of result) }
     ensures untouched { IsBeforeInput (fault_of result) → (source.new ≡ source.old) × (out.new ≡ out.old) }
     ensures answered { AnswersNamed (answering_of (map string_bytes words.now)) (F.tells folder.old) (R.left source.old) (R.left source.new)
-        (O.written out.old) (O.written out.new) (Rose (O.faults out.old) (O.faults out.new)) (fault_of result) }
+        (O.written out.old) (O.written out.new) (fault_of result) }
 {
     let Some(words) = read_words(words) else {
         return Err(TopFault::Usage);

@@ -12,8 +12,7 @@ use Rattle.sws_top.proofs.sws.Goals as goal
 pub returns-clause-answered : goal.returns-clause-answered
 returns-clause-answered g c =
     subst (λ (fault : Option TopFault). AnswersNamed (answering_of (map string_bytes c.args.words.now)) (g.F.Folder.tells c.args.folder.now)
-    (g.R.Source.left c.args.source.now) (g.R.Source.left c.run.new.source) (g.O.Sink.written c.args.out.now) (g.O.Sink.written c.run.new.out)
-    (Rose (g.O.Sink.faults c.args.out.now) (g.O.Sink.faults c.run.new.out)) fault)
+    (g.R.Source.left c.args.source.now) (g.R.Source.left c.run.new.source) (g.O.Sink.written c.args.out.now) (g.O.Sink.written c.run.new.out) fault)
     (sym c.of.ensures.fault) c.run.ensures.answered
 
 pub returns-clause-complete : goal.returns-clause-complete

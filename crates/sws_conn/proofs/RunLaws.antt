@@ -1,0 +1,187 @@
+-- What holds along a run of a connection, and at its end.
+use Rattle.std.specs.Prelude.{IsSome}
+use Rattle.std.proofs.Common.{◌≡◌, true, false, List, [], ◌∷◌, ◌++◌, Option, Some, None, refl, sym, ap, ◌∙◌, subst, arith, append_assoc, append-nil}
+use Rattle.sws_link.specs.declared.Link.{Ghosts as LinkWords}
+use Rattle.sws_link.specs.Links.{LinkTells}
+use Rattle.sws_link.specs.Scripts.{Script}
+use Rattle.sws_site.specs.Sites.{SiteFiles}
+use Rattle.sws_site.specs.Limits.{IsWithinLimits}
+use Rattle.sws_parts.specs.Unsent.{front_of}
+use Rattle.sws_conn.specs.Standing.{Connection}
+use Rattle.sws_conn.specs.declared.End.{End}
+use Rattle.sws_conn.specs.declared.End.TheVariants as ending
+use Rattle.sws_conn.specs.declared.Next.TheVariants as next
+use Rattle.sws_conn.specs.Step.{Steps, IsFresh, going_to}
+use Rattle.sws_conn.specs.Sound.{unopened, IsSound, IsTold}
+use Rattle.sws_conn.specs.Outcome.{Outcome, UnlessMemory}
+use Rattle.sws_conn.specs.Heading.{HeadsFor, HeadsForLink}
+use Rattle.sws_conn.specs.Path.{Handler, open_link, event_of, path_by, path_told, rest_by, rest_told, answers_to_come, rest_of_path, TakesOff, HasNoEvents}
+use Rattle.sws_conn.specs.Run.{opened, RunsBy, IsWhole, HasRun, EndsRun}
+use Rattle.sws_conn.proofs.SoundSteps.{step_sound, step_linked}
+use Rattle.sws_conn.proofs.HeadingSteps.{heads_step, ends_as}
+use Rattle.sws_conn.proofs.SiteSteps.{step_site}
+use Rattle.sws_conn.proofs.Since.{since-step, since-opened, SinceLink}
+use Rattle.sws_conn.proofs.Served.{served}
+use Rattle.sws_conn.proofs.PathSteps.{step_follows}
+use Rattle.sws_conn.proofs.PathLaws.{opened-ready, takes-event, takes-both, path_of-open, unless-map, unless-both, end-stays, none-left}
+
+module _ {L : Type 0} (x : LinkWords L) where
+  -- one more event
+  runs-more : (trail : List Handler) (event : Handler) (first before after : Connection L) → RunsBy x trail first before
+      → event_of before.standing ≡ event ∷ [] → Steps x before after → RunsBy x (trail ++ event ∷ []) first after
+  unfolding RunsBy
+  runs-more [] event first before after is e steps =
+      (after, subst (λ (k : Connection L). event_of k.standing ≡ event ∷ []) is e, subst (λ k. Steps x k after) is steps, refl)
+  runs-more (one ∷ trail) event first before after (between, f, step, later) e steps =
+      (between, f, step, runs-more trail event between before after later e steps)
+
+  -- what each step keeps is kept
+  runs-keep : (Fact : Connection L → Type 0) → ((before after : Connection L) → Steps x before after → Fact before → Fact after)
+      → (trail : List Handler) (first last : Connection L) → RunsBy x trail first last → Fact first → Fact last
+  unfolding RunsBy
+  runs-keep Fact keeps [] first last is fact = subst Fact (sym is) fact
+  runs-keep Fact keeps (event ∷ trail) first last (between, e, step, later) fact =
+      runs-keep Fact keeps trail between last later (keeps first between step fact)
+
+  -- ---- the path
+
+  -- the events so far were taken off the path, unless memory ran out
+  abbrev RunsOff : Option (List Handler) → List Handler → Connection L → Type 0
+  RunsOff path front conn = UnlessMemory conn.standing.end (TakesOff front path (rest_told x conn))
+
+  off-step : (path : Option (List Handler)) (front : List Handler) (before after : Connection L) → IsSound x before → Steps x before after
+      → RunsOff path front before → RunsOff path (front ++ event_of before.standing) after
+  off-step path front before after sound steps off =
+      unless-both before.standing.end after.standing.end
+      (TakesOff front path (rest_told x before))
+      (TakesOff (event_of before.standing) (rest_told x before) (rest_told x after))
+      (TakesOff (front ++ event_of before.standing) path (rest_told x after))
+      (end-stays x before.standing after.standing before.link after.link ending.Memory sound.ready steps)
+      (takes-both front (event_of before.standing) path (rest_told x before) (rest_told x after))
+      off (takes-event x before after sound steps (step_follows x before after sound.linked steps))
+
+  off-run : (path : Option (List Handler)) (trail front : List Handler) (first last : Connection L) → RunsBy x trail first last → IsSound x first
+      → RunsOff path front first → RunsOff path (front ++ trail) last
+  unfolding RunsBy
+  off-run path [] front first last is sound off =
+      subst (λ f. RunsOff path f last) (sym (append-nil front)) (subst (RunsOff path front) (sym is) off)
+  off-run path (event ∷ trail) front first last (between, e, step, later) sound off =
+      subst (λ f. RunsOff path f last) (append_assoc front (event ∷ []) trail)
+      (off-run path trail (front ++ event ∷ []) between last later
+      (step_sound x first.standing between.standing first.link between.link sound step)
+      (subst (λ f. RunsOff path (front ++ f) between) e (off-step path front first between sound step off)))
+
+  module _ (site : SiteFiles) (first : L) where
+    -- ---- the opened connection
+
+    opened-sound : IsWithinLimits site.files → IsFresh (x.tells first) → IsSound x (opened site first)
+    opened-sound limits fresh = record {
+      taken = [];
+      sent = [];
+      ready = opened-ready site;
+      linked = refl;
+      course = record {
+        consumed = [];
+        given = [];
+        taken_is = refl;
+        sent_is = refl;
+        given_first = λ more. refl;
+        closed_is = λ closes. absurd (let no : false ≡ true = closes in cc);
+        read_is = refl;
+        written_is = refl;
+        read_few = omega arith;
+        limits = limits;
+        given_few = omega arith;
+        texts_few = omega arith;
+      };
+      told = by_tells (x.tells first) fresh;
+    }
+      where
+        by_tells : (tells : Option LinkTells) → IsFresh tells → IsTold (going_to (unopened site) next.Read) tells [] []
+        by_tells None fresh = tt
+        by_tells (Some tells) fresh = (
+          fresh.0,
+          record { front = []; is = fresh.1; prefix = (front_of (unopened site).parts, refl); none = λ u. refl },
+          λ ended. absurd (let no : false ≡ true = ended in cc),
+        )
+
+    opened-off : RunsOff (path_told site (x.tells first)) (open_link ∷ []) (opened site first)
+    opened-off = by_script (answers_to_come (x.tells first))
+      where
+        by_script : (script : Option Script) → TakesOff (open_link ∷ []) (path_by site script) (rest_by (going_to (unopened site) next.Read) script)
+        by_script None = refl
+        by_script (Some script) = (rest_of_path (going_to (unopened site) next.Read) script, refl, path_of-open site script)
+
+    -- ---- at every moment
+
+    pub run-sound : (trail : List Handler) (conn : Connection L) → HasRun x site first trail conn → IsSound x conn
+    run-sound trail conn run =
+        runs-keep (IsSound x) (λ before after steps sound. step_sound x before.standing after.standing before.link after.link sound steps)
+        trail (opened site first) conn run.runs (opened-sound run.limits run.fresh)
+
+    pub run-path : (trail : List Handler) (conn : Connection L) → HasRun x site first trail conn
+        → UnlessMemory conn.standing.end (TakesOff (open_link ∷ trail) (path_told site (x.tells first)) (rest_told x conn))
+    run-path trail conn run =
+        off-run (path_told site (x.tells first)) trail (open_link ∷ []) (opened site first) conn run.runs (opened-sound run.limits run.fresh) opened-off
+
+    pub run-start : IsWithinLimits site.files → IsFresh (x.tells first) → HasRun x site first [] (opened site first)
+    unfolding RunsBy
+    run-start limits fresh = record { limits = limits; fresh = fresh; runs = refl }
+
+    pub run-on : (trail : List Handler) (event : Handler) (before after : Connection L) → HasRun x site first trail before
+        → event_of before.standing ≡ event ∷ [] → Steps x before after → HasRun x site first (trail ++ event ∷ []) after
+    run-on trail event before after run e steps =
+        record { limits = run.limits; fresh = run.fresh; runs = runs-more trail event (opened site first) before after run.runs e steps }
+
+    -- ---- at the end
+
+    -- what each step keeps since the opening
+    record Kept (conn : Connection L) : Type 0 where
+      sound : IsSound x conn
+      linked : IsSome conn.link
+      heads : (o : Outcome) → HeadsFor (x.tells first) (going_to (unopened site) next.Read) o → HeadsForLink x conn.link conn.standing o
+      since : SinceLink x first conn.standing conn.link
+      site_is : conn.standing.site ≡ site
+
+    keeps : (before after : Connection L) → Steps x before after → Kept before → Kept after
+    keeps before after steps kept = record {
+      sound = step_sound x before.standing after.standing before.link after.link kept.sound steps;
+      linked = step_linked x before.standing after.standing before.link after.link kept.linked steps;
+      heads = λ o h. heads_step x before.standing after.standing before.link after.link o kept.sound.ready steps (kept.heads o h);
+      since = since-step x first before.standing after.standing before.link after.link kept.sound.ready steps kept.since;
+      site_is = step_site x before.standing after.standing before.link after.link steps ∙ kept.site_is;
+    }
+
+    run-kept : (trail : List Handler) (conn : Connection L) → HasRun x site first trail conn → Kept conn
+    run-kept trail conn run = runs-keep Kept keeps trail (opened site first) conn run.runs (record {
+      sound = opened-sound run.limits run.fresh;
+      linked = refl;
+      heads = λ o h. h;
+      since = since-opened x first (going_to (unopened site) next.Read) refl refl;
+      site_is = refl;
+    })
+
+    pub run-ends : (trail : List Handler) (conn : Connection L) (now : L) (end : End) → HasRun x site first trail conn
+        → conn.standing.pending ≡ next.Nothing → conn.link ≡ Some now → conn.standing.end ≡ Some end → EndsRun x site first trail now end
+    run-ends trail conn now end run pending link_is end_is =
+        let kept = run-kept trail conn run in
+        let facts = served x site first now conn end kept.site_is pending end_is link_is kept.sound kept.since in
+        record {
+          serves = facts.0;
+          outcome = ends_as site (x.tells first) (x.tells now) conn.standing end run.fresh end_is
+              (λ o h. subst (λ l. HeadsForLink x l conn.standing o) link_is (kept.heads o h));
+          path = subst (λ e. UnlessMemory e (IsWhole (open_link ∷ trail) (path_told site (x.tells first)))) end_is
+              (unless-map conn.standing.end
+              (TakesOff (open_link ∷ trail) (path_told site (x.tells first)) (rest_told x conn))
+              (IsWhole (open_link ∷ trail) (path_told site (x.tells first)))
+              (whole (path_told site (x.tells first)))
+              (run-path trail conn run));
+          fault = facts.1;
+          idle = facts.2;
+        }
+      where
+        whole : (path : Option (List Handler)) → TakesOff (open_link ∷ trail) path (rest_told x conn) → IsWhole (open_link ∷ trail) path
+        whole None takes = tt
+        whole (Some path) (left, is, split) =
+            let none : left ≡ [] = subst HasNoEvents is (none-left x conn (run-sound trail conn run) pending) in
+            sym (split ∙ ap (λ l. (open_link ∷ trail) ++ l) none ∙ append-nil (open_link ∷ trail))

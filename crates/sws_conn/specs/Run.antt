@@ -1,0 +1,48 @@
+-- Runs of a connection: the events that were run since it was opened over a link, and how such a run ends.
+use Rattle.std.specs.Prelude.{◌≡◌, List, [], ◌∷◌, Option, Some, None, ⊤}
+use Rattle.sws_link.specs.declared.Link.{Ghosts as LinkWords}
+use Rattle.sws_link.specs.Counts.{Rose}
+use Rattle.sws_site.specs.Sites.{SiteFiles}
+use Rattle.sws_site.specs.Limits.{IsWithinLimits}
+use Rattle.sws_conn.specs.Standing.{Connection}
+use Rattle.sws_conn.specs.declared.End.{End}
+use Rattle.sws_conn.specs.declared.End.TheVariants as ending
+use Rattle.sws_conn.specs.declared.Next.TheVariants as next
+use Rattle.sws_conn.specs.Step.{Steps, IsFresh, going_to, wait_limit}
+use Rattle.sws_conn.specs.Sound.{unopened}
+use Rattle.sws_conn.specs.Outcome.{UnlessMemory}
+use Rattle.sws_conn.specs.Path.{Handler, event_of, open_link, path_told}
+use Rattle.sws_conn.specs.Serving.{Serves, EndsAs, RoseBy}
+
+-- a connection that was just opened over a link
+abbrev pub opened : {L : Type 0} → SiteFiles → L → Connection L
+opened site link = record { standing = going_to (unopened site) next.Read; link = Some link }
+
+-- these events lead from one connection to another, by a step each
+unfoldable pub RunsBy : {L : Type 0} → LinkWords L → List Handler → Connection L → Connection L → Type 0
+RunsBy x [] before after = after ≡ before
+RunsBy {L = L} x (event ∷ later) before after =
+    (between : Connection L) × (event_of before.standing ≡ event ∷ []) × Steps x before between × RunsBy x later between after
+
+-- these events are the whole path, where that is told
+abbrev pub IsWhole : List Handler → Option (List Handler) → Type 0
+IsWhole trail None = ⊤
+IsWhole trail (Some path) = trail ≡ path
+
+module _ {L : Type 0} (x : LinkWords L) (site : SiteFiles) (first : L) where
+  -- the connection was opened over this link, of which nothing was taken or written before, and has run these events since
+  pub record HasRun (trail : List Handler) (conn : Connection L) : Type 0 where
+    pub limits : IsWithinLimits site.files
+    pub fresh : IsFresh (x.tells first)
+    pub runs : RunsBy x trail (opened site first) conn
+
+  -- how a run ends with which the link is shut, by the link before and after it
+  pub record EndsRun (trail : List Handler) (now : L) (end : End) : Type 0 where
+    -- what was written begins the responses, and where all is done it is the responses to the whole input
+    pub serves : Serves site (x.tells first) (x.tells now) end
+    -- a link that told its answers to come got exactly its outcome, by its whole path
+    pub outcome : EndsAs site (x.tells first) (x.tells now) end
+    pub path : UnlessMemory (Some end) (IsWhole (open_link ∷ trail) (path_told site (x.tells first)))
+    -- it failed in this run, or was not ready so often
+    pub fault : end ≡ ending.Fault → Rose (x.faults first) (x.faults now)
+    pub idle : end ≡ ending.Idle → RoseBy wait_limit (x.waits first) (x.waits now)

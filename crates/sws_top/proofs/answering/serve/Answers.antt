@@ -1,0 +1,69 @@
+use Rattle.std.proofs.Common.{◌≡◌, Some, refl, ap, ◌∙◌, Option}
+use Rattle.sws_link.specs.Links.{Way}
+use Rattle.sws_link.specs.Counts.{Rose}
+use Rattle.sws_link.proofs.CountLaws.{IsLater-same}
+use Rattle.sws_conn.specs.Serving.{IsAnswered}
+use Rattle.sws_top.specs.declared.faults.TopFault.TheVariants.{Memory}
+use Rattle.sws_top.specs.Pipes.{pipe_tells, GoesOn}
+use Rattle.sws_top.proofs.AnswerLemmas.{nothing_done}
+use Rattle.sws_top.proofs.EndLemmas.{never_idle, kept_still, fault_kept, read_kept, answered_over, answers_as}
+use Rattle.sws_top.proofs.answering.serve.Goals as goal
+
+pub returns-in-Ok-clause-answered : goal.returns-in-Ok-clause-answered
+returns-in-Ok-clause-answered g c =
+    let before = c.args.pipe in
+    let now = c.in-Ok.pipe in
+    let end = c.in-Ok.end in
+    let left = g.R.Source.left in
+    let written = g.O.Sink.written in
+    let source = g.R.Source.faults in
+    let sink = g.O.Sink.faults in
+    let Since : Option Way → Type 0 = λ way.
+    (now.source.ghost_name ≡ before.source.ghost_name) × (now.out.ghost_name ≡ before.out.ghost_name)
+    × (now.first_source.now.value ≡ before.first_source.now.value) × (now.first_out.now.value ≡ before.first_out.now.value)
+    × GoesOn way (source before.source.now) (source now.source.now) (sink before.out.now) (sink now.out.now) now.fault in
+    let Answers : Type 0 =
+    IsAnswered c.args.site.now (pipe_tells (left now.first_source.now.value) (left now.source.now) (written now.first_out.now.value) (written now.out.now)) in
+    let SourceRose = Rose (source before.source.now) (source now.source.now) in
+    let SinkRose = Rose (sink before.out.now) (sink now.out.now) in
+    let kept = c.in-Ok.ensures.kept (
+      refl,
+      refl,
+      refl,
+      refl,
+      record {
+        source_later = IsLater-same (source before.source.now);
+        sink_later = IsLater-same (sink before.out.now);
+        keeps = tt;
+      },
+    ) in
+    let after = c.with_fault.result in
+    answers_as c.args.site.now (left before.source.now) (written before.out.now) (left now.source.now) (left after.source.now)
+    (written now.out.now) (written after.out.now) c.fault_at-fault.result after.fault
+    (ap left c.with_fault.ensures.source) (ap written c.with_fault.ensures.out) c.with_fault.ensures.fault
+    (answered_over c.args.site.now (left before.source.now) (left now.source.now) (written before.out.now) (written now.out.now)
+    (left before.first_source.now.value) (written before.first_out.now.value) (left now.first_source.now.value) (written now.first_out.now.value)
+    end now.fault c.fault_at-fault.result
+    (ap left c.requires.source) (ap written c.requires.out)
+    (kept_still Since Answers (left now.first_source.now.value ≡ left before.first_source.now.value) end kept (λ way since. ap left since.2) ∙ ap left c.requires.source)
+    (kept_still Since Answers (written now.first_out.now.value ≡ written before.first_out.now.value) end kept (λ way since. ap written since.3) ∙ ap written c.requires.out)
+    (never_idle end c.in-Ok.ensures.idle)
+    (fault_kept Since Answers now.fault SourceRose SinkRose (λ way since. since.4.keeps) end kept)
+    now.written
+    c.in-Ok.ensures.serves
+    (λ faulty. (read_kept Since Answers now.fault SourceRose SinkRose (λ way since. since.4.keeps) end kept faulty).1)
+    c.fault_at-fault.ensures)
+
+pub returns-in-Err-clause-answered : goal.returns-in-Err-clause-answered
+returns-in-Err-clause-answered g c =
+    let before = c.args.pipe in
+    let back = c.in-Err.pipe in
+    let after = c.with_fault-in-Err.result in
+    let left = g.R.Source.left in
+    let written = g.O.Sink.written in
+    answers_as c.args.site.now (left before.source.now) (written before.out.now) (left before.source.now) (left after.source.now)
+    (written before.out.now) (written after.out.now) (Some Memory) after.fault
+    (ap left c.with_fault-in-Err.ensures.source ∙ ap (λ p. left p.source.now) c.in-Err.ensures.refused)
+    (ap written c.with_fault-in-Err.ensures.out ∙ ap (λ p. written p.out.now) c.in-Err.ensures.refused)
+    c.with_fault-in-Err.ensures.fault
+    (nothing_done c.args.site.now (left before.source.now) (written before.out.now) (Some Memory) (λ none. cc))

@@ -1,0 +1,99 @@
+//! A link over a source and a sink.
+ghost use Rattle.std.specs.Prelude.{◌≡◌, None};
+ghost use Rattle.sws_link.specs.Counts.{no_faults};
+ghost use Rattle.sws_top.specs.Pipes.{IsLeftOf, IsWrittenBehind, pipe_tells, both_counts, GoesOn};
+
+use crate::faults::TopFault;
+use std::snapshot::Snapshot;
+use sws_link::{Got, Link, LinkRead, LinkWrite, Put, Sink, Source};
+
+/// Reads a source and writes to a sink, and keeps which of the two failed. It is never kept waiting, and shuts neither.
+#[derive(Drop)]
+pub struct Pipe<'f, 'p, R: Source, O: Sink> {
+    pub source: &'p mut R,
+    pub out: &'p mut O,
+    /// Both as they were before. They are for contracts alone and hold no bytes.
+    pub first_source: &'f Snapshot<R>,
+    pub first_out: &'f Snapshot<O>,
+    /// The fault of the one that failed last.
+    pub fault: Option<TopFault>,
+    ghost left: { IsLeftOf (R.left first_source.now.value) (R.left source.now) },
+    ghost written: { IsWrittenBehind (O.written first_out.now.value) (O.written out.now) },
+}
+
+impl<'f, 'p, R: Source, O: Sink> Pipe<'f, 'p, R, O> {
+    /// A link of which nothing was taken or written. The last two are the source and the sink as they are.
+    pub fn new(
+        source: &'p mut R,
+        out: &'p mut O,
+        first_source: &'f Snapshot<R>,
+        first_out: &'f Snapshot<O>,
+    ) -> Pipe<'f, 'p, R, O>
+        requires source { first_source.now.value ≡ source.old }
+        requires out { first_out.now.value ≡ out.old }
+        ensures same_source { result.source.ghost_name ≡ source.entry.ghost_name }
+        ensures same_out { result.out.ghost_name ≡ out.entry.ghost_name }
+        ensures source { (result.source.now ≡ source.old) × (result.first_source.now.value ≡ source.old) }
+        ensures out { (result.out.now ≡ out.old) × (result.first_out.now.value ≡ out.old) }
+    {
+        Pipe {
+            source,
+            out,
+            first_source,
+            first_out,
+            fault: None,
+        }
+    }
+
+    /// The same link with another fault.
+    pub fn with_fault(self, fault: Option<TopFault>) -> Pipe<'f, 'p, R, O>
+        ensures same_source { result.source.ghost_name ≡ self.entry.source.ghost_name }
+        ensures same_out { result.out.ghost_name ≡ self.entry.out.ghost_name }
+        ensures source { result.source.now ≡ self.entry.source.now }
+        ensures out { result.out.now ≡ self.entry.out.now }
+        ensures fault { result.fault ≡ fault }
+    {
+        let mut pipe = self;
+        pipe.fault = fault;
+        pipe
+    }
+}
+
+impl<'f, 'p, R: Source, O: Sink> Link for Pipe<'f, 'p, R, O> {
+    ghost tells = { λ pipe. pipe_tells (R.left pipe.first_source.now.value) (R.left pipe.source.now) (O.written pipe.first_out.now.value) (O.written pipe.out.now) };
+
+    ghost faults = { λ pipe. both_counts (R.faults pipe.source.now) (O.faults pipe.out.now) };
+
+    ghost waits = { λ pipe. no_faults };
+
+    ghost since = { λ first fault now. (now.source.ghost_name ≡ first.source.ghost_name) × (now.out.ghost_name ≡ first.out.ghost_name)
+        × (now.first_source.now.value ≡ first.first_source.now.value) × (now.first_out.now.value ≡ first.first_out.now.value)
+        × GoesOn fault (R.faults first.source.now) (R.faults now.source.now) (O.faults first.out.now) (O.faults now.out.now) now.fault };
+
+    /// Reads the source.
+    fn read(&mut self, into: &mut [u8]) -> LinkRead {
+        match self.source.read(into) {
+            Got::Took(count) => LinkRead::Took(count),
+            Got::End => LinkRead::End,
+            Got::Failed => {
+                self.fault = Some(TopFault::ReadFault);
+                LinkRead::Failed
+            }
+        }
+    }
+
+    /// Writes all the bytes to the sink.
+    fn write(&mut self, bytes: &[u8]) -> LinkWrite {
+        match self.out.write_all(bytes) {
+            Put::Done => LinkWrite::Wrote(bytes.len()),
+            Put::Failed => {
+                self.fault = Some(TopFault::WriteFault);
+                LinkWrite::Failed
+            }
+            Put::Memory => LinkWrite::Memory,
+        }
+    }
+
+    /// Does nothing: whoever handed the two in goes on with them.
+    fn shut(&mut self) {}
+}
