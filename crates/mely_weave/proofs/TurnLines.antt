@@ -1,0 +1,148 @@
+-- What the lines of a turn keep: a registration, and the run of a handler.
+use Rattle.std.proofs.Common.{◌≡◌, ℕ, ◌<◌, List, [], ◌∷◌, Option, Some, Result, Ok, Err, length, refl, sym, ◌∙◌, ap, subst, arith}
+use Rattle.std.specs.Prelude.{slice_get, slice_set}
+use Rattle.mely_event.specs.declared.colour.Colour.{Colour}
+use Rattle.mely_event.specs.declared.event.Event.{Event}
+use Rattle.mely_event.specs.declared.mark.Mark.{Mark}
+use Rattle.mely_event.specs.declared.unregistered.Unregistered.{Unregistered}
+use Rattle.mely_event.specs.declared.trail.Trail.{Ghosts as TrailWords}
+use Rattle.mely_history.specs.declared.setup.Setup.{Setup}
+use Rattle.mely_history.specs.declared.entry.Entry.{Entry}
+use Rattle.mely_history.specs.declared.entry.Entry.TheVariants.{Reg}
+use Rattle.mely_history.specs.declared.registered.Registered.{Registered}
+use Rattle.mely_history.specs.declared.registered.Registered.TheVariants.{Woke, Told, Running}
+use Rattle.mely_history.specs.Setup.{shape_of}
+use Rattle.mely_history.specs.History.{begun_of, ended_of, queued_of, owner_of, worth_of, IsRunning}
+use Rattle.mely_history.specs.Legal.{MayRegister}
+use Rattle.mely_queue.specs.Taken.{Taken}
+use Rattle.mely_shard.specs.Contents.{Contents}
+use Rattle.mely_worker.specs.declared.phase.Phase.TheVariants.{Turning}
+use Rattle.mely_worker.specs.declared.phase.Hand.TheVariants.{Empty, Marked, Reporting}
+use Rattle.mely_worker.specs.declared.made.Made.{Made}
+use Rattle.mely_worker.specs.WorkerView.{WorkerView}
+use Rattle.mely_worker.specs.Step.{in_phase, after_register, register_name}
+use Rattle.mely_weave.specs.Scene.{Scene, shard_of, history_for, readiness_for}
+use Rattle.mely_weave.specs.Marks.{held}
+use Rattle.mely_weave.specs.Hands.{held_by, held_in, colour_in}
+use Rattle.mely_weave.specs.Calls.{AtShard, RegisterAs}
+use Rattle.mely_weave.specs.StandsWell.{Loom, side_of, PhaseIsTold, StandsWell, WasntRefused}
+use Rattle.mely_weave.proofs.EntryLaws.{Adds}
+use Rattle.mely_weave.proofs.EffectLaws.{woke_keeps, told_keeps, running_keeps}
+use Rattle.mely_weave.proofs.SideLaws.{history_was, history_becomes, histories_stay}
+use Rattle.mely_weave.proofs.CallLaws.{register_adds}
+use Rattle.mely_weave.proofs.HandLaws.{hand_same, hand_gains}
+use Rattle.mely_weave.proofs.StepLaws.{same_keeps, entry_keeps}
+use Rattle.mely_weave.proofs.Lines.{StepKeeps, stands, told, same_marks}
+
+module _ {S P F : Type 0} (t : TrailWords S F) (fits : F → Colour → Event → Option P → Type 0) (loom : Loom S P) (well : StandsWell t fits loom) (k : ℕ) (w : WorkerView S P) (here : slice_get loom.workers k ≡ Some w) (low : k < (shape_of loom.setup).cores) where
+  abbrev Keeps : Scene S P → WorkerView S P → Made → Type 0
+  Keeps = StepKeeps t fits loom well k w here low
+
+  abbrev from : Scene S P
+  from = side_of loom k
+
+  abbrev to : List (Contents S P) → Scene S P
+  to shards = record { setup = loom.setup; core = k; given = loom.given; shards = shards; chains = loom.chains }
+
+  module _ (turn : Taken S P) (c : Colour) (event : Event) (load : Option P) (rest : List (Colour × Event × Option P)) (phase : w.phase ≡ Turning turn Empty ((c, event, load) ∷ rest)) (may : MayRegister loom.setup c event) (b : Scene S P) where
+    of_turn : turn.core ≡ k
+    of_turn = (subst (PhaseIsTold loom.setup (readiness_for loom.setup loom.shards) k) phase (told t fits loom well k w here low)).0
+
+    -- the first of the registrations that are left is made
+    pub register_line : (answer : Result Registered (Unregistered P)) → AtShard from b c (RegisterAs c event load k answer) → Keeps b (after_register w turn rest (c, event, load) answer) (register_name c answer)
+    register_line (Ok (Woke owner started worth)) at =
+        let shards : List (Contents S P) = slice_set loom.shards (shard_of loom.setup c) at.new in
+        let at' : AtShard from (to shards) c (RegisterAs c event load k (Ok (Woke owner started worth))) = record { old = at.old; new = at.new; was = at.was; does = at.does; becomes = refl } in
+        let adds : Adds loom.setup (history_for loom.setup loom.shards) (history_for loom.setup shards) (Reg c event k) = register_adds t fits from (to shards) c (stands t fits loom well k w here low) event load k (Woke owner started worth) may at' in
+        let was : history_for loom.setup loom.shards c ≡ at.old.history = history_was from b c (RegisterAs c event load k (Ok (Woke owner started worth))) at in
+        let becomes : history_for loom.setup shards c ≡ at.new.history = history_becomes from (to shards) c (RegisterAs c event load k (Ok (Woke owner started worth))) at' in
+        let old_setup = (well.shard (shard_of loom.setup c) at.old at.was).of_setup in
+        let mark : Mark = record { colour = c; started = started; worth = worth } in
+        let v : WorkerView S P = in_phase w (Turning turn (Marked owner mark) rest) in
+        record {
+          shards = shards;
+          chains = loom.chains;
+          becomes = at.becomes;
+          kept = entry_keeps t fits loom well k w here shards loom.chains v (Reg c event k) adds refl (λ core no. absurd no) (λ d is _. sym (ap colour_in phase) ∙ is) (λ core no. absurd no) (of_turn, tt)
+              (woke_keeps loom.setup (history_for loom.setup loom.shards) (history_for loom.setup shards) c event k adds (held held_by loom.chains loom.workers) (held held_by loom.chains (slice_set loom.workers k v)) owner started worth
+              (ap (λ (l : List Entry). begun_of l c) was ∙ at.does.1.0 ∙ ap (λ (l : List Entry). ended_of l c) (sym was))
+              (ap (λ (l : List Entry). queued_of l c) was ∙ at.does.1.1)
+              (at.does.1.2 ∙ ap (λ (s : Setup). owner_of s at.new.history c) old_setup ∙ ap (λ (l : List Entry). owner_of loom.setup l c) (sym becomes))
+              (at.does.1.3 ∙ ap (λ (l : List Entry). begun_of l c) (sym becomes))
+              (at.does.1.4 ∙ ap (λ (s : Setup). worth_of s at.new.history c) old_setup ∙ ap (λ (l : List Entry). worth_of loom.setup l c) (sym becomes))
+              (hand_gains held_by loom.chains loom.workers k w v here (owner, mark) (ap (held_in w.core) phase) refl) well.marks);
+          never = tt;
+        }
+    register_line (Ok (Told owner started worth)) at =
+        let shards : List (Contents S P) = slice_set loom.shards (shard_of loom.setup c) at.new in
+        let at' : AtShard from (to shards) c (RegisterAs c event load k (Ok (Told owner started worth))) = record { old = at.old; new = at.new; was = at.was; does = at.does; becomes = refl } in
+        let adds : Adds loom.setup (history_for loom.setup loom.shards) (history_for loom.setup shards) (Reg c event k) = register_adds t fits from (to shards) c (stands t fits loom well k w here low) event load k (Told owner started worth) may at' in
+        let was : history_for loom.setup loom.shards c ≡ at.old.history = history_was from b c (RegisterAs c event load k (Ok (Told owner started worth))) at in
+        let becomes : history_for loom.setup shards c ≡ at.new.history = history_becomes from (to shards) c (RegisterAs c event load k (Ok (Told owner started worth))) at' in
+        let old_setup = (well.shard (shard_of loom.setup c) at.old at.was).of_setup in
+        let v : WorkerView S P = in_phase w (Turning turn (Reporting owner c started worth) rest) in
+        let begun : started ≡ begun_of (history_for loom.setup shards c) c = at.does.1.3 ∙ ap (λ (l : List Entry). begun_of l c) (sym becomes) in
+        let most : worth ≡ worth_of loom.setup (history_for loom.setup shards c) c = at.does.1.4 ∙ ap (λ (s : Setup). worth_of s at.new.history c) old_setup ∙ ap (λ (l : List Entry). worth_of loom.setup l c) (sym becomes) in
+        record {
+          shards = shards;
+          chains = loom.chains;
+          becomes = at.becomes;
+          kept = entry_keeps t fits loom well k w here shards loom.chains v (Reg c event k) adds refl (λ core no. absurd no) (λ d is _. sym (ap colour_in phase) ∙ is) (λ core no. absurd no) (of_turn, (omega (arith, begun), λ _. omega (arith, most)))
+              (told_keeps loom.setup (history_for loom.setup loom.shards) (history_for loom.setup shards) c event k adds (held held_by loom.chains loom.workers) (held held_by loom.chains (slice_set loom.workers k v))
+              (ap (λ (l : List Entry). begun_of l c) was ∙ at.does.1.0 ∙ ap (λ (l : List Entry). ended_of l c) (sym was))
+              (subst (λ (l : List Entry). 0 < length (queued_of l c)) (sym was) at.does.1.1)
+              (λ p. sym (hand_same held_by loom.chains loom.workers k w v here (sym (ap (held_in w.core) phase)) p)) well.marks);
+          never = tt;
+        }
+    register_line (Ok (Running core)) at =
+        let shards : List (Contents S P) = slice_set loom.shards (shard_of loom.setup c) at.new in
+        let at' : AtShard from (to shards) c (RegisterAs c event load k (Ok (Running core))) = record { old = at.old; new = at.new; was = at.was; does = at.does; becomes = refl } in
+        let adds : Adds loom.setup (history_for loom.setup loom.shards) (history_for loom.setup shards) (Reg c event k) = register_adds t fits from (to shards) c (stands t fits loom well k w here low) event load k (Running core) may at' in
+        let was : history_for loom.setup loom.shards c ≡ at.old.history = history_was from b c (RegisterAs c event load k (Ok (Running core))) at in
+        let v : WorkerView S P = in_phase w (Turning turn Empty rest) in
+        record {
+          shards = shards;
+          chains = loom.chains;
+          becomes = at.becomes;
+          kept = entry_keeps t fits loom well k w here shards loom.chains v (Reg c event k) adds refl (λ core no. absurd no) (λ d is _. sym (ap colour_in phase) ∙ is) (λ core no. absurd no) (of_turn, tt)
+              (running_keeps loom.setup (history_for loom.setup loom.shards) (history_for loom.setup shards) c event k adds (held held_by loom.chains loom.workers) (held held_by loom.chains (slice_set loom.workers k v))
+              (subst (λ (l : List Entry). IsRunning l c) (sym was) at.does.1.0)
+              (hand_same held_by loom.chains loom.workers k w v here (sym (ap (held_in w.core) phase))) well.marks);
+          never = tt;
+        }
+    register_line (Err back) at =
+        let shards : List (Contents S P) = slice_set loom.shards (shard_of loom.setup c) at.new in
+        let at' : AtShard from (to shards) c (RegisterAs c event load k (Err back)) = record { old = at.old; new = at.new; was = at.was; does = at.does; becomes = refl } in
+        let v : WorkerView S P = after_register w turn rest (c, event, load) (Err back) in
+        record {
+          shards = shards;
+          chains = loom.chains;
+          becomes = at.becomes;
+          kept = same_keeps t fits loom well k w here shards loom.chains v (histories_stay from (to shards) c (RegisterAs c event load k (Err back)) at' at.does.history) refl (sym (ap colour_in phase)) (of_turn, tt)
+              (same_marks t fits loom well k w here low shards v (sym (ap (held_in w.core) phase)));
+          never = tt;
+        }
+
+  -- a handler runs: the worker turns on, and nothing else changes
+  pub run_line : (turn : Taken S P) (state : S) (left : List (Event × Option P)) (puts : List (Colour × Event × Option P)) (made : Made) → w.phase ≡ Turning turn Empty [] → (b : Scene S P) → b ≡ from → WasntRefused made → Keeps b (in_phase w (Turning (record turn { state = state; events = left }) Empty puts)) made
+  run_line turn state left puts made phase b same never =
+      let v : WorkerView S P = in_phase w (Turning (record turn { state = state; events = left }) Empty puts) in
+      record {
+        shards = loom.shards;
+        chains = loom.chains;
+        becomes = same;
+        kept = same_keeps t fits loom well k w here loom.shards loom.chains v (λ d. refl) refl (sym (ap colour_in phase))
+            ((subst (PhaseIsTold loom.setup (readiness_for loom.setup loom.shards) k) phase (told t fits loom well k w here low)).0, tt)
+            (same_marks t fits loom well k w here low loom.shards v (sym (ap (held_in w.core) phase)));
+        never = never;
+      }
+
+  -- a halted worker does nothing
+  pub halted_line : (b : Scene S P) (made : Made) → b ≡ from → WasntRefused made → Keeps b w made
+  halted_line b made same never = record {
+    shards = loom.shards;
+    chains = loom.chains;
+    becomes = same;
+    kept = same_keeps t fits loom well k w here loom.shards loom.chains w (λ d. refl) refl refl (told t fits loom well k w here low) (same_marks t fits loom well k w here low loom.shards w refl);
+    never = never;
+  }

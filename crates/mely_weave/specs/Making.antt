@@ -1,0 +1,55 @@
+-- A weave at first.
+use Rattle.std.specs.Prelude.{◌≡◌, ℕ, false, List, [], Some, length, slice_get}
+use Rattle.mely_event.specs.declared.colour.Colour.{Colour}
+use Rattle.mely_event.specs.declared.trail.Trail.{Ghosts as TrailWords}
+use Rattle.mely_history.specs.declared.setup.Setup.{Setup}
+use Rattle.mely_history.specs.Setup.{shape_of, colours_of}
+use Rattle.mely_shard.specs.Contents.{Contents, first_lane}
+use Rattle.mely_steal.specs.Victims.{victims_of}
+use Rattle.mely_core.specs.Chains.{Chain}
+use Rattle.mely_worker.specs.declared.phase.Phase.TheVariants.{Free}
+use Rattle.mely_worker.specs.Rest.{Rest}
+use Rattle.mely_worker.specs.WorkerView.{WorkerView}
+use Rattle.mely_weave.specs.Lanes.{lane_for}
+use Rattle.mely_weave.specs.StandsWell.{Loom}
+
+-- one state with an empty trail for each colour, in ascending order, all of one frame
+pub record AreFirst {S F : Type 0} (t : TrailWords S F) (setup : Setup) (states : List S) : Type 0 where
+  pub all : length states ≡ colours_of setup
+  pub coloured : (i : ℕ) (state : S) → slice_get states i ≡ Some state → t.colour_of state ≡ record { 0 = i }
+  pub untouched : (i : ℕ) (state : S) → slice_get states i ≡ Some state → t.trail_of state ≡ []
+  pub one_frame : (i j : ℕ) (a b : S) → slice_get states i ≡ Some a → slice_get states j ≡ Some b → t.frame_of a ≡ t.frame_of b
+
+-- an empty chain
+abbrev pub empty_chain : Setup → Chain
+empty_chain setup = record { chain = []; worthy = []; colours = colours_of setup; cost = (shape_of setup).steal_cost }
+
+-- a worker at first
+abbrev pub first_worker : {S P : Type 0} → Setup → ℕ → WorkerView S P
+first_worker setup core = record {
+  core = core;
+  batch = (shape_of setup).batch;
+  halted = false;
+  victims = victims_of core (shape_of setup).cores (shape_of setup).group;
+  lost = [];
+  phase = Free 0;
+}
+
+-- the same at rest
+abbrev pub first_rest : {P : Type 0} → Setup → ℕ → Rest P
+first_rest setup core = record {
+  core = core;
+  batch = (shape_of setup).batch;
+  halted = false;
+  victims = victims_of core (shape_of setup).cores (shape_of setup).group;
+  lost = [];
+  place = 0;
+}
+
+-- nothing was registered, each colour has the state that it was given, the chains are empty, and the workers are free
+pub record IsFirstWeave {S P : Type 0} (setup : Setup) (states : List S) (loom : Loom S P) : Type 0 where
+  pub of_setup : loom.setup ≡ setup
+  pub no_entry : (shard : ℕ) (has : Contents S P) → slice_get loom.shards shard ≡ Some has → has.history ≡ []
+  pub lane : (c : Colour) (state : S) → slice_get states c.0 ≡ Some state → lane_for loom.setup loom.shards c ≡ Some (first_lane state)
+  pub chain : (core : ℕ) (queue : Chain) → slice_get loom.chains core ≡ Some queue → queue ≡ empty_chain setup
+  pub worker : (core : ℕ) (w : WorkerView S P) → slice_get loom.workers core ≡ Some w → w ≡ first_worker setup core

@@ -1,0 +1,61 @@
+-- Any list of posts and steps, and what holds after it.
+use Rattle.std.specs.Prelude.{◌≡◌, ◌<◌, ℕ, zero, suc, List, ◌∷◌, [], ◌++◌, Option, Some, IsSome, Result, ◌⊎◌, slice_get}
+use Rattle.mely_event.specs.declared.colour.Colour.{Colour}
+use Rattle.mely_event.specs.declared.event.Event.{Event}
+use Rattle.mely_event.specs.declared.unregistered.Unregistered.{Unregistered}
+use Rattle.mely_event.specs.declared.trail.Trail.{Ghosts as TrailWords}
+use Rattle.mely_history.specs.declared.registered.Registered.{Registered}
+use Rattle.mely_history.specs.declared.entry.Entry.{Entry}
+use Rattle.mely_history.specs.Setup.{shape_of}
+use Rattle.mely_shard.specs.Contents.{Contents}
+use Rattle.mely_steal.specs.Marks.{mark_of}
+use Rattle.mely_core.specs.Chains.{Chain}
+use Rattle.mely_worker.specs.declared.made.Made.{Made}
+use Rattle.mely_worker.specs.declared.app.App.{Ghosts as AppWords}
+use Rattle.mely_worker.specs.Access.{FitsSetup}
+use Rattle.mely_worker.specs.Conditions.{MayStep}
+use Rattle.mely_worker.specs.WorkerView.{WorkerView}
+use Rattle.mely_weave.specs.Marks.{Placed}
+use Rattle.mely_weave.specs.Hands.{held_by}
+use Rattle.mely_weave.specs.Calls.{IsOut}
+use Rattle.mely_weave.specs.SideStands.{SideStands}
+use Rattle.mely_weave.specs.StandsWell.{Loom}
+use Rattle.mely_weave.specs.Steps.{StepsAt, PostsAt}
+
+module _ {R S P F : Type 0} (t : TrailWords S F) (fits : F → Colour → Event → Option P → Type 0) (y : AppWords R P S F) where
+  -- a step of a core under some app; the shards and the chains keep what each keeps for itself, and the worker what its next step asks
+  pub record StepCall (before after : Loom S P) : Type 0 where
+    pub app : R
+    pub core : ℕ
+    pub step : Made
+    pub there : core < (shape_of before.setup).cores
+    pub steps : StepsAt t y app before core step after
+    pub parts : SideStands t fits steps.side
+    pub may : MayStep t fits steps.side.setup steps.side.core (t.frame_of steps.side.given) (IsOut steps.side) steps.becomes
+
+  -- a post, refused or not; the shards and the chains keep what each keeps for itself
+  pub record PostCall (before after : Loom S P) : Type 0 where
+    pub colour : Colour
+    pub event : Event
+    pub load : Option P
+    pub answer : Result Registered (Unregistered P)
+    pub may : FitsSetup fits before.setup (t.frame_of before.given) (colour, event, load)
+    pub posts : PostsAt before colour event load answer after
+    pub parts : SideStands t fits posts.side
+
+  abbrev pub Call : Loom S P → Loom S P → Type 0
+  Call before after = StepCall before after ⊎ PostCall before after
+
+  -- so many calls, of whatever cores and colours
+  unfoldable pub WeaveRun : ℕ → Loom S P → Loom S P → Type 0
+  WeaveRun zero before after = after ≡ before
+  WeaveRun (suc n) before after = (between : Loom S P) × WeaveRun n before between × Call between after
+
+module _ {S P : Type 0} where
+  -- each history is an earlier one, and more
+  abbrev pub HistoriesGrow : Loom S P → Loom S P → Type 0
+  HistoriesGrow before after = (number : ℕ) (has : Contents S P) → slice_get before.shards number ≡ Some has → (is : Contents S P) × (slice_get after.shards number ≡ Some is) × ((more : List Entry) × (is.history ≡ has.history ++ more))
+
+  -- no chain has a mark of a colour whose mark is in a hand, so that none of these marks is refused by a chain
+  abbrev pub NoneIsThere : Loom S P → Type 0
+  NoneIsThere loom = (core : ℕ) (w : WorkerView S P) (held : Placed) → slice_get loom.workers core ≡ Some w → held_by w ≡ held ∷ [] → (to : ℕ) (queue : Chain) → slice_get loom.chains to ≡ Some queue → IsSome (mark_of held.1.colour queue.chain) → ⊥

@@ -1,0 +1,124 @@
+ghost use Rattle.std.specs.Prelude.{◌≡◌, ℕ, IfOk, Some, [], length, slice_get};
+ghost use Rattle.mely_history.specs.Setup.{shape_of};
+ghost use Rattle.mely_shard.specs.Contents.{AreFirstStates, IsFirst};
+ghost use Rattle.mely_weave.specs.Dealing.{AreDealt};
+ghost use Rattle.mely_weave.specs.Making.{AreFirst, IsFirstWeave, empty_chain, first_rest, first_worker};
+
+use crate::room::WeaveRoom;
+use crate::weave::Weave;
+use mely_core::CoreQueue;
+use mely_event::{Fits, Memory, Trail};
+use mely_history::Setup;
+use mely_shard::Shard;
+use mely_steal::victims;
+use mely_worker::{Rested, Worker};
+use std::alloc::Global;
+
+impl<S: Fits<P> + Drop, P: Drop> Weave<S, P> {
+    ghost use Rattle.mely_weave.specs.StandsWell.{StandsWell};
+
+    /// A weave at first: nothing was registered, the chains are empty, and the workers are free. There is
+    /// a state for each colour, in ascending order, each with an empty trail, all with one frame.
+    ///
+    /// # Errors
+    ///
+    /// There was no memory: the states are dropped.
+    pub fn new(alloc: Global, setup: &Setup, states: Vec<S>) -> Result<Weave<S, P>, Memory>
+        requires { AreFirst S.Trail setup.now states.items }
+        ensures first { IfOk result (λ weave. IsFirstWeave setup.now states.items weave) }
+        ensures stands { IfOk result (λ weave. StandsWell S.Trail S.fits_under weave) }
+    {
+        let room = WeaveRoom::new(alloc, setup)?;
+        let by_shard = deal(alloc, setup, states)?;
+        let shards = shards_of(alloc, setup, by_shard)?;
+        let chains = chains_of(alloc, setup)?;
+        let workers = workers_of(alloc, setup)?;
+        Ok(Weave::gather(room, shards, chains, workers))
+    }
+}
+
+/// Deals the states to the shards: that of colour `c` to shard `c % shards`.
+fn deal<S: Drop>(alloc: Global, setup: &Setup, states: Vec<S>) -> Result<Vec<Vec<S>>, Memory>
+    ensures { IfOk result (λ by_shard. AreDealt (λ pile. pile.items) (shape_of setup.now).shards states.items by_shard.items) }
+{
+    let mut by_shard = empty_piles(alloc, setup.shards())?;
+    let mut number = 0;
+    for state in states {
+        let place = number % setup.shards() as usize;
+        by_shard[place].push(state)?;
+        number += 1;
+    }
+    Ok(by_shard)
+}
+
+/// This many empty lists.
+fn empty_piles<S: Drop>(alloc: Global, count: u16) -> Result<Vec<Vec<S>>, Memory>
+    ensures many { IfOk result (λ piles. length piles.items ≡ count) }
+    ensures empty { IfOk result (λ piles. (i : ℕ) (pile : _) → slice_get piles.items i ≡ Some pile → pile.items ≡ []) }
+{
+    let mut piles = Vec::with_capacity(alloc, count as usize)?;
+    for number in 0..count {
+        piles.push_reserved(Vec::new(alloc));
+    }
+    Ok(piles)
+}
+
+/// The shards at first, with these states.
+fn shards_of<S: Fits<P> + Drop, P: Drop>(
+    alloc: Global,
+    setup: &Setup,
+    by_shard: Vec<Vec<S>>,
+) -> Result<Vec<Shard<S, P>>, Memory>
+    requires many { length by_shard.items ≡ (shape_of setup.now).shards }
+    requires first { (shard : ℕ) (pile : _) → slice_get by_shard.items shard ≡ Some pile → AreFirstStates S.trail_of S.colour_of S.frame_of setup.now shard pile.items }
+    ensures many { IfOk result (λ shards. length shards.items ≡ (shape_of setup.now).shards) }
+    ensures first { IfOk result (λ shards. (shard : ℕ) (pile : _) (has : _) → slice_get by_shard.items shard ≡ Some pile → slice_get shards.items shard ≡ Some has → IsFirst setup.now shard pile.items has) }
+{
+    let mut shards = Vec::with_capacity(alloc, by_shard.len())?;
+    let mut number = 0;
+    for states in by_shard {
+        shards.push_reserved(Shard::new(alloc, setup, number, states)?);
+        number += 1;
+    }
+    Ok(shards)
+}
+
+/// An empty chain for each core.
+fn chains_of(alloc: Global, setup: &Setup) -> Result<Vec<CoreQueue>, Memory>
+    ensures many { IfOk result (λ chains. length chains.items ≡ (shape_of setup.now).cores) }
+    ensures empty { IfOk result (λ chains. (core : ℕ) (queue : _) → slice_get chains.items core ≡ Some queue → queue ≡ empty_chain setup.now) }
+{
+    let mut chains = Vec::with_capacity(alloc, setup.cores() as usize)?;
+    for core in 0..setup.cores() {
+        chains.push_reserved(CoreQueue::new(alloc, setup.colours(), setup.steal_cost())?);
+    }
+    Ok(chains)
+}
+
+/// A free worker for each core.
+fn workers_of<S, P: Drop>(alloc: Global, setup: &Setup) -> Result<Vec<Worker<S, P>>, Memory>
+    ensures many { IfOk result (λ workers. length workers.items ≡ (shape_of setup.now).cores) }
+    ensures first { IfOk result (λ workers. (core : ℕ) (w : _) → slice_get workers.items core ≡ Some w → w ≡ first_worker setup.now core) }
+{
+    let rested = rested_of(alloc, setup)?;
+    let mut workers = Vec::with_capacity(alloc, rested.len())?;
+    for worker in rested {
+        workers.push_reserved(worker.wake());
+    }
+    Ok(workers)
+}
+
+/// A worker at rest for each core. Unlike a worker it may be let go, as it must be where there is no memory
+/// for the next one.
+fn rested_of<P: Drop>(alloc: Global, setup: &Setup) -> Result<Vec<Rested<P>>, Memory>
+    ensures many { IfOk result (λ rested. length rested.items ≡ (shape_of setup.now).cores) }
+    ensures first { IfOk result (λ rested. (core : ℕ) (rest : _) → slice_get rested.items core ≡ Some rest → rest ≡ first_rest setup.now core) }
+{
+    let mut rested = Vec::with_capacity(alloc, setup.cores() as usize)?;
+    for core in 0..setup.cores() {
+        let order = victims(alloc, core, setup.cores(), setup.group())?;
+        let worker: Worker<(), P> = Worker::new(alloc, core, order, setup.batch())?;
+        rested.push_reserved(worker.rest());
+    }
+    Ok(rested)
+}

@@ -1,0 +1,318 @@
+//! Steps and posts of small weaves, with the histories that they write.
+ghost use Rattle.std.specs.Prelude.{◌≡◌, ◌<◌, ◌≤◌, IfOk};
+ghost use Rattle.mely_history.specs.Setup.{shape_of, colours_of};
+ghost use Rattle.mely_weave.specs.Examples.{IsExample};
+
+mod ledger;
+
+use crate::{Drained, Weave, WeaveRoom, Went};
+use ledger::{Ledger, Sending, blank};
+use mely_event::{Colour, Event, Fits, Handlers, Mark, Memory, Trail};
+use mely_history::{Entry, Judged, Registered, Setup, Shape, judge};
+use mely_worker::Made;
+use std::alloc::Global;
+use std::test::Fail;
+
+const C0: Colour = Colour(0);
+
+const C1: Colour = Colour(1);
+
+/// One shard, cost 15, and two handlers of weight 10.
+fn setup_of(cores: u16, colours: u32, batch: u16) -> Result<Setup, Fail>
+    ensures { IfOk result (IsExample cores colours) }
+{
+    let shape = Shape {
+        cores,
+        shards: 1,
+        batch,
+        steal_cost: 15,
+        group: 1,
+    };
+    let Ok(handlers) = Handlers::new(&[(10, 1), (20, 2)]) else {
+        return Err(Fail::from("no table"));
+    };
+    match Setup::new(&shape, colours, handlers) {
+        Ok(setup) => Ok(setup),
+        Err(_) => Err(Fail::from("no setup")),
+    }
+}
+
+/// A weave of a setup, at first.
+fn weave_of(alloc: Global, setup: &Setup) -> Result<Weave<Ledger, u8>, Fail>
+    ensures { IfOk result (λ weave. weave.setup ≡ setup.now) }
+{
+    let mut states = Vec::new(alloc);
+    for colour in 0..setup.colours() {
+        states.push(blank(alloc, colour as u16))?;
+    }
+    match Weave::new(alloc, setup, states) {
+        Ok(weave) => Ok(weave),
+        Err(_) => Err(Fail::from("no weave")),
+    }
+}
+
+fn post(weave: &mut Weave<Ledger, u8>, colour: u16, handler: u8, arg: u16) -> Option<Registered>
+    requires colour { colour < colours_of weave.old.setup }
+    requires handler { handler < 2 }
+    requires example { IsExample (shape_of weave.old.setup).cores (colours_of weave.old.setup) weave.old.setup }
+    ensures { weave.new.setup ≡ weave.old.setup }
+{
+    weave
+        .post(Colour(colour), Event { handler, arg }, None)
+        .ok()
+}
+
+/// Makes a step of a core for each of these names, and answers whether each was named so.
+fn follows(weave: &mut Weave<Ledger, u8>, core: u16, steps: &[Made]) -> bool
+    requires core { core < (shape_of weave.old.setup).cores }
+    requires colours { 2 ≤ colours_of weave.old.setup }
+    requires example { IsExample (shape_of weave.old.setup).cores (colours_of weave.old.setup) weave.old.setup }
+    ensures { weave.new.setup ≡ weave.old.setup }
+{
+    for made in steps {
+        if weave.step(core, &Sending) != *made {
+            return false;
+        }
+    }
+    true
+}
+
+/// A first event of handler 0 with argument 0 on colour 1, and one of handler 1 that registers such a one.
+const FIRST: Event = Event { handler: 0, arg: 0 };
+
+const SENDS: Event = Event { handler: 1, arg: 1 };
+
+#[test]
+fn a_late_report_finds_no_mark_of_its_period(rt: HostRuntime) -> Result<(), Fail> {
+    let setup = setup_of(2, 2, 1)?;
+    let mut weave = weave_of(rt.alloc(), &setup)?;
+    assert!(rt; post(&mut weave, 0, 1, 1).is_some());
+    assert!(rt; post(&mut weave, 1, 0, 0).is_some());
+    let registers = [
+        Made::Popped { colour: C0 },
+        Made::Took {
+            colour: C0,
+            count: 1,
+        },
+        Made::Ran {
+            colour: C0,
+            handler: 1,
+        },
+        Made::Registered { colour: C1 },
+    ];
+    assert!(rt; follows(&mut weave, 0, &registers));
+    let takes = [
+        Made::Popped { colour: C1 },
+        Made::Took {
+            colour: C1,
+            count: 1,
+        },
+        Made::Ran {
+            colour: C1,
+            handler: 0,
+        },
+        Made::Finished {
+            colour: C1,
+            more: true,
+        },
+        Made::Pushed {
+            colour: C1,
+            core: 1,
+        },
+    ];
+    assert!(rt; follows(&mut weave, 1, &takes));
+    let reports = [
+        Made::Told {
+            colour: C1,
+            core: 1,
+            found: false,
+        },
+        Made::Finished {
+            colour: C0,
+            more: false,
+        },
+        Made::NoneHere,
+        Made::NoneThere { victim: 1 },
+    ];
+    assert!(rt; follows(&mut weave, 0, &reports));
+    let written = [
+        Entry::Reg {
+            colour: C0,
+            event: SENDS,
+            by: 2,
+        },
+        Entry::Reg {
+            colour: C1,
+            event: FIRST,
+            by: 2,
+        },
+        Entry::Take {
+            colour: C0,
+            core: 0,
+            count: 1,
+        },
+        Entry::Reg {
+            colour: C1,
+            event: FIRST,
+            by: 0,
+        },
+        Entry::Take {
+            colour: C1,
+            core: 1,
+            count: 1,
+        },
+        Entry::Fin {
+            colour: C1,
+            core: 1,
+            count: 1,
+        },
+        Entry::Fin {
+            colour: C0,
+            core: 0,
+            count: 1,
+        },
+    ];
+    assert_eq!(rt; weave.history(0), written.as_slice());
+    assert_eq!(rt; judge(&setup, weave.history(0)), Judged::Legal);
+    let mark = Mark {
+        colour: C1,
+        started: 1,
+        worth: 10,
+    };
+    assert_eq!(rt; weave.chain(1), [mark].as_slice());
+    assert_eq!(rt; weave.drain(&rt, &Sending), Drained::Empty);
+    assert_eq!(rt; weave.history(0).len(), 9);
+    let parts = weave.into_parts();
+    assert_eq!(rt; parts.histories.len(), 1);
+    assert!(rt; ran(parts.states.get(0), &[SENDS]));
+    assert!(rt; ran(parts.states.get(1), &[FIRST, FIRST]));
+    assert_eq!(rt; parts.queued.len(), 2);
+    assert!(rt; parts.lost.is_empty());
+    Ok(())
+}
+
+#[test]
+fn a_registration_between_finish_and_push_is_told(rt: HostRuntime) -> Result<(), Fail> {
+    let setup = setup_of(2, 2, 1)?;
+    let mut weave = weave_of(rt.alloc(), &setup)?;
+    assert!(rt; post(&mut weave, 1, 0, 0).is_some());
+    assert!(rt; post(&mut weave, 1, 0, 0).is_some());
+    assert!(rt; post(&mut weave, 0, 1, 1).is_some());
+    assert_eq!(rt; weave.run(&[(1, 4)], &Sending), Went::All);
+    let reports = [
+        Made::Popped { colour: C0 },
+        Made::Took {
+            colour: C0,
+            count: 1,
+        },
+        Made::Ran {
+            colour: C0,
+            handler: 1,
+        },
+        Made::Registered { colour: C1 },
+        Made::Told {
+            colour: C1,
+            core: 1,
+            found: false,
+        },
+    ];
+    assert!(rt; follows(&mut weave, 0, &reports));
+    let pushes = [Made::Pushed {
+        colour: C1,
+        core: 1,
+    }];
+    assert!(rt; follows(&mut weave, 1, &pushes));
+    let mark = Mark {
+        colour: C1,
+        started: 1,
+        worth: 10,
+    };
+    assert_eq!(rt; weave.chain(1), [mark].as_slice());
+    assert_eq!(rt; weave.drain(&rt, &Sending), Drained::Empty);
+    assert!(rt; weave.into_parts().lost.is_empty());
+    Ok(())
+}
+
+/// Posts ten events on colour 0, and then ten on colour 2.
+fn post_twenty(weave: &mut Weave<Ledger, u8>) -> bool
+    requires colours { 2 < colours_of weave.old.setup }
+    requires example { IsExample (shape_of weave.old.setup).cores (colours_of weave.old.setup) weave.old.setup }
+    ensures { weave.new.setup ≡ weave.old.setup }
+{
+    for arg in 0..20 {
+        let colour = if arg < 10 { 0 } else { 2 };
+        if post(weave, colour, 0, arg % 10).is_none() {
+            return false;
+        }
+    }
+    true
+}
+
+/// The entry at a place behind twenty registrations: takes of so many events of colours 0 and 2 in turn, each followed by
+/// its finish.
+fn entry_at(at: usize, count: u16) -> Entry {
+    let colour = if at % 4 < 2 { C0 } else { Colour(2) };
+    if at % 2 == 0 {
+        Entry::Take {
+            colour,
+            core: 0,
+            count,
+        }
+    } else {
+        Entry::Fin {
+            colour,
+            core: 0,
+            count,
+        }
+    }
+}
+
+/// Whether the entries behind the first twenty are takes and finishes in turn.
+fn alternates(entries: &[Entry], count: u16) -> bool {
+    for (at, entry) in entries.iter().enumerate() {
+        if at >= 20 && *entry != entry_at(at, count) {
+            return false;
+        }
+    }
+    true
+}
+
+/// Whether the ten events were run on the state of a colour, in order.
+fn ran_ten(state: Option<&Ledger>) -> bool {
+    let Some(state) = state else {
+        return false;
+    };
+    for (at, event) in state.trail().iter().enumerate() {
+        if event.handler != 0 || usize::from(event.arg) != at {
+            return false;
+        }
+    }
+    state.trail().len() == 10
+}
+
+/// Whether these events were run on the state of a colour.
+fn ran(state: Option<&Ledger>, events: &[Event]) -> bool {
+    match state {
+        Some(state) => state.trail() == events,
+        None => false,
+    }
+}
+
+#[test]
+fn batches_alternate_or_take_all(rt: HostRuntime) -> Result<(), Fail> {
+    for (batch, entries) in [(1, 60), (10, 24)] {
+        let setup = setup_of(1, 3, batch)?;
+        let room: Result<WeaveRoom<Ledger, u8>, Memory> = WeaveRoom::new(rt.alloc(), &setup);
+        assert!(rt; room.is_ok());
+        let mut weave = weave_of(rt.alloc(), &setup)?;
+        assert!(rt; post_twenty(&mut weave));
+        assert!(rt; weave.state(C1).is_some());
+        assert_eq!(rt; weave.drain(&rt, &Sending), Drained::Empty);
+        assert_eq!(rt; weave.history(0).len(), entries);
+        assert!(rt; alternates(weave.history(0), batch));
+        let parts = weave.into_parts();
+        assert!(rt; ran_ten(parts.states.get(0)) && ran_ten(parts.states.get(2)));
+        assert!(rt; ran(parts.states.get(1), &[]));
+    }
+    Ok(())
+}

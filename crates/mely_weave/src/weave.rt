@@ -1,0 +1,120 @@
+ghost use Rattle.std.specs.Prelude.{◌≡◌, ◌<◌, ◌∷◌, ◌++◌, [], ℕ, List, Option, Some, length, IfErr, slice_get, option_copied};
+
+use crate::room::WeaveRoom;
+use crate::side::Side;
+use mely_event::{Colour, Event, Fits, Mark, Trail, Unregistered};
+use mely_history::{Entry, Registered};
+use mely_worker::{App, Made, OpenGate, Worker};
+use std::marker::Model;
+
+/// All shards, the chain of each core and the worker of each core, as one plain value.
+///
+/// Contracts see a weave as its setup, a state as it was given at first, what its shards and chains
+/// have, and its workers by core. The type keeps that the weave stands well. As a worker may hold a
+/// turn, a weave has no `Drop`: one whose workers are free is spent by
+/// [`into_parts`](Weave::into_parts).
+pub struct Weave<S: Fits<P>, P> {
+    pub(crate) side: Side<S, P>,
+    pub(crate) workers: Vec<Worker<S, P>>,
+    pub(crate) room: WeaveRoom<S, P>,
+}
+
+impl<S: Fits<P>, P> Model for Weave<S, P> {
+    ghost use Rattle.mely_weave.specs.StandsWell.{Loom};
+
+    ghost Value = { Loom S P };
+
+    ghost use Rattle.std.specs.Prelude.{◌≡◌};
+    ghost use Rattle.mely_weave.specs.StandsWell.{StandsWell};
+
+    ghost view = { λ w. record { setup = w.side.setup; given = w.side.given; shards = w.side.shards; chains = w.side.chains; workers = w.workers.items } };
+
+    ghost invariant = { λ w. StandsWell S.Trail S.fits_under (record { setup = w.side.setup; given = w.side.given; shards = w.side.shards; chains = w.side.chains; workers = w.workers.items }) × (w.room ≡ w.side.setup) };
+}
+
+impl<S: Fits<P>, P> Weave<S, P> {
+    ghost use Rattle.mely_history.specs.Setup.{shape_of, colours_of};
+    ghost use Rattle.mely_weave.specs.Lanes.{lane_for};
+    ghost use Rattle.mely_weave.specs.StandsWell.{StandsWell};
+    ghost use Rattle.mely_weave.specs.WeaveStands.{WeaveStands};
+
+    /// The law of this type, for contracts alone: whatever steps were made, refused or not, the weave
+    /// stands well. `keeps` is the form that each step is proved to keep, `parts` the eight rules that it
+    /// says: on histories, marks, their owners, what they tell, reports, turns, states and
+    /// registrations. A call does nothing.
+    pub fn stands_well(&self)
+        ensures keeps { StandsWell S.Trail S.fits_under self.now }
+        ensures parts { WeaveStands S.Trail S.fits_under self.now }
+    {
+        let _side = &self.side;
+    }
+
+    /// The entries of a shard so far, the oldest first.
+    pub fn history(&self, shard: u16) -> &[Entry]
+        requires { shard < (shape_of self.now.setup).shards }
+        ensures { (has : _) → slice_get self.now.shards shard ≡ Some has → result.now ≡ has.history }
+    {
+        self.side.shards[shard as usize].history()
+    }
+
+    /// The state of a colour, where it does not run.
+    pub fn state(&self, colour: Colour) -> Option<&S>
+        requires { colour.0 < colours_of self.now.setup }
+        ensures { (lane : _) → lane_for self.now.setup self.now.shards colour ≡ Some lane → option_copied result ≡ lane.state }
+    {
+        let place = (colour.0 % self.side.setup.shards()) as usize;
+        self.side.shards[place].state(colour)
+    }
+
+    /// The marks in the chain of a core, the next to run first.
+    pub fn chain(&self, core: u16) -> &[Mark]
+        requires { core < (shape_of self.now.setup).cores }
+        ensures { (queue : _) → slice_get self.now.chains core ≡ Some queue → result.now ≡ queue.chain }
+    {
+        self.side.chains[core as usize].marks()
+    }
+}
+
+impl<S: Fits<P> + Drop, P: Drop> Weave<S, P> {
+    ghost use Rattle.mely_history.specs.Setup.{shape_of, colours_of};
+    ghost use Rattle.mely_worker.specs.Access.{FitsSetup};
+    ghost use Rattle.mely_worker.specs.Conditions.{AppServes};
+    ghost use Rattle.mely_weave.specs.StandsWell.{StandsWell, WasntRefused};
+    ghost use Rattle.mely_weave.specs.Steps.{StepsAt, PostsAt};
+    ghost use Rattle.mely_weave.specs.Runs.{KeepsSetup};
+
+    /// Registers an event from outside, and delivers the mark or the report at once.
+    ///
+    /// # Errors
+    ///
+    /// There was no memory: event and load are handed back.
+    pub fn post(
+        &mut self,
+        colour: Colour,
+        event: Event,
+        load: Option<P>,
+    ) -> Result<Registered, Unregistered<P>>
+        requires fits { FitsSetup S.fits_under self.old.setup (S.frame_of self.old.given) (colour, event, load) }
+        ensures posts { PostsAt self.old colour event load result self.new }
+        ensures back { IfErr result (λ refused. (refused.event ≡ event) × (refused.load ≡ load)) }
+        ensures same { KeepsSetup self.old self.new }
+        ensures stands { StandsWell S.Trail S.fits_under self.new }
+    {
+        self.side.go_to(0);
+        self.side.post(colour, event, load)
+    }
+
+    /// Makes one step by the rule of the core's worker, and names it.
+    pub fn step<R: App<State = S, Load = P>>(&mut self, core: u16, app: &R) -> Made
+        requires core { core < (shape_of self.old.setup).cores }
+        requires served { AppServes R.App self.old.setup (S.frame_of self.old.given) app.now }
+        ensures steps { StepsAt S.Trail R.App app.now self.old core result self.new }
+        ensures accepted { WasntRefused result }
+        ensures same { KeepsSetup self.old self.new }
+        ensures stands { StandsWell S.Trail S.fits_under self.new }
+    {
+        self.side.go_to(core);
+        let worker = &mut self.workers[core as usize];
+        worker.step(&mut self.side, app, &OpenGate)
+    }
+}

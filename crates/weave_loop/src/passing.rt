@@ -1,0 +1,49 @@
+//! An app that passes events on.
+ghost use Rattle.std.specs.Prelude.{◌≡◌, ◌≤◌, ◌-◌, ◌+◌, ◌++◌, ◌∷◌, [], length, vec_len, vec_capacity};
+ghost use Rattle.std.specs.List.{AllByRecursion};
+ghost use Rattle.mely_worker.specs.Access.{FitsIn};
+
+use crate::tally::Tally;
+use mely_event::{Colour, Event};
+use mely_worker::{App, Outs};
+
+/// One handler, which passes its event on to a colour that is drawn, until its argument has come down to 0.
+#[derive(Drop)]
+pub struct Passing {
+    pub colours: u16,
+}
+
+impl App for Passing {
+    type Load = u8;
+
+    type State = Tally;
+
+    ghost colours_of = { λ app. app.colours };
+
+    ghost handlers_of = { λ app. 1 };
+
+    ghost serves = { λ app frame. Unit {0} };
+
+    ghost runs = { λ app before event load after puts. Unit {0} };
+
+    fn run(&self, state: &mut Tally, event: Event, _load: Option<u8>, outs: &mut Outs<u8>)
+        requires room { 1 ≤ vec_capacity state.old.trail - vec_len state.old.trail }
+        requires empty { outs.old ≡ [] }
+        ensures ran { Unit {0} }
+        ensures colour { state.new.colour ≡ state.old.colour }
+        ensures frame { Unit {0} }
+        ensures trail { state.new.trail.items ≡ state.old.trail.items ++ event ∷ [] }
+        ensures spare { vec_capacity state.old.trail - vec_len state.old.trail ≡ (vec_capacity state.new.trail - vec_len state.new.trail) + 1 }
+        ensures puts { AllByRecursion (FitsIn self.now.colours 1 (λ colour event load. Unit {0})) outs.new }
+        ensures few { length outs.new ≤ 2 }
+    {
+        let drawn = state.run(event);
+        if event.arg > 0 && self.colours > 0 {
+            let next = Event {
+                handler: 0,
+                arg: event.arg - 1,
+            };
+            outs.put(Colour(drawn % self.colours), next, None);
+        }
+    }
+}
