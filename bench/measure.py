@@ -1,10 +1,10 @@
 #!/usr/bin/env python3
-"""Measures `sws answer`, a shard, a lock and a chain beside their peers, in one run, and prints a table.
+"""Measures `sws answer`, a shard, a lock and a chain beside their peers, and a weave and a connection, in one run, and prints a table.
 
     bench/measure.py [--runs N]
 
-It wants the four programs built (`./sws` builds the server, `rt run` in crates/shard_loop, crates/lock_loop
-and crates/chain_loop the others) and cargo with Debian's librust-httparse-dev, librust-httpdate-dev,
+It wants the six programs built (`./sws` builds the server, `rt run` in crates/shard_loop, crates/lock_loop,
+crates/chain_loop, crates/weave_loop and crates/conn_loop the others) and cargo with Debian's librust-httparse-dev, librust-httpdate-dev,
 librust-memchr-dev and librust-percent-encoding-dev. All that it makes stands in a new folder below the system's
 temporary one, about 400 MB, and is removed at the end. No traffic leaves the machine: both programs read a file and
 write to a file or to nothing. Times are seconds on a processor (user and system), the least of all runs, so that they say
@@ -23,6 +23,8 @@ SWS = os.path.join(TOP, "crates", "sws_main", "out", "sws_main")
 LOOP = os.path.join(TOP, "crates", "shard_loop", "out", "shard_loop")
 LOCK = os.path.join(TOP, "crates", "lock_loop", "out", "lock_loop")
 CHAIN = os.path.join(TOP, "crates", "chain_loop", "out", "chain_loop")
+WEAVE = os.path.join(TOP, "crates", "weave_loop", "out", "weave_loop")
+CONN = os.path.join(TOP, "crates", "conn_loop", "out", "conn_loop")
 PEER = os.path.join(TOP, "bench", "peer")
 
 BROWSER_HEAD = "\r\n".join([
@@ -148,11 +150,38 @@ def chain(folder, peer):
                 print(f"| {what}, {marks} marks | {name} | {nanos:.0f} ns |")
 
 
+def weave(folder):
+    """Nanoseconds a step of a weave of 4 cores on so many colours, with one event a colour under way, by how many steps are made."""
+    none = put(os.path.join(folder, "none"), b"")
+    for colours, passes in ((64, 40), (64, 400), (64, 4000), (1024, 25), (1024, 250), (16384, 2), (16384, 15)):
+        steps = {}
+        programs = {}
+        for count in (0, passes):
+            words = [WEAVE, str(colours), str(count)]
+            steps[count] = int(subprocess.run(words, capture_output=True, check=True).stdout.split()[0])
+            programs[count] = (words, none)
+        seen = alternate(programs, 5)
+        made = steps[passes] - steps[0]
+        nanos = (seen[passes][0] - seen[0][0]) / made * 1e9
+        print(f"| a step of {made:,} on {colours:,} colours | weave | {nanos:.0f} ns, {1e9 / nanos:,.0f} steps a second |")
+
+
+def connections(folder):
+    """Microseconds a request on a connection over memory, by the pieces in which 64 heads come: what serving takes beyond making the links."""
+    none = put(os.path.join(folder, "none"), b"")
+    for piece, rounds in ((0, 2000), (4096, 2000), (7, 200), (1, 50)):
+        programs = {kind: ([CONN, kind, str(rounds), str(piece)], none) for kind in ("serve", "make")}
+        seen = alternate(programs, 9)
+        micros = (seen["serve"][0] - seen["make"][0]) / (rounds * 64) * 1e6
+        pieces = f"pieces of {piece:,} bytes" if piece > 1 else "pieces of 1 byte" if piece == 1 else "one piece"
+        print(f"| a browser's head on a connection, 64 in {pieces} | serve_one | {micros:.2f} us a request |")
+
+
 def main():
     words = argparse.ArgumentParser(description="Measures the answer command beside its peers.")
     words.add_argument("--runs", type=int, default=400, help="runs of each program over heads (default 400)")
     runs = words.parse_args().runs
-    for program in (SWS, LOOP, LOCK, CHAIN):
+    for program in (SWS, LOOP, LOCK, CHAIN, WEAVE, CONN):
         if not os.access(program, os.X_OK):
             sys.exit(f"measure: {program} isn't built")
     subprocess.run(["cargo", "build", "--release", "--offline", "--quiet"], cwd=PEER, check=True)
@@ -167,6 +196,8 @@ def main():
         shard(folder, os.path.join(peers, "shard"))
         lock(folder, os.path.join(peers, "lock"))
         chain(folder, os.path.join(peers, "chain"))
+        weave(folder)
+        connections(folder)
     finally:
         shutil.rmtree(folder)
 
