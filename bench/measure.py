@@ -105,16 +105,17 @@ def large_body(folder, peer):
         print(f"| a body of 100 MB | {name} | {seen[name][0] * 1000:.0f} ms, {seen[name][1] / 1e6:.0f} MB |")
 
 
-def shard(folder, peer):
-    """Nanoseconds an event: a million events on 1,024 colours, registered, taken, run by an empty handler and finished."""
+def shard(folder, peer, floor):
+    """Nanoseconds an event: a million events on 1,024 colours, registered, taken, run by an empty handler and finished;
+    the second peer keeps a history and trails as a shard does."""
     none = put(os.path.join(folder, "none"), b"")
     for batch in (1, 10):
         programs = {}
-        for name, program in (("shard", LOOP), ("peer", peer)):
+        for name, program in (("shard", LOOP), ("peer", peer), ("peer with history and trail", floor)):
             for events in (0, 1_000_000):
                 programs[name, events] = ([program, str(events), str(batch)], none)
         seen = alternate(programs, 9)
-        for name in ("shard", "peer"):
+        for name in ("shard", "peer", "peer with history and trail"):
             nanos = (seen[name, 1_000_000][0] - seen[name, 0][0]) * 1000
             print(f"| an event in batches of {batch} | {name} | {nanos:.0f} ns |")
 
@@ -137,7 +138,7 @@ def lock(folder, peer):
 def chain(folder, peer):
     """Nanoseconds a call on a chain of so many marks: a mark taken out and pushed again, or a report."""
     none = put(os.path.join(folder, "none"), b"")
-    for marks, calls in ((64, 400_000), (4096, 10_000)):
+    for marks, calls in ((64, 4_000_000), (4096, 4_000_000), (65_536, 4_000_000)):
         for call in ("pop", "pick", "retell"):
             programs = {}
             for name, program in (("chain", CHAIN), ("peer", peer)):
@@ -193,7 +194,7 @@ def main():
         heads(folder, runs, peer)
         loading(folder)
         large_body(folder, peer)
-        shard(folder, os.path.join(peers, "shard"))
+        shard(folder, os.path.join(peers, "shard"), os.path.join(peers, "shard_history"))
         lock(folder, os.path.join(peers, "lock"))
         chain(folder, os.path.join(peers, "chain"))
         weave(folder)

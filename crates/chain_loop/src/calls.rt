@@ -1,5 +1,5 @@
 //! The calls, one at a time.
-ghost use Rattle.std.specs.Prelude.{◌≡◌, ◌<◌, IfOk, IfSome};
+ghost use Rattle.std.specs.Prelude.{◌≡◌, ◌<◌, ◌≤◌, IfOk};
 
 use mely_core::CoreQueue;
 use mely_event::{Colour, Mark, Memory};
@@ -7,6 +7,9 @@ use std::alloc::Global;
 
 /// The cost of a steal.
 const COST: u32 = 20;
+
+/// The most marks that a chain can have, one a colour.
+pub const MOST: u32 = 65_536;
 
 /// Which call is made.
 #[derive(Clone, Copy)]
@@ -32,12 +35,13 @@ impl Call {
 }
 
 /// A chain with a mark of each colour; their worths go through all classes.
-fn filled(alloc: Global, marks: u16) -> Result<CoreQueue, Memory>
+fn filled(alloc: Global, marks: u32) -> Result<CoreQueue, Memory>
+    requires { marks ≤ MOST }
     ensures { IfOk result (λ queue. queue.colours ≡ marks) }
 {
-    let mut queue = CoreQueue::new(alloc, u32::from(marks), COST)?;
-    'marks: for colour in 0..marks {
-        push(&mut queue, colour);
+    let mut queue = CoreQueue::new(alloc, marks, COST, 0)?;
+    'marks: for number in 0..marks {
+        push(&mut queue, number as u16);
     }
     Ok(queue)
 }
@@ -70,7 +74,9 @@ fn turn_over(queue: &mut CoreQueue, call: Call) -> bool
 }
 
 /// Makes the call so many times on a chain of so many marks, and answers how often it found a mark.
-pub fn make(alloc: Global, call: Call, marks: u16, count: u32) -> Result<u32, Memory> {
+pub fn make(alloc: Global, call: Call, marks: u32, count: u32) -> Result<u32, Memory>
+    requires { marks ≤ MOST }
+{
     let mut queue = filled(alloc, marks)?;
     let mut made = 0u32;
     'calls: for number in 0..count {
@@ -84,13 +90,14 @@ pub fn make(alloc: Global, call: Call, marks: u16, count: u32) -> Result<u32, Me
 }
 
 /// Tells of the next colour in turn, with the worth that its mark has; whether there is one.
-fn tell(queue: &mut CoreQueue, marks: u16, number: u32) -> bool
-    requires { queue.old.colours ≡ marks }
+fn tell(queue: &mut CoreQueue, marks: u32, number: u32) -> bool
+    requires colours { queue.old.colours ≡ marks }
+    requires most { marks ≤ MOST }
     ensures { queue.new.colours ≡ queue.old.colours }
 {
     if marks == 0 {
         return false;
     }
-    let colour = (number % u32::from(marks)) as u16;
+    let colour = (number % marks) as u16;
     queue.retell(Colour(colour), 0, u128::from(number % 100))
 }

@@ -1,21 +1,28 @@
 //! `chain_loop CALL MARKS COUNT`: one call on the chain of a core, many times.
 //!
-//! It fills a chain with so many marks, one a colour, of all classes in turn. Then it makes the call so many times: `pop` and
+//! It fills a chain with so many marks, at most 65,536, one a colour, of all classes in turn. Then it makes the call so many times: `pop` and
 //! `pick` take a mark out and push it again, so that the chain keeps its length, and `retell` reports on the colours in turn.
 //! It is what the cost of a chain is measured by.
 #![tactic(auto)]
 
+ghost use Rattle.std.specs.Prelude.{◌≤◌, IfSome};
+
 mod calls;
 
-use calls::Call;
+use calls::{Call, MOST};
 use std::process::ExitCode;
 use std::{env, io};
 
 /// The call, the number of marks, and how often the call is made.
-fn order(rt: &HostRuntime) -> Option<(Call, u16, u32)> {
+fn order(rt: &HostRuntime) -> Option<(Call, u32, u32)>
+    ensures { IfSome result (λ order. order.1 ≤ MOST) }
+{
     let mut words = env::args(rt).ok()?.skip(1);
     let call = Call::of(words.next()?.as_str())?;
-    let marks = words.next()?.as_str().parse::<u16>().ok()?;
+    let marks = words.next()?.as_str().parse::<u32>().ok()?;
+    if marks > MOST {
+        return None;
+    }
     let count = words.next()?.as_str().parse::<u32>().ok()?;
     Some((call, marks, count))
 }

@@ -1,30 +1,52 @@
 -- The ready colours of one core.
-use Rattle.std.specs.Prelude.{◌≡◌, ◌<◌, ◌==◌, ℕ, List, Option, None, Some, All, max, if◌then◌else◌}
+use Rattle.std.specs.Prelude.{◌≡◌, ◌<◌, ◌==◌, ℕ, List, [], Option, None, Some, All, map, max, if◌then◌else◌}
 use Rattle.mely_event.specs.declared.colour.Colour.{Colour}
 use Rattle.mely_event.specs.declared.mark.Mark.{Mark}
 use Rattle.mely_steal.specs.Marks.{IsOneEach, mark_of}
 use Rattle.mely_steal.specs.Stealing.{AreWorthy, is_worthy}
+use Rattle.mely_steal.specs.Tables.{Stealable, mark_in, marks_of}
 
--- the marks of the ready colours, the next to run first; those of them that are worth a steal, in the order in which each
--- entered its class; the number of colours and the cost of a steal
+-- the marks of the ready colours, the next to run first; those of them that may be stolen, in the order in which each entered
+-- its class; the number of colours, the cost of a steal, and below which number colours are pinned to their cores
 pub record Chain : Type 0 where
   pub chain : List Mark
   pub worthy : List Mark
   pub colours : ℕ
   pub cost : ℕ
+  pub pinned : ℕ
 
--- the mark where it is worth a steal
-abbrev pub if_worthy : ℕ → Option Mark → Option Mark
-if_worthy cost None = None
-if_worthy cost (Some mark) = if is_worthy cost mark then Some mark else None
+-- what a list of colours and a table of marks, those that may be stolen by classes, are together
+abbrev pub chain_of : List ℕ → Stealable → Chain
+chain_of colours table = record {
+  chain = map (λ colour. mark_in table.told colour) colours;
+  worthy = marks_of table.told table.entries;
+  colours = table.colours;
+  cost = table.cost;
+  pinned = table.pinned;
+}
+
+-- no marks, and these numbers
+abbrev pub empty_core : ℕ → ℕ → ℕ → Chain
+empty_core colours cost pinned = record { chain = []; worthy = []; colours = colours; cost = cost; pinned = pinned }
+
+-- the numbers with which the queue was made stay
+pub record KeepsNumbers (old new : Chain) : Type 0 where
+  pub colours : new.colours ≡ old.colours
+  pub cost : new.cost ≡ old.cost
+  pub pinned : new.pinned ≡ old.pinned
+
+-- the mark where it may be stolen
+abbrev pub if_worthy : ℕ → ℕ → Option Mark → Option Mark
+if_worthy cost pinned None = None
+if_worthy cost pinned (Some mark) = if is_worthy cost pinned mark then Some mark else None
 
 -- what a core's colours keep: each is one of the colours and has at most one mark, and of each the stealing queue has the mark
--- that the chain has where that is worth a steal, and none else
+-- that the chain has where that may be stolen, and none else
 pub record HoldTogether (core : Chain) : Type 0 where
   pub below : All (λ mark. mark.colour.0 < core.colours) core.chain
   pub apart : IsOneEach core.chain
-  pub worthy : AreWorthy (record { marks = core.worthy; colours = core.colours; cost = core.cost })
-  pub same : (colour : Colour) → mark_of colour core.worthy ≡ if_worthy core.cost (mark_of colour core.chain)
+  pub worthy : AreWorthy (record { marks = core.worthy; colours = core.colours; cost = core.cost; pinned = core.pinned })
+  pub same : (colour : Colour) → mark_of colour core.worthy ≡ if_worthy core.cost core.pinned (mark_of colour core.chain)
 
 -- the mark after a report of a worth, which only raises it: nothing where the report is of another period, so of another number
 -- of started events

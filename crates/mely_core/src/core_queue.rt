@@ -1,21 +1,24 @@
 //! A chain of marks with its stealing queue.
-ghost use Rattle.std.specs.Prelude.{◌≡◌, ◌<◌, ◌≤◌, ◌↔◌, None, Some, [], ◌∷◌, ◌++◌, All, IfOk, IfErr, OnOk, OnErr, IfSome, IsErr, IsNone, IsSome, MatchOption, is_some};
+ghost use Rattle.std.specs.Prelude.{◌≡◌, ◌<◌, ◌≤◌, ◌↔◌, None, Some, [], ◌∷◌, ◌++◌, All, IfOk, IfErr, OnOk, OnErr, IfSome, IsErr, IsNone, IsSome, IsTrue, MatchOption, is_some, slice_get};
 ghost use Rattle.mely_steal.specs.Marks.{mark_of, without, replaced};
 ghost use Rattle.mely_steal.specs.Stealing.{entered, changed, pick_of};
 
 use mely_event::{Colour, Mark, Memory, There};
-use mely_steal::{MarkList, StealQueue};
+use mely_steal::{ColourList, StealTable};
 use std::alloc::Global;
 use std::marker::Model;
 
 /// The marks of the ready colours of a core, at most one a colour: the chain, whose front is the next to run, and the stealing
-/// queue, which has the marks of the chain that are worth more than a steal costs, in the order in which each entered its class.
+/// queue, which has the marks of the chain that are worth more than a steal costs and whose colours aren't pinned, in the order
+/// in which each entered its class.
 ///
-/// It has room for a mark of every colour from the start, so no call but [`CoreQueue::new`] takes memory.
+/// The chain and each class of the stealing queue are lists by links, and both share one table of marks. It has room for a mark of
+/// every colour from the start, so no call but [`CoreQueue::new`] takes memory, and each but [`CoreQueue::at`] touches a fixed
+/// number of places (see [`StealTable`]).
 #[derive(Drop)]
 pub struct CoreQueue {
-    chain: MarkList,
-    worthy: StealQueue,
+    chain: ColourList,
+    worthy: StealTable,
 }
 
 impl Model for CoreQueue {
@@ -24,26 +27,28 @@ impl Model for CoreQueue {
     ghost Value = { Chain };
 
     ghost use Rattle.std.specs.Prelude.{◌≡◌};
+    ghost use Rattle.mely_core.specs.Chains.{chain_of};
 
-    ghost view = { λ q. record { chain = q.chain.marks; worthy = q.worthy.marks; colours = q.chain.colours; cost = q.worthy.cost } };
+    ghost view = { λ q. chain_of q.chain.list q.worthy };
 
-    ghost invariant = { λ q. HoldTogether (record { chain = q.chain.marks; worthy = q.worthy.marks; colours = q.chain.colours; cost = q.worthy.cost }) × (q.worthy.colours ≡ q.chain.colours) };
+    ghost invariant = { λ q. HoldTogether (chain_of q.chain.list q.worthy) × (q.chain.colours ≡ q.worthy.colours) };
 }
 
 impl CoreQueue {
-    ghost use Rattle.mely_core.specs.Chains.{Chain, HoldTogether, told_of};
+    ghost use Rattle.mely_core.specs.Chains.{Chain, HoldTogether, KeepsNumbers, empty_core, told_of};
 
-    /// An empty chain with room for this many colours, at this cost of a steal, in the unit of the weights of events.
+    /// An empty chain with room for this many colours, at this cost of a steal, in the unit of the weights of events. The
+    /// colours below `pinned` are never stolen.
     ///
     /// # Errors
     ///
     /// There was no memory.
-    pub fn new(alloc: Global, colours: u32, cost: u32) -> Result<CoreQueue, Memory>
-        ensures empty { IfOk result (λ queue. queue ≡ record { chain = []; worthy = []; colours = colours; cost = cost }) }
+    pub fn new(alloc: Global, colours: u32, cost: u32, pinned: u32) -> Result<CoreQueue, Memory>
+        ensures empty { IfOk result (λ queue. queue ≡ empty_core colours cost pinned) }
         ensures together { IfOk result (λ queue. HoldTogether queue) }
     {
-        let chain = MarkList::new(alloc, colours)?;
-        let worthy = StealQueue::new(alloc, colours, cost)?;
+        let chain = ColourList::new(alloc, colours)?;
+        let worthy = StealTable::new(alloc, colours, cost, pinned)?;
         Ok(CoreQueue { chain, worthy })
     }
 
@@ -54,32 +59,38 @@ impl CoreQueue {
     /// A mark of its colour is in the chain: the mark is handed back, and nothing changed.
     pub fn push(&mut self, mark: Mark) -> Result<(), There>
         requires { mark.colour.0 < self.old.colours }
-        ensures ok { OnOk result (self.new ≡ record self.old { chain = self.old.chain ++ mark ∷ []; worthy = entered self.old.cost mark self.old.worthy }) }
+        ensures ok { let worthy = entered self.old.cost self.old.pinned mark self.old.worthy in
+            let chain = self.old.chain ++ mark ∷ [] in
+            OnOk result (self.new ≡ record self.old { chain = chain; worthy = worthy }) }
         ensures there { IsErr result ↔ IsSome (mark_of mark.colour self.old.chain) }
         ensures back { IfErr result (λ there. there.mark ≡ mark) }
         ensures err { OnErr result (self.new ≡ self.old) }
-        ensures same { (self.new.colours ≡ self.old.colours) × (self.new.cost ≡ self.old.cost) }
+        ensures same { KeepsNumbers self.old self.new }
         ensures together { HoldTogether self.new }
     {
-        if self.chain.of(mark.colour).is_some() {
+        if self.of(mark.colour).is_some() {
             return Err(There { mark });
         }
-        self.chain.push(mark);
+        self.chain.push(mark.colour);
         self.worthy.enter(mark);
         Ok(())
     }
 
     /// Takes the front of the chain, and answers nothing exactly where the chain is empty.
     pub fn pop(&mut self) -> Option<Mark>
-        ensures front { MatchOption result (self.old.chain ≡ []) (λ mark. self.old.chain ≡ mark ∷ self.new.chain) }
-        ensures rest { MatchOption result (self.new ≡ self.old) (λ mark. self.new ≡ record self.old { chain = self.new.chain; worthy = without mark.colour self.old.worthy }) }
+        ensures front { let chain = self.old.chain in
+            MatchOption result (chain ≡ []) (λ mark. chain ≡ mark ∷ self.new.chain) }
+        ensures rest { MatchOption result (self.new ≡ self.old) (λ mark.
+            let worthy = without mark.colour self.old.worthy in
+            self.new ≡ record self.old { chain = self.new.chain; worthy = worthy }) }
         ensures mark { IfSome result (λ mark. mark.colour.0 < self.old.colours) }
-        ensures same { (self.new.colours ≡ self.old.colours) × (self.new.cost ≡ self.old.cost) }
+        ensures same { KeepsNumbers self.old self.new }
         ensures together { HoldTogether self.new }
     {
-        let mark = self.chain.as_slice().first().copied()?;
-        self.chain.remove(mark.colour);
-        self.worthy.remove(mark.colour);
+        let colour = self.chain.first()?;
+        let mark = self.worthy.mark(colour);
+        self.chain.remove(colour);
+        self.worthy.remove(colour);
         Some(mark)
     }
 
@@ -89,17 +100,19 @@ impl CoreQueue {
     pub fn retell(&mut self, colour: Colour, started: u64, worth: u128) -> bool
         requires { colour.0 < self.old.colours }
         ensures answer { result ≡ is_some (told_of colour started worth self.old.chain) }
-        ensures told { MatchOption (told_of colour started worth self.old.chain) (self.new ≡ self.old) (λ told. self.new ≡ record self.old { chain = replaced told self.old.chain; worthy = changed self.old.cost told self.old.worthy }) }
-        ensures same { (self.new.colours ≡ self.old.colours) × (self.new.cost ≡ self.old.cost) }
+        ensures told { let report = told_of colour started worth self.old.chain in
+            MatchOption report (self.new ≡ self.old) (λ told.
+            let worthy = changed self.old.cost self.old.pinned told self.old.worthy in
+            self.new ≡ record self.old { chain = replaced told self.old.chain; worthy = worthy }) }
+        ensures same { KeepsNumbers self.old self.new }
         ensures together { HoldTogether self.new }
     {
-        match self.chain.of(colour) {
+        match self.of(colour) {
             Some(mark) if mark.started == started => {
                 let told = Mark {
                     worth: mark.worth.max(worth),
                     ..mark
                 };
-                self.chain.replace(told);
                 self.worthy.change(told);
                 true
             }
@@ -108,13 +121,20 @@ impl CoreQueue {
     }
 
     /// Takes the first mark of the highest class out of the stealing queue and out of the chain, and answers nothing exactly
-    /// where no mark of the chain is worth more than a steal costs.
+    /// where no mark of the chain whose colour isn't pinned is worth more than a steal costs.
     pub fn pick(&mut self) -> Option<Mark>
         ensures value { result ≡ pick_of self.old.cost self.old.worthy }
-        ensures none { IsNone result ↔ All (λ mark. mark.worth ≤ self.old.cost) self.old.chain }
-        ensures mark { IfSome result (λ mark. (mark_of mark.colour self.old.chain ≡ Some mark) × (mark.colour.0 < self.old.colours) × (self.old.cost < mark.worth)) }
-        ensures rest { MatchOption result (self.new ≡ self.old) (λ mark. self.new ≡ record self.old { chain = without mark.colour self.old.chain; worthy = without mark.colour self.old.worthy }) }
-        ensures same { (self.new.colours ≡ self.old.colours) × (self.new.cost ≡ self.old.cost) }
+        ensures none { let cost = self.old.cost in let pinned = self.old.pinned in
+            IsNone result ↔ All (λ m. pinned ≤ m.colour.0 → m.worth ≤ cost) self.old.chain }
+        ensures chained { IfSome result (λ mark. mark_of mark.colour self.old.chain ≡ Some mark) }
+        ensures colour { IfSome result (λ mark. mark.colour.0 < self.old.colours) }
+        ensures paying { IfSome result (λ mark. self.old.cost < mark.worth) }
+        ensures unpinned { IfSome result (λ mark. self.old.pinned ≤ mark.colour.0) }
+        ensures rest { MatchOption result (self.new ≡ self.old) (λ mark.
+            let chain = without mark.colour self.old.chain in
+            let worthy = without mark.colour self.old.worthy in
+            self.new ≡ record self.old { chain = chain; worthy = worthy }) }
+        ensures same { KeepsNumbers self.old self.new }
         ensures together { HoldTogether self.new }
     {
         let picked = self.worthy.pick()?;
@@ -122,11 +142,32 @@ impl CoreQueue {
         Some(picked)
     }
 
-    /// The chain, the next to run first.
-    pub fn marks(&self) -> &[Mark]
-        ensures value { result.now ≡ self.now.chain }
+    /// The mark at this place of the chain, and nothing exactly where the chain isn't longer. The next to run is at place 0.
+    pub fn at(&self, place: usize) -> Option<Mark>
+        ensures value { result ≡ slice_get self.now.chain place }
         ensures together { HoldTogether self.now }
     {
-        self.chain.as_slice()
+        let colour = self.chain.at(place)?;
+        Some(self.worthy.mark(colour))
+    }
+
+    /// Whether the chain is empty.
+    pub fn is_empty(&self) -> bool
+        ensures value { IsTrue result ↔ (self.now.chain ≡ []) }
+        ensures together { HoldTogether self.now }
+    {
+        self.chain.is_empty()
+    }
+
+    /// The mark of a colour in the chain.
+    fn of(&self, colour: Colour) -> Option<Mark>
+        requires { colour.0 < self.now.colours }
+        ensures { result ≡ mark_of colour self.now.chain }
+    {
+        if self.chain.contains(colour) {
+            Some(self.worthy.mark(colour))
+        } else {
+            None
+        }
     }
 }

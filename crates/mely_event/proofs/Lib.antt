@@ -1,1 +1,1 @@
-pub mod Penalties
+mod Penalties

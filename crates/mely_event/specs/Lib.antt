@@ -1,1 +1,2 @@
 pub mod HandlerTable
+pub mod TrailLog

@@ -12,8 +12,9 @@
 //! events weigh enough. A [`Mark`] is a promise that a colour is ready.
 //!
 //! A program brings the state of each colour, which implements [`Trail`] (it keeps the list of the
-//! events that were run on it) and [`Fits`] (which loads its events may carry). A value that a lock
-//! keeps implements [`Kept`]. The crate itself runs nothing and takes no memory.
+//! events that were run on it) and [`Fits`] (which loads its events may carry). [`TrailLog`] is such
+//! a state, ready to use or to be held in another. A value that a lock keeps implements [`Kept`].
+//! The crate itself runs nothing, and nothing in it but a `TrailLog` takes memory.
 //!
 //! ```
 //! // handler 0 weighs 60 / 2 = 30, handler 1 weighs 7 / 2 = 3
@@ -33,6 +34,7 @@ mod table_fault;
 mod tests;
 mod there;
 mod trail;
+mod trail_log;
 mod unregistered;
 
 pub use colour::Colour;
@@ -45,4 +47,5 @@ pub use memory::Memory;
 pub use table_fault::TableFault;
 pub use there::There;
 pub use trail::Trail;
+pub use trail_log::TrailLog;
 pub use unregistered::Unregistered;

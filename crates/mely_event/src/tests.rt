@@ -1,47 +1,46 @@
-ghost use Rattle.std.specs.Prelude.{◌≡◌, ◌≤◌, ◌-◌, OnOk, vec_len, vec_capacity};
+ghost use Rattle.std.specs.Prelude.{◌≡◌, ◌≤◌, OnOk};
 
-use crate::{Colour, Event, Fits, Handlers, Kept, Memory, TableFault, Trail};
+use crate::{Colour, Event, Fits, Handlers, Kept, Memory, TableFault, Trail, TrailLog};
 use std::test::Fail;
 
 /// A state that counts the letters in its events' loads.
 #[derive(Drop)]
 struct Ledger {
-    colour: Colour,
-    trail: Vec<Event>,
+    log: TrailLog,
     letters: usize,
 }
 
 impl Trail for Ledger {
+    ghost use Rattle.mely_event.specs.TrailLog.{AreAlike, alike_itself, alike_onward};
+    ghost use Rattle.std.proofs.Common.{refl};
+
     type Frame = ();
 
-    ghost trail_of = { λ s. s.trail.items };
+    ghost trail_of = { λ s. s.log.events };
 
-    ghost colour_of = { λ s. s.colour };
+    ghost colour_of = { λ s. s.log.colour };
 
     ghost frame_of = { λ s. tt };
 
-    ghost spare_of = { λ s. vec_capacity s.trail - vec_len s.trail };
+    ghost spare_of = { λ s. s.log.spare };
 
-    ghost alike = { λ s t. (s.trail.items ≡ t.trail.items) × (s.colour ≡ t.colour) × (s.letters ≡ t.letters) };
+    ghost alike = { AreAlike (λ s. s.log) (λ s. s.letters) };
 
     fn trail(&self) -> &[Event] {
-        &self.trail
+        self.log.trail()
     }
 
     fn reserve(&mut self, n: usize) -> Result<(), Memory> {
-        self.trail.reserve(n)?;
-        Ok(())
+        self.log.reserve(n)
     }
 
-    ghost use Rattle.std.proofs.Common.{refl, ◌∙◌};
+    ghost alike_itself = { λ s. alike_itself s };
 
-    ghost alike_itself = { λ s. (refl, refl, refl) };
+    ghost alike_onward = { λ r s t one other. alike_onward one other };
 
-    ghost alike_onward = { λ r s t one other. (one.0 ∙ other.0, one.1 ∙ other.1, one.2 ∙ other.2) };
+    ghost alike_trail = { λ s t same. same.events };
 
-    ghost alike_trail = { λ s t same. same.0 };
-
-    ghost alike_colour = { λ s t same. same.1 };
+    ghost alike_colour = { λ s t same. same.colour };
 
     ghost alike_frame = { λ s t same. refl };
 }
@@ -55,14 +54,14 @@ impl Kept for Ledger {
 
     type Frame = ();
 
-    ghost history_of = { λ s. s.trail.items };
+    ghost history_of = { λ s. s.log.events };
 
     ghost pass_of = { λ event. event.arg };
 
     ghost frame_of = { λ s. tt };
 
     fn notes(&self) -> u64 {
-        self.trail.len() as u64
+        self.log.trail().len() as u64
     }
 }
 
@@ -113,16 +112,41 @@ fn a_table_has_at_most_32_rows_and_no_penalty_0(rt: HostRuntime) {
 
 #[test]
 fn a_state_makes_room_through_its_bounds(rt: HostRuntime) -> Result<(), Fail> {
-    let event = Event { handler: 0, arg: 7 };
     let mut ledger = Ledger {
-        colour: Colour(2),
-        trail: vec![in rt.alloc(); event]?,
+        log: TrailLog::new(rt.alloc(), Colour(2)),
         letters: 0,
     };
-    assert_eq!(rt; with_room(&mut ledger), Ok(1));
-    assert_eq!(rt; ledger.trail(), [event].as_slice());
-    assert_eq!(rt; ledger.notes(), 1);
-    assert_eq!(rt; ledger.colour, Colour(2));
+    for arg in 7..9 {
+        assert_eq!(rt; with_room(&mut ledger), Ok(arg - 7));
+        let event = Event {
+            handler: 0,
+            arg: arg as u16,
+        };
+        ledger.log.push(event);
+        assert_eq!(rt; ledger.trail().last(), Some(&event));
+    }
+    assert_eq!(rt; ledger.notes(), 2);
+    assert_eq!(rt; ledger.log.colour(), Colour(2));
     assert_eq!(rt; ledger.letters, 0);
+    Ok(())
+}
+
+/// Makes room for one event of any state whose events carry numbers.
+fn numbered<S: Fits<u32>>(state: &mut S) -> Result<(), Memory>
+    ensures room { OnOk result (1 ≤ S.spare_of state.new) }
+    ensures same { S.alike state.old state.new }
+{
+    state.reserve(1)
+}
+
+#[test]
+fn a_trail_is_a_state_of_its_own(rt: HostRuntime) -> Result<(), Fail> {
+    let event = Event { handler: 3, arg: 7 };
+    let mut log = TrailLog::new(rt.alloc(), Colour(5));
+    assert_eq!(rt; log.trail(), [].as_slice());
+    assert_eq!(rt; numbered(&mut log), Ok(()));
+    log.push(event);
+    assert_eq!(rt; log.trail(), [event].as_slice());
+    assert_eq!(rt; log.colour(), Colour(5));
     Ok(())
 }

@@ -1,8 +1,10 @@
-pub mod RegistrationLaws
+mod RegistrationLaws
 pub mod AccountLaws
 pub mod LegalLaws
 pub mod LegalAccounts
+pub mod BeyondLaws
 pub mod OwingLaws
-pub mod BatchLaws
-pub mod TallyLaws
-pub mod JudgeLaws
+pub mod LeftOverLaws
+mod BatchLaws
+mod TallyLaws
+mod JudgeLaws

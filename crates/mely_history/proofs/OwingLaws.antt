@@ -43,7 +43,7 @@ says-more setup n c history entry =
     rw (fold-append (λ found e. option_or (change_on n c e) found) None history (entry ∷ []), ap (λ (s : Account). s.last) with, ap (λ (s : Account). s.begun) with, ap (λ (s : Account). s.ended) with) refl
 
 -- where none of these entries are of the pass, the first is not, and none of the others
-others_first : (n : ℕ) (x : Entry) (xs : List Entry) → entries_by n (x ∷ xs) ≡ [] → ((pass_of x == n) ≡ false) × (entries_by n xs ≡ [])
+pub others_first : (n : ℕ) (x : Entry) (xs : List Entry) → entries_by n (x ∷ xs) ≡ [] → ((pass_of x == n) ≡ false) × (entries_by n xs ≡ [])
 others_first n x xs none = for (pass_of x == n) refl where
   for : (own : Bool) → (pass_of x == n) ≡ own → ((pass_of x == n) ≡ false) × (entries_by n xs ≡ [])
   for true is = let wrong : x ∷ entries_by n xs ≡ [] = sym (ap (λ b. cond b (x ∷ entries_by n xs) (entries_by n xs)) is) ∙ none in cc

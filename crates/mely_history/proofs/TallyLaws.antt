@@ -177,8 +177,8 @@ module _ (setup : Setup) (before : List Entry) (c : Colour) (tally : Tally) (tel
   allows_steal : (from to : ℕ) → (Allows setup tally (Steal c from to) → IsAllowed setup before (Steal c from to)) × (IsAllowed setup before (Steal c from to) → Allows setup tally (Steal c from to))
   allows_steal from to =
       let waits = waiting_is in let beg = tells.begun in let end = tells.ended in let worth = tells.worth in (
-        (λ may. let some = may.4 in let over = may.5 in record { from_owner = may.0 ∙ tells.owner; other = may.1; core = may.2; ready = record { at_rest = sym beg ∙ may.3 ∙ end; waiting = omega (arith, some, waits) }; worthy = subst (λ n. (shape_of setup).steal_cost < n) worth over }),
-        (λ may. let some = may.ready.waiting in let over = may.worthy in (may.from_owner ∙ sym tells.owner, may.other, may.core, beg ∙ may.ready.at_rest ∙ sym end, omega (arith, some, waits), subst (λ n. (shape_of setup).steal_cost < n) (sym worth) over)),
+        (λ may. let some = may.4 in let over = may.5 in record { not_pinned = may.6; from_owner = may.0 ∙ tells.owner; other = may.1; core = may.2; ready = record { at_rest = sym beg ∙ may.3 ∙ end; waiting = omega (arith, some, waits) }; worthy = subst (λ n. (shape_of setup).steal_cost < n) worth over }),
+        (λ may. let some = may.ready.waiting in let over = may.worthy in (may.from_owner ∙ sym tells.owner, may.other, may.core, beg ∙ may.ready.at_rest ∙ sym end, omega (arith, some, waits), subst (λ n. (shape_of setup).steal_cost < n) (sym worth) over, may.not_pinned)),
       )
 
 -- the numbers of its colour allow an entry exactly where it is allowed

@@ -1,9 +1,9 @@
-use Rattle.std.specs.Prelude.{◌≡◌, ◌≢◌, ◌<◌, ◌+◌, ◌%◌, ℕ, List, [], Some, length, take, min, slice_get}
+use Rattle.std.specs.Prelude.{◌≡◌, ◌≢◌, ◌<◌, ◌≤◌, ◌+◌, ◌%◌, ℕ, List, [], Some, length, take, min, slice_get}
 use Rattle.std.specs.List.{AllByRecursion}
 use Rattle.mely_event.specs.HandlerTable.{rows_of}
 use Rattle.mely_event.specs.declared.colour.Colour.{Colour}
 use Rattle.mely_event.specs.declared.event.Event.{Event}
-use Rattle.mely_history.specs.Setup.{shape_of, colours_of, handlers_of}
+use Rattle.mely_history.specs.Setup.{shape_of, colours_of, handlers_of, pinned_of}
 use Rattle.mely_history.specs.Entries.{colour_of}
 use Rattle.mely_history.specs.History.{begun_of, ended_of, last_take, owner_of, queued_of, worth_of, IsRunning}
 use Rattle.mely_history.specs.declared.setup.Setup.{Setup}
@@ -38,8 +38,9 @@ pub record MayFinish (history : List Entry) (c : Colour) (core count : ℕ) : Ty
   pub last : last_take history c ≡ Some (core, count)
   pub whole : begun_of history c ≡ ended_of history c + count
 
--- another core takes over a ready colour that is worth more than the steal costs
+-- another core takes over a ready colour that is not pinned and is worth more than the steal costs
 pub record MaySteal (setup : Setup) (history : List Entry) (c : Colour) (from to : ℕ) : Type 0 where
+  pub not_pinned : pinned_of setup ≤ c.0
   pub from_owner : from ≡ owner_of setup history c
   pub other : to ≢ from
   pub core : to < (shape_of setup).cores

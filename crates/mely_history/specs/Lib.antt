@@ -6,4 +6,5 @@ pub mod Judging
 pub mod Tallies
 pub mod Account
 pub mod Owing
+pub mod LeftOver
 pub mod Batches

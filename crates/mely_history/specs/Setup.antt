@@ -15,16 +15,21 @@ colours_of s = s.colours
 abbrev pub handlers_of : Setup → Handlers
 handlers_of s = s.handlers
 
+-- how many colours, from colour 0 on, are never stolen
+abbrev pub pinned_of : Setup → ℕ
+pinned_of s = s.pinned
+
 -- the number is in the range
 abbrev pub is_between : ℕ → ℕ → ℕ → Bool
 is_between low n high = nat_le low n && nat_le n high
 
--- the first number that is out of range, in the order of the fields, with the colours third
-abbrev pub first_out_of_range : Shape → ℕ → Option SetupFault
-first_out_of_range shape colours =
+-- the first number that is out of range, in the order of the fields, with the colours third and the pinned colours last
+abbrev pub first_out_of_range : Shape → ℕ → ℕ → Option SetupFault
+first_out_of_range shape colours pinned =
     if is_between 1 shape.cores 64 then
     if is_between 1 shape.shards 64 then
     if is_between 1 colours 65536 then
     if is_between 1 shape.batch 1000 then
-    if is_between 1 shape.group 64 then None
-    else Some (OutOfRange 5) else Some (OutOfRange 4) else Some (OutOfRange 3) else Some (OutOfRange 2) else Some (OutOfRange 1)
+    if is_between 1 shape.group 64 then
+    if nat_le pinned colours then None
+    else Some (OutOfRange 6) else Some (OutOfRange 5) else Some (OutOfRange 4) else Some (OutOfRange 3) else Some (OutOfRange 2) else Some (OutOfRange 1)

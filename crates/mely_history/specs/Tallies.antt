@@ -1,6 +1,7 @@
+-- Within the crate: what the judge keeps of one colour. Callers see `Judges`.
 use Rattle.std.specs.Prelude.{◌≡◌, ◌≢◌, ◌<◌, ◌≤◌, ◌+◌, ◌-◌, ◌*◌, ℕ, List, Some, length, take, drop, min, sum_by}
 use Rattle.mely_event.specs.declared.colour.Colour.{Colour}
-use Rattle.mely_history.specs.Setup.{shape_of}
+use Rattle.mely_history.specs.Setup.{shape_of, pinned_of}
 use Rattle.mely_history.specs.History.{registered_of, begun_of, ended_of, owner_of, last_take, weight}
 use Rattle.mely_history.specs.Legal.{MayRegister}
 use Rattle.mely_history.specs.declared.setup.Setup.{Setup}
@@ -30,7 +31,7 @@ abbrev pub Allows : Setup → Tally → Entry → Type 0
 Allows setup tally (Reg c event by) = MayRegister setup c event
 Allows setup tally (Take c core count) = (core ≡ tally.owner) × (tally.begun ≡ tally.ended) × (tally.begun < tally.registered) × (count ≡ min (shape_of setup).batch (tally.registered - tally.begun))
 Allows setup tally (Fin c core count) = (tally.last ≡ Some (core, count)) × (tally.begun ≡ tally.ended + count)
-Allows setup tally (Steal c from to) = (from ≡ tally.owner) × (to ≢ from) × (to < (shape_of setup).cores) × (tally.begun ≡ tally.ended) × (tally.begun < tally.registered) × ((shape_of setup).steal_cost < tally.worth)
+Allows setup tally (Steal c from to) = (from ≡ tally.owner) × (to ≢ from) × (to < (shape_of setup).cores) × (tally.begun ≡ tally.ended) × (tally.begun < tally.registered) × ((shape_of setup).steal_cost < tally.worth) × (pinned_of setup ≤ c.0)
 
 -- the walk passed over this many registrations of the colour, of this weight
 pub record PassesOver (setup : Setup) (entries : List Entry) (c : Colour) (from count place weight_sum : ℕ) : Type 0 where

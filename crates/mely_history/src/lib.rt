@@ -15,7 +15,7 @@
 //! theirs is legal; [`batches_follow_one_another`] says what that means for the events.
 //!
 //! ```
-//! let setup = Setup::new(&shape, 2, handlers)?;
+//! let setup = Setup::new(&shape, 2, handlers, 0)?;
 //! match judge(&setup, &history) {
 //!     Judged::Legal => ..,
 //!     Judged::NotAllowed { at } => .., // history[at] may not follow history[..at]

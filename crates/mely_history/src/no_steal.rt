@@ -1,6 +1,11 @@
+use mely_event::Colour;
+
 /// Why nothing was stolen. Of several causes the first in this order is named.
 #[derive(Clone, Copy, Debug, PartialEq, Eq)]
 pub enum NoSteal {
+    /// The colour is pinned: it stays on the core that it began on.
+    Pinned { colour: Colour },
+
     /// The thief owns the colour already.
     Own,
 

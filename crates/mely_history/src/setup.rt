@@ -4,36 +4,46 @@ use crate::setup_fault::SetupFault;
 use crate::shape::Shape;
 use mely_event::Handlers;
 
-/// What a run is made with: its shape, how many colours there are, and the table of its handlers.
+/// What a run is made with: its shape, how many colours there are, the table of its handlers, and
+/// how many of the colours are pinned, from colour 0 on.
 #[derive(Clone, Copy, Debug)]
 pub struct Setup {
     shape: Shape,
     colours: u32,
     handlers: Handlers,
+    pinned: u32,
     pub ghost cores_in: { (1 ≤ shape.cores) × (shape.cores ≤ 64) },
     pub ghost shards_in: { (1 ≤ shape.shards) × (shape.shards ≤ 64) },
     pub ghost colours_in: { (1 ≤ colours) × (colours ≤ 65536) },
     pub ghost batch_in: { (1 ≤ shape.batch) × (shape.batch ≤ 1000) },
     pub ghost group_in: { (1 ≤ shape.group) × (shape.group ≤ 64) },
+    pub ghost pinned_in: { pinned ≤ colours },
 }
 
 impl Setup {
     ghost use Rattle.std.specs.Prelude.{None, Some};
-    ghost use Rattle.mely_history.specs.Setup.{first_out_of_range, shape_of, colours_of, handlers_of};
+    ghost use Rattle.mely_history.specs.Setup.{first_out_of_range, shape_of, colours_of, handlers_of, pinned_of};
 
-    /// A setup of these numbers. It takes no memory.
+    /// A setup of these numbers. The colours below `pinned` stay on the core that they begin on: they
+    /// are never stolen. It takes no memory.
     ///
     /// # Errors
     ///
     /// `OutOfRange` exactly where a number is out of its range, with the first such field: 1 for the
     /// cores (1 to 64), 2 for the shards (1 to 64), 3 for the colours (1 to 65,536), 4 for the batch
-    /// (1 to 1,000), 5 for the group (1 to 64).
-    pub fn new(shape: &Shape, colours: u32, handlers: Handlers) -> Result<Setup, SetupFault>
-        ensures made { IfOk result (λ _. first_out_of_range shape.now colours ≡ None) }
+    /// (1 to 1,000), 5 for the group (1 to 64), 6 for the pinned colours (0 to `colours`).
+    pub fn new(
+        shape: &Shape,
+        colours: u32,
+        handlers: Handlers,
+        pinned: u32,
+    ) -> Result<Setup, SetupFault>
+        ensures made { IfOk result (λ _. first_out_of_range shape.now colours pinned ≡ None) }
         ensures shape { IfOk result (λ setup. shape_of setup ≡ shape.now) }
         ensures colours { IfOk result (λ setup. colours_of setup ≡ colours) }
         ensures handlers { IfOk result (λ setup. handlers_of setup ≡ handlers) }
-        ensures refused { IfErr result (λ fault. first_out_of_range shape.now colours ≡ Some fault) }
+        ensures pinned { IfOk result (λ setup. pinned_of setup ≡ pinned) }
+        ensures refused { IfErr result (λ fault. first_out_of_range shape.now colours pinned ≡ Some fault) }
     {
         if shape.cores < 1 || shape.cores > 64 {
             return Err(SetupFault::OutOfRange { field: 1 });
@@ -50,10 +60,14 @@ impl Setup {
         if shape.group < 1 || shape.group > 64 {
             return Err(SetupFault::OutOfRange { field: 5 });
         }
+        if pinned > colours {
+            return Err(SetupFault::OutOfRange { field: 6 });
+        }
         Ok(Setup {
             shape: *shape,
             colours,
             handlers,
+            pinned,
         })
     }
 
@@ -102,6 +116,14 @@ impl Setup {
         ensures range { (1 ≤ result) × (result ≤ 65536) }
     {
         self.colours
+    }
+
+    /// How many colours are pinned, from colour 0 on: they are never stolen.
+    pub fn pinned(&self) -> u32
+        ensures value { result ≡ pinned_of self.now }
+        ensures range { result ≤ colours_of self.now }
+    {
+        self.pinned
     }
 
     /// The table of handlers.

@@ -116,8 +116,9 @@ impl Tally {
             Entry::Fin { core, count, .. } => {
                 self.last == Some((core, count)) && self.begun - self.ended == count as usize
             }
-            Entry::Steal { from, to, .. } => {
-                from == self.owner
+            Entry::Steal { colour, from, to } => {
+                u32::from(colour.0) >= setup.pinned()
+                    && from == self.owner
                     && to != from
                     && to < setup.cores()
                     && self.is_ready()

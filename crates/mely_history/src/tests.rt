@@ -12,7 +12,7 @@ fn small(rt: &HostRuntime) -> Result<Setup, Fail> {
         group: 4,
     };
     let handlers = Handlers::new(&[(10, 1), (10, 1)]).ok().ok_or("no table")?;
-    Ok(Setup::new(&shape, 2, handlers).ok().ok_or("no setup")?)
+    Ok(Setup::new(&shape, 2, handlers, 0).ok().ok_or("no setup")?)
 }
 
 fn reg(colour: u16, handler: u8, arg: u16, by: u16) -> Entry {
@@ -140,6 +140,35 @@ fn each_row_of_the_table_refuses_what_it_should(rt: HostRuntime) -> Result<(), F
 }
 
 #[test]
+fn a_pinned_colour_is_never_stolen(rt: HostRuntime) -> Result<(), Fail> {
+    let shape = Shape {
+        cores: 2,
+        shards: 1,
+        batch: 1,
+        steal_cost: 15,
+        group: 4,
+    };
+    let handlers = Handlers::new(&[(20, 1)]).ok().ok_or("no table")?;
+    let history = [
+        reg(0, 0, 0, 2),
+        reg(1, 0, 0, 2),
+        steal(1, 1, 0),
+        steal(0, 0, 1),
+    ];
+    for (pinned, judged) in [
+        (0, Judged::Legal),
+        (1, Judged::NotAllowed { at: 3 }),
+        (2, Judged::NotAllowed { at: 2 }),
+    ] {
+        let setup = Setup::new(&shape, 2, handlers, pinned)
+            .ok()
+            .ok_or("no setup")?;
+        assert_eq!(rt; judge(&setup, &history), judged);
+    }
+    Ok(())
+}
+
+#[test]
 fn an_entry_tells_its_colour_and_its_pass(rt: HostRuntime) {
     for (entry, pass) in [
         (reg(3, 0, 0, 5), 5),
@@ -169,8 +198,10 @@ fn a_setup_is_made_at_the_limits_and_refused_just_beyond(rt: HostRuntime) -> Res
         steal_cost: 0,
         group: 1,
     };
-    assert!(rt; Setup::new(&least, 1, handlers).is_ok());
-    let setup = Setup::new(&most, 65_536, handlers).ok().ok_or("no setup")?;
+    assert!(rt; Setup::new(&least, 1, handlers, 1).is_ok());
+    let setup = Setup::new(&most, 65_536, handlers, 3)
+        .ok()
+        .ok_or("no setup")?;
     assert_eq!(rt;
         (setup.cores(), setup.shards(), setup.batch()),
         (64, 64, 1_000)
@@ -179,6 +210,7 @@ fn a_setup_is_made_at_the_limits_and_refused_just_beyond(rt: HostRuntime) -> Res
         (setup.steal_cost(), setup.group(), setup.colours()),
         (7, 64, 65_536)
     );
+    assert_eq!(rt; setup.pinned(), 3);
     assert_eq!(rt; setup.handlers().len(), 1);
     let cases = [
         (Shape { cores: 0, ..most }, 1, 1),
@@ -210,7 +242,14 @@ fn a_setup_is_made_at_the_limits_and_refused_just_beyond(rt: HostRuntime) -> Res
     ];
     for (shape, colours, field) in cases {
         assert_eq!(rt;
-            Setup::new(&shape, colours, handlers).err(),
+            Setup::new(&shape, colours, handlers, 0).err(),
+            Some(SetupFault::OutOfRange { field })
+        );
+    }
+    assert!(rt; Setup::new(&least, 4, handlers, 4).is_ok());
+    for (shape, field) in [(least, 6), (Shape { group: 0, ..least }, 5)] {
+        assert_eq!(rt;
+            Setup::new(&shape, 4, handlers, 5).err(),
             Some(SetupFault::OutOfRange { field })
         );
     }

@@ -19,8 +19,21 @@
 //! once, in the order in which they were made, whatever other threads do.
 //!
 //! The word that says who is inside is the ticket of a ticket lock without its queue: who comes first is not said, nor that anybody
-//! does. A waiting thread sleeps between two tries. The lock, its passes and what is held may cross threads where the value may. It stands on
-//! `atomic_table`, whose rule this crate gives: `specs/Rule.antt` has it in five parts, and `specs/Steps.antt` the kinds of step.
+//! does. The lock, its passes and what is held may cross threads where the value may. It stands on `atomic_table`, whose rule this
+//! crate gives: `specs/Rule.antt` has it in five parts, and `specs/Steps.antt` the kinds of step.
+//!
+//! # Sleeping
+//!
+//! A pass that finds another inside looks again for a while, and then sleeps until somebody leaves. Beside the words of the rule
+//! stands a count of sleepers, under no part of it: a pass raises it before it looks for the last time, and whoever leaves looks at
+//! it once the word says that nobody is inside. All these steps are sequentially consistent, so either the pass sees that nobody is
+//! inside and doesn't sleep, or who leaves sees it counted and makes the system's call that wakes a sleeper. Where nobody sleeps,
+//! entering and leaving make no system call. No contract says any of this: a lock that woke nobody would meet them all.
+//!
+//! # Large values
+//!
+//! The value is moved out of the lock at each entry and back at each leave, so that it is in one hand. Let one that is large hold
+//! what it has in a box.
 #![tactic(auto)]
 
 mod about;

@@ -9,10 +9,16 @@ use crate::steps::{Leaving, Noting, Trying};
 use crate::ticketed::Ticketed;
 use crate::ticketing::Place;
 use mely_event::Kept;
+use std::hint::spin_loop;
 use std::sync::Wait;
+use std::sync::atomic::Ordering;
 
 /// The greatest number that word 0 can have.
 const LAST_TICKET: u64 = 65_536;
+
+/// How often a pass looks whether nobody is inside before it sleeps. So many looks take about as long as falling asleep and
+/// being woken.
+const SPINS: u32 = 100;
 
 impl<V: Kept> Ticketed<V> {
     /// Goes in if nobody is inside, and takes the value out.
@@ -32,6 +38,56 @@ impl<V: Kept> Ticketed<V> {
         shared.exchange(place, 0, None)
     }
 
+    /// Tries a while without sleeping, since who is inside mostly leaves soon.
+    fn spin_in(&self, place: &mut Place<V>, number: u16) -> Option<V>
+        requires table { place.old.table_id ≡ lock_id self.now }
+        requires outside { (c : Claim V.Note V.Frame) × (place.old.me ≡ waiting c) × (c.number ≡ number) }
+        ensures table { place.new.table_id ≡ place.old.table_id }
+        ensures refused { IfNone result (place.new.me ≡ place.old.me) }
+        ensures entered { IfSome result (λ x. Enters V.history_of V.pass_of V.frame_of place.old.me x place.new.me) }
+    {
+        for _ in 0..SPINS {
+            // A look is cheaper than a try that is refused, which takes the word's line of memory from who is inside.
+            if self.room.shared.peek(0) == 0 {
+                if let Some(value) = self.try_enter(place, number) {
+                    return Some(value);
+                }
+            }
+            spin_loop();
+        }
+        None
+    }
+
+    /// Sleeps while the pass is inside that is found there, if one is.
+    fn sleep<R: Wait>(&self, rt: &R) {
+        let found = self.room.shared.peek(0);
+        if 0 < found && found <= LAST_TICKET {
+            self.room.shared.park(rt, 0, found as u32);
+        }
+    }
+
+    /// Tries until nobody else is inside, and sleeps between two tries.
+    fn wait_in<R: Wait>(&self, rt: &R, place: &mut Place<V>, number: u16) -> V
+        requires table { place.old.table_id ≡ lock_id self.now }
+        requires outside { (c : Claim V.Note V.Frame) × (place.old.me ≡ waiting c) × (c.number ≡ number) }
+        ensures table { place.new.table_id ≡ place.old.table_id }
+        ensures entered { Enters V.history_of V.pass_of V.frame_of place.old.me result place.new.me }
+    {
+        for _ in rt.forever() {
+            // It is counted before it looks: who leaves after the look finds it counted, and wakes it.
+            self.sleepers.fetch_add(1, Ordering::SeqCst);
+            let entered = self.try_enter(place, number);
+            if entered.is_none() {
+                self.sleep(rt);
+            }
+            self.sleepers.fetch_sub(1, Ordering::SeqCst);
+            if let Some(value) = entered {
+                return value;
+            }
+        }
+        unreachable!()
+    }
+
     /// Tries until nobody else is inside.
     pub(crate) fn go_in<R: Wait>(&self, rt: &R, place: &mut Place<V>, number: u16) -> V
         requires table { place.old.table_id ≡ lock_id self.now }
@@ -39,17 +95,17 @@ impl<V: Kept> Ticketed<V> {
         ensures table { place.new.table_id ≡ place.old.table_id }
         ensures entered { Enters V.history_of V.pass_of V.frame_of place.old.me result place.new.me }
     {
-        for _ in rt.forever() {
-            if let Some(value) = self.try_enter(place, number) {
-                return value;
-            }
-            // It sleeps while the pass that it found is inside.
-            let found = self.room.shared.peek(0);
-            if 0 < found && found <= LAST_TICKET {
-                self.room.shared.park(rt, 0, found as u32);
-            }
+        match self.spin_in(place, number) {
+            Some(value) => value,
+            None => self.wait_in(rt, place, number),
         }
-        unreachable!()
+    }
+
+    /// Wakes a sleeper, where there may be one.
+    fn wake_one(&self) {
+        if self.sleepers.load(Ordering::SeqCst) != 0 {
+            self.room.shared.wake_one(0);
+        }
     }
 
     /// Puts the value back, makes a note if its history has grown, and goes out.
@@ -67,6 +123,6 @@ impl<V: Kept> Ticketed<V> {
             shared.fetch_add::<Noting<V>>(place, 1, 1);
         }
         shared.store::<Leaving>(place, 0, 0);
-        shared.wake_one(0);
+        self.wake_one();
     }
 }

@@ -12,6 +12,7 @@ use std::alloc::Global;
 use std::marker::PhantomData;
 use std::snapshot::Snapshot;
 use std::sync::Wait;
+use std::sync::atomic::AtomicU32;
 
 /// A lock round a kept value, which is entered with a pass. One pass at a time is inside, with the value in its hand.
 ///
@@ -20,6 +21,9 @@ use std::sync::Wait;
 pub struct Ticketed<V: Kept> {
     pub(crate) room: Room<V>,
     pub(crate) passes: u16,
+    /// How many passes sleep, or look once more before they do. It is under no part of the rule: it only saves the call that
+    /// wakes a sleeper where there is none.
+    pub(crate) sleepers: AtomicU32,
     ghost sized: { (room.shared.table_id.words ≡ 2) × (room.shared.table_id.slots ≡ 1) },
     ghost counted: { room.shared.key.passes ≡ passes },
 }
@@ -59,7 +63,15 @@ impl<V: Kept + Drop> Ticketed<V> {
             Err(_) => return Err(Memory),
         };
         let dealt = deal(alloc, &room, &mut rest, passes)?;
-        Ok((Ticketed { room, passes }, dealt))
+        let sleepers = AtomicU32::new(0);
+        Ok((
+            Ticketed {
+                room,
+                passes,
+                sleepers,
+            },
+            dealt,
+        ))
     }
 }
 
@@ -103,7 +115,11 @@ impl<V: Kept> Ticketed<V> {
         ensures numbers { (n : ℕ) → n < self.passes → Any (λ p. p.number ≡ n) passes.items }
         ensures strangers { (n : ℕ) → self.passes ≤ n → notes_of V.pass_of n (V.history_of result) ≡ [] }
     {
-        let Ticketed { room, passes: _ } = self;
+        let Ticketed {
+            room,
+            passes: _,
+            sleepers: _,
+        } = self;
         let seat = gather(&room, passes);
         take_back(room, seat)
     }

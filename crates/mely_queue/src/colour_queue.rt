@@ -156,14 +156,57 @@ impl<P> ColourQueue<P> {
         ensures rest { OnOk result (self.new ≡ taken self.old (min batch (length self.old.events))) }
         ensures err { OnErr result (self.new ≡ self.old) }
     {
-        let count = (batch as usize).min(self.events.len());
+        let count = self.count_in(batch);
         let Ok(mut first) = Vec::with_capacity(self.alloc, count) else {
             return Err(Memory);
         };
-        move_front(&mut self.events, &mut first, count);
+        self.start(&mut first, count);
+        Ok(first)
+    }
+
+    /// Takes the first events as [`take_up_to`](ColourQueue::take_up_to) does, into an empty vector
+    /// whose room is used again: whoever hands the vector of a turn that is finished to the next
+    /// one takes memory for neither.
+    ///
+    /// # Errors
+    ///
+    /// There was no memory: the queue is as it was, and the vector is empty.
+    pub fn take_into(
+        &mut self,
+        batch: u16,
+        first: &mut Vec<(Event, Option<P>)>,
+    ) -> Result<(), Memory>
+        requires some { 1 ≤ batch }
+        requires empty { first.old.items ≡ [] }
+        ensures first { OnOk result (first.new.items ≡ take batch self.old.events) }
+        ensures rest { OnOk result (self.new ≡ taken self.old (min batch (length self.old.events))) }
+        ensures err { OnErr result (self.new ≡ self.old) }
+        ensures none { OnErr result (first.new.items ≡ []) }
+    {
+        let count = self.count_in(batch);
+        first.reserve(count)?;
+        self.start(first, count);
+        Ok(())
+    }
+
+    /// How many events a take of this batch moves.
+    fn count_in(&self, batch: u16) -> usize
+        ensures { result ≡ min batch (length self.now.events) }
+    {
+        (batch as usize).min(self.events.len())
+    }
+
+    /// Moves the first events to the end of a vector that has room for them, and counts them as
+    /// started.
+    fn start(&mut self, first: &mut Vec<(Event, Option<P>)>, count: usize)
+        requires there { count ≤ length self.old.events }
+        requires room { vec_len first.old + count ≤ vec_capacity first.old }
+        ensures first { first.new.items ≡ first.old.items ++ take count self.old.events }
+        ensures rest { self.new ≡ taken self.old count }
+    {
+        move_front(&mut self.events, first, count);
         self.time_left -= drop_front(&mut self.weights, count);
         self.started += count as u64;
-        Ok(first)
     }
 
     /// Counts `count` further events as finished, of those that were started. It takes no memory.

@@ -17,6 +17,9 @@
 //! }
 //! queue.finish(turn.count());
 //! ```
+//!
+//! The vector of a turn that was run can serve the next one: `Turn::into_parts` gives it back, and
+//! `ColourQueue::take_into` takes the next events into it.
 #![tactic(auto)]
 
 mod colour_queue;

@@ -1,56 +1,9 @@
 //! A queue and a turn with ample memory.
-ghost use Rattle.std.specs.Prelude.{◌≡◌, ◌-◌, vec_len, vec_capacity};
+ghost use Rattle.std.specs.Prelude.{◌≡◌};
 
 use crate::{ColourQueue, Turn};
-use mely_event::{Colour, Event, Fits, Memory, Trail};
+use mely_event::{Colour, Event, Fits, Trail, TrailLog};
 use std::test::Fail;
-
-/// A state that keeps its trail and nothing else.
-#[derive(Drop)]
-struct Runs {
-    colour: Colour,
-    trail: Vec<Event>,
-}
-
-impl Trail for Runs {
-    type Frame = ();
-
-    ghost trail_of = { λ s. s.trail.items };
-
-    ghost colour_of = { λ s. s.colour };
-
-    ghost frame_of = { λ s. tt };
-
-    ghost spare_of = { λ s. vec_capacity s.trail - vec_len s.trail };
-
-    ghost alike = { λ s t. (s.trail.items ≡ t.trail.items) × (s.colour ≡ t.colour) };
-
-    fn trail(&self) -> &[Event] {
-        &self.trail
-    }
-
-    fn reserve(&mut self, n: usize) -> Result<(), Memory> {
-        self.trail.reserve(n)?;
-        Ok(())
-    }
-
-    ghost use Rattle.std.proofs.Common.{refl, ◌∙◌};
-
-    ghost alike_itself = { λ s. (refl, refl) };
-
-    ghost alike_onward = { λ r s t one other. (one.0 ∙ other.0, one.1 ∙ other.1) };
-
-    ghost alike_trail = { λ s t same. same.0 };
-
-    ghost alike_colour = { λ s t same. same.1 };
-
-    ghost alike_frame = { λ s t same. refl };
-}
-
-/// Each event carries a number or nothing.
-impl Fits<u8> for Runs {
-    ghost fits_under = { λ frame colour event load. Unit {0} };
-}
 
 const FIRST: Event = Event { handler: 0, arg: 7 };
 
@@ -77,7 +30,9 @@ fn the_time_left_falls_as_the_first_event_is_taken(rt: HostRuntime) -> Result<()
 }
 
 /// The next event of a turn and its load, through the bounds.
-fn handed_out<S: Fits<u8>>(turn: &mut Turn<S, u8>) -> Option<(Event, Option<u8>)> {
+fn handed_out<S: Fits<u8>>(turn: &mut Turn<S, u8>) -> Option<(Event, Option<u8>)>
+    ensures { turn.new.state ≡ turn.old.state }
+{
     turn.next()
 }
 
@@ -86,21 +41,41 @@ fn a_turn_hands_out_each_event_once_in_order(rt: HostRuntime) -> Result<(), Fail
     let mut events = Vec::new(rt.alloc());
     events.push((FIRST, Some(1)))?;
     events.push((SECOND, None))?;
-    let state = Runs {
-        colour: Colour(2),
-        trail: Vec::new(rt.alloc()),
-    };
+    let mut state = TrailLog::new(rt.alloc(), Colour(2));
+    assert_eq!(rt; state.reserve(1), Ok(()));
     let mut turn = Turn::new(Colour(2), 5, state, events);
     assert_eq!(rt; turn.colour(), Colour(2));
     assert_eq!(rt; turn.core(), 5);
     assert_eq!(rt; turn.count(), 2);
     assert_eq!(rt; handed_out(&mut turn), Some((FIRST, Some(1))));
     assert_eq!(rt; turn.left(), 1);
-    let run = turn.state().trail.push(FIRST);
-    assert!(rt; run.is_ok());
+    turn.state().push(FIRST);
     assert_eq!(rt; handed_out(&mut turn), Some((SECOND, None)));
     assert_eq!(rt; handed_out(&mut turn), None);
     let state = turn.into_state();
     assert_eq!(rt; state.trail(), [FIRST].as_slice());
+    Ok(())
+}
+
+#[test]
+fn the_vector_of_a_turn_serves_the_next(rt: HostRuntime) -> Result<(), Fail> {
+    let mut queue: ColourQueue<u8> = ColourQueue::new(rt.alloc());
+    assert!(rt; queue.push(FIRST, Some(1), 30).is_ok());
+    assert!(rt; queue.push(SECOND, None, 80).is_ok());
+    let mut room = Vec::new(rt.alloc());
+    assert_eq!(rt; queue.take_into(1, &mut room), Ok(()));
+    assert_eq!(rt; room.as_slice(), [(FIRST, Some(1))].as_slice());
+    assert_eq!(rt; queue.time_left(), 80);
+    let state = TrailLog::new(rt.alloc(), Colour(2));
+    assert!(rt; room.len() == 1);
+    let mut turn = Turn::new(Colour(2), 5, state, room);
+    assert_eq!(rt; handed_out(&mut turn), Some((FIRST, Some(1))));
+    let (state, mut room) = turn.into_parts();
+    assert_eq!(rt; state.colour(), Colour(2));
+    assert!(rt; room.is_empty());
+    let had = room.capacity();
+    assert_eq!(rt; queue.take_into(5, &mut room), Ok(()));
+    assert_eq!(rt; room.as_slice(), [(SECOND, None)].as_slice());
+    assert_eq!(rt; room.capacity(), had);
     Ok(())
 }

@@ -1,5 +1,5 @@
 //! A taken part of a colour.
-ghost use Rattle.std.specs.Prelude.{◌≡◌, ◌≤◌, ◌∷◌, [], length, MatchOption};
+ghost use Rattle.std.specs.Prelude.{◌≡◌, ◌≤◌, ◌∷◌, [], length, reverse, MatchOption};
 ghost use Rattle.std.specs.Borrow.{Lends, sem};
 
 use mely_event::{Colour, Event, Fits, Trail};
@@ -105,6 +105,23 @@ impl<S, P> Turn<S, P> {
         ensures value { result.now ≡ self.old.state }
     {
         &mut self.state
+    }
+
+    /// The state as it is, and the vector of the events that were not handed out, the next one last:
+    /// of a turn that was run an empty one, whose room may be used again.
+    pub fn into_parts(self) -> (S, Vec<(Event, Option<P>)>)
+        ensures state { result.0 ≡ self.state }
+        ensures left { reverse result.1.items ≡ self.events }
+    {
+        let Turn {
+            colour: _,
+            core: _,
+            count: _,
+            state,
+            given: _,
+            events,
+        } = self;
+        (state, events)
     }
 
     /// The state as it is. Events that were not handed out are dropped with the turn.

@@ -7,6 +7,7 @@ use Rattle.std.proofs.lemmas.List.{map-append, length-append, drop-append-le, ta
 use Rattle.std.proofs.Math.Nat.{mul-div_cancel, mul-add-mod_self_right, mod-eq_of_lt}
 use Rattle.mely_event.specs.declared.colour.Colour.{Colour}
 use Rattle.mely_event.specs.declared.event.Event.{Event}
+use Rattle.mely_event.specs.declared.trail.Trail.{Ghosts as TrailWords}
 use Rattle.mely_history.specs.Setup.{shape_of}
 use Rattle.mely_history.specs.declared.setup.Setup.{Setup}
 use Rattle.mely_history.specs.declared.entry.Entry.{Entry}
@@ -20,6 +21,7 @@ use Rattle.mely_history.specs.Account.{Account, account_of, next_account}
 use Rattle.mely_history.specs.Entries.{colour_of}
 use Rattle.mely_shard.specs.Kept.{HasRoom, IsKeptShard, CellStands, StateStands, is_away}
 use Rattle.mely_shard.specs.Contents.{colour_at}
+use Rattle.mely_shard.specs.declared.room.TheConstants.{MOST_ENTRIES}
 use Rattle.mely_history.proofs.AccountLaws.{account-own, account-other}
 
 -- a place is the other, or not
@@ -46,32 +48,38 @@ all_by_recursion-append : {X : Type 0} (P : X → Type 0) (xs : List X) (x : X) 
 all_by_recursion-append P [] x all p = (p, tt)
 all_by_recursion-append P (y ∷ ys) x all p = (all.0, all_by_recursion-append P ys x all.1 p)
 
-module _ {S P F : Type 0} (trail : S → List Event) (colour : S → Colour) (frame : S → F) (fits : F → Colour → Event → Option P → Type 0) (setup : Setup) (shard : ℕ) where
-  -- the frame at each place stays
-  pub same_frame_at : (cells : List (Cell S P)) (i : ℕ) (cell : Cell S P) → i < length cells → frame cell.given.value ≡ frame (get_or cells i cell).given.value → (j : ℕ) (d : Cell S P) → frame (get_or (set cells i cell) j d).given.value ≡ frame (get_or cells j d).given.value
-  same_frame_at cells i cell there same j d = ⊎_elim
-      (λ (e : j ≡ i). subst (λ k. frame (get_or (set cells i cell) k d).given.value ≡ frame (get_or cells k d).given.value) (sym e)
-      (ap (λ b. frame b.given.value) (get_or-set_same cells i cell d there) ∙ same ∙ ap (λ b. frame b.given.value) (get_or_default cells i cell d there)))
-      (λ (ne : j ≡ i → ⊥). ap (λ b. frame b.given.value) (get_or-set_other cells i j cell d ne))
-      (same_or_not j i)
+-- the frame at each place stays
+pub same_frame_at : {S P F : Type 0} (frame_of : S → F) (cells : List (Cell S P)) (i : ℕ) (cell : Cell S P) → i < length cells → frame_of cell.given.value ≡ frame_of (get_or cells i cell).given.value → (j : ℕ) (d : Cell S P) → frame_of (get_or (set cells i cell) j d).given.value ≡ frame_of (get_or cells j d).given.value
+same_frame_at frame_of cells i cell there same j d = ⊎_elim
+    (λ (e : j ≡ i). subst (λ k. frame_of (get_or (set cells i cell) k d).given.value ≡ frame_of (get_or cells k d).given.value) (sym e)
+    (ap (λ b. frame_of b.given.value) (get_or-set_same cells i cell d there) ∙ same ∙ ap (λ b. frame_of b.given.value) (get_or_default cells i cell d there)))
+    (λ (ne : j ≡ i → ⊥). ap (λ b. frame_of b.given.value) (get_or-set_other cells i j cell d ne))
+    (same_or_not j i)
 
+-- where a state stands after a registration
+state_registered : {S F : Type 0} (t : TrailWords S F) (c : Colour) (given : S) (s : Account) (event : Event) (by core count : ℕ) → s.begun ≤ length s.registered → (home : Option S)
+    → StateStands t c given s core count home → StateStands t c given (next_account s (Reg c event by)) core count home
+state_registered t c given s event by core count le None stands = stands
+state_registered t c given s event by core count le (Some state) stands = (stands.0, stands.1 ∙ sym (take-append-le s.ended s.registered (event ∷ []) (omega arith)), stands.2, stands.3)
+
+module _ {S P F : Type 0} {t : TrailWords S F} {fits : F → Colour → Event → Option P → Type 0} {setup : Setup} where
   -- one entry more, and the cell of its colour changed to one that has what the history then says
-  pub kept_after : (history : List Entry) (entry : Entry) (cells : List (Cell S P)) (i : ℕ) (cell : Cell S P) (running running' capacity capacity' : ℕ)
-      → IsKeptShard trail colour frame fits setup shard history cells running capacity
+  pub kept_after : {shard : ℕ} {history : List Entry} {cells : List (Cell S P)} {running capacity : ℕ} (entry : Entry) (i : ℕ) (cell : Cell S P) (running' capacity' : ℕ)
+      → IsKeptShard t fits setup shard history cells running capacity
       → i < length cells → (colour_of entry).0 ≡ (colour_at setup shard i).0 → IsAllowed setup history entry
-      → CellStands trail colour frame fits setup (colour_at setup shard i) (next_account (account_of setup history (colour_at setup shard i)) entry) cell
-      → frame cell.given.value ≡ frame (get_or cells i cell).given.value
+      → CellStands t fits setup (colour_at setup shard i) (next_account (account_of setup history (colour_at setup shard i)) entry) cell
+      → t.frame_of cell.given.value ≡ t.frame_of (get_or cells i cell).given.value
       → running' ≡ count_by is_away (set cells i cell)
-      → length history + 1 + running' ≤ capacity'
-      → IsKeptShard trail colour frame fits setup shard (history ++ entry ∷ []) (set cells i cell) running' capacity'
-  kept_after history entry cells i cell running running' capacity capacity' kept there is may stands same_frame counted room = record {
+      → length history + 1 + running' ≤ capacity' → capacity' ≤ MOST_ENTRIES
+      → IsKeptShard t fits setup shard (history ++ entry ∷ []) (set cells i cell) running' capacity'
+  kept_after {shard} {history} {cells} entry i cell running' capacity' kept there is may stands same_frame counted room limited = record {
     legal = legal-append setup history entry kept.legal may;
     numbered = kept.numbered;
     whole = λ c lt of. rw length-set (kept.whole c lt of);
     only = λ j lt. kept.only j (subst (λ n. j < n) (length-set cells i cell) lt);
     each = λ j d lt. ⊎_elim
         (λ (e : j ≡ i).
-        subst (λ k. CellStands trail colour frame fits setup (colour_at setup shard k) (account_of setup (history ++ entry ∷ []) (colour_at setup shard k)) (get_or (set cells i cell) k d)) (sym e)
+        subst (λ k. CellStands t fits setup (colour_at setup shard k) (account_of setup (history ++ entry ∷ []) (colour_at setup shard k)) (get_or (set cells i cell) k d)) (sym e)
         (rw (account-own setup history entry (colour_at setup shard i) is, get_or-set_same cells i cell d there) stands))
         (λ (ne : j ≡ i → ⊥).
         rw (account-other setup history entry (colour_at setup shard j) (λ e. colours_differ setup shard i j (λ ij. ne (sym ij)) (sym is ∙ e)), get_or-set_other cells i j cell d ne)
@@ -81,21 +89,16 @@ module _ {S P F : Type 0} (trail : S → List Event) (colour : S → Colour) (fr
     frames = λ j k d lj lk.
         let lj' : j < length cells = subst (λ n. j < n) (length-set cells i cell) lj in
         let lk' : k < length cells = subst (λ n. k < n) (length-set cells i cell) lk in
-        same_frame_at cells i cell there same_frame j d ∙ kept.frames j k d lj' lk' ∙ sym (same_frame_at cells i cell there same_frame k d);
+        same_frame_at t.frame_of cells i cell there same_frame j d ∙ kept.frames j k d lj' lk' ∙ sym (same_frame_at t.frame_of cells i cell there same_frame k d);
     counted = counted;
     room = simp length-append (omega arith);
+    limited = limited;
   }
-
-  -- where a state stands after a registration
-  state_registered : (c : Colour) (given : S) (s : Account) (event : Event) (by core count : ℕ) → s.begun ≤ length s.registered → (home : Option S)
-      → StateStands trail colour frame c given s core count home → StateStands trail colour frame c given (next_account s (Reg c event by)) core count home
-  state_registered c given s event by core count le None stands = stands
-  state_registered c given s event by core count le (Some state) stands = (stands.0, stands.1 ∙ sym (take-append-le s.ended s.registered (event ∷ []) (omega arith)), stands.2, stands.3)
 
   -- a cell after a registration
   pub stands_registered : (c : Colour) (s : Account) (cell : Cell S P) (event : Event) (load : Option P) (by : ℕ)
-      → CellStands trail colour frame fits setup c s cell → fits (frame cell.given.value) c event load
-      → CellStands trail colour frame fits setup c (next_account s (Reg c event by)) (record cell { queue = pushed cell.queue event load (weight setup event) })
+      → CellStands t fits setup c s cell → fits (t.frame_of cell.given.value) c event load
+      → CellStands t fits setup c (next_account s (Reg c event by)) (record cell { queue = pushed cell.queue event load (weight setup event) })
   stands_registered c s cell event load by stands fit = record {
     events = map-append (λ e. e.0) cell.queue.events ((event, load) ∷ []) ∙ ap (λ es. es ++ event ∷ []) stands.events ∙ sym (drop-append-le s.begun s.registered (event ∷ []) stands.begun);
     weights = ap (λ ws. ws ++ weight setup event ∷ []) stands.weights ∙ sym (map-append (weight setup) (drop s.begun s.registered) (event ∷ [])) ∙ ap (map (weight setup)) (sym (drop-append-le s.begun s.registered (event ∷ []) stands.begun));
@@ -104,5 +107,5 @@ module _ {S P F : Type 0} (trail : S → List Event) (colour : S → Colour) (fr
     begun = simp length-append (omega (arith, stands.begun));
     owner = stands.owner;
     fit = all_by_recursion-append _ cell.queue.events (event, load) stands.fit fit;
-    state = state_registered c cell.given.value s event by cell.core cell.count stands.begun cell.home stands.state;
+    state = state_registered t c cell.given.value s event by cell.core cell.count stands.begun cell.home stands.state;
   }

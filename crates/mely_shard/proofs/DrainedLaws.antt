@@ -1,19 +1,18 @@
 -- A colour of another shard, or beyond those of the setup, has nothing in a shard's history.
-use Rattle.std.proofs.Common.{◌≡◌, ℕ, ◌%◌, ◌<◌, ◌≤◌, List, [], ◌∷◌, None, Some, length, drop, refl, sym, ◌∙◌, ap, subst, arith, ⊎_elim}
-use Rattle.std.specs.List.{slice_get, AllByRecursion, filter_map, cons_option}
+use Rattle.std.proofs.Common.{◌≡◌, ℕ, ◌%◌, ◌<◌, ◌≤◌, List, [], ◌∷◌, None, length, refl, sym, ◌∙◌, ap, arith, ⊎_elim}
+use Rattle.std.specs.List.{AllByRecursion, filter_map, cons_option}
 use Rattle.std.proofs.lemmas.Bool.{cases_lt, cases_eq, ne_eqb}
 use Rattle.std.proofs.lemmas.List.{length-drop, nil_from_length}
 use Rattle.mely_event.specs.declared.colour.Colour.{Colour}
-use Rattle.mely_event.specs.declared.event.Event.{Event}
 use Rattle.mely_history.specs.Setup.{shape_of, colours_of}
 use Rattle.mely_history.specs.declared.setup.Setup.{Setup}
 use Rattle.mely_history.specs.declared.entry.Entry.{Entry}
 use Rattle.mely_history.specs.declared.entry.Entry.TheVariants.{Reg, Take, Fin, Steal}
 use Rattle.mely_history.specs.Entries.{colour_of, registration_on}
-use Rattle.mely_history.specs.History.{registered_of, begun_of, ended_of, queued_of}
-use Rattle.mely_history.specs.Legal.{IsAllowed, IsLegal, IsOfShard, IsDrained, IsDrainedOf}
+use Rattle.mely_history.specs.History.{registered_of, begun_of, queued_of}
+use Rattle.mely_history.specs.Legal.{IsLegal, IsOfShard, IsDrained, IsDrainedOf}
 use Rattle.mely_history.proofs.LegalAccounts.{begun_within, ended_within}
-use Rattle.mely_shard.proofs.Ending.{all_from_places}
+use Rattle.mely_history.proofs.BeyondLaws.{none_registered}
 
 -- an entry of another colour registers nothing on this one
 registers_other : (c : Colour) (entry : Entry) → ((colour_of entry).0 ≡ c.0 → ⊥) → registration_on c entry ≡ None
@@ -22,19 +21,11 @@ registers_other c (Take colour core count) ne = refl
 registers_other c (Fin colour core count) ne = refl
 registers_other c (Steal colour from to) ne = refl
 
--- nor does an entry that is allowed, where there is no such colour
-registers_beyond : (setup : Setup) (front : List Entry) (c : Colour) (entry : Entry) → colours_of setup ≤ c.0 → IsAllowed setup front entry → registration_on c entry ≡ None
-registers_beyond setup front c (Reg colour event by) beyond may =
-    registers_other c (Reg colour event by) (λ same. let there = may.colour in omega (arith, there, beyond, same))
-registers_beyond setup front c (Take colour core count) beyond may = refl
-registers_beyond setup front c (Fin colour core count) beyond may = refl
-registers_beyond setup front c (Steal colour from to) beyond may = refl
-
 -- where no entry registers on a colour, nothing is registered on it
-none_registered : (c : Colour) (history : List Entry) → AllByRecursion (λ entry. registration_on c entry ≡ None) history → registered_of history c ≡ []
-none_registered c [] none = refl
-none_registered c (entry ∷ history) (first, rest) =
-    ap (λ o. cons_option o (filter_map (registration_on c) history)) first ∙ none_registered c history rest
+unregistered : (c : Colour) (history : List Entry) → AllByRecursion (λ entry. registration_on c entry ≡ None) history → registered_of history c ≡ []
+unregistered c [] none = refl
+unregistered c (entry ∷ history) (first, rest) =
+    ap (λ o. cons_option o (filter_map (registration_on c) history)) first ∙ unregistered c history rest
 
 -- each entry is of a colour of the shard, and this one is of another
 registers_elsewhere : (setup : Setup) (shard : ℕ) (c : Colour) (history : List Entry) → (c.0 % (shape_of setup).shards ≡ shard → ⊥) → IsOfShard setup shard history → AllByRecursion (λ entry. registration_on c entry ≡ None) history
@@ -60,8 +51,8 @@ drained_everywhere setup shard history legal of_shard own c =
     ⊎_elim
     (λ (there : c.0 < colours_of setup). ⊎_elim
     (λ (here : c.0 % (shape_of setup).shards ≡ shard). own c there here)
-    (λ (ne : c.0 % (shape_of setup).shards ≡ shard → ⊥). drained_unregistered setup history c legal (none_registered c history (registers_elsewhere setup shard c history ne of_shard)))
+    (λ (ne : c.0 % (shape_of setup).shards ≡ shard → ⊥). drained_unregistered setup history c legal (unregistered c history (registers_elsewhere setup shard c history ne of_shard)))
     (cases_eq (c.0 % (shape_of setup).shards) shard))
     (λ (beyond : colours_of setup ≤ c.0). drained_unregistered setup history c legal
-    (none_registered c history (all_from_places (λ entry. registration_on c entry ≡ None) history (λ at entry is. registers_beyond setup _ c entry beyond (legal at entry is)))))
+    (none_registered setup history legal c beyond))
     (cases_lt c.0 (colours_of setup))

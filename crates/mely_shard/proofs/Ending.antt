@@ -7,6 +7,7 @@ use Rattle.std.proofs.lemmas.List.{length-map, nil_from_length}
 use Rattle.std.proofs.lemmas.Option.{slice_get_within, slice_get_cases, get_or_from_slice_get}
 use Rattle.mely_event.specs.declared.colour.Colour.{Colour}
 use Rattle.mely_event.specs.declared.event.Event.{Event}
+use Rattle.mely_event.specs.declared.trail.Trail.{Ghosts as TrailWords}
 use Rattle.mely_history.specs.Setup.{shape_of, colours_of}
 use Rattle.mely_history.specs.declared.setup.Setup.{Setup}
 use Rattle.mely_history.specs.declared.entry.Entry.{Entry}
@@ -45,12 +46,12 @@ pub map_twice : {X Y Z : Type 0} (f : Y → Z) (h : X → Y) (xs : List X) → m
 map_twice f h [] = refl
 map_twice f h (x ∷ xs) = ap (λ zs. f (h x) ∷ zs) (map_twice f h xs)
 
-module _ {S P F : Type 0} (trail : S → List Event) (colour : S → Colour) (frame : S → F) (fits : F → Colour → Event → Option P → Type 0) (setup : Setup) (shard : ℕ) (history : List Entry) (cells : List (Cell S P)) (running capacity : ℕ) (kept : IsKeptShard trail colour frame fits setup shard history cells running capacity) where
+module _ {S P F : Type 0} {t : TrailWords S F} {fits : F → Colour → Event → Option P → Type 0} {setup : Setup} {shard : ℕ} {history : List Entry} {cells : List (Cell S P)} {running capacity : ℕ} (kept : IsKeptShard t fits setup shard history cells running capacity) where
   -- the colour of a place is one of the shard, and its cell stands
-  stands_at : (i : ℕ) (cell : Cell S P) → slice_get cells i ≡ Some cell → CellStands trail colour frame fits setup (colour_at setup shard i) (account_of setup history (colour_at setup shard i)) cell
-  stands_at i cell is = subst (λ b. CellStands trail colour frame fits setup (colour_at setup shard i) (account_of setup history (colour_at setup shard i)) b) (get_or_from_slice_get cells i cell cell is) (kept.each i cell (slice_get_within cells i cell is))
+  stands_at : (i : ℕ) (cell : Cell S P) → slice_get cells i ≡ Some cell → CellStands t fits setup (colour_at setup shard i) (account_of setup history (colour_at setup shard i)) cell
+  stands_at i cell is = subst (λ b. CellStands t fits setup (colour_at setup shard i) (account_of setup history (colour_at setup shard i)) b) (get_or_from_slice_get cells i cell cell is) (kept.each i cell (slice_get_within cells i cell is))
 
-  home_some : (c : Colour) (given : S) (core count : ℕ) (home : Option S) → StateStands trail colour frame c given (account_of setup history c) core count home → ¬ IsRunning history c → IsSome home
+  home_some : (c : Colour) (given : S) (core count : ℕ) (home : Option S) → StateStands t c given (account_of setup history c) core count home → ¬ IsRunning history c → IsSome home
   home_some c given core count None stands rest =
       let some = stands.2 in
       let away = stands.1 in
@@ -65,15 +66,15 @@ module _ {S P F : Type 0} (trail : S → List Event) (colour : S → Colour) (fr
       home_some (colour_at setup shard i) cell.given.value cell.core cell.count cell.home stands.state (rest (colour_at setup shard i) (kept.only i (slice_get_within cells i cell is)) (shard_of_colour_at setup shard i kept.numbered)))
 
   -- a cell is drained exactly where its colour is
-  drained_here : (c : Colour) (given : S) (core count many : ℕ) (home : Option S) → many ≡ length (queued_of history c) → StateStands trail colour frame c given (account_of setup history c) core count home → (is_some home && (many == 0)) ≡ true → IsDrainedOf history c
+  drained_here : (c : Colour) (given : S) (core count many : ℕ) (home : Option S) → many ≡ length (queued_of history c) → StateStands t c given (account_of setup history c) core count home → (is_some home && (many == 0)) ≡ true → IsDrainedOf history c
   drained_here c given core count many None many_is stands is = cc
   drained_here c given core count many (Some state) many_is stands is = record { at_rest = stands.0; none_queued = nil_from_length (queued_of history c) (sym many_is ∙ eqb-true many 0 is) }
 
-  drained_there : (c : Colour) (given : S) (core count many : ℕ) (home : Option S) → many ≡ length (queued_of history c) → StateStands trail colour frame c given (account_of setup history c) core count home → IsDrainedOf history c → (is_some home && (many == 0)) ≡ true
+  drained_there : (c : Colour) (given : S) (core count many : ℕ) (home : Option S) → many ≡ length (queued_of history c) → StateStands t c given (account_of setup history c) core count home → IsDrainedOf history c → (is_some home && (many == 0)) ≡ true
   drained_there c given core count many None many_is stands drained = let some = stands.2 in let away = stands.1 in let rest = drained.at_rest in absurd (omega (arith, some, away, rest))
   drained_there c given core count many (Some state) many_is stands drained = eq-eqb many 0 (many_is ∙ ap length drained.none_queued)
 
-  waiting_in : (c : Colour) (cell : Cell S P) → CellStands trail colour frame fits setup c (account_of setup history c) cell → length cell.queue.events ≡ length (queued_of history c)
+  waiting_in : (c : Colour) (cell : Cell S P) → CellStands t fits setup c (account_of setup history c) cell → length cell.queue.events ≡ length (queued_of history c)
   waiting_in c cell stands = sym (length-map cell.queue.events (λ e. e.0)) ∙ ap length stands.events
 
   -- all cells are drained exactly where each colour of the shard is
@@ -83,7 +84,7 @@ module _ {S P F : Type 0} (trail : S → List Event) (colour : S → Colour) (fr
         let place : c.0 / (shape_of setup).shards < length cells = kept.whole c.0 there here in
         ⊎_elim
         (λ found.
-        let stands = cell_there trail colour frame fits setup shard history cells running capacity kept c found.0 there here (sym found.3) in
+        let stands = cell_there kept c found.0 there here (sym found.3) in
         drained_here c found.0.given.value found.0.core found.0.count (length found.0.queue.events) found.0.home (waiting_in c found.0 stands) stands.state (passes_at cell_is_drained cells all (c.0 / (shape_of setup).shards) found.0 found.2))
         (λ past. let beyond = past.0 in absurd (omega (arith, beyond, place)))
         (slice_get_cases cells (c.0 / (shape_of setup).shards)).1),

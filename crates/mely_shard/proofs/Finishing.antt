@@ -8,6 +8,7 @@ use Rattle.std.proofs.lemmas.Option.{slice_get_cases}
 use Rattle.std.proofs.lemmas.List.{length-map, get_or_default}
 use Rattle.mely_event.specs.declared.colour.Colour.{Colour}
 use Rattle.mely_event.specs.declared.event.Event.{Event}
+use Rattle.mely_event.specs.declared.trail.Trail.{Ghosts as TrailWords}
 use Rattle.mely_history.specs.Setup.{shape_of, colours_of}
 use Rattle.mely_history.specs.declared.setup.Setup.{Setup}
 use Rattle.mely_history.specs.declared.entry.Entry.{Entry}
@@ -28,14 +29,14 @@ use Rattle.mely_history.proofs.AccountLaws.{account-own}
 use Rattle.mely_shard.proofs.Cells.{kept_after}
 use Rattle.mely_shard.proofs.Registering.{colour_at-place, cell_there}
 
-module _ {S P F : Type 0} (trail : S → List Event) (colour : S → Colour) (frame : S → F) (fits : F → Colour → Event → Option P → Type 0) (setup : Setup) (shard : ℕ) (history : List Entry) (cells : List (Cell S P)) (running capacity : ℕ) (kept : IsKeptShard trail colour frame fits setup shard history cells running capacity) where
+module _ {S P F : Type 0} {t : TrailWords S F} {fits : F → Colour → Event → Option P → Type 0} {setup : Setup} {shard : ℕ} {history : List Entry} {cells : List (Cell S P)} {running capacity : ℕ} (kept : IsKeptShard t fits setup shard history cells running capacity) where
   -- a colour that runs has its state away
-  runs_away : (c : Colour) (given : S) (core count : ℕ) (home : Option S) → StateStands trail colour frame c given (account_of setup history c) core count home → IsRunning history c → (home ≡ None) × (last_take history c ≡ Some (core, count)) × (begun_of history c ≡ ended_of history c + count)
+  runs_away : (c : Colour) (given : S) (core count : ℕ) (home : Option S) → StateStands t c given (account_of setup history c) core count home → IsRunning history c → (home ≡ None) × (last_take history c ≡ Some (core, count)) × (begun_of history c ≡ ended_of history c + count)
   runs_away c given core count None stands runs = (refl, stands.0, stands.1)
   runs_away c given core count (Some state) stands runs = absurd (omega (arith, stands.0, runs))
 
   -- how many a finish finishes
-  pub finish_whole : (c : Colour) (core count : ℕ) (cell : Cell S P) → CellStands trail colour frame fits setup c (account_of setup history c) cell → IsRunningOn history c core count → (cell.home ≡ None) × (begun_of history c ≡ ended_of history c + count)
+  pub finish_whole : (c : Colour) (core count : ℕ) (cell : Cell S P) → CellStands t fits setup c (account_of setup history c) cell → IsRunningOn history c core count → (cell.home ≡ None) × (begun_of history c ≡ ended_of history c + count)
   finish_whole c core count cell stands away =
       let at = runs_away c cell.given.value cell.core cell.count cell.home stands.state away.running in
       let one : ◌≡◌ {A = Option (ℕ × ℕ)} (Some (cell.core, cell.count)) (Some (core, count)) = sym at.1 ∙ away.last in
@@ -67,24 +68,24 @@ module _ {S P F : Type 0} (trail : S → List Event) (colour : S → Colour) (fr
       ⊎_elim
       (λ found.
       let is = sym found.3 in
-      let whole = finish_whole c core count found.0 (cell_there trail colour frame fits setup shard history cells running capacity kept c found.0 there here is) away in
+      let whole = finish_whole c core count found.0 (cell_there kept c found.0 there here is) away in
       one_away i found.0 place is whole.0)
       (λ past. absurd (omega (arith, past.0, place)))
       (slice_get_cases cells i).1
 
   -- a finish keeps what the fields keep
   pub kept_finished : (c : Colour) (core count : ℕ) (state : S) (cell : Cell S P) → c.0 < colours_of setup → c.0 % (shape_of setup).shards ≡ shard
-      → cell ≡ get_or cells (c.0 / (shape_of setup).shards) cell → IsRunningOn history c core count → colour state ≡ c → frame state ≡ frame cell.given.value → trail state ≡ take (begun_of history c) (registered_of history c)
-      → (1 ≤ running) × IsKeptShard trail colour frame fits setup shard (history ++ Fin c core count ∷ []) (set cells (c.0 / (shape_of setup).shards) (record cell { queue = finished_by cell.queue count; home = Some state })) (running - 1) capacity
+      → cell ≡ get_or cells (c.0 / (shape_of setup).shards) cell → IsRunningOn history c core count → t.colour_of state ≡ c → t.frame_of state ≡ t.frame_of cell.given.value → t.trail_of state ≡ take (begun_of history c) (registered_of history c)
+      → (1 ≤ running) × IsKeptShard t fits setup shard (history ++ Fin c core count ∷ []) (set cells (c.0 / (shape_of setup).shards) (record cell { queue = finished_by cell.queue count; home = Some state })) (running - 1) capacity
   kept_finished c core count state cell there here is away of_colour of_frame of_trail =
       let i = c.0 / (shape_of setup).shards in
       let place : i < length cells = kept.whole c.0 there here in
       let after = record cell { queue = finished_by cell.queue count; home = Some state } in
       let at : colour_at setup shard i ≡ c = colour_at-place setup shard c here in
-      let old = cell_there trail colour frame fits setup shard history cells running capacity kept c cell there here is in
+      let old = cell_there kept c cell there here is in
       let whole = finish_whole c core count cell old away in
       let fewer = one_fewer cells i cell after place is whole.0 refl in
-      let stands : CellStands trail colour frame fits setup c (next_account (account_of setup history c) (Fin c core count)) after = record {
+      let stands : CellStands t fits setup c (next_account (account_of setup history c) (Fin c core count)) after = record {
         events = old.events;
         weights = old.weights;
         started = old.started;
@@ -95,15 +96,16 @@ module _ {S P F : Type 0} (trail : S → List Event) (colour : S → Colour) (fr
         state = (whole.1, of_trail ∙ ap (λ n. take n (registered_of history c)) whole.1, of_colour, of_frame);
       } in (
         omega (arith, fewer, kept.counted),
-        kept_after trail colour frame fits setup shard history (Fin c core count) cells i after running (running - 1) capacity capacity kept place (sym (ap (λ k. k.0) at)) (record { last = away.last; whole = whole.1 })
-            (subst (λ k. CellStands trail colour frame fits setup k (next_account (account_of setup history k) (Fin c core count)) after) (sym at) stands)
-            (ap (λ b. frame b.given.value) is ∙ ap (λ b. frame b.given.value) (get_or_default cells i cell after place))
+        kept_after (Fin c core count) i after (running - 1) capacity kept place (sym (ap (λ k. k.0) at)) (record { last = away.last; whole = whole.1 })
+            (subst (λ k. CellStands t fits setup k (next_account (account_of setup history k) (Fin c core count)) after) (sym at) stands)
+            (ap (λ b. t.frame_of b.given.value) is ∙ ap (λ b. t.frame_of b.given.value) (get_or_default cells i cell after place))
             (omega (arith, fewer, kept.counted))
-            (omega (arith, fewer, kept.counted, kept.room)),
+            (omega (arith, fewer, kept.counted, kept.room))
+            kept.limited,
       )
 
   -- what a finish answers
-  pub told_finished : (c : Colour) (core count : ℕ) (cell : Cell S P) → CellStands trail colour frame fits setup c (account_of setup history c) cell → AfterAs setup (history ++ Fin c core count ∷ []) c (after_of cell)
+  pub told_finished : (c : Colour) (core count : ℕ) (cell : Cell S P) → CellStands t fits setup c (account_of setup history c) cell → AfterAs setup (history ++ Fin c core count ∷ []) c (after_of cell)
   told_finished c core count cell old =
       let next = account-own setup history (Fin c core count) c refl in
       let waiting : queued_of (history ++ Fin c core count ∷ []) c ≡ queued_of history c = ap (λ (s : Account). drop s.begun s.registered) next in

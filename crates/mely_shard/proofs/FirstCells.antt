@@ -1,17 +1,19 @@
 -- The cells of a shard at first.
-use Rattle.std.proofs.Common.{◌≡◌, ℕ, zero, suc, ◌+◌, ◌/◌, ◌<◌, ◌⊎◌, List, [], ◌∷◌, ◌++◌, Option, Some, Bool, false, cond, length, map, get_or, refl, sym, ◌∙◌, ap, subst, arith, inl, inr, ⊎_elim}
+use Rattle.std.proofs.Common.{◌≡◌, ℕ, zero, suc, ◌+◌, ◌/◌, ◌<◌, ◌≤◌, ◌⊎◌, List, [], ◌∷◌, ◌++◌, Option, Some, Bool, false, cond, length, map, get_or, refl, sym, ◌∙◌, ap, subst, arith, inl, inr, ⊎_elim}
 use Rattle.std.specs.Prelude.{is_none}
 use Rattle.std.specs.List.{slice_get, count_by, sum_by}
 use Rattle.std.proofs.lemmas.List.Sums.{sum_by-cons}
 use Rattle.std.proofs.lemmas.Option.{slice_get_within, slice_get_cases, slice_get-get_or}
 use Rattle.mely_event.specs.declared.colour.Colour.{Colour}
 use Rattle.mely_event.specs.declared.event.Event.{Event}
+use Rattle.mely_event.specs.declared.trail.Trail.{Ghosts as TrailWords}
 use Rattle.mely_history.specs.Setup.{shape_of, colours_of}
 use Rattle.mely_history.specs.declared.setup.Setup.{Setup}
 use Rattle.mely_history.specs.Account.{account_of}
 use Rattle.mely_queue.specs.Taken.{EachFits}
 use Rattle.mely_shard.specs.declared.cell.Cell.{Cell}
 use Rattle.mely_shard.specs.Contents.{Lane, colour_at, first_lane, AreFirstStates}
+use Rattle.mely_shard.specs.declared.room.TheConstants.{MOST_ENTRIES}
 use Rattle.mely_shard.specs.Kept.{IsFirstCell, AreFirstCells, IsKeptShard, CellStands, StateStands, is_away, lane_of}
 use Rattle.mely_shard.proofs.Registering.{colour_at-place}
 
@@ -59,7 +61,7 @@ none_away (cell ∷ cells) home =
     let split : sum_by (λ b. one (is_away b)) (cell ∷ cells) ≡ one (is_away cell) + sum_by (λ b. one (is_away b)) cells = sum_by-cons (λ b. one (is_away b)) cell cells in
     omega (arith, first, rest, split)
 
-module _ {S P F : Type 0} (trail : S → List Event) (colour : S → Colour) (frame : S → F) (fits : F → Colour → Event → Option P → Type 0) (setup : Setup) (shard : ℕ) (states : List S) (cells : List (Cell S P)) (numbered : shard < (shape_of setup).shards) (given : AreFirstStates trail colour frame setup shard states) (many : length cells ≡ length states) (first : AreFirstCells setup shard states cells) where
+module _ {S P F : Type 0} (t : TrailWords S F) (fits : F → Colour → Event → Option P → Type 0) (setup : Setup) (shard : ℕ) (states : List S) (cells : List (Cell S P)) (numbered : shard < (shape_of setup).shards) (given : AreFirstStates t setup shard states) (many : length cells ≡ length states) (first : AreFirstCells setup shard states cells) where
   -- the first cell of a place
   first_at : (i : ℕ) (cell : Cell S P) → slice_get cells i ≡ Some cell → (state : S) × (slice_get states i ≡ Some state) × IsFirstCell setup (colour_at setup shard i).0 state cell
   first_at i cell is = ⊎_elim
@@ -68,11 +70,11 @@ module _ {S P F : Type 0} (trail : S → List Event) (colour : S → Colour) (fr
       (slice_get_cases states i).1
 
   -- it has what the empty history says of its colour
-  stands_first : (i : ℕ) (cell : Cell S P) → slice_get cells i ≡ Some cell → CellStands trail colour frame fits setup (colour_at setup shard i) (account_of setup [] (colour_at setup shard i)) cell
+  stands_first : (i : ℕ) (cell : Cell S P) → slice_get cells i ≡ Some cell → CellStands t fits setup (colour_at setup shard i) (account_of setup [] (colour_at setup shard i)) cell
   stands_first i cell is =
       let at = first_at i cell is in
       let cell_is = at.2 in
-      let same : frame at.0 ≡ frame cell.given.value = ap frame (sym cell_is.given) in
+      let same : t.frame_of at.0 ≡ t.frame_of cell.given.value = ap t.frame_of (sym cell_is.given) in
       record {
         events = ap (λ q. map (λ e. e.0) q.events) cell_is.queue;
         weights = ap (λ q. q.weights) cell_is.queue;
@@ -80,14 +82,14 @@ module _ {S P F : Type 0} (trail : S → List Event) (colour : S → Colour) (fr
         finished = ap (λ q. q.finished) cell_is.queue;
         begun = omega arith;
         owner = cell_is.owner;
-        fit = subst (λ q. EachFits (fits (frame cell.given.value) (colour_at setup shard i)) q.events) (sym cell_is.queue) tt;
-        state = subst (λ home. StateStands trail colour frame (colour_at setup shard i) cell.given.value (account_of setup [] (colour_at setup shard i)) cell.core cell.count home) (sym cell_is.home)
+        fit = subst (λ q. EachFits (fits (t.frame_of cell.given.value) (colour_at setup shard i)) q.events) (sym cell_is.queue) tt;
+        state = subst (λ home. StateStands t (colour_at setup shard i) cell.given.value (account_of setup [] (colour_at setup shard i)) cell.core cell.count home) (sym cell_is.home)
             (refl, given.untouched i at.0 at.1, given.coloured i at.0 at.1, same);
       }
 
   -- the fields keep what they are to keep
-  pub kept_first : (capacity : ℕ) → IsKeptShard trail colour frame fits setup shard [] cells 0 capacity
-  kept_first capacity = record {
+  pub kept_first : (capacity : ℕ) → capacity ≤ MOST_ENTRIES → IsKeptShard t fits setup shard [] cells 0 capacity
+  kept_first capacity limited = record {
     legal = λ at entry is. cc;
     numbered = numbered;
     whole = λ c lt of. let all = given.all (c / (shape_of setup).shards) (subst (λ k. k < colours_of setup) (sym (ap (λ k. k.0) (colour_at-place setup shard (record { 0 = c }) of))) lt) in omega (arith, all, many);
@@ -97,9 +99,10 @@ module _ {S P F : Type 0} (trail : S → List Event) (colour : S → Colour) (fr
     frames = λ i j d li lj.
         let one = first_at i (get_or cells i d) (slice_get-get_or cells i d li) in
         let other = first_at j (get_or cells j d) (slice_get-get_or cells j d lj) in
-        ap frame one.2.given ∙ given.one_frame i j one.0 other.0 one.1 other.1 ∙ ap frame (sym other.2.given);
+        ap t.frame_of one.2.given ∙ given.one_frame i j one.0 other.0 one.1 other.1 ∙ ap t.frame_of (sym other.2.given);
     counted = sym (none_away cells (λ i cell is. ap is_none (first_at i cell is).2.home));
     room = omega arith;
+    limited = limited;
   }
 
   -- the lanes are those of the states

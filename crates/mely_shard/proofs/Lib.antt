@@ -1,12 +1,12 @@
-pub mod Cells
-pub mod FirstCells
-pub mod Ending
+mod Cells
+mod FirstCells
+mod Ending
 pub mod DrainedLaws
 pub mod TurnLaws
-pub mod ExampleLaws
-pub mod Registering
-pub mod Finishing
-pub mod Taking
-pub mod Exposing
-pub mod Stealing
-pub mod OnceLaws
+mod ExampleLaws
+mod Registering
+mod Finishing
+mod Taking
+mod Exposing
+mod Stealing
+mod OnceLaws

@@ -1,15 +1,16 @@
 -- Each registered event stands in one place.
-use Rattle.std.proofs.Common.{◌≡◌, ℕ, ◌+◌, ◌-◌, ◌<◌, ◌≤◌, List, [], ◌++◌, Some, length, map, take, drop, refl, sym, ◌∙◌, ap, subst, arith, ⊎_elim, length-drop, Option}
+use Rattle.std.proofs.Common.{◌≡◌, ℕ, ◌<◌, ◌≤◌, ◌++◌, Some, take, drop, sym, ◌∙◌, ap, arith, ⊎_elim, length-drop, Option}
 use Rattle.std.proofs.lemmas.List.{take-append-drop, take-take, nil_from_length, length-take-le}
 use Rattle.std.proofs.lemmas.Bool.{cases_lt}
 use Rattle.mely_event.specs.declared.colour.Colour.{Colour}
 use Rattle.mely_event.specs.declared.event.Event.{Event}
-use Rattle.mely_history.specs.History.{registered_of, begun_of, ended_of, ran_of, queued_of, IsRunning}
+use Rattle.mely_event.specs.declared.trail.Trail.{Ghosts as TrailWords}
+use Rattle.mely_history.specs.History.{registered_of, begun_of, ended_of, ran_of, queued_of}
 use Rattle.mely_history.proofs.LegalAccounts.{begun_within, ended_within}
 use Rattle.mely_shard.specs.Contents.{Contents, Lane, IsOwn, IsKept, lane_at, StandsOnce}
 
-pub stands_once : {S P F : Type 0} (trail : S → List Event) (colour : S → Colour) (frame : S → F) (fits : F → Colour → Event → Option P → Type 0) (has : Contents S P) (c : Colour) (lane : Lane S P) → IsKept trail colour frame fits has → IsOwn has c → lane_at has c ≡ Some lane → StandsOnce has c lane
-stands_once trail colour frame fits has c lane kept own is =
+pub stands_once : {S P F : Type 0} {t : TrailWords S F} {fits : F → Colour → Event → Option P → Type 0} {has : Contents S P} (c : Colour) (lane : Lane S P) → IsKept t fits has → IsOwn has c → lane_at has c ≡ Some lane → StandsOnce has c lane
+stands_once {has = has} c lane kept own is =
     let all = registered_of has.history c in
     let b = begun_of has.history c in
     let e = ended_of has.history c in

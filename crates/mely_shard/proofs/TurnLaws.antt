@@ -1,25 +1,26 @@
 -- What the other calls leave of a turn, and of what is a shard's own.
-use Rattle.std.proofs.Common.{◌≡◌, ℕ, List, [], ◌∷◌, ◌++◌, Option, Some, take, sym, ◌∙◌, ap, subst, arith, add-zero}
+use Rattle.std.proofs.Common.{◌≡◌, ℕ, [], ◌∷◌, ◌++◌, Option, Some, map, take, sym, ◌∙◌, ap, subst, arith, add-zero, append_assoc}
 use Rattle.std.specs.List.{slice_get}
 use Rattle.std.proofs.lemmas.List.{take-append-le}
 use Rattle.mely_event.specs.declared.colour.Colour.{Colour}
 use Rattle.mely_event.specs.declared.event.Event.{Event}
+use Rattle.mely_event.specs.declared.trail.Trail.{Ghosts as TrailWords}
 use Rattle.mely_history.specs.declared.entry.Entry.TheVariants.{Reg}
 use Rattle.mely_history.specs.History.{registered_of, begun_of, ended_of}
 use Rattle.mely_history.specs.Legal.{IsRunningOn, IsLegal}
 use Rattle.mely_history.specs.Account.{Account, account_of}
 use Rattle.mely_history.proofs.AccountLaws.{account-with, account_with}
 use Rattle.mely_history.proofs.LegalAccounts.{begun_within}
-use Rattle.mely_queue.specs.Taken.{Taken}
+use Rattle.mely_queue.specs.Taken.{Taken, EachFits}
 use Rattle.mely_shard.specs.Contents.{Contents, IsOwn, KeepsFrame, TurnStands}
 
 -- a colour of the shard is one after each call
 pub own_stays : {S P : Type 0} (old new : Contents S P) (c : Colour) → KeepsFrame old new → IsOwn old c → IsOwn new c
 own_stays old new c frame own = record { there = rw (frame.same_setup) own.there; here = rw (frame.same_setup, frame.same_shard) own.here }
 
-module _ {S P F : Type 0} (trail : S → List Event) (colour : S → Colour) (frame : S → F) (fits : F → Colour → Event → Option P → Type 0) (old new : Contents S P) (turn : Taken S P) (stays : KeepsFrame old new) where
+module _ {S P F : Type 0} {t : TrailWords S F} {fits : F → Colour → Event → Option P → Type 0} {old new : Contents S P} {turn : Taken S P} (stays : KeepsFrame old new) where
   -- a turn stands where the history is the same
-  pub turn_stays : new.history ≡ old.history → TurnStands trail colour frame fits old turn → TurnStands trail colour frame fits new turn
+  pub turn_stays : new.history ≡ old.history → TurnStands t fits old turn → TurnStands t fits new turn
   turn_stays same stands = record {
     away = subst (λ h. IsRunningOn h turn.colour turn.core turn.count) (sym same) stands.away;
     trailed = stands.trailed ∙ ap (λ h. take (begun_of h turn.colour) (registered_of h turn.colour)) (sym same);
@@ -29,7 +30,7 @@ module _ {S P F : Type 0} (trail : S → List Event) (colour : S → Colour) (fr
   }
 
   -- a registration, also on its own colour, leaves a turn as it stands
-  pub turn_registered : (c : Colour) (event : Event) (by : ℕ) → IsLegal old.setup old.history → new.history ≡ old.history ++ Reg c event by ∷ [] → TurnStands trail colour frame fits old turn → TurnStands trail colour frame fits new turn
+  pub turn_registered : (c : Colour) (event : Event) (by : ℕ) → IsLegal old.setup old.history → new.history ≡ old.history ++ Reg c event by ∷ [] → TurnStands t fits old turn → TurnStands t fits new turn
   turn_registered c event by legal more stands =
       let k = turn.colour in
       let with : account_of old.setup new.history k ≡ account_with k (account_of old.setup old.history k) (Reg c event by) = ap (λ h. account_of old.setup h k) more ∙ account-with old.setup old.history (Reg c event by) k in
@@ -44,3 +45,16 @@ module _ {S P F : Type 0} (trail : S → List Event) (colour : S → Colour) (fr
         framed = λ i given is. stands.framed i given (subst (λ gs. slice_get gs i ≡ Some given) stays.same_givens is);
         fit = stands.fit;
       }
+
+-- a turn still stands after one of its events was run: the event has joined the trail of its state, whose colour and frame stayed
+pub turn_ran : {S P F : Type 0} {t : TrailWords S F} {fits : F → Colour → Event → Option P → Type 0} {has : Contents S P} {old new : Taken S P} (first : Event × Option P) → TurnStands t fits has old
+    → old.events ≡ first ∷ new.events → new.colour ≡ old.colour → new.core ≡ old.core → new.count ≡ old.count
+    → t.trail_of new.state ≡ t.trail_of old.state ++ first.0 ∷ [] → t.colour_of new.state ≡ t.colour_of old.state → t.frame_of new.state ≡ t.frame_of old.state
+    → TurnStands t fits has new
+turn_ran {t = t} {fits = fits} {old = old} {new = new} first stands split colour core count trail of_colour of_frame = record {
+  away = rw (colour, core, count) stands.away;
+  trailed = rw (colour, trail) (append_assoc (t.trail_of old.state) (first.0 ∷ []) (map (λ e. e.0) new.events) ∙ sym (ap (λ es. t.trail_of old.state ++ map (λ e. e.0) es) split) ∙ stands.trailed);
+  coloured = of_colour ∙ stands.coloured ∙ sym colour;
+  framed = λ i given is. of_frame ∙ stands.framed i given is;
+  fit = rw (of_frame, colour) (subst (EachFits (fits (t.frame_of old.state) old.colour)) split stands.fit).1;
+}

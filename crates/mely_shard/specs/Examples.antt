@@ -1,3 +1,4 @@
+-- The shard of the tests.
 use Rattle.std.specs.Prelude.{◌≡◌, length}
 use Rattle.mely_event.specs.HandlerTable.{rows_of}
 use Rattle.mely_history.specs.Setup.{shape_of, colours_of, handlers_of}

@@ -1,7 +1,9 @@
-use Rattle.std.specs.Prelude.{◌≡◌, ◌≤◌, ◌<◌, ◌+◌, ◌/◌, ◌%◌, ℕ, List, [], Option, None, Some, Bool, length, map, take, drop, slice_index_or, count_by, is_none, slice_get, IsSome}
+-- Within the crate: what the fields of a shard keep. Callers see it as `IsKept` of Contents.
+use Rattle.std.specs.Prelude.{◌≡◌, ◌≤◌, ◌<◌, ◌+◌, ◌/◌, ◌%◌, ℕ, List, [], Option, None, Some, Bool, length, map, take, drop, slice_index_or, count_by, is_none, slice_get, IsSome, min}
 use Rattle.std.specs.List.{AllByRecursion}
 use Rattle.mely_event.specs.declared.colour.Colour.{Colour}
 use Rattle.mely_event.specs.declared.event.Event.{Event}
+use Rattle.mely_event.specs.declared.trail.Trail.{Ghosts as TrailWords}
 use Rattle.mely_history.specs.Setup.{shape_of, colours_of}
 use Rattle.mely_history.specs.declared.setup.Setup.{Setup}
 use Rattle.mely_history.specs.declared.entry.Entry.{Entry}
@@ -10,6 +12,7 @@ use Rattle.mely_history.specs.Legal.{IsLegal}
 use Rattle.mely_queue.specs.Taken.{EachFits}
 use Rattle.mely_shard.specs.declared.cell.Cell.{Cell}
 use Rattle.mely_shard.specs.Contents.{Lane, colour_at}
+use Rattle.mely_shard.specs.declared.room.TheConstants.{MOST_ENTRIES}
 use Rattle.mely_history.specs.Account.{Account, account_of}
 use Rattle.mely_history.specs.Entries.{colour_of}
 
@@ -20,20 +23,20 @@ abbrev pub is_away : {S P : Type 0} → Cell S P → Bool
 is_away cell = is_none cell.home
 
 -- a state away, or at home
-abbrev pub StateStands : {S F : Type 0} → (S → List Event) → (S → Colour) → (S → F) → Colour → S → Account → ℕ → ℕ → Option S → Type 0
-StateStands trail colour frame c given s core count None = (s.last ≡ Some (core, count)) × (s.begun ≡ s.ended + count) × (0 < count)
-StateStands trail colour frame c given s core count (Some state) = (s.begun ≡ s.ended) × (trail state ≡ take s.ended s.registered) × (colour state ≡ c) × (frame state ≡ frame given)
+abbrev pub StateStands : {S F : Type 0} → TrailWords S F → Colour → S → Account → ℕ → ℕ → Option S → Type 0
+StateStands t c given s core count None = (s.last ≡ Some (core, count)) × (s.begun ≡ s.ended + count) × (0 < count)
+StateStands t c given s core count (Some state) = (s.begun ≡ s.ended) × (t.trail_of state ≡ take s.ended s.registered) × (t.colour_of state ≡ c) × (t.frame_of state ≡ t.frame_of given)
 
 -- a cell has what the history says of its colour
-pub record CellStands {S P F : Type 0} (trail : S → List Event) (colour : S → Colour) (frame : S → F) (fits : F → Colour → Event → Option P → Type 0) (setup : Setup) (c : Colour) (s : Account) (cell : Cell S P) : Type 0 where
+pub record CellStands {S P F : Type 0} (t : TrailWords S F) (fits : F → Colour → Event → Option P → Type 0) (setup : Setup) (c : Colour) (s : Account) (cell : Cell S P) : Type 0 where
   pub events : map (λ e. e.0) cell.queue.events ≡ drop s.begun s.registered
   pub weights : cell.queue.weights ≡ map (weight setup) (drop s.begun s.registered)
   pub started : cell.queue.started ≡ s.begun
   pub finished : cell.queue.finished ≡ s.ended
   pub begun : s.begun ≤ length s.registered
   pub owner : cell.owner ≡ s.owner
-  pub fit : EachFits (fits (frame cell.given.value) c) cell.queue.events
-  pub state : StateStands trail colour frame c cell.given.value s cell.core cell.count cell.home
+  pub fit : EachFits (fits (t.frame_of cell.given.value) c) cell.queue.events
+  pub state : StateStands t c cell.given.value s cell.core cell.count cell.home
 
 -- the emptied lists into which a shard is taken apart have room for each of its colours
 pub record HasRoom (states states_room queues queues_room places : ℕ) : Type 0 where
@@ -57,14 +60,19 @@ AreFirstCells {S} {P} setup shard states cells = (i : ℕ) (state : S) (cell : C
 abbrev pub AreAtHome : {S P : Type 0} → List (Cell S P) → Type 0
 AreAtHome cells = AllByRecursion (λ cell. IsSome cell.home) cells
 
--- what the fields of a shard keep
-pub record IsKeptShard {S P F : Type 0} (trail : S → List Event) (colour : S → Colour) (frame : S → F) (fits : F → Colour → Event → Option P → Type 0) (setup : Setup) (shard : ℕ) (history : List Entry) (cells : List (Cell S P)) (running capacity : ℕ) : Type 0 where
+-- how many entries a history may have where its vector has this capacity
+abbrev pub most_of : ℕ → ℕ
+most_of capacity = min capacity MOST_ENTRIES
+
+-- what the fields of a shard keep; the room of the history is below the limit
+pub record IsKeptShard {S P F : Type 0} (t : TrailWords S F) (fits : F → Colour → Event → Option P → Type 0) (setup : Setup) (shard : ℕ) (history : List Entry) (cells : List (Cell S P)) (running capacity : ℕ) : Type 0 where
   pub legal : IsLegal setup history
   pub numbered : shard < (shape_of setup).shards
   pub whole : (c : ℕ) → c < colours_of setup → c % (shape_of setup).shards ≡ shard → c / (shape_of setup).shards < length cells
   pub only : (i : ℕ) → i < length cells → (colour_at setup shard i).0 < colours_of setup
-  pub each : (i : ℕ) (d : Cell S P) → i < length cells → CellStands trail colour frame fits setup (colour_at setup shard i) (account_of setup history (colour_at setup shard i)) (slice_index_or cells i d)
+  pub each : (i : ℕ) (d : Cell S P) → i < length cells → CellStands t fits setup (colour_at setup shard i) (account_of setup history (colour_at setup shard i)) (slice_index_or cells i d)
   pub own : AllByRecursion (λ entry. (colour_of entry).0 % (shape_of setup).shards ≡ shard) history
-  pub frames : (i j : ℕ) (d : Cell S P) → i < length cells → j < length cells → frame (slice_index_or cells i d).given.value ≡ frame (slice_index_or cells j d).given.value
+  pub frames : (i j : ℕ) (d : Cell S P) → i < length cells → j < length cells → t.frame_of (slice_index_or cells i d).given.value ≡ t.frame_of (slice_index_or cells j d).given.value
   pub counted : running ≡ count_by is_away cells
   pub room : length history + running ≤ capacity
+  pub limited : capacity ≤ MOST_ENTRIES

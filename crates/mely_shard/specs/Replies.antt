@@ -1,5 +1,7 @@
+-- Within the crate: what the cell of one colour answers, in its own fields. Callers see it by the words of Contents.
 use Rattle.std.specs.Prelude.{◌≡◌, ◌≤◌, ◌==◌, ℕ, Bool, Option, None, Some, length, min, take, sum, ◌&&◌, is_some, is_none, nat_lt, if◌then◌else◌}
 use Rattle.mely_event.specs.declared.colour.Colour.{Colour}
+use Rattle.mely_event.specs.declared.trail.Trail.{Ghosts as TrailWords}
 use Rattle.mely_history.specs.declared.registered.Registered.{Registered}
 use Rattle.mely_history.specs.declared.registered.Registered.TheVariants.{Woke, Told, Running}
 use Rattle.mely_history.specs.declared.no_take.NoTake.{NoTake}
@@ -12,6 +14,7 @@ use Rattle.mely_history.specs.declared.no_steal.NoSteal.TheVariants.{Own, Cheap}
 use Rattle.mely_queue.specs.Waiting.{registered_in, taken}
 use Rattle.mely_queue.specs.Taken.{Taken}
 use Rattle.mely_shard.specs.declared.cell.Cell.{Cell}
+use Rattle.mely_shard.specs.Contents.{IsRoomier}
 
 -- what a registration is told, where events waited before it or not
 abbrev pub reply_of : {S P : Type 0} → Cell S P → Bool → Registered
@@ -34,20 +37,20 @@ abbrev pub after_of : {S P : Type 0} → Cell S P → After
 after_of cell = if nat_lt 0 (length cell.queue.events) then More cell.queue.started (sum cell.queue.weights) else Idle
 
 -- the state and the first events are moved out
-pub record CellTakes {S P : Type 0} (Alike : S → S → Type 0) (spare : S → ℕ) (old new : Cell S P) (colour : Colour) (core batch : ℕ) (turn : Taken S P) : Type 0 where
+pub record CellTakes {S P F : Type 0} (t : TrailWords S F) (old new : Cell S P) (colour : Colour) (core batch : ℕ) (turn : Taken S P) : Type 0 where
   pub home : S
   pub was : old.home ≡ Some home
-  pub alike : Alike home turn.state
-  pub room : min batch (length old.queue.events) ≤ spare turn.state
+  pub alike : IsRoomier t home turn.state
+  pub room : min batch (length old.queue.events) ≤ t.spare_of turn.state
   pub made : turn ≡ record { colour = colour; core = core; count = min batch (length old.queue.events); state = turn.state; given = turn.state; events = take batch old.queue.events }
   pub left : new ≡ record old { queue = taken old.queue (min batch (length old.queue.events)); home = None; core = core; count = min batch (length old.queue.events) }
 
 -- only the spare of the state at home may be greater
-pub record CellKeepsState {S P : Type 0} (Alike : S → S → Type 0) (old new : Cell S P) : Type 0 where
+pub record CellKeepsState {S P F : Type 0} (t : TrailWords S F) (old new : Cell S P) : Type 0 where
   pub home : S
   pub was : old.home ≡ Some home
   pub state : S
-  pub alike : Alike home state
+  pub alike : IsRoomier t home state
   pub left : new ≡ record old { home = Some state }
 
 -- why a core may not steal a colour, memory aside

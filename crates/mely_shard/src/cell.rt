@@ -1,4 +1,4 @@
-ghost use Rattle.std.specs.Prelude.{◌≡◌, ◌<◌, ◌≤◌, ◌+◌, ◌^◌, ◌-◌, None, Some, IfOk, IfErr, OnOk, OnErr, length, nat_lt, IsSomeAnd, map};
+ghost use Rattle.std.specs.Prelude.{◌≡◌, ◌<◌, ◌≤◌, ◌+◌, ◌^◌, ◌-◌, [], None, Some, IfOk, IfErr, OnOk, OnErr, length, nat_lt, IsSomeAnd, map};
 ghost use Rattle.std.specs.Prelude.{◌++◌, ◌≢◌, ℕ, IsSome, slice_get, vec_len, vec_capacity};
 ghost use Rattle.mely_history.specs.Setup.{shape_of, colours_of};
 ghost use Rattle.mely_shard.specs.Kept.{IsFirstCell, AreFirstCells, AreAtHome};
@@ -11,6 +11,7 @@ use mely_event::{Colour, Event, Fits, Memory, Trail, Unregistered};
 use mely_history::{After, NoSteal, NoTake, Registered, Setup};
 use mely_queue::{ColourQueue, Turn};
 use std::alloc::Global;
+use std::mem;
 use std::snapshot::Snapshot;
 
 /// One colour of a shard. The state is at home where the colour does not run.
@@ -152,30 +153,35 @@ impl<S, P> Cell<S, P> {
 }
 
 impl<S: Fits<P>, P> Cell<S, P> {
-    ghost use Rattle.mely_shard.specs.Contents.{IsRoomier};
     ghost use Rattle.mely_shard.specs.Replies.{CellTakes, CellKeepsState};
     ghost use Rattle.mely_queue.specs.Taken.{EachFits};
 
-    /// Moves the state and the first events out.
+    /// Moves the state and the first events out, these in the emptied vector, in whose place a new one
+    /// is left.
     pub(crate) fn take(
         &mut self,
         colour: Colour,
         core: u16,
         batch: u16,
+        emptied: &mut Vec<(Event, Option<P>)>,
+        alloc: Global,
     ) -> Result<Turn<S, P>, Memory>
+        requires emptied { emptied.old.items ≡ [] }
         requires home { IsSomeAnd self.old.home (λ state. (S.colour_of state ≡ colour) × (S.frame_of state ≡ S.frame_of self.old.given.value)) }
         requires batch { (1 ≤ batch) × (batch ≤ 1000) }
         requires waiting { 0 < length self.old.queue.events }
         requires fit { EachFits (S.fits_under (S.frame_of self.old.given.value) colour) self.old.queue.events }
-        ensures ok { IfOk result (λ turn. CellTakes (IsRoomier S.alike S.spare_of) S.spare_of self.old self.new colour core batch turn) }
-        ensures err { OnErr result (CellKeepsState (IsRoomier S.alike S.spare_of) self.old self.new) }
+        ensures ok { IfOk result (λ turn. CellTakes S.Trail self.old self.new colour core batch turn) }
+        ensures err { OnErr result (CellKeepsState S.Trail self.old self.new) }
+        ensures emptied { emptied.new.items ≡ [] }
     {
         let count = (batch as usize).min(self.queue.len());
         match &mut self.home {
             Some(state) => state.reserve(count)?,
             None => unreachable!(),
         }
-        let events = self.queue.take_up_to(batch)?;
+        self.queue.take_into(batch, emptied)?;
+        let events = mem::replace(emptied, Vec::new(alloc));
         let Some(state) = self.home.take() else {
             unreachable!()
         };

@@ -5,9 +5,9 @@
 //! queue of events with their loads, the state while it is at home, and which core owns it. An event
 //! is registered behind the others of its colour; a core takes the first events together with the
 //! colour's state, which is then away; it runs them on the state, and finishes, which takes the state
-//! home; an idle core steals a whole colour that is worth more than the declared cost. Each of these
-//! four calls appends its entry to the shard's history, and the type keeps that the history is legal
-//! by the rules of `mely_history`.
+//! home; an idle core steals a whole colour that is worth more than the declared cost, unless it is
+//! pinned. Each of these four calls appends its entry to the shard's history, and the type keeps that
+//! the history is legal by the rules of `mely_history`. A history has at most [`MOST_ENTRIES`].
 //!
 //! ```
 //! let mut shard = Shard::new(alloc, &setup, 0, states)?;
@@ -24,8 +24,10 @@
 #![tactic(auto)]
 
 mod cell;
+mod room;
 mod shard;
 #[cfg(test)]
 mod tests;
 
+pub use room::MOST_ENTRIES;
 pub use shard::Shard;

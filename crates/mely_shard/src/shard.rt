@@ -1,6 +1,7 @@
 ghost use Rattle.std.specs.Prelude.{◌≡◌, ◌<◌, ◌≤◌, ◌+◌, ◌-◌, ◌/◌, ◌%◌, ◌^◌, ◌++◌, ◌∷◌, [], ℕ, List, Option, ◌≢◌, length, IfOk, IfErr, OnOk, OnErr, option_copied, IsTrue, ◌↔◌};
 
 use crate::cell::{Cell, all_drained, cells_of, take_apart};
+use crate::room::make_room;
 use mely_event::{Colour, Event, Fits, Memory, Trail, Unregistered};
 use mely_history::{After, Entry, NoSteal, NoTake, Registered, Setup, Stolen};
 use mely_queue::Turn;
@@ -17,6 +18,13 @@ use std::snapshot::Snapshot;
 /// home, the state that was given at first, and the queued events with their loads. The type keeps
 /// that the history is legal and that the lanes are what it says. A call takes constant time in the
 /// number of colours and in the length of the history, but for growth.
+///
+/// Beside this contracts see its spare: for how many entries more the history has room, beside those
+/// that finish the turns that are out, whose room is made at the take. [`reserve`](Shard::reserve)
+/// raises it; a registration and a steal lower it by one at most, a take by two at most (its own
+/// entry, and that of its finish), a finish and a refused call not at all. The entries, those that
+/// finish the turns that are out and the spare are never more than
+/// [`MOST_ENTRIES`](crate::MOST_ENTRIES).
 #[derive(Drop)]
 pub struct Shard<S: Fits<P>, P> {
     setup: Setup,
@@ -24,6 +32,10 @@ pub struct Shard<S: Fits<P>, P> {
     history: Vec<Entry>,
     cells: Vec<Cell<S, P>>,
     running: usize,
+    alloc: Global,
+
+    /// The vector of the turn that was finished last, empty, whose room the next turn uses.
+    emptied: Vec<(Event, Option<P>)>,
 
     /// Empty lists with room for what [`into_parts`](Shard::into_parts) hands out.
     states: Vec<S>,
@@ -35,16 +47,16 @@ impl<S: Fits<P>, P> Model for Shard<S, P> {
 
     ghost Value = { Contents S P };
 
-    ghost use Rattle.std.specs.Prelude.{map, length, vec_len, vec_capacity, ◌+◌, ◌-◌};
-    ghost use Rattle.mely_shard.specs.Kept.{lane_of, IsKeptShard, HasRoom};
+    ghost use Rattle.std.specs.Prelude.{map, length, vec_len, vec_capacity, ◌≡◌, ◌+◌, ◌-◌, []};
+    ghost use Rattle.mely_shard.specs.Kept.{lane_of, most_of, IsKeptShard, HasRoom};
 
-    ghost view = { λ s. record { setup = s.setup; shard = s.shard; history = s.history.items; lanes = map lane_of s.cells.items; spare = vec_capacity s.history - (length s.history.items + s.running) } };
+    ghost view = { λ s. record { setup = s.setup; shard = s.shard; history = s.history.items; lanes = map lane_of s.cells.items; spare = most_of (vec_capacity s.history) - (length s.history.items + s.running) } };
 
-    ghost invariant = { λ s. IsKeptShard S.trail_of S.colour_of S.frame_of S.fits_under s.setup s.shard s.history.items s.cells.items s.running (vec_capacity s.history) × HasRoom (vec_len s.states) (vec_capacity s.states) (vec_len s.queues) (vec_capacity s.queues) (length s.cells.items) };
+    ghost invariant = { λ s. IsKeptShard S.Trail S.fits_under s.setup s.shard s.history.items s.cells.items s.running (most_of (vec_capacity s.history)) × HasRoom (vec_len s.states) (vec_capacity s.states) (vec_len s.queues) (vec_capacity s.queues) (length s.cells.items) × (s.emptied.items ≡ []) };
 }
 
 impl<S: Fits<P>, P> Shard<S, P> {
-    ghost use Rattle.mely_shard.specs.Contents.{Contents, IsOwn, lane_at, Registers, RegisteredAs, HasSameContents, Takes, KeepsStates, NoTakeAs, Finishes, AfterAs, TurnStands, IsKept, ReadyAs, Steals, NoStealAs, AreFirstStates, IsFirst, KeepsFrame, IsRoomier, StandsOnce};
+    ghost use Rattle.mely_shard.specs.Contents.{Contents, IsOwn, lane_at, Registers, RegisteredAs, HasSameContents, Takes, KeepsStates, NoTakeAs, Finishes, AfterAs, TurnStands, IsKept, ReadyAs, Steals, NoStealAs, AreFirstStates, IsFirst, KeepsFrame, StandsOnce};
     ghost use Rattle.mely_history.specs.Setup.{shape_of};
     ghost use Rattle.mely_event.specs.declared.colour.Colour.{Colour};
     ghost use Rattle.std.specs.Prelude.{map, Some};
@@ -69,9 +81,9 @@ impl<S: Fits<P>, P> Shard<S, P> {
         S: Drop,
         P: Drop,
         requires numbered { shard < (shape_of setup.now).shards }
-        requires first { AreFirstStates S.trail_of S.colour_of S.frame_of setup.now shard states.items }
+        requires first { AreFirstStates S.Trail setup.now shard states.items }
         ensures made { IfOk result (λ made. IsFirst setup.now shard states.items made) }
-        ensures kept { IfOk result (λ made. IsKept S.trail_of S.colour_of S.frame_of S.fits_under made) }
+        ensures kept { IfOk result (λ made. IsKept S.Trail S.fits_under made) }
     {
         let cells = cells_of(alloc, setup, shard, states)?;
         let Ok(states) = Vec::with_capacity(alloc, cells.len()) else {
@@ -86,6 +98,8 @@ impl<S: Fits<P>, P> Shard<S, P> {
             history: Vec::new(alloc),
             cells,
             running: 0,
+            alloc,
+            emptied: Vec::new(alloc),
             states,
             queues,
         })
@@ -124,12 +138,17 @@ impl<S: Fits<P>, P> Shard<S, P> {
     /// The entries so far, the oldest first.
     pub fn history(&self) -> &[Entry]
         ensures value { result.now ≡ self.now.history }
-        ensures kept { IsKept S.trail_of S.colour_of S.frame_of S.fits_under self.now }
+        ensures kept { IsKept S.Trail S.fits_under self.now }
     {
         &self.history
     }
 
-    /// Registers an event behind the others of its colour.
+    /// Registers an event behind the others of its colour, by the pass of the number `by`.
+    ///
+    /// # Errors
+    ///
+    /// There was no memory, or the history is at its limit: the event and its load are handed back,
+    /// and the shard is as it was, but for a greater spare.
     pub fn register(
         &mut self,
         colour: Colour,
@@ -143,11 +162,13 @@ impl<S: Fits<P>, P> Shard<S, P> {
         ensures ok { IfOk result (λ _. Registers self.old self.new colour event load by) }
         ensures reply { IfOk result (λ reply. RegisteredAs self.old.setup self.old.history self.new.history colour reply) }
         ensures err { OnErr result (HasSameContents self.old self.new) }
+        ensures spare_left { self.old.spare ≤ self.new.spare + 1 }
+        ensures spare_stays { OnErr result (self.old.spare ≤ self.new.spare) }
         ensures back { IfErr result (λ refused. (refused.event ≡ event) × (refused.load ≡ load)) }
-        ensures kept { IsKept S.trail_of S.colour_of S.frame_of S.fits_under self.new }
+        ensures kept { IsKept S.Trail S.fits_under self.new }
         ensures frame { KeepsFrame self.old self.new }
     {
-        let Ok(()) = self.history.reserve(self.running + 1) else {
+        let Ok(()) = make_room(&mut self.history, self.running + 1) else {
             return Err(Unregistered { event, load });
         };
         let weight = self.setup.handlers().weight(event.handler);
@@ -157,14 +178,24 @@ impl<S: Fits<P>, P> Shard<S, P> {
         Ok(reply)
     }
 
-    /// Moves the state of a colour and its first events out.
+    /// Moves the state of a colour and its first events out, as many as the batch of the setup or all
+    /// that are queued. It makes room for the entry of its finish, and in the state's trail for the
+    /// events.
+    ///
+    /// # Errors
+    ///
+    /// The first of these that applies: `Elsewhere`, the core is not the colour's owner; `Busy`, it
+    /// runs; `Empty`, nothing is queued; `Memory`, there was none, or the history is at its limit.
+    /// The shard is then as it was, but for greater spares of its history and of the state.
     pub fn take(&mut self, colour: Colour, core: u16) -> Result<Turn<S, P>, NoTake>
         requires own { IsOwn self.old colour }
-        ensures ok { IfOk result (λ turn. Takes (IsRoomier S.alike S.spare_of) S.spare_of self.old self.new colour core turn) }
-        ensures stands { IfOk result (λ turn. TurnStands S.trail_of S.colour_of S.frame_of S.fits_under self.new turn) }
-        ensures err { OnErr result (KeepsStates (IsRoomier S.alike S.spare_of) self.old self.new) }
+        ensures ok { IfOk result (λ turn. Takes S.Trail self.old self.new colour core turn) }
+        ensures stands { IfOk result (λ turn. TurnStands S.Trail S.fits_under self.new turn) }
+        ensures err { OnErr result (KeepsStates S.Trail self.old self.new) }
+        ensures spare_left { self.old.spare ≤ self.new.spare + 2 }
+        ensures spare_stays { OnErr result (self.old.spare ≤ self.new.spare) }
         ensures refusal { IfErr result (λ refusal. NoTakeAs self.old.setup self.old.history colour core refusal) }
-        ensures kept { IsKept S.trail_of S.colour_of S.frame_of S.fits_under self.new }
+        ensures kept { IsKept S.Trail S.fits_under self.new }
         ensures frame { KeepsFrame self.old self.new }
     {
         let place = (colour.0 / self.setup.shards()) as usize;
@@ -172,11 +203,11 @@ impl<S: Fits<P>, P> Shard<S, P> {
         if let Some(refusal) = cell.no_take(core) {
             return Err(refusal);
         }
-        let Ok(()) = self.history.reserve(self.running + 2) else {
+        let Ok(()) = make_room(&mut self.history, self.running + 2) else {
             return Err(NoTake::Memory);
         };
         let batch = self.setup.batch();
-        let Ok(turn) = cell.take(colour, core, batch) else {
+        let Ok(turn) = cell.take(colour, core, batch, &mut self.emptied, self.alloc) else {
             return Err(NoTake::Memory);
         };
         let count = turn.count();
@@ -189,17 +220,19 @@ impl<S: Fits<P>, P> Shard<S, P> {
         Ok(turn)
     }
 
-    /// Takes the state of a turn home.
+    /// Takes the state of a turn home, with the events that were run joined to its trail, and answers
+    /// what is left of the colour. It takes no memory.
     pub fn finish(&mut self, turn: Turn<S, P>) -> After
     where
         S: Drop,
         P: Drop,
         requires own { IsOwn self.old turn.colour }
         requires spent { turn.events ≡ [] }
-        requires stands { TurnStands S.trail_of S.colour_of S.frame_of S.fits_under self.old turn }
+        requires stands { TurnStands S.Trail S.fits_under self.old turn }
         ensures home { Finishes self.old self.new turn }
         ensures reply { AfterAs self.old.setup self.new.history turn.colour result }
-        ensures kept { IsKept S.trail_of S.colour_of S.frame_of S.fits_under self.new }
+        ensures spare_stays { self.new.spare ≡ self.old.spare }
+        ensures kept { IsKept S.Trail S.fits_under self.new }
         ensures frame { KeepsFrame self.old self.new }
     {
         let colour = turn.colour();
@@ -212,24 +245,27 @@ impl<S: Fits<P>, P> Shard<S, P> {
             count,
         });
         self.running -= 1;
-        self.cells[place].finish(count, turn.into_state())
+        let (state, emptied) = turn.into_parts();
+        self.emptied = emptied;
+        self.cells[place].finish(count, state)
     }
 
-    /// Makes room for this many entries, beside the room for running turns.
+    /// Makes the spare of the history at least this many entries, beside the room for running turns.
+    ///
+    /// # Errors
+    ///
+    /// There was no memory, or so many are over the limit: the spare is not lower than before.
     pub fn reserve(&mut self, entries: usize) -> Result<(), Memory>
         ensures ok { OnOk result (entries ≤ self.new.spare) }
         ensures not_lower { self.old.spare ≤ self.new.spare }
         ensures contents { HasSameContents self.old self.new }
-        ensures kept { IsKept S.trail_of S.colour_of S.frame_of S.fits_under self.new }
+        ensures kept { IsKept S.Trail S.fits_under self.new }
         ensures frame { KeepsFrame self.old self.new }
     {
         if entries > usize::MAX - self.running {
             return Err(Memory);
         }
-        match self.history.reserve(self.running + entries) {
-            Ok(()) => Ok(()),
-            Err(_) => Err(Memory),
-        }
+        make_room(&mut self.history, self.running + entries)
     }
 
     /// The state of a colour, where it does not run.
@@ -251,6 +287,14 @@ impl<S: Fits<P>, P> Shard<S, P> {
     }
 
     /// Moves a colour with all that is queued to another core.
+    ///
+    /// # Errors
+    ///
+    /// The first of these that applies: `Pinned`, the colour is one of the setup's pinned ones;
+    /// `Own`, the thief owns it already; `Busy`, it runs; `Empty`, nothing is queued; `Cheap`, its
+    /// time left is not over the steal cost; `Memory`, there was none, or the history is at its
+    /// limit, and never where the spare is at least 1. The shard is then as it was, but for a greater
+    /// spare.
     pub fn steal(&mut self, colour: Colour, to: u16) -> Result<Stolen, NoSteal>
         requires own { IsOwn self.old colour }
         requires core { to < (shape_of self.old.setup).cores }
@@ -258,15 +302,20 @@ impl<S: Fits<P>, P> Shard<S, P> {
         ensures err { OnErr result (HasSameContents self.old self.new) }
         ensures refusal { IfErr result (λ refusal. NoStealAs self.old.setup self.old.history colour to refusal) }
         ensures spare { 1 ≤ self.old.spare → IfErr result (λ refusal. refusal ≢ NoSteal.Memory) }
-        ensures kept { IsKept S.trail_of S.colour_of S.frame_of S.fits_under self.new }
+        ensures spare_left { self.old.spare ≤ self.new.spare + 1 }
+        ensures spare_stays { OnErr result (self.old.spare ≤ self.new.spare) }
+        ensures kept { IsKept S.Trail S.fits_under self.new }
         ensures frame { KeepsFrame self.old self.new }
     {
+        if u32::from(colour.0) < self.setup.pinned() {
+            return Err(NoSteal::Pinned { colour });
+        }
         let place = (colour.0 / self.setup.shards()) as usize;
         let cell = &mut self.cells[place];
         if let Some(refusal) = cell.no_steal(to, self.setup.steal_cost()) {
             return Err(refusal);
         }
-        let Ok(()) = self.history.reserve(self.running + 1) else {
+        let Ok(()) = make_room(&mut self.history, self.running + 1) else {
             return Err(NoSteal::Memory);
         };
         let from = cell.owner;

@@ -1,53 +1,52 @@
-ghost use Rattle.std.specs.Prelude.{◌≡◌, ◌≤◌, ◌<◌, ◌+◌, ◌-◌, ◌++◌, ◌∷◌, [], length, vec_len, vec_capacity, IfOk, OnOk};
+ghost use Rattle.std.specs.Prelude.{◌≡◌, ◌≤◌, ◌<◌, ◌-◌, ◌++◌, ◌∷◌, [], length, IfOk, OnOk};
 ghost use Rattle.mely_shard.specs.Contents.{IsOwn, KeepsFrame, TurnStands};
 ghost use Rattle.mely_shard.specs.Examples.{IsExample};
 
 use crate::Shard;
-use mely_event::{Colour, Event, Fits, Handlers, Memory, Trail};
+use mely_event::{Colour, Event, Fits, Handlers, Memory, Trail, TrailLog};
 use mely_history::{After, Judged, NoSteal, NoTake, Registered, Setup, Shape, Stolen, judge};
 use mely_queue::Turn;
 use std::alloc::{AllocError, Global};
 use std::test::Fail;
 
-/// A state that is its trail, and adds up the loads.
+/// A state that adds up the loads.
 #[derive(Drop)]
 struct Tally {
-    colour: Colour,
-    trail: Vec<Event>,
+    log: TrailLog,
     total: u64,
 }
 
 impl Trail for Tally {
+    ghost use Rattle.mely_event.specs.TrailLog.{AreAlike, alike_itself, alike_onward};
+    ghost use Rattle.std.proofs.Common.{refl};
+
     type Frame = ();
 
-    ghost trail_of = { λ s. s.trail.items };
+    ghost trail_of = { λ s. s.log.events };
 
-    ghost colour_of = { λ s. s.colour };
+    ghost colour_of = { λ s. s.log.colour };
 
     ghost frame_of = { λ s. tt };
 
-    ghost spare_of = { λ s. vec_capacity s.trail - vec_len s.trail };
+    ghost spare_of = { λ s. s.log.spare };
 
-    ghost alike = { λ s t. (s.trail.items ≡ t.trail.items) × (s.colour ≡ t.colour) × (s.total ≡ t.total) };
+    ghost alike = { AreAlike (λ s. s.log) (λ s. s.total) };
 
     fn trail(&self) -> &[Event] {
-        &self.trail
+        self.log.trail()
     }
 
     fn reserve(&mut self, n: usize) -> Result<(), Memory> {
-        self.trail.reserve(n)?;
-        Ok(())
+        self.log.reserve(n)
     }
 
-    ghost use Rattle.std.proofs.Common.{refl, ◌∙◌};
+    ghost alike_itself = { λ s. alike_itself s };
 
-    ghost alike_itself = { λ s. (refl, refl, refl) };
+    ghost alike_onward = { λ r s t one other. alike_onward one other };
 
-    ghost alike_onward = { λ r s t one other. (one.0 ∙ other.0, one.1 ∙ other.1, one.2 ∙ other.2) };
+    ghost alike_trail = { λ s t same. same.events };
 
-    ghost alike_trail = { λ s t same. same.0 };
-
-    ghost alike_colour = { λ s t same. same.1 };
+    ghost alike_colour = { λ s t same. same.colour };
 
     ghost alike_frame = { λ s t same. refl };
 }
@@ -59,24 +58,20 @@ impl Fits<u32> for Tally {
 impl Tally {
     /// Runs an event.
     fn run(&mut self, event: Event, load: Option<u32>)
-        requires { vec_len self.old.trail < vec_capacity self.old.trail }
-        ensures trail { self.new.trail.items ≡ self.old.trail.items ++ event ∷ [] }
-        ensures colour { self.new.colour ≡ self.old.colour }
-        ensures spare { vec_capacity self.new.trail - vec_len self.new.trail + 1 ≡ vec_capacity self.old.trail - vec_len self.old.trail }
+        requires { 1 ≤ self.old.log.spare }
+        ensures { self.new.log ≡ record self.old.log { events = self.old.log.events ++ event ∷ []; spare = self.old.log.spare - 1 } }
     {
-        self.trail.push_reserved(event);
+        self.log.push(event);
         self.total = self.total.wrapping_add(u64::from(load.unwrap_or(0)));
     }
 }
 
 /// A state at first.
 fn blank(alloc: Global, colour: u16) -> Tally
-    ensures trail { result.trail.items ≡ [] }
-    ensures colour { result.colour ≡ record { 0 = colour } }
+    ensures { result.log ≡ record { colour = record { 0 = colour }; events = []; spare = 0 } }
 {
     Tally {
-        colour: Colour(colour),
-        trail: Vec::new(alloc),
+        log: TrailLog::new(alloc, Colour(colour)),
         total: 0,
     }
 }
@@ -84,7 +79,7 @@ fn blank(alloc: Global, colour: u16) -> Tally
 /// Runs what a turn has, and takes its state home.
 fn run_and_finish(shard: &mut Shard<Tally, u32>, mut turn: Turn<Tally, u32>) -> After
     requires own { IsOwn shard.old turn.colour }
-    requires stands { TurnStands ⟦<Tally as Trail>⟧.trail_of ⟦<Tally as Trail>⟧.colour_of ⟦<Tally as Trail>⟧.frame_of ⟦<Tally as Fits<u32>>⟧.fits_under shard.old turn }
+    requires stands { TurnStands ⟦<Tally as Trail>⟧ ⟦<Tally as Fits<u32>>⟧.fits_under shard.old turn }
     requires room { length turn.events ≤ ⟦<Tally as Trail>⟧.spare_of turn.state }
     ensures { KeepsFrame shard.old shard.new }
 {
@@ -95,7 +90,7 @@ fn run_and_finish(shard: &mut Shard<Tally, u32>, mut turn: Turn<Tally, u32>) -> 
 }
 
 /// Four colours on two cores in one shard, batch 10, and one handler of weight 30.
-fn example(alloc: Global, steal_cost: u32) -> Result<Shard<Tally, u32>, Fail>
+fn example(alloc: Global, steal_cost: u32, pinned: u32) -> Result<Shard<Tally, u32>, Fail>
     ensures { IfOk result IsExample }
 {
     let shape = Shape {
@@ -108,7 +103,7 @@ fn example(alloc: Global, steal_cost: u32) -> Result<Shard<Tally, u32>, Fail>
     let Ok(handlers) = Handlers::new(&[(60, 2)]) else {
         return Err(Fail::from("no table"));
     };
-    let Ok(setup) = Setup::new(&shape, 4, handlers) else {
+    let Ok(setup) = Setup::new(&shape, 4, handlers, pinned) else {
         return Err(Fail::from("no setup"));
     };
     let mut states = Vec::new(alloc);
@@ -174,10 +169,10 @@ fn register_meanwhile(
 ) -> Option<Registered>
     requires is { IsExample shard.old }
     requires colour { colour < 4 }
-    requires stands { TurnStands ⟦<Tally as Trail>⟧.trail_of ⟦<Tally as Trail>⟧.colour_of ⟦<Tally as Trail>⟧.frame_of ⟦<Tally as Fits<u32>>⟧.fits_under shard.old turn.now }
+    requires stands { TurnStands ⟦<Tally as Trail>⟧ ⟦<Tally as Fits<u32>>⟧.fits_under shard.old turn.now }
     ensures is { IsExample shard.new }
     ensures frame { KeepsFrame shard.old shard.new }
-    ensures stands { TurnStands ⟦<Tally as Trail>⟧.trail_of ⟦<Tally as Trail>⟧.colour_of ⟦<Tally as Trail>⟧.frame_of ⟦<Tally as Fits<u32>>⟧.fits_under shard.new turn.now }
+    ensures stands { TurnStands ⟦<Tally as Trail>⟧ ⟦<Tally as Fits<u32>>⟧.fits_under shard.new turn.now }
 {
     let _history = shard.history();
     let event = Event { handler: 0, arg: 0 };
@@ -191,10 +186,10 @@ fn register_meanwhile(
 fn take_meanwhile(shard: &mut Shard<Tally, u32>, turn: &Turn<Tally, u32>) -> Option<NoTake>
     requires is { IsExample shard.old }
     requires own { IsOwn shard.old turn.now.colour }
-    requires stands { TurnStands ⟦<Tally as Trail>⟧.trail_of ⟦<Tally as Trail>⟧.colour_of ⟦<Tally as Trail>⟧.frame_of ⟦<Tally as Fits<u32>>⟧.fits_under shard.old turn.now }
+    requires stands { TurnStands ⟦<Tally as Trail>⟧ ⟦<Tally as Fits<u32>>⟧.fits_under shard.old turn.now }
     ensures is { IsExample shard.new }
     ensures frame { KeepsFrame shard.old shard.new }
-    ensures stands { TurnStands ⟦<Tally as Trail>⟧.trail_of ⟦<Tally as Trail>⟧.colour_of ⟦<Tally as Trail>⟧.frame_of ⟦<Tally as Fits<u32>>⟧.fits_under shard.new turn.now }
+    ensures stands { TurnStands ⟦<Tally as Trail>⟧ ⟦<Tally as Fits<u32>>⟧.fits_under shard.new turn.now }
 {
     match shard.take(turn.colour(), 0) {
         Err(refusal) => Some(refusal),
@@ -206,10 +201,10 @@ fn take_meanwhile(shard: &mut Shard<Tally, u32>, turn: &Turn<Tally, u32>) -> Opt
 fn steal_meanwhile(shard: &mut Shard<Tally, u32>, turn: &Turn<Tally, u32>) -> Option<NoSteal>
     requires is { IsExample shard.old }
     requires own { IsOwn shard.old turn.now.colour }
-    requires stands { TurnStands ⟦<Tally as Trail>⟧.trail_of ⟦<Tally as Trail>⟧.colour_of ⟦<Tally as Trail>⟧.frame_of ⟦<Tally as Fits<u32>>⟧.fits_under shard.old turn.now }
+    requires stands { TurnStands ⟦<Tally as Trail>⟧ ⟦<Tally as Fits<u32>>⟧.fits_under shard.old turn.now }
     ensures is { IsExample shard.new }
     ensures frame { KeepsFrame shard.old shard.new }
-    ensures stands { TurnStands ⟦<Tally as Trail>⟧.trail_of ⟦<Tally as Trail>⟧.colour_of ⟦<Tally as Trail>⟧.frame_of ⟦<Tally as Fits<u32>>⟧.fits_under shard.new turn.now }
+    ensures stands { TurnStands ⟦<Tally as Trail>⟧ ⟦<Tally as Fits<u32>>⟧.fits_under shard.new turn.now }
 {
     match shard.steal(turn.colour(), 1) {
         Err(refusal) => Some(refusal),
@@ -248,7 +243,7 @@ fn take_turn_with_calls(shard: &mut Shard<Tally, u32>, colour: u16) -> Result<Me
 
 #[test]
 fn calls_on_one_shard_answer_in_order(rt: HostRuntime) -> Result<(), Fail> {
-    let shard = &mut example(rt.alloc(), 20)?;
+    let shard = &mut example(rt.alloc(), 20, 0)?;
     assert_eq!(rt;
         register(shard, 2),
         Some(Registered::Woke {
@@ -301,13 +296,28 @@ fn calls_on_one_shard_answer_in_order(rt: HostRuntime) -> Result<(), Fail> {
 
 #[test]
 fn a_steal_at_the_cost_is_cheap(rt: HostRuntime) -> Result<(), Fail> {
-    let shard = &mut example(rt.alloc(), 30)?;
+    let shard = &mut example(rt.alloc(), 30, 0)?;
     assert!(rt; shard.is_drained());
     assert_eq!(rt; ready(shard, 2), None);
     assert!(rt; register(shard, 2).is_some());
     assert!(rt; !shard.is_drained());
     assert_eq!(rt; ready(shard, 2), Some((0, 0, 30)));
     assert_eq!(rt; steal(shard, 2, 1), Err(NoSteal::Cheap { worth: 30 }));
+    Ok(())
+}
+
+#[test]
+fn a_pinned_colour_is_never_stolen(rt: HostRuntime) -> Result<(), Fail> {
+    let shard = &mut example(rt.alloc(), 20, 1)?;
+    let pinned = Err(NoSteal::Pinned { colour: Colour(0) });
+    assert_eq!(rt; steal(shard, 0, 1), pinned);
+    assert_eq!(rt; steal(shard, 0, 0), pinned);
+    assert!(rt; register(shard, 0).is_some());
+    assert!(rt; register(shard, 2).is_some());
+    assert_eq!(rt; steal(shard, 0, 1), pinned);
+    assert!(rt; steal(shard, 2, 1).is_ok());
+    assert_eq!(rt; take_turn(shard, 0, 0), Ok((1, After::Idle)));
+    assert_eq!(rt; steal(shard, 0, 1), pinned);
     Ok(())
 }
 
@@ -330,7 +340,7 @@ fn parts_of(
 
 #[test]
 fn a_shard_comes_apart_into_what_it_held(rt: HostRuntime) -> Result<(), Fail> {
-    let mut shard = example(rt.alloc(), 30)?;
+    let mut shard = example(rt.alloc(), 30, 0)?;
     assert!(rt; register(&mut shard, 3).is_some());
     assert_eq!(rt; take_turn(&mut shard, 3, 1), Ok((1, After::Idle)));
     assert_eq!(rt; total_at(&shard, 3), Some(5));
@@ -338,7 +348,7 @@ fn a_shard_comes_apart_into_what_it_held(rt: HostRuntime) -> Result<(), Fail> {
     let totals = vec![in rt.alloc(); 0, 0, 0, 5]?;
     assert_eq!(rt; parts_of(rt.alloc(), shard)?, Some((3, totals, 4)));
 
-    let mut shard = example(rt.alloc(), 30)?;
+    let mut shard = example(rt.alloc(), 30, 0)?;
     assert!(rt; register(&mut shard, 3).is_some());
     assert_eq!(rt; parts_of(rt.alloc(), shard)?, None);
     Ok(())

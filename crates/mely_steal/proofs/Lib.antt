@@ -1,2 +1,9 @@
 pub mod MarkLaws
 pub mod StealLaws
+pub mod LinkLaws
+pub mod TableLaws
+pub mod EnterLaws
+pub mod OrderLaws
+pub mod TableMarks
+pub mod StealableLaws
+pub mod RenumberLaws

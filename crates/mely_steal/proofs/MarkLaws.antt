@@ -1,11 +1,9 @@
 -- Laws of lists of marks with at most one a colour.
-use Rattle.std.proofs.Common.{◌≡◌, ◌<◌, ◌≤◌, ◌+◌, ℕ, get_or, set, take, drop, true, false, not, cond, eqb, List, [], ◌∷◌, ◌++◌, None, Some, length, All, suc, zero, arith, refl, sym, ap, ◌∙◌, inl, inr}
+use Rattle.std.proofs.Common.{◌≡◌, ◌<◌, ℕ, true, false, not, cond, eqb, List, [], ◌∷◌, ◌++◌, None, Some, refl, sym, ap, ◌∙◌, inl, inr}
 use Rattle.std.specs.Option.{option_or}
-use Rattle.std.proofs.lemmas.Bool.{cases_Bool, cases_eq, cond_both, eqb-true, eqb-false, eq-eqb, ne_eqb, not-true}
-use Rattle.std.proofs.lemmas.Option.{none-some}
-use Rattle.std.proofs.lemmas.List.Elements.{All-nil, All-cons, All-head, All-tail, All-push, All-filter, All-map, All-weaker}
-use Rattle.std.proofs.lemmas.List.{length_push, get_or_default}
-use Rattle.std.proofs.lemmas.List.Edits.{map_over_more}
+use Rattle.std.proofs.lemmas.Bool.{cases_Bool, cases_eq, cond_both, eqb-true, eqb-false, eq-eqb, ne_eqb, cond-true, cond-false}
+use Rattle.std.proofs.lemmas.Option.{none-some, same_Some}
+use Rattle.std.proofs.lemmas.List.Elements.{All-push, All-filter, All-map, All-weaker}
 use Rattle.mely_event.specs.declared.colour.Colour.{Colour}
 use Rattle.mely_event.specs.declared.mark.Mark.{Mark}
 use Rattle.mely_steal.specs.Marks.{is_of, mark_of, without, replaced, IsOneEach, AreApart}
@@ -20,6 +18,14 @@ none-parts c x xs h = elim (cases_Bool (is_of c x)) [
 -- two colours of one number have the same mark
 pub mark_of-same : (c d : Colour) (xs : List Mark) → c.0 ≡ d.0 → mark_of c xs ≡ mark_of d xs
 mark_of-same c d xs e = ap (λ n. mark_of (record { 0 = n }) xs) e
+
+-- the mark of a colour is of the colour
+pub mark_of-colour : (c : Colour) (xs : List Mark) (m : Mark) → mark_of c xs ≡ Some m → m.colour.0 ≡ c.0
+mark_of-colour c [] m h = absurd (none-some m h)
+mark_of-colour c (x ∷ xs) m h = elim (cases_Bool (is_of c x)) [
+  | inl t ↦ let is : x ≡ m = same_Some x m (sym (cond-true (is_of c x) (Some x) (mark_of c xs) t) ∙ h) in sym (ap (λ k. k.colour.0) is) ∙ eqb-true x.colour.0 c.0 t
+  | inr f ↦ mark_of-colour c xs m (sym (cond-false (is_of c x) (Some x) (mark_of c xs) f) ∙ h)
+]
 
 pub mark_of-append : (c : Colour) (xs ys : List Mark) → mark_of c (xs ++ ys) ≡ option_or (mark_of c xs) (mark_of c ys)
 mark_of-append c [] ys = refl
@@ -128,43 +134,6 @@ IsOneEach-replaced new (x ∷ xs) one =
     let r : Mark = cond (is_of new.colour x) new x in
     (none-replaced new r.colour xs (mark_of-same r.colour x.colour xs (replaced-colour new x) ∙ one.0), IsOneEach-replaced new xs one.1)
 
--- a colour takes at most one mark
-pub length-without : (c : Colour) (xs : List Mark) → IsOneEach xs → length xs ≤ length (without c xs) + 1
-length-without c [] one = omega arith
-length-without c (x ∷ xs) one = elim (cases_Bool (is_of c x)) [
-  | inl t ↦
-      let same : without c xs ≡ xs = without-none c xs (mark_of-same c x.colour xs (sym (eqb-true x.colour.0 c.0 t)) ∙ one.0) in
-      let less : without c (x ∷ xs) ≡ xs = ap (λ b. cond (not b) (x ∷ without c xs) (without c xs)) t ∙ same in
-      rw less (omega arith)
-  | inr f ↦
-      let more : without c (x ∷ xs) ≡ x ∷ without c xs = ap (λ b. cond (not b) (x ∷ without c xs) (without c xs)) f in
-      let rest = length-without c xs one.1 in
-      rw more (omega arith)
-]
-
--- without the greatest colour the others are below it
-pub below-without : (n : ℕ) (xs : List Mark) → All (λ m. m.colour.0 < suc n) xs → All (λ m. m.colour.0 < n) (without (record { 0 = n }) xs)
-below-without n [] below = All-nil (λ m. m.colour.0 < n)
-below-without n (x ∷ xs) below =
-    let P : Mark → Type 0 = λ m. m.colour.0 < suc n in
-    let Q : Mark → Type 0 = λ m. m.colour.0 < n in
-    let c : Colour = record { 0 = n } in
-    let rest = below-without n xs (All-tail P x xs below) in
-    let first : x.colour.0 < suc n = All-head P x xs below in
-    cond_both (not (is_of c x)) (x ∷ without c xs) (without c xs) (λ ys. All Q ys)
-    (λ t. let ne : x.colour.0 ≡ n → ⊥ = eqb-false x.colour.0 n (not-true (is_of c x) t) in All-cons Q x (without c xs) (omega arith) rest)
-    (λ f. rest)
-
--- there are at most as many marks as colours
-pub length-le : (n : ℕ) (xs : List Mark) → All (λ m. m.colour.0 < n) xs → IsOneEach xs → length xs ≤ n
-length-le zero [] below one = omega arith
-length-le zero (x ∷ xs) below one = let P : Mark → Type 0 = λ m. m.colour.0 < zero in let never : x.colour.0 < zero = All-head P x xs below in absurd (omega arith)
-length-le (suc n) xs below one =
-    let c : Colour = record { 0 = n } in
-    let rest = length-le n (without c xs) (below-without n xs below) (IsOneEach-without c xs one) in
-    let less = length-without c xs one in
-    omega arith
-
 -- the list with a mark more, one less, and one replaced is as it should be
 pub AreApart-push : (xs : List Mark) (n : ℕ) (m : Mark) → AreApart (record { marks = xs; colours = n }) → m.colour.0 < n → mark_of m.colour xs ≡ None → AreApart (record { marks = xs ++ m ∷ []; colours = n })
 AreApart-push xs n m kept lt none = record { below = All-push (λ x. x.colour.0 < n) xs m kept.below lt; apart = IsOneEach-push xs m kept.apart none }
@@ -179,18 +148,3 @@ AreApart-replaced new xs n kept =
       below = All-map P (λ m. cond (is_of new.colour m) new m) xs (All-weaker P (λ m. P (cond (is_of new.colour m) new m)) (λ m lt. rw (replaced-colour new m) lt) xs kept.below);
       apart = IsOneEach-replaced new xs kept.apart;
     }
-
--- there is room for a mark of a colour that has none
-pub room-push : (xs : List Mark) (n : ℕ) (m : Mark) → AreApart (record { marks = xs; colours = n }) → m.colour.0 < n → mark_of m.colour xs ≡ None → length xs < n
-room-push xs n m kept lt none =
-    let more = AreApart-push xs n m kept lt none in
-    let fits : length (xs ++ m ∷ []) ≤ n = length-le n (xs ++ m ∷ []) more.below more.apart in
-    let long : length (xs ++ m ∷ []) ≡ length xs + 1 = length_push xs m in
-    omega arith
-
--- one step of a loop that replaces in place
-pub replaced_more : (new : Mark) (xs ys : List Mark) (i : ℕ) (d : Mark) → i < length xs → length ys ≡ length xs → ys ≡ replaced new (take i xs) ++ drop i xs
-    → set ys i (cond (is_of new.colour (get_or ys i d)) new (get_or ys i d)) ≡ replaced new (take (i + 1) xs) ++ drop (i + 1) xs
-replaced_more new xs ys i d lt long so =
-    let within : i < length ys = omega arith in
-    map_over_more (λ m. cond (is_of new.colour m) new m) xs ys i (get_or ys i d) lt so (get_or_default ys i d (get_or ys i d) within)

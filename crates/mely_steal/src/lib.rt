@@ -8,12 +8,19 @@
 //! [`victims`] is the order in which it goes round. That a colour has to be worth more than its steal costs is Mely's; that
 //! the bounds of the classes are the cost, twice and four times the cost is this project's own choice.
 //!
-//! The crate is for whoever keeps the ready colours of a core. A [`MarkList`], marks with at most one a colour and room for every
-//! colour, is what stealing queue and chain are made of. The crate says nothing of queues of events, of locks or of
-//! threads.
+//! The crate is for whoever keeps the ready colours of a core. A [`StealTable`], the last mark of each colour with those that may
+//! be stolen, and a [`ColourList`], a list of colours by links, are what the chain of a core is made of, so that it and its
+//! stealing queue keep each mark once. The crate says nothing of queues of events, of locks or of threads.
+//!
+//! Lists are by links in tables with a place a colour, so a call touches a fixed number of places; no clause tells that. Nor
+//! does one tell the numbers of entering, by which contracts see the classes as one list: that the counter begins anew where
+//! no colour is in a class can't be seen from outside.
+//!
+//! Only [`victims`] and the calls `new` may answer that there was no memory. Nothing ties that answer to a cause, so a body that
+//! always gives it meets the contract too; tests show that there is memory where there is enough.
 //!
 //! ```text
-//! let mut queue = StealQueue::new(alloc, 4, 20)?;
+//! let mut queue = StealQueue::new(alloc, 4, 20, 0)?;
 //! queue.enter(mark);                 // a colour became ready
 //! queue.change(raised);              // more was registered on it
 //! for victim in victims(alloc, core, cores, group)? { .. }
@@ -22,13 +29,20 @@
 #![tactic(auto)]
 
 mod class;
+mod classes;
+mod colour_list;
+mod links;
 mod locality;
-mod mark_list;
+mod mark_table;
+mod numbering;
 mod steal_queue;
+mod steal_table;
+mod table;
 #[cfg(test)]
 mod tests;
 
 pub use class::class_of;
+pub use colour_list::ColourList;
 pub use locality::victims;
-pub use mark_list::MarkList;
 pub use steal_queue::StealQueue;
+pub use steal_table::StealTable;

@@ -1,6 +1,6 @@
 ghost use Rattle.std.specs.Prelude.{◌≡◌};
 
-use crate::{StealQueue, class_of, victims};
+use crate::{ColourList, StealQueue, StealTable, class_of, victims};
 use mely_event::{Colour, Mark};
 use std::test::Fail;
 
@@ -35,7 +35,7 @@ fn the_classes_begin_over_the_cost_twice_and_four_times_the_cost(rt: HostRuntime
 
 #[test]
 fn the_picks_are_the_first_of_the_highest_class(rt: HostRuntime) -> Result<(), Fail> {
-    let mut queue = StealQueue::new(rt.alloc(), 4, 20)?;
+    let mut queue = StealQueue::new(rt.alloc(), 4, 20, 0)?;
     queue.enter(mark(0, 30));
     queue.enter(mark(1, 20));
     queue.enter(mark(2, 50));
@@ -45,5 +45,54 @@ fn the_picks_are_the_first_of_the_highest_class(rt: HostRuntime) -> Result<(), F
     assert_eq!(rt; queue.pick(), Some(mark(2, 50)));
     assert_eq!(rt; queue.pick(), Some(mark(0, 45)));
     assert_eq!(rt; queue.pick(), None);
+    Ok(())
+}
+
+#[test]
+fn a_pinned_colour_is_never_picked(rt: HostRuntime) -> Result<(), Fail> {
+    let mut queue = StealQueue::new(rt.alloc(), 4, 20, 2)?;
+    queue.enter(mark(0, 90));
+    queue.enter(mark(2, 30));
+    queue.change(mark(1, 90));
+    queue.change(mark(3, 30));
+    queue.remove(Colour(0));
+    assert_eq!(rt; queue.pick(), Some(mark(2, 30)));
+    assert_eq!(rt; queue.pick(), Some(mark(3, 30)));
+    assert_eq!(rt; queue.pick(), None);
+    Ok(())
+}
+
+#[test]
+fn colours_leave_a_list_at_the_front_in_the_middle_and_at_the_back(
+    rt: HostRuntime,
+) -> Result<(), Fail> {
+    let mut list = ColourList::new(rt.alloc(), 5)?;
+    assert!(rt; list.is_empty());
+    list.push(Colour(4));
+    list.push(Colour(0));
+    list.push(Colour(3));
+    list.push(Colour(1));
+    assert!(rt; list.contains(Colour(3)));
+    list.remove(Colour(0));
+    list.remove(Colour(1));
+    list.remove(Colour(2));
+    assert!(rt; !list.contains(Colour(0)));
+    assert_eq!(rt; list.first(), Some(Colour(4)));
+    assert_eq!(rt; list.at(1), Some(Colour(3)));
+    assert_eq!(rt; list.at(2), None);
+    list.remove(Colour(4));
+    assert_eq!(rt; list.first(), Some(Colour(3)));
+    Ok(())
+}
+
+#[test]
+fn a_table_keeps_the_marks_of_colours_that_left_it(rt: HostRuntime) -> Result<(), Fail> {
+    let mut table = StealTable::new(rt.alloc(), 2, 20, 0)?;
+    table.enter(mark(1, 10));
+    table.change(mark(0, 50));
+    table.remove(Colour(0));
+    assert_eq!(rt; table.mark(Colour(0)), mark(0, 50));
+    assert_eq!(rt; table.mark(Colour(1)), mark(1, 10));
+    assert_eq!(rt; table.pick(), None);
     Ok(())
 }

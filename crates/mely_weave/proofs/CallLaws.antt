@@ -25,14 +25,13 @@ use Rattle.mely_history.specs.Legal.{IsRunningOn, IsLegal, MayRegister, MayTake,
 use Rattle.mely_history.specs.Account.{account_of}
 use Rattle.mely_history.proofs.LegalAccounts.{IsOnTurn, running_on_owner, owner_within}
 use Rattle.mely_queue.specs.Taken.{Taken, EachFits}
-use Rattle.mely_shard.specs.Contents.{Contents, Lane, IsOwn, IsKept, KeepsFrame, lane_at, place, Registers, RegisteredAs, HasSameContents, Takes, IsRoomier, KeepsStates, NoTakeAs, Steals, NoStealAs, TurnStands}
+use Rattle.mely_shard.specs.Contents.{Contents, Lane, IsOwn, IsKept, KeepsFrame, lane_at, place, Registers, RegisteredAs, HasSameContents, Takes, KeepsStates, NoTakeAs, Steals, NoStealAs, TurnStands}
 use Rattle.mely_steal.specs.Marks.{mark_of, without}
 use Rattle.mely_steal.specs.Stealing.{entered, pick_of}
 use Rattle.mely_core.specs.Chains.{Chain}
 use Rattle.mely_worker.specs.Access.{IsTaken, IsSpent, StillOwes, NamesCore, GivesBack, IsColour, events_of}
 use Rattle.mely_weave.specs.Scene.{Scene, shard_of, history_at, history_in}
 use Rattle.mely_weave.specs.Calls.{AtShard, AtChain, RegisterAs, TakeAs, FinishAs, StealAs, PushAs, PopAs, PickAs, IsOut}
-use Rattle.mely_weave.specs.Trying.{TriesToDeliver}
 use Rattle.mely_weave.specs.SideStands.{SideStands}
 use Rattle.mely_weave.proofs.EntryLaws.{Adds}
 use Rattle.mely_weave.proofs.EffectLaws.{IsFinishBy, out_stays}
@@ -44,7 +43,7 @@ module _ {S P : Type 0} where
   register_does c event load by old new (Ok reply) ok told err = (ok, told)
   register_does c event load by old new (Err back) ok told err = err
 
-  pub take_does : {F : Type 0} (t : TrailWords S F) (c : Colour) (core : ℕ) (old new : Contents S P) (result : Result (Taken S P) NoTake) → IfOk result (λ turn. Takes (IsRoomier t.alike t.spare_of) t.spare_of old new c core turn) → OnErr result (KeepsStates (IsRoomier t.alike t.spare_of) old new) → IfErr result (λ refusal. NoTakeAs old.setup old.history c core refusal) → TakeAs t c core result old new
+  pub take_does : {F : Type 0} (t : TrailWords S F) (c : Colour) (core : ℕ) (old new : Contents S P) (result : Result (Taken S P) NoTake) → IfOk result (λ turn. Takes t old new c core turn) → OnErr result (KeepsStates t old new) → IfErr result (λ refusal. NoTakeAs old.setup old.history c core refusal) → TakeAs t c core result old new
   take_does t c core old new (Ok turn) ok err refusal = ok
   take_does t c core old new (Err why) ok err refusal = (err, refusal)
 
@@ -56,7 +55,7 @@ is_none_where : {A : Type 0} (o : Option A) → (IsSome o → ⊥) → o ≡ Non
 is_none_where None h = refl
 is_none_where (Some x) h = absurd (h refl)
 
-pub push_does : (mark : Mark) (old new : Chain) (result : Result (Unit {0}) There) → OnOk result (new ≡ record old { chain = old.chain ++ mark ∷ []; worthy = entered old.cost mark old.worthy }) → (IsErr result ↔ IsSome (mark_of mark.colour old.chain)) → OnErr result (new ≡ old) → PushAs mark result old new
+pub push_does : (mark : Mark) (old new : Chain) (result : Result (Unit {0}) There) → OnOk result (new ≡ record old { chain = old.chain ++ mark ∷ []; worthy = entered old.cost old.pinned mark old.worthy }) → (IsErr result ↔ IsSome (mark_of mark.colour old.chain)) → OnErr result (new ≡ old) → PushAs mark result old new
 push_does mark old new (Ok done) ok there err = (is_none_where (mark_of mark.colour old.chain) (λ some. let no : is_err {T = Unit {0}} {E = There} (Ok done) ≡ true = there.1 some in cc), ok)
 push_does mark old new (Err back) ok there err = (there.0 refl, err)
 
@@ -64,9 +63,9 @@ pub pop_does : (old new : Chain) (result : Option Mark) → MatchOption result (
 pop_does old new None front rest = (front, rest)
 pop_does old new (Some mark) front rest = (front, rest)
 
-pub pick_does : (old new : Chain) (result : Option Mark) → result ≡ pick_of old.cost old.worthy → IfSome result (λ mark. (mark_of mark.colour old.chain ≡ Some mark) × (mark.colour.0 < old.colours) × (old.cost < mark.worth)) → MatchOption result (new ≡ old) (λ mark. new ≡ record old { chain = without mark.colour old.chain; worthy = without mark.colour old.worthy }) → PickAs result old new
-pick_does old new None value mark rest = (sym value, rest)
-pick_does old new (Some m) value mark rest = (sym value, mark.0, mark.2, rest)
+pub pick_does : (old new : Chain) (result : Option Mark) → result ≡ pick_of old.cost old.worthy → IfSome result (λ mark. mark_of mark.colour old.chain ≡ Some mark) → IfSome result (λ mark. old.cost < mark.worth) → IfSome result (λ mark. old.pinned ≤ mark.colour.0) → MatchOption result (new ≡ old) (λ mark. new ≡ record old { chain = without mark.colour old.chain; worthy = without mark.colour old.worthy }) → PickAs result old new
+pick_does old new None value chained paying loose rest = (sym value, rest)
+pick_does old new (Some m) value chained paying loose rest = (sym value, chained, paying, loose, rest)
 
 module _ {S P F : Type 0} (t : TrailWords S F) (fits : F → Colour → Event → Option P → Type 0) (a b : Scene S P) (c : Colour) (stands : SideStands t fits a) where
   legal_at : (has : Contents S P) → slice_get a.shards (shard_of a.setup c) ≡ Some has → IsLegal a.setup has.history
@@ -157,7 +156,7 @@ names_core setup old new c (Running core) legal told = tt
 
 module _ {S P F : Type 0} (t : TrailWords S F) (fits : F → Colour → Event → Option P → Type 0) (a b : Scene S P) (c : Colour) (stands : SideStands t fits a) where
   -- the turn that a take gives
-  pub turn_taken : (turn : Taken S P) (at : AtShard a b c (TakeAs t c a.core (Ok turn))) → c.0 < colours_of a.setup → SideStands t fits b → TurnStands t.trail_of t.colour_of t.frame_of fits at.new turn
+  pub turn_taken : (turn : Taken S P) (at : AtShard a b c (TakeAs t c a.core (Ok turn))) → c.0 < colours_of a.setup → SideStands t fits b → TurnStands t fits at.new turn
       → IsTaken t fits (λ (s : Scene S P). s.setup) (λ (s : Scene S P). s.core) (λ (s : Scene S P). t.frame_of s.given) IsOut a b c turn
   turn_taken turn at low after out =
       let took = at.does in
@@ -192,14 +191,14 @@ module _ {S P F : Type 0} (t : TrailWords S F) (fits : F → Colour → Event �
       }
 
   -- the same, whatever the answer
-  pub turn_of : (answer : Result (Taken S P) NoTake) (at : AtShard a b c (TakeAs t c a.core answer)) → c.0 < colours_of a.setup → SideStands t fits b → IfOk answer (λ turn. TurnStands t.trail_of t.colour_of t.frame_of fits at.new turn)
+  pub turn_of : (answer : Result (Taken S P) NoTake) (at : AtShard a b c (TakeAs t c a.core answer)) → c.0 < colours_of a.setup → SideStands t fits b → IfOk answer (λ turn. TurnStands t fits at.new turn)
       → IfOk answer (λ turn. IsTaken t fits (λ (s : Scene S P). s.setup) (λ (s : Scene S P). s.core) (λ (s : Scene S P). t.frame_of s.given) IsOut a b c turn)
   turn_of (Ok turn) at low after out = turn_taken turn at low after out
   turn_of (Err why) at low after out = tt
 
 module _ {S P F : Type 0} (t : TrailWords S F) (fits : F → Colour → Event → Option P → Type 0) (a : Scene S P) (stands : SideStands t fits a) where
   -- the reply names a core, or hands back what was given
-  pub answer_of : (c : Colour) (event : Event) (load : Option P) (old new : Contents S P) (answer : Result Registered (Unregistered P)) → slice_get a.shards (shard_of a.setup c) ≡ Some old → KeepsFrame old new → IsKept t.trail_of t.colour_of t.frame_of fits new
+  pub answer_of : (c : Colour) (event : Event) (load : Option P) (old new : Contents S P) (answer : Result Registered (Unregistered P)) → slice_get a.shards (shard_of a.setup c) ≡ Some old → KeepsFrame old new → IsKept t fits new
       → IfOk answer (λ reply. RegisteredAs old.setup old.history new.history c reply) → IfErr answer (λ refused. (refused.event ≡ event) × (refused.load ≡ load)) → MatchResult answer (NamesCore a.setup) (GivesBack event load)
   answer_of c event load old new (Ok reply) there frame kept told back =
       let is = (stands.shard (shard_of a.setup c) old there).of_setup in
@@ -218,12 +217,8 @@ module _ {S P F : Type 0} (t : TrailWords S F) (fits : F → Colour → Event �
   mark_low core queue there None low = tt
   mark_low core queue there (Some mark) low = subst (λ n. mark.colour.0 < n) (stands.chain core queue there).colours low
 
-  pub picked_low : (core : ℕ) (queue : Chain) → slice_get a.chains core ≡ Some queue → (answer : Option Mark) → IfSome answer (λ mark. (mark_of mark.colour queue.chain ≡ Some mark) × (mark.colour.0 < queue.colours) × (queue.cost < mark.worth)) → IfSome answer (λ mark. IsColour a.setup mark.colour)
-  picked_low core queue there None low = tt
-  picked_low core queue there (Some mark) low = subst (λ n. mark.colour.0 < n) (stands.chain core queue there).colours low.1
-
   -- a turn whose events were run may be finished
-  pub turn_stands : (c : Colour) (turn : Taken S P) (has : Contents S P) → turn.colour ≡ c → slice_get a.shards (shard_of a.setup c) ≡ Some has → IsSpent t (λ (s : Scene S P). s.setup) (λ (s : Scene S P). t.frame_of s.given) IsOut a turn → TurnStands t.trail_of t.colour_of t.frame_of fits has turn
+  pub turn_stands : (c : Colour) (turn : Taken S P) (has : Contents S P) → turn.colour ≡ c → slice_get a.shards (shard_of a.setup c) ≡ Some has → IsSpent t (λ (s : Scene S P). s.setup) (λ (s : Scene S P). t.frame_of s.given) IsOut a turn → TurnStands t fits has turn
   turn_stands c turn has of_c there spent =
       let was : history_at a turn.colour ≡ has.history = ap (λ (d : Colour). history_at a d) of_c ∙ ap history_in there in
       let none : t.trail_of turn.state ++ map (λ (e : Event × Option P). e.0) turn.events ≡ t.trail_of turn.state = ap (λ (l : List (Event × Option P)). t.trail_of turn.state ++ map (λ e. e.0) l) spent.none_left ∙ append-nil (t.trail_of turn.state) in
@@ -234,7 +229,3 @@ module _ {S P F : Type 0} (t : TrailWords S F) (fits : F → Colour → Event �
         framed = λ i given is. spent.of_frame ∙ sym ((stands.shard (shard_of a.setup c) has there).framed i given is);
         fit = subst (λ (l : List (Event × Option P)). EachFits (fits (t.frame_of turn.state) turn.colour) l) (sym spent.none_left) tt;
       }
-
--- a reply that is another is delivered as the other
-pub delivers_as : {S P : Type 0} (a b : Scene S P) (c : Colour) (reply is : Registered) → reply ≡ is → TriesToDeliver a c is b → TriesToDeliver a c reply b
-delivers_as a b c reply is same delivered = subst (λ (r : Registered). TriesToDeliver a c r b) (sym same) delivered

@@ -12,9 +12,9 @@ use Rattle.mely_history.specs.Setup.{shape_of}
 use Rattle.mely_steal.specs.Marks.{mark_of, replaced}
 use Rattle.mely_steal.specs.Stealing.{changed}
 use Rattle.mely_core.specs.Chains.{Chain, raised}
-use Rattle.mely_core.proofs.ChainLaws.{mark_of-colour}
+use Rattle.mely_steal.proofs.MarkLaws.{mark_of-colour}
 use Rattle.mely_worker.specs.declared.phase.Phase.TheVariants.{Free, Popped, Picked}
-use Rattle.mely_worker.specs.declared.phase.Hand.TheVariants.{Reporting}
+use Rattle.mely_worker.specs.declared.delivery.Delivery.TheVariants.{Report}
 use Rattle.mely_worker.specs.declared.made.Made.{Made}
 use Rattle.mely_worker.specs.WorkerView.{WorkerView}
 use Rattle.mely_worker.specs.Step.{in_phase, after_pop, pop_name, after_pick, pick_name}
@@ -94,16 +94,16 @@ module _ {S P F : Type 0} (t : TrailWords S F) (fits : F → Colour → Event �
       let cores : ℕ = (shape_of loom.setup).cores in
       let group : ℕ = (shape_of loom.setup).group in
       let other : IsOther k cores victim = all_at (IsOther k cores) w.victims n victim (subst (λ (l : List ℕ). AllByRecursion (IsOther k cores) l) (sym (well.worker k w here).victims) (victims_are_others k cores group low)) is in
-      moved_line b victim (PickAs (Some mark)) at v (pick_name victim (Some mark)) refl (sym (ap colour_in phase)) (other.0, subst (λ (n : ℕ). n < mark.worth) chain.cost at.does.2)
+      moved_line b victim (PickAs (Some mark)) at v (pick_name victim (Some mark)) refl (sym (ap colour_in phase)) (other.0, subst (λ (n : ℕ). n < mark.worth) chain.cost at.does.2, subst (λ (n : ℕ). n ≤ mark.colour.0) chain.pinned at.does.3)
       (stand_alike ready (held held_by loom.chains loom.workers) (held held_by (slice_set loom.chains victim at.new) (slice_set loom.workers k v))
-      (marks_picked held_by loom.chains loom.workers k victim w v at.old at.new here at.was mark.colour mark chain.together.apart at.does.1 (ap (λ (q : Chain). q.chain) at.does.3) (ap (held_in w.core) phase) refl) well.marks) tt
+      (marks_picked held_by loom.chains loom.workers k victim w v at.old at.new here at.was mark.colour mark chain.together.apart at.does.1 (ap (λ (q : Chain). q.chain) at.does.4) (ap (held_in w.core) phase) refl) well.marks) tt
 
-  module _ (of' : Colour → Readiness) (stand : MarksStand of' (held held_by loom.chains loom.workers)) (a b : Scene S P) (same_chains : a.chains ≡ loom.chains) (core : ℕ) (c : Colour) (started worth : ℕ) (found : Bool) (at : AtChain a b core (RetellAs c started worth found)) (v : WorkerView S P) (hand : held_by v ≡ held_by w) (said : ReportIsTold of' (Reporting core c started worth)) where
+  module _ (of' : Colour → Readiness) (stand : MarksStand of' (held held_by loom.chains loom.workers)) (a b : Scene S P) (same_chains : a.chains ≡ loom.chains) (core : ℕ) (c : Colour) (started worth : ℕ) (found : Bool) (at : AtChain a b core (RetellAs c started worth found)) (v : WorkerView S P) (hand : held_by v ≡ held_by w) (said : ReportIsTold of' (Report core c started worth)) where
     was_there : slice_get loom.chains core ≡ Some at.old
     was_there = subst (λ (l : List Chain). slice_get l core ≡ Some at.old) same_chains at.was
 
     -- the marks once a report was told
-    retold_from : (was : Option Mark) → was ≡ mark_of c at.old.chain → MatchOption (raised started worth was) (at.new ≡ at.old) (λ now. at.new ≡ record at.old { chain = replaced now at.old.chain; worthy = changed at.old.cost now at.old.worthy })
+    retold_from : (was : Option Mark) → was ≡ mark_of c at.old.chain → MatchOption (raised started worth was) (at.new ≡ at.old) (λ now. at.new ≡ record at.old { chain = replaced now at.old.chain; worthy = changed at.old.cost at.old.pinned now at.old.worthy })
         → MarksStand of' (held held_by (slice_set loom.chains core at.new) (slice_set loom.workers k v))
     retold_from None is does =
         stand_alike of' (held held_by loom.chains loom.workers) (held held_by (slice_set loom.chains core at.new) (slice_set loom.workers k v))
@@ -111,8 +111,8 @@ module _ {S P F : Type 0} (t : TrailWords S F) (fits : F → Colour → Event �
     retold_from (Some m) is does = elim (cases_Bool (m.started == started)) [
       | inl hit ↦
           let now : Mark = record m { worth = max m.worth worth } in
-          let becomes : at.new ≡ record at.old { chain = replaced now at.old.chain; worthy = changed at.old.cost now at.old.worthy } =
-          subst (λ (o : Option Mark). MatchOption o (at.new ≡ at.old) (λ n. at.new ≡ record at.old { chain = replaced n at.old.chain; worthy = changed at.old.cost n at.old.worthy })) (cond-true (m.started == started) (Some now) None hit) does in
+          let becomes : at.new ≡ record at.old { chain = replaced now at.old.chain; worthy = changed at.old.cost at.old.pinned now at.old.worthy } =
+          subst (λ (o : Option Mark). MatchOption o (at.new ≡ at.old) (λ n. at.new ≡ record at.old { chain = replaced n at.old.chain; worthy = changed at.old.cost at.old.pinned n at.old.worthy })) (cond-true (m.started == started) (Some now) None hit) does in
           let one = (well.chain core at.old was_there).together.apart in
           let of_c : m.colour.0 ≡ c.0 = mark_of-colour c at.old.chain m (sym is) in
           let same : m.colour ≡ c = ap (λ (n : ℕ). let d : Colour = record { 0 = n } in d) of_c in
@@ -124,7 +124,7 @@ module _ {S P F : Type 0} (t : TrailWords S F) (fits : F → Colour → Event �
           marks_raised held_by loom.chains loom.workers k core w v at.old at.new here was_there of' m now refl refl most one there (ap (λ (q : Chain). q.chain) becomes) hand (told_where of' core now sound.owner sound.begun most) stand
       | inr miss ↦
           let stays : at.new ≡ at.old =
-          subst (λ (o : Option Mark). MatchOption o (at.new ≡ at.old) (λ n. at.new ≡ record at.old { chain = replaced n at.old.chain; worthy = changed at.old.cost n at.old.worthy })) (cond-false (m.started == started) (Some (record m { worth = max m.worth worth })) None miss) does in
+          subst (λ (o : Option Mark). MatchOption o (at.new ≡ at.old) (λ n. at.new ≡ record at.old { chain = replaced n at.old.chain; worthy = changed at.old.cost at.old.pinned n at.old.worthy })) (cond-false (m.started == started) (Some (record m { worth = max m.worth worth })) None miss) does in
           stand_alike of' (held held_by loom.chains loom.workers) (held held_by (slice_set loom.chains core at.new) (slice_set loom.workers k v))
           (marks_stay held_by loom.chains loom.workers k core w v at.old at.new here was_there stays hand) stand
     ]
@@ -133,7 +133,7 @@ module _ {S P F : Type 0} (t : TrailWords S F) (fits : F → Colour → Event �
     marks_retold = retold_from (mark_of c at.old.chain) refl at.does.1
 
   -- a report is told
-  pub retell_line : (b : Scene S P) (core : ℕ) (c : Colour) (started worth : ℕ) (found : Bool) (at : AtChain from b core (RetellAs c started worth found)) (v : WorkerView S P) → held_by v ≡ held_by w → ReportIsTold ready (Reporting core c started worth)
+  pub retell_line : (b : Scene S P) (core : ℕ) (c : Colour) (started worth : ℕ) (found : Bool) (at : AtChain from b core (RetellAs c started worth found)) (v : WorkerView S P) → held_by v ≡ held_by w → ReportIsTold ready (Report core c started worth)
       → (made : Made) → v.victims ≡ w.victims → colour_run_by v ≡ colour_run_by w → PhaseIsTold loom.setup ready k v.phase → WasntRefused made → Keeps b v made
   retell_line b core c started worth found at v hand said made victims colour said' never =
       moved_line b core (RetellAs c started worth found) at v made victims colour said' (marks_retold ready well.marks from b refl core c started worth found at v hand said) never

@@ -83,9 +83,9 @@ module _ (setup : Setup) (of : Colour → Readiness) (n : ℕ) (chains : List Ch
 
   -- the mark of a ready colour is pushed on the chain of its owner
   pub chained_ready : (owner : ℕ) (mark : Mark) (old new : Chain) → (of (numbered n)).ready ≡ true → owner ≡ (of (numbered n)).owner → mark ≡ mark_for of (numbered n) → slice_get chains owner ≡ Some old
-      → new ≡ record old { chain = old.chain ++ mark ∷ []; worthy = entered old.cost mark old.worthy } → AreChained setup of (n + 1) (slice_set chains owner new)
+      → new ≡ record old { chain = old.chain ++ mark ∷ []; worthy = entered old.cost old.pinned mark old.worthy } → AreChained setup of (n + 1) (slice_set chains owner new)
   chained_ready owner mark old new ready owner_is mark_is there becomes =
-      let pushes : Chain → Mark → Chain = λ q m. record q { chain = q.chain ++ m ∷ []; worthy = entered q.cost m q.worthy } in
+      let pushes : Chain → Mark → Chain = λ q m. record q { chain = q.chain ++ m ∷ []; worthy = entered q.cost q.pinned m q.worthy } in
       let mine : is_ready_on of owner (numbered n) ≡ true = ap (λ b. b && ((of (numbered n)).owner == owner)) ready ∙ eq-eqb (of (numbered n)).owner owner (sym owner_is) in
       record {
         many = length-set chains owner new ∙ chained.many;

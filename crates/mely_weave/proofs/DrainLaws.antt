@@ -118,7 +118,7 @@ module _ {R S P F : Type 0} (t : TrailWords S F) (fits : F → Colour → Event 
 
   -- a worker of another core is as it was
   pub others_stay : (core k : ℕ) (step : Made) (a b : Loom S P) → k ≢ core → StepsWell t fits y app a core step b → slice_get b.workers k ≡ slice_get a.workers k
-  others_stay core k step a b apart is = ap (λ (l : Loom S P). slice_get l.workers k) is.steps.leaves ∙ get_set_other a.workers core k is.steps.becomes apart
+  others_stay core k step a b apart is = ap (λ (l : Loom S P). slice_get l.workers k) is.call.steps.leaves ∙ get_set_other a.workers core k is.call.steps.becomes apart
 
   drives_others : (core n k : ℕ) (a b : Loom S P) → k ≢ core → Drives t fits y app core n a b → slice_get b.workers k ≡ slice_get a.workers k
   unfolding Drives
@@ -149,12 +149,12 @@ module _ {R S P F : Type 0} (t : TrailWords S F) (fits : F → Colour → Event 
   halted_stays : (core : ℕ) (step : Made) (a b : Loom S P) → StepsWell t fits y app a core step b → SomeHalted a → SomeHalted b
   halted_stays core step a b is some = ⊎_elim
       (λ (same : some.core ≡ core).
-      let that : some.worker ≡ is.steps.worker = same_Some some.worker is.steps.worker (sym some.there ∙ ap (slice_get a.workers) same ∙ is.steps.was) in
-      let stays = step_stays t (λ _. Unit {0}) y app (side_of a core) is.steps.side is.steps.worker is.steps.becomes step (step_on_side t y app (side_of a core) is.steps.side is.steps.worker is.steps.becomes step is.steps.steps) in
+      let that : some.worker ≡ is.call.steps.worker = same_Some some.worker is.call.steps.worker (sym some.there ∙ ap (slice_get a.workers) same ∙ is.call.steps.was) in
+      let stays = step_stays t (λ _. Unit {0}) y app (side_of a core) is.call.steps.side is.call.steps.worker is.call.steps.becomes step (step_on_side t y app (side_of a core) is.call.steps.side is.call.steps.worker is.call.steps.becomes step is.call.steps.steps) in
       record {
         core = core;
-        worker = is.steps.becomes;
-        there = ap (λ (l : Loom S P). slice_get l.workers core) is.steps.leaves ∙ get_set_same a.workers core is.steps.worker is.steps.becomes is.steps.was;
+        worker = is.call.steps.becomes;
+        there = ap (λ (l : Loom S P). slice_get l.workers core) is.call.steps.leaves ∙ get_set_same a.workers core is.call.steps.worker is.call.steps.becomes is.call.steps.was;
         halted = stays.halted (ap (λ (w : WorkerView S P). w.halted) (sym that) ∙ some.halted);
       })
       (λ (apart : some.core ≡ core → ⊥). record { core = some.core; worker = some.worker; there = others_stay core some.core step a b apart is ∙ some.there; halted = some.halted })

@@ -1,24 +1,21 @@
 -- A weave that is gathered stands well.
 use Rattle.std.proofs.Common.{◌≡◌, ℕ, zero, suc, ◌+◌, ◌≤◌, ◌<◌, ◌%◌, true, IsTrue, List, [], ◌∷◌, ◌++◌, Option, Some, None, length, get_or, refl, ap, sym, ◌∙◌, subst, arith, inl, inr}
-use Rattle.std.proofs.lemmas.Bool.{cases_lt, ne_eqb}
+use Rattle.std.proofs.lemmas.Bool.{cases_lt}
 use Rattle.std.proofs.lemmas.List.{append-nil}
-use Rattle.std.proofs.lemmas.List.Elements.{filter_map-append}
 use Rattle.std.proofs.lemmas.Option.{get_or_from_slice_get, slice_get_within}
-use Rattle.std.specs.Prelude.{slice_get, flat_map, cond}
-use Rattle.std.specs.List.{AllByRecursion, cons_option}
+use Rattle.std.specs.Prelude.{slice_get, flat_map}
+use Rattle.std.specs.List.{AllByRecursion}
 use Rattle.mely_event.specs.declared.colour.Colour.{Colour}
 use Rattle.mely_event.specs.declared.event.Event.{Event}
 use Rattle.mely_event.specs.declared.trail.Trail.{Ghosts as TrailWords}
 use Rattle.mely_history.specs.declared.setup.Setup.{Setup}
 use Rattle.mely_history.specs.declared.entry.Entry.{Entry}
-use Rattle.mely_history.specs.declared.entry.Entry.TheVariants.{Reg, Take, Fin, Steal}
 use Rattle.mely_history.specs.Setup.{shape_of, colours_of}
-use Rattle.mely_history.specs.Entries.{registration_on}
-use Rattle.mely_history.specs.History.{registered_of, IsRunning}
-use Rattle.mely_history.specs.Legal.{IsAllowed, IsLegal}
+use Rattle.mely_history.specs.History.{IsRunning}
+use Rattle.mely_history.specs.Legal.{IsLegal}
 use Rattle.mely_history.specs.Account.{account_of}
-use Rattle.mely_history.proofs.LegalLaws.{over_legal}
-use Rattle.mely_history.proofs.LegalAccounts.{begun_within, owner_within}
+use Rattle.mely_history.proofs.BeyondLaws.{none_registered, never_runs}
+use Rattle.mely_history.proofs.LegalAccounts.{owner_within}
 use Rattle.mely_shard.specs.Contents.{Contents, Lane, IsOwn, IsKept, HomeStands, lane_at, place}
 use Rattle.mely_core.specs.Chains.{Chain}
 use Rattle.mely_steal.specs.Victims.{victims_of}
@@ -39,30 +36,6 @@ use Rattle.mely_weave.proofs.EntryLaws.{ready_rests}
 use Rattle.mely_weave.proofs.ReadyMarks.{chained_stand}
 use Rattle.mely_weave.proofs.SideLaws.{get_map}
 use Rattle.mely_weave.proofs.VictimLaws.{victims_are_others, IsOther}
-
--- an entry that may follow registers nothing on a colour that isn't one of the setup
-registers_none : (setup : Setup) (history : List Entry) (c : Colour) → colours_of setup ≤ c.0 → (entry : Entry) → IsAllowed setup history entry → registration_on c entry ≡ None
-registers_none setup history c high (Reg colour event by) may =
-    let low = may.colour in
-    ap (λ b. cond b (Some event) None) (ne_eqb colour.0 c.0 (λ e. omega (arith, e, low, high)))
-registers_none setup history c high (Take colour core count) may = refl
-registers_none setup history c high (Fin colour core count) may = refl
-registers_none setup history c high (Steal colour from to) may = refl
-
--- so nothing is registered on it
-pub none_registered : (setup : Setup) (history : List Entry) → IsLegal setup history → (c : Colour) → colours_of setup ≤ c.0 → registered_of history c ≡ []
-none_registered setup = over_legal setup (λ history. (c : Colour) → colours_of setup ≤ c.0 → registered_of history c ≡ [])
-    (λ c high. refl)
-    (λ history entry legal may old c high.
-    filter_map-append (registration_on c) history (entry ∷ [])
-    ∙ ap (λ o. registered_of history c ++ cons_option o []) (registers_none setup history c high entry may)
-    ∙ append-nil (registered_of history c)
-    ∙ old c high)
-
--- it never runs
-pub never_runs : (setup : Setup) (history : List Entry) (c : Colour) → IsLegal setup history → colours_of setup ≤ c.0 → ¬ IsRunning history c
-never_runs setup history c legal high runs =
-    omega (arith, runs, begun_within setup history c legal, ap length (none_registered setup history legal c high))
 
 -- a ready colour is one of the setup, and its owner is a core
 pub ready_within : (setup : Setup) (history : List Entry) (c : Colour) → IsLegal setup history → (readiness_of setup (account_of setup history c)).ready ≡ true → (c.0 < colours_of setup) × ((readiness_of setup (account_of setup history c)).owner < (shape_of setup).cores)
@@ -110,7 +83,7 @@ others_are_cores setup core [] all = tt
 others_are_cores setup core (victim ∷ victims) all = (all.0.1, others_are_cores setup core victims all.1)
 
 module _ {S P F : Type 0} (t : TrailWords S F) (fits : F → Colour → Event → Option P → Type 0) (setup : Setup) (shards : List (Contents S P)) (was : List Chain) (workers : List (WorkerView S P)) (may : MayGather t fits setup shards was workers)
-    (kept : (number : ℕ) (has : Contents S P) → slice_get shards number ≡ Some has → IsKept t.trail_of t.colour_of t.frame_of fits has) where
+    (kept : (number : ℕ) (has : Contents S P) → slice_get shards number ≡ Some has → IsKept t fits has) where
   -- the history of each colour is that of a shard, and legal
   shard_at : (c : Colour) → (has : Contents S P) × (slice_get shards (shard_of setup c) ≡ Some has)
   shard_at c = there shards (shard_of setup c) (let many = may.shard_count in let some : 1 ≤ (shape_of setup).shards = setup.shards_in.0 in omega (arith, many, some)) where
@@ -202,11 +175,11 @@ pub record IsHome {S P F : Type 0} (frame : S → F) (lane : Lane S P) : Type 0 
   pub home : lane.state ≡ Some state
   pub framed : frame state ≡ frame lane.given
 
-module _ {S P F : Type 0} (t : TrailWords S F) (fits : F → Colour → Event → Option P → Type 0) (has : Contents S P) (kept : IsKept t.trail_of t.colour_of t.frame_of fits has) where
+module _ {S P F : Type 0} (t : TrailWords S F) (fits : F → Colour → Event → Option P → Type 0) (has : Contents S P) (kept : IsKept t fits has) where
   -- as it is where the colour doesn't run
   pub rests_at_home : (c : Colour) (lane : Lane S P) → IsOwn has c → ¬ IsRunning has.history c → lane_at has c ≡ Some lane → IsHome t.frame_of lane
   rests_at_home c lane own rests at = home lane.state refl (kept.each c lane own at).state where
-    home : (o : Option S) → lane.state ≡ o → HomeStands t.trail_of t.colour_of t.frame_of has.history c lane.given o → IsHome t.frame_of lane
+    home : (o : Option S) → lane.state ≡ o → HomeStands t has.history c lane.given o → IsHome t.frame_of lane
     home None is stands = absurd (rests stands)
     home (Some state) is stands = record { state = state; home = is; framed = stands.3 }
 
@@ -221,7 +194,7 @@ module _ {S P F : Type 0} (t : TrailWords S F) (fits : F → Colour → Event �
 
 -- a state of the frame of the first one has the frame of all
 pub given_framed : {S P F : Type 0} (t : TrailWords S F) (fits : F → Colour → Event → Option P → Type 0) (setup : Setup) (shards : List (Contents S P)) (was : List Chain) (workers : List (WorkerView S P)) (may : MayGather t fits setup shards was workers)
-    → ((number : ℕ) (has : Contents S P) → slice_get shards number ≡ Some has → IsKept t.trail_of t.colour_of t.frame_of fits has)
+    → ((number : ℕ) (has : Contents S P) → slice_get shards number ≡ Some has → IsKept t fits has)
     → (given : S) → ((has : Contents S P) (lane : Lane S P) → slice_get shards 0 ≡ Some has → lane_at has (record { 0 = 0 }) ≡ Some lane → t.frame_of given ≡ t.frame_of lane.given) → t.frame_of given ≡ may.frame
 given_framed {S} {P} t fits setup shards was workers may kept given framed =
     let first = get_there shards 0 (let many = may.shard_count in let some : 1 ≤ (shape_of setup).shards = setup.shards_in.0 in omega (arith, many, some)) in

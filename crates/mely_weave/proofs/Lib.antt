@@ -1,27 +1,28 @@
-pub mod Counts
-pub mod MarkLaws
-pub mod EntryLaws
-pub mod EffectLaws
+mod Counts
+mod MarkLaws
+mod EntryLaws
+mod EffectLaws
 pub mod SideLaws
-pub mod CallLaws
-pub mod HandLaws
-pub mod StepLaws
+mod CallLaws
+mod HandLaws
+mod StepLaws
 pub mod Lines
 pub mod VictimLaws
-pub mod TurnLines
-pub mod ChainLines
-pub mod WholeStep
-pub mod PostLaws
+mod TurnLines
+mod ChainLines
+mod WholeStep
+mod PostLaws
 pub mod WeaveWords
 pub mod RunLaws
-pub mod DrainLaws
-pub mod WeaveRunLaws
-pub mod ReadyMarks
+mod DrainLaws
+mod WeaveRunLaws
+mod CallRuns
+mod ReadyMarks
 pub mod GatherLaws
-pub mod ChainingLaws
+mod ChainingLaws
 pub mod DealLaws
 pub mod MakeLaws
 pub mod SpreadLaws
-pub mod PartsLaws
-pub mod PartsOfStanding
-pub mod ExampleLaws
+mod PartsLaws
+mod PartsOfStanding
+pub mod FirstStates

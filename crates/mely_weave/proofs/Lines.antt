@@ -16,7 +16,7 @@ use Rattle.mely_history.specs.declared.no_steal.NoSteal.TheVariants as no_steal
 use Rattle.mely_history.specs.declared.stolen.Stolen.{Stolen}
 use Rattle.mely_history.specs.declared.after.After.{After}
 use Rattle.mely_history.specs.declared.after.After.TheVariants.{More, Idle}
-use Rattle.mely_history.specs.Setup.{shape_of}
+use Rattle.mely_history.specs.Setup.{shape_of, pinned_of}
 use Rattle.mely_history.specs.History.{begun_of, ended_of, queued_of, owner_of, worth_of, IsRunning}
 use Rattle.mely_history.specs.Legal.{IsRunningOn, IsLegal}
 use Rattle.mely_history.specs.Account.{Account, account_of}
@@ -24,7 +24,7 @@ use Rattle.mely_queue.specs.Taken.{Taken}
 use Rattle.mely_shard.specs.Contents.{Contents}
 use Rattle.mely_core.specs.Chains.{Chain}
 use Rattle.mely_worker.specs.declared.phase.Phase.TheVariants.{Free, Popped, Picked, Landing, Pushing, Turning}
-use Rattle.mely_worker.specs.declared.phase.Hand.TheVariants.{Empty}
+use Rattle.mely_worker.specs.declared.delivery.Delivery.TheVariants.{Nothing}
 use Rattle.mely_worker.specs.declared.made.Made.{Made}
 use Rattle.mely_worker.specs.WorkerView.{WorkerView}
 use Rattle.mely_worker.specs.Step.{in_phase, halted_in, after_finish, after_take, after_steal, finish_name, take_name, steal_name}
@@ -114,7 +114,7 @@ module _ {S P F : Type 0} (t : TrailWords S F) (fits : F → Colour → Event �
       let shards : List (Contents S P) = with_shard c at.new in
       let at' : AtShard a (side shards loom.chains) c (TakeAs t c k (Ok turn)) = record { old = at.old; new = at.new; was = at.was; does = at.does; becomes = refl } in
       let adds : Adds loom.setup (h loom.shards) (h shards) (Take c k turn.count) = take_adds t fits a (side shards loom.chains) c stands k turn at' in
-      let v : WorkerView S P = in_phase w (Turning turn Empty []) in
+      let v : WorkerView S P = in_phase w (Turning turn Nothing []) in
       let holds : held_by w ≡ (w.core, mark) ∷ [] = ap (held_in w.core) phase in
       record {
         shards = shards;
@@ -194,16 +194,22 @@ module _ {S P F : Type 0} (t : TrailWords S F) (fits : F → Colour → Event �
             (same_marks shards v (sym (ap (held_in w.core) phase)));
         never = tt;
       }
+  steal_line mark victim phase b (Err (no_steal.Pinned pinned)) at =
+      let of_setup = (well.shard (shard_of loom.setup mark.colour) at.old at.was).of_setup in
+      let loose = (subst (PhaseIsTold loom.setup (of loom.shards) k) phase told).2 in
+      let low = at.does.1.0 in
+      let same : pinned_of at.old.setup ≡ pinned_of loom.setup = ap pinned_of of_setup in
+      absurd (omega (arith, loose, low, same))
   steal_line mark victim phase b (Err no_steal.Own) at =
       let c : Colour = mark.colour in
       let holds : held_by w ≡ (victim, mark) ∷ [] = ap (held_in w.core) phase in
       let of_setup = (well.shard (shard_of loom.setup c) at.old at.was).of_setup in
       let other = (subst (PhaseIsTold loom.setup (of loom.shards) k) phase told).0 in
-      absurd (other ((in_hand_sound (victim, mark) holds).owner ∙ ap (λ (l : List Entry). owner_of loom.setup l c) (history_was a b c (StealAs c k (Err no_steal.Own)) at) ∙ ap (λ (s : Setup). owner_of s at.old.history c) (sym of_setup) ∙ sym at.does.1))
+      absurd (other ((in_hand_sound (victim, mark) holds).owner ∙ ap (λ (l : List Entry). owner_of loom.setup l c) (history_was a b c (StealAs c k (Err no_steal.Own)) at) ∙ ap (λ (s : Setup). owner_of s at.old.history c) (sym of_setup) ∙ sym at.does.1.1))
   steal_line mark victim phase b (Err (no_steal.Busy core)) at =
-      absurd (not_running (victim, mark) at.old.history (ap (held_in w.core) phase) (history_was a b mark.colour (StealAs mark.colour k (Err (no_steal.Busy core))) at) at.does.1.1)
+      absurd (not_running (victim, mark) at.old.history (ap (held_in w.core) phase) (history_was a b mark.colour (StealAs mark.colour k (Err (no_steal.Busy core))) at) at.does.1.2)
   steal_line mark victim phase b (Err (no_steal.Empty registered)) at =
-      absurd (not_empty (victim, mark) at.old.history (ap (held_in w.core) phase) (history_was a b mark.colour (StealAs mark.colour k (Err (no_steal.Empty registered))) at) at.does.1.2)
+      absurd (not_empty (victim, mark) at.old.history (ap (held_in w.core) phase) (history_was a b mark.colour (StealAs mark.colour k (Err (no_steal.Empty registered))) at) at.does.1.3)
   steal_line mark victim phase b (Err (no_steal.Cheap left)) at =
       let c : Colour = mark.colour in
       let holds : held_by w ≡ (victim, mark) ∷ [] = ap (held_in w.core) phase in
@@ -211,13 +217,13 @@ module _ {S P F : Type 0} (t : TrailWords S F) (fits : F → Colour → Event �
       let over = (subst (PhaseIsTold loom.setup (of loom.shards) k) phase told).1 in
       let most : mark.worth ≤ worth_of loom.setup (h loom.shards c) c = (in_hand_sound (victim, mark) holds).worth in
       let is : worth_of loom.setup (h loom.shards c) c ≡ worth_of at.old.setup at.old.history c = ap (λ (l : List Entry). worth_of loom.setup l c) (history_was a b c (StealAs c k (Err (no_steal.Cheap left))) at) ∙ ap (λ (s : Setup). worth_of s at.old.history c) (sym of_setup) in
-      let cheap = at.does.1.3 in
-      let worth = at.does.1.2 in
+      let cheap = at.does.1.4 in
+      let worth = at.does.1.3 in
       let cost : (shape_of at.old.setup).steal_cost ≡ (shape_of loom.setup).steal_cost = ap (λ (s : Setup). (shape_of s).steal_cost) of_setup in
       absurd (omega (arith, over, most, is, cheap, worth, cost))
 
   -- a turn is finished
-  pub finish_line : (turn : Taken S P) → w.phase ≡ Turning turn Empty [] → (b : Scene S P) (answer : After) → AtShard a b turn.colour (FinishAs turn answer) → StepKeeps b (after_finish w turn.colour answer) (finish_name turn.colour answer)
+  pub finish_line : (turn : Taken S P) → w.phase ≡ Turning turn Nothing [] → (b : Scene S P) (answer : After) → AtShard a b turn.colour (FinishAs turn answer) → StepKeeps b (after_finish w turn.colour answer) (finish_name turn.colour answer)
   finish_line turn phase b (More started worth) at =
       let c : Colour = turn.colour in
       let shards : List (Contents S P) = with_shard c at.new in

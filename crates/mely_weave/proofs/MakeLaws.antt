@@ -61,7 +61,7 @@ givens_first P (state ∷ states) = ap (λ rest. state ∷ rest) (givens_first P
 module _ {S P F Y : Type 0} (t : TrailWords S F) (fits : F → Colour → Event → Option P → Type 0) (setup : Setup) (states : List S) (first : AreFirst t setup states)
     (items : Y → List S) (piles : List Y) (dealt : AreDealt items (shape_of setup).shards states piles) where
   -- each shard is dealt its first states
-  pub first_piles : (shard : ℕ) (pile : Y) → slice_get piles shard ≡ Some pile → AreFirstStates t.trail_of t.colour_of t.frame_of setup shard (items pile)
+  pub first_piles : (shard : ℕ) (pile : Y) → slice_get piles shard ≡ Some pile → AreFirstStates t setup shard (items pile)
   first_piles shard pile at = record {
     all = λ i low. within_both states (items pile) (i * (shape_of setup).shards + shard) i (sym (dealt.each shard pile at i)) (let all = first.all in omega (arith, low, all));
     only = λ i low. let all = first.all in let there = within_both (items pile) states i (i * (shape_of setup).shards + shard) (dealt.each shard pile at i) low in omega (arith, all, there);
@@ -114,7 +114,7 @@ module _ {S P F Y : Type 0} (t : TrailWords S F) (fits : F → Colour → Event 
       shard_count = many;
       shard = first_shard;
       chain_count = many_chains;
-      chain = λ core queue at. record { colours = ap (λ (q : Chain). q.colours) (empty core queue at); cost = ap (λ (q : Chain). q.cost) (empty core queue at) };
+      chain = λ core queue at. record { colours = ap (λ (q : Chain). q.colours) (empty core queue at); cost = ap (λ (q : Chain). q.cost) (empty core queue at); pinned = ap (λ (q : Chain). q.pinned) (empty core queue at) };
       worker_count = many_workers;
       worker = λ core w at. first_free core w (free core w at);
     }

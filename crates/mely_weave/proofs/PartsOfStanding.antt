@@ -19,8 +19,8 @@ use Rattle.mely_queue.specs.Taken.{Taken, EachFits}
 use Rattle.mely_shard.specs.Contents.{Contents, Lane, IsOwn, LaneStands, HomeStands, lane_at, place}
 use Rattle.mely_worker.specs.declared.phase.Phase.{Phase}
 use Rattle.mely_worker.specs.declared.phase.Phase.TheVariants.{Picked, Turning}
-use Rattle.mely_worker.specs.declared.phase.Hand.{Hand}
-use Rattle.mely_worker.specs.declared.phase.Hand.TheVariants.{Reporting}
+use Rattle.mely_worker.specs.declared.delivery.Delivery.{Delivery}
+use Rattle.mely_worker.specs.declared.delivery.Delivery.TheVariants.{Report}
 use Rattle.mely_worker.specs.Access.{IsColour}
 use Rattle.mely_worker.specs.Conditions.{MayTurn, PhaseMayStep}
 use Rattle.mely_worker.specs.WorkerView.{WorkerView}
@@ -56,7 +56,7 @@ module _ {S P F : Type 0} (t : TrailWords S F) (fits : F → Colour → Event �
   record IsLane (c : Colour) (lane : Lane S P) : Type 0 where
     pub has : Contents S P
     pub there : slice_get loom.shards (shard_of loom.setup c) ≡ Some has
-    pub stands : LaneStands t.trail_of t.colour_of t.frame_of fits (history_of t fits loom c) c lane
+    pub stands : LaneStands t fits (history_of t fits loom c) c lane
     pub framed : t.frame_of lane.given ≡ t.frame_of loom.given
 
   is_lane : (c : Colour) (lane : Lane S P) → IsColour loom.setup c → lane_for loom.setup loom.shards c ≡ Some lane → IsLane c lane
@@ -71,7 +71,7 @@ module _ {S P F : Type 0} (t : TrailWords S F) (fits : F → Colour → Event �
       record {
         has = has.0;
         there = has.1;
-        stands = subst (λ (h : List Entry). LaneStands t.trail_of t.colour_of t.frame_of fits h c lane) (sym (ap history_in has.1)) (is.kept.each c lane own here);
+        stands = subst (λ (h : List Entry). LaneStands t fits h c lane) (sym (ap history_in has.1)) (is.kept.each c lane own here);
         framed = is.framed (place has.0.setup c) lane.given (get_map (λ (l : Lane S P). l.given) has.0.lanes (place has.0.setup c) lane here);
       }
 
@@ -139,15 +139,16 @@ module _ {S P F : Type 0} (t : TrailWords S F) (fits : F → Colour → Event �
     started = λ core mark at. (sound core mark at).begun;
     worth = λ core mark at. (sound core mark at).worth;
     worthy = λ core victim w mark there is. (told core w (Picked mark victim) there is).1;
+    loose = λ core victim w mark there is. (told core w (Picked mark victim) there is).2;
   }
 
   reports_are_told : ReportsAreTold t fits loom
   reports_are_told = record {
-    started = λ core to turn c started worth puts at. (told core at.0 (Turning turn (Reporting to c started worth) puts) at.1.0 at.1.1).1.0;
-    worth = λ core to turn c started worth puts at. (told core at.0 (Turning turn (Reporting to c started worth) puts) at.1.0 at.1.1).1.1;
+    started = λ core to turn c started worth puts at. (told core at.0 (Turning turn (Report to c started worth) puts) at.1.0 at.1.1).1.0;
+    worth = λ core to turn c started worth puts at. (told core at.0 (Turning turn (Report to c started worth) puts) at.1.0 at.1.1).1.1;
   }
 
-  may : (core : ℕ) (turn : Taken S P) (hand : Hand) (puts : List (Colour × Event × Option P)) → Turns t fits loom core turn hand puts → MayTurn t fits loom.setup core (t.frame_of loom.given) (IsOut (side_of loom core)) turn hand puts
+  may : (core : ℕ) (turn : Taken S P) (hand : Delivery) (puts : List (Colour × Event × Option P)) → Turns t fits loom core turn hand puts → MayTurn t fits loom.setup core (t.frame_of loom.given) (IsOut (side_of loom core)) turn hand puts
   may core turn hand puts at = subst (PhaseMayStep t fits loom.setup core (t.frame_of loom.given) (IsOut (side_of loom core))) at.1.1 (well.worker core at.0 at.1.0).may.phase
 
   turns_stand : TurnsStand t fits loom
@@ -159,11 +160,11 @@ module _ {S P F : Type 0} (t : TrailWords S F) (fits : F → Colour → Event �
     trailed = λ core turn hand puts at. (may core turn hand puts at).of_turn.owed.trailed;
   }
 
-  home : (c : Colour) (lane : Lane S P) → IsLane c lane → (o : Option S) → lane.state ≡ o → HomeStands t.trail_of t.colour_of t.frame_of (history_of t fits loom c) c lane.given o → ¬ IsRunning (history_of t fits loom c) c → (state : S) × ((lane.state ≡ Some state) × IsHomeState t fits loom c state)
+  home : (c : Colour) (lane : Lane S P) → IsLane c lane → (o : Option S) → lane.state ≡ o → HomeStands t (history_of t fits loom c) c lane.given o → ¬ IsRunning (history_of t fits loom c) c → (state : S) × ((lane.state ≡ Some state) × IsHomeState t fits loom c state)
   home c lane in_shard None is stands rests = absurd (rests stands)
   home c lane in_shard (Some state) is stands rests = (state, (is, record { trail = stands.1; colour = stands.2; frame = stands.3 ∙ in_shard.framed }))
 
-  away : (c : Colour) (lane : Lane S P) (o : Option S) → lane.state ≡ o → HomeStands t.trail_of t.colour_of t.frame_of (history_of t fits loom c) c lane.given o → IsRunning (history_of t fits loom c) c → lane.state ≡ None
+  away : (c : Colour) (lane : Lane S P) (o : Option S) → lane.state ≡ o → HomeStands t (history_of t fits loom c) c lane.given o → IsRunning (history_of t fits loom c) c → lane.state ≡ None
   away c lane None is stands runs = is
   away c lane (Some state) is stands runs = absurd (let rests = stands.0 in omega (arith, rests, runs))
 

@@ -1,5 +1,5 @@
 -- A post keeps all standing well.
-use Rattle.std.proofs.Common.{◌≡◌, ℕ, zero, suc, ◌<◌, Bool, List, [], ◌∷◌, Option, Some, Result, Ok, Err, length, refl, sym, ◌∙◌, ap, subst, arith}
+use Rattle.std.proofs.Common.{◌≡◌, ℕ, zero, suc, ◌<◌, Bool, true, List, [], ◌∷◌, Option, None, Some, Result, Ok, Err, length, refl, sym, ◌∙◌, ap, subst, arith}
 use Rattle.std.proofs.lemmas.Option.{same_Some}
 use Rattle.std.specs.Prelude.{slice_get, slice_set}
 use Rattle.mely_event.specs.declared.colour.Colour.{Colour}
@@ -71,7 +71,7 @@ module _ {S P F : Type 0} (t : TrailWords S F) (fits : F → Colour → Event �
     pub becomes : b ≡ to shards chains
     pub kept : KeptBy t fits loom well 0 w here shards chains w
     pub owes : (d : Colour) (core count : ℕ) (trail : List Event) → IsOut from d core count trail → IsOut (to shards chains) d core count trail
-    pub posts : PostAs c event load answer from b
+    pub posts : PostAs t c event load answer from b
 
   told : PhaseIsTold loom.setup (ready loom.shards) 0 w.phase
   told = (well.worker 0 w here).told
@@ -129,7 +129,7 @@ module _ {S P F : Type 0} (t : TrailWords S F) (fits : F → Colour → Event �
         becomes = leads_to reply between at owner (PushAs mark (Ok done)) b pushed;
         kept = registered_keeps reply between at chains (marks (chain_gains held_by loom.chains loom.workers owner pushed.old pushed.new there mark (ap (λ (q : Chain). q.chain) pushed.does.1)));
         owes = registered_owes reply between at chains;
-        posts = (between, at, pushed);
+        posts = (between, at, (true, (Ok tt, (refl, pushed), refl)));
       }
   pushed_post owner started worth b between at (Err back) pushed at_rest none there marks =
       absurd (none_in_chain held_by loom.chains loom.workers owner pushed.old pushed.new there (ready loom.shards) c
@@ -190,11 +190,11 @@ module _ {S P F : Type 0} (t : TrailWords S F) (fits : F → Colour → Event �
             (running_keeps loom.setup (history_for loom.setup loom.shards) (history_for loom.setup shards) c event by (adds reply between at) (held held_by loom.chains loom.workers) (held held_by loom.chains loom.workers)
             (subst (λ (l : List Entry). IsRunning l c) (sym h) at.does.1.0) (λ p. refl) well.marks);
         owes = registered_owes reply between at loom.chains;
-        posts = (between, at, same);
+        posts = (between, at, (true, (same, refl)));
       }
 
-  pub post_keeps : (answer : Result Registered (Unregistered P)) (b : Scene S P) → TriesToPost c event load answer from b → PostKeeps answer b
-  post_keeps (Err back) b at =
+  pub post_keeps : (Keep : Scene S P → Type 0) (answer : Result Registered (Unregistered P)) (b : Scene S P) → TriesToPost t Keep c event load answer from b → PostKeeps answer b
+  post_keeps Keep (Err back) b at =
       let shards : List (Contents S P) = slice_set loom.shards (shard_of loom.setup c) at.new in
       let at' : AtShard from (to shards loom.chains) c (RegisterAs c event load by (Err back)) = record { old = at.old; new = at.new; was = at.was; does = at.does; becomes = refl } in
       record {
@@ -206,14 +206,14 @@ module _ {S P F : Type 0} (t : TrailWords S F) (fits : F → Colour → Event �
         owes = register_owes t fits from (to shards loom.chains) c stands event load by (Err back) may at';
         posts = at;
       }
-  post_keeps (Ok (Woke owner started worth)) b posted = woke_keeps_post owner started worth b posted.0 posted.1 posted.2.0 posted.2.1
-  post_keeps (Ok (Told owner started worth)) b posted = told_keeps_post owner started worth b posted.0 posted.1 posted.2.0 posted.2.1
-  post_keeps (Ok (Running core)) b posted = running_keeps_post core b posted.0 posted.1 posted.2
+  post_keeps Keep (Ok (Woke owner started worth)) b posted = woke_keeps_post owner started worth b posted.0 posted.1 posted.2.1.0 posted.2.1.1
+  post_keeps Keep (Ok (Told owner started worth)) b posted = told_keeps_post owner started worth b posted.0 posted.1 posted.2.0 posted.2.1
+  post_keeps Keep (Ok (Running core)) b posted = running_keeps_post core b posted.0 posted.1 posted.2.1.0
 
   -- and so all stands well after it
-  pub post_stands : (answer : Result Registered (Unregistered P)) (b : Scene S P) → TriesToPost c event load answer from b → SideStands t fits b → StandsWell t fits (with_workers b loom.workers)
-  post_stands answer b tries side =
-      let keeps = post_keeps answer b tries in
+  pub post_stands : (Keep : Scene S P → Type 0) (answer : Result Registered (Unregistered P)) (b : Scene S P) → TriesToPost t Keep c event load answer from b → SideStands t fits b → StandsWell t fits (with_workers b loom.workers)
+  post_stands Keep answer b tries side =
+      let keeps = post_keeps Keep answer b tries in
       let is : WorkerStands t fits loom 0 w = well.worker 0 w here in
       let may_step : MayStep t fits loom.setup 0 (t.frame_of loom.given) (IsOut (to keeps.shards keeps.chains)) w = record {
         own_core = is.may.own_core;

@@ -10,12 +10,12 @@ use Rattle.std.specs.List.{count_by}
 use Rattle.mely_event.specs.declared.colour.Colour.{Colour}
 use Rattle.mely_event.specs.declared.mark.Mark.{Mark}
 use Rattle.mely_history.specs.declared.setup.Setup.{Setup}
-use Rattle.mely_history.specs.Setup.{shape_of}
+use Rattle.mely_history.specs.Setup.{shape_of, pinned_of}
 use Rattle.mely_steal.specs.Marks.{mark_of}
 use Rattle.mely_steal.specs.Stealing.{entered, is_worthy}
 use Rattle.mely_steal.proofs.MarkLaws.{none-parts}
 use Rattle.mely_steal.proofs.StealLaws.{mark_of-push_other}
-use Rattle.mely_core.specs.Chains.{Chain, HoldTogether, if_worthy}
+use Rattle.mely_core.specs.Chains.{Chain, HoldTogether, if_worthy, empty_core}
 use Rattle.mely_weave.specs.Scene.{Readiness}
 use Rattle.mely_weave.specs.Marks.{is_of, is_told, bit, in_chains, MarksStand}
 use Rattle.mely_weave.specs.Gathering.{colours_below, is_ready_on, mark_for, marks_below, chain_of}
@@ -26,11 +26,11 @@ abbrev pub numbered : ℕ → Colour
 numbered n = record { 0 = n }
 
 -- a mark that is pushed on a chain into which these were pushed
-pub pushed : (setup : Setup) (marks : List Mark) (mark : Mark) → chain_of setup (marks ++ mark ∷ []) ≡ record (chain_of setup marks) { chain = marks ++ mark ∷ []; worthy = entered (shape_of setup).steal_cost mark (chain_of setup marks).worthy }
-pushed setup marks mark = ap (λ worthy. record (chain_of setup marks) { chain = marks ++ mark ∷ []; worthy = worthy }) (filter-append (is_worthy (shape_of setup).steal_cost) marks (mark ∷ []) ∙ one (is_worthy (shape_of setup).steal_cost mark)) where
-  one : (b : Bool) → filter (is_worthy (shape_of setup).steal_cost) marks ++ cond b (mark ∷ []) [] ≡ cond b (filter (is_worthy (shape_of setup).steal_cost) marks ++ mark ∷ []) (filter (is_worthy (shape_of setup).steal_cost) marks)
+pub pushed : (setup : Setup) (marks : List Mark) (mark : Mark) → chain_of setup (marks ++ mark ∷ []) ≡ record (chain_of setup marks) { chain = marks ++ mark ∷ []; worthy = entered (shape_of setup).steal_cost (pinned_of setup) mark (chain_of setup marks).worthy }
+pushed setup marks mark = ap (λ worthy. record (chain_of setup marks) { chain = marks ++ mark ∷ []; worthy = worthy }) (filter-append (is_worthy (shape_of setup).steal_cost (pinned_of setup)) marks (mark ∷ []) ∙ one (is_worthy (shape_of setup).steal_cost (pinned_of setup) mark)) where
+  one : (b : Bool) → filter (is_worthy (shape_of setup).steal_cost (pinned_of setup)) marks ++ cond b (mark ∷ []) [] ≡ cond b (filter (is_worthy (shape_of setup).steal_cost (pinned_of setup)) marks ++ mark ∷ []) (filter (is_worthy (shape_of setup).steal_cost (pinned_of setup)) marks)
   one true = refl
-  one false = append-nil (filter (is_worthy (shape_of setup).steal_cost) marks)
+  one false = append-nil (filter (is_worthy (shape_of setup).steal_cost (pinned_of setup)) marks)
 
 module _ (of : Colour → Readiness) (core n : ℕ) where
   map_cond : (b : Bool) (c : Colour) → map (mark_for of) (cond b (c ∷ []) []) ≡ cond b (mark_for of c ∷ []) []
@@ -53,7 +53,7 @@ module _ (of : Colour → Readiness) (core n : ℕ) where
 
   -- the mark of a ready colour is pushed
   pub chain_ready : (setup : Setup) → is_ready_on of core (numbered n) ≡ true
-      → record (chain_of setup (marks_below of core n)) { chain = marks_below of core n ++ mark_for of (numbered n) ∷ []; worthy = entered (shape_of setup).steal_cost (mark_for of (numbered n)) (chain_of setup (marks_below of core n)).worthy } ≡ chain_of setup (marks_below of core (n + 1))
+      → record (chain_of setup (marks_below of core n)) { chain = marks_below of core n ++ mark_for of (numbered n) ∷ []; worthy = entered (shape_of setup).steal_cost (pinned_of setup) (mark_for of (numbered n)) (chain_of setup (marks_below of core n)).worthy } ≡ chain_of setup (marks_below of core (n + 1))
   chain_ready setup on = sym (ap (chain_of setup) (marks_ready on) ∙ pushed setup (marks_below of core n) (mark_for of (numbered n)))
 
 -- no colour has a mark below its number
@@ -188,7 +188,7 @@ no_marks (mark ∷ marks) none = absurd (let other = (none-parts mark.colour mar
 
 -- the stealing queue of an empty chain is empty
 pub empty_worthy : (queue : Chain) → HoldTogether queue → queue.chain ≡ [] → queue.worthy ≡ []
-empty_worthy queue together none = no_marks queue.worthy (λ c. together.same c ∙ ap (λ marks. if_worthy queue.cost (mark_of c marks)) none)
+empty_worthy queue together none = no_marks queue.worthy (λ c. together.same c ∙ ap (λ marks. if_worthy queue.cost queue.pinned (mark_of c marks)) none)
 
-pub emptied : (queue : Chain) (colours cost : ℕ) → HoldTogether queue → queue.chain ≡ [] → queue.colours ≡ colours → queue.cost ≡ cost → queue ≡ record { chain = []; worthy = []; colours = colours; cost = cost }
-emptied queue colours cost together none same_colours same_cost = λ i. record { chain = none i; worthy = empty_worthy queue together none i; colours = same_colours i; cost = same_cost i }
+pub emptied : (queue : Chain) (colours cost pinned : ℕ) → HoldTogether queue → queue.chain ≡ [] → queue.colours ≡ colours → queue.cost ≡ cost → queue.pinned ≡ pinned → queue ≡ empty_core colours cost pinned
+emptied queue colours cost pinned together none same_colours same_cost same_pinned = λ i. record { chain = none i; worthy = empty_worthy queue together none i; colours = same_colours i; cost = same_cost i; pinned = same_pinned i }

@@ -26,8 +26,8 @@ use Rattle.mely_shard.specs.Contents.{Contents}
 use Rattle.mely_core.specs.Chains.{Chain}
 use Rattle.mely_worker.specs.declared.phase.Phase.{Phase}
 use Rattle.mely_worker.specs.declared.phase.Phase.TheVariants.{Free, Popped, Picked, Landing, Pushing, Turning}
-use Rattle.mely_worker.specs.declared.phase.Hand.{Hand}
-use Rattle.mely_worker.specs.declared.phase.Hand.TheVariants.{Empty, Marked, Reporting}
+use Rattle.mely_worker.specs.declared.delivery.Delivery.{Delivery}
+use Rattle.mely_worker.specs.declared.delivery.Delivery.TheVariants.{Nothing, PushMark, Report}
 use Rattle.mely_worker.specs.declared.made.Made.{Made}
 use Rattle.mely_worker.specs.declared.made.Made.TheVariants as made
 use Rattle.mely_worker.specs.declared.app.App.{Ghosts as AppWords}
@@ -138,6 +138,7 @@ module _ {S P F R : Type 0} (t : TrailWords S F) (Keep : Scene S P → Type 0) (
   steal_halts : (mark : Mark) (victim : ℕ) (answer : Result Stolen NoSteal) → w.halted ≡ true → (after_steal w mark victim answer).halted ≡ true
   steal_halts mark victim (Ok stolen) h = h
   steal_halts mark victim (Err no_steal.Memory) h = refl
+  steal_halts mark victim (Err (no_steal.Pinned colour)) h = h
   steal_halts mark victim (Err no_steal.Own) h = h
   steal_halts mark victim (Err (no_steal.Busy core)) h = h
   steal_halts mark victim (Err (no_steal.Empty registered)) h = h
@@ -164,10 +165,10 @@ module _ {S P F R : Type 0} (t : TrailWords S F) (Keep : Scene S P → Type 0) (
   puts_stay turn [] line = turn_stays turn turn.events line
   puts_stay turn (put ∷ rest) line = by_line _ _ _ (λ answer called. shard_stays a b put.0 _ (register_grows put.0 put.1 put.2 a.core answer) called) (register_halts turn rest put) line
 
-  turning_stays : (turn : Taken S P) (hand : Hand) (puts : List (Colour × Event × Option P)) → StepsTurning (side_words t Keep) y app a w step b v turn hand puts → StepStays a b w v
-  turning_stays turn Empty puts line = puts_stay turn puts line
-  turning_stays turn (Marked core mark) puts line = by_line _ _ _ (λ answer called. chain_stays a b core _ called) (λ answer h. h) line
-  turning_stays turn (Reporting core colour started worth) puts line = by_line _ _ _ (λ answer called. chain_stays a b core _ called) (λ answer h. h) line
+  turning_stays : (turn : Taken S P) (hand : Delivery) (puts : List (Colour × Event × Option P)) → StepsTurning (side_words t Keep) y app a w step b v turn hand puts → StepStays a b w v
+  turning_stays turn Nothing puts line = puts_stay turn puts line
+  turning_stays turn (PushMark core mark) puts line = by_line _ _ _ (λ answer called. chain_stays a b core _ called) (λ answer h. h) line
+  turning_stays turn (Report core colour started worth) puts line = by_line _ _ _ (λ answer called. chain_stays a b core _ called) (λ answer h. h) line
 
   hunt_stays : (place : ℕ) (victim : Option ℕ) → StepsHunt (side_words t Keep) y app a w step b v place victim → StepStays a b w v
   hunt_stays place (Some victim) line = by_line _ _ _ (λ answer called. chain_stays a b victim _ called) (pick_halts place victim) line
@@ -214,10 +215,10 @@ module _ {R S P F : Type 0} (t : TrailWords S F) (fits : F → Colour → Event 
 
   pub well_same : (a b : Loom S P) (core : ℕ) (step : Made) → StepsWell t fits y app a core step b → KeepsSetup a b
   well_same a b core step is =
-      let stays = step_stays t (λ _. Unit {0}) y app (side_of a core) is.steps.side is.steps.worker is.steps.becomes step (step_on_side t y app (side_of a core) is.steps.side is.steps.worker is.steps.becomes step is.steps.steps) in
+      let stays = step_stays t (λ _. Unit {0}) y app (side_of a core) is.call.steps.side is.call.steps.worker is.call.steps.becomes step (step_on_side t y app (side_of a core) is.call.steps.side is.call.steps.worker is.call.steps.becomes step is.call.steps.steps) in
       record {
-        setup = ap (λ (l : Loom S P). l.setup) is.steps.leaves ∙ stays.setup;
-        given = ap (λ (l : Loom S P). l.given) is.steps.leaves ∙ stays.given;
+        setup = ap (λ (l : Loom S P). l.setup) is.call.steps.leaves ∙ stays.setup;
+        given = ap (λ (l : Loom S P). l.given) is.call.steps.leaves ∙ stays.given;
       }
 
   pub makes_none : (a : Loom S P) → Makes t fits y app [] a a

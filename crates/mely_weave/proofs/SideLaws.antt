@@ -13,7 +13,7 @@ use Rattle.mely_history.specs.Setup.{shape_of, colours_of}
 use Rattle.mely_history.specs.Entries.{colour_of}
 use Rattle.mely_history.specs.Legal.{IsAllowed, IsLegal, MayRegister}
 use Rattle.mely_shard.specs.Contents.{Contents, Lane, IsOwn, IsKept, KeepsFrame, lane_at}
-use Rattle.mely_core.specs.Chains.{Chain, HoldTogether}
+use Rattle.mely_core.specs.Chains.{Chain, HoldTogether, KeepsNumbers}
 use Rattle.mely_worker.specs.Access.{FitsSetup}
 use Rattle.mely_weave.specs.Scene.{Scene, shard_of, history_at, history_in}
 use Rattle.mely_weave.specs.Calls.{AtShard, AtChain}
@@ -123,7 +123,7 @@ module _ {S P F : Type 0} (t : TrailWords S F) (fits : F → Colour → Event �
   load_fits c event load has fit there lane is = subst (λ (f : F). fits f c event load) (sym (lane_framed c has lane there is)) fit.load
 
   -- one shard changes and is kept, in its frame
-  pub shards_stand : (c : Colour) (old new : Contents S P) (i : ℕ) → i ≡ shard_of a.setup c → slice_get a.shards (shard_of a.setup c) ≡ Some old → KeepsFrame old new → IsKept t.trail_of t.colour_of t.frame_of fits new → SideStands t fits (record a { shards = slice_set a.shards i new })
+  pub shards_stand : (c : Colour) (old new : Contents S P) (i : ℕ) → i ≡ shard_of a.setup c → slice_get a.shards (shard_of a.setup c) ≡ Some old → KeepsFrame old new → IsKept t fits new → SideStands t fits (record a { shards = slice_set a.shards i new })
   shards_stand c old new i at there frame kept =
       let was = stands.shard (shard_of a.setup c) old there in
       let now : ShardStands t fits a.setup (t.frame_of a.given) (shard_of a.setup c) new = record {
@@ -149,7 +149,7 @@ module _ {S P F : Type 0} (t : TrailWords S F) (fits : F → Colour → Event �
       slice_get-get_or a.chains core queue there ∙ ap (λ v. Some v) (sym at)
 
   -- one chain changes, and keeps its numbers
-  pub chains_stand : (core : ℕ) (old new : Chain) → slice_get a.chains core ≡ Some old → (new.colours ≡ old.colours) × (new.cost ≡ old.cost) → HoldTogether new → SideStands t fits (record a { chains = slice_set a.chains core new })
+  pub chains_stand : (core : ℕ) (old new : Chain) → slice_get a.chains core ≡ Some old → KeepsNumbers old new → HoldTogether new → SideStands t fits (record a { chains = slice_set a.chains core new })
   chains_stand core old new there same together =
       let was = stands.chain core old there in
       record {
@@ -157,7 +157,7 @@ module _ {S P F : Type 0} (t : TrailWords S F) (fits : F → Colour → Event �
         shards = stands.shards;
         shard = stands.shard;
         chains = length-set a.chains core new ∙ stands.chains;
-        chain = each_set (λ _. ChainStands a.setup) a.chains core old new there stands.chain (record { colours = same.0 ∙ was.colours; cost = same.1 ∙ was.cost; together = together });
+        chain = each_set (λ _. ChainStands a.setup) a.chains core old new there stands.chain (record { colours = same.colours ∙ was.colours; cost = same.cost ∙ was.cost; pinned = same.pinned ∙ was.pinned; together = together });
       }
 
 -- the call did what it says of the shard of the colour

@@ -18,8 +18,8 @@ use Rattle.mely_shard.specs.Contents.{Contents}
 use Rattle.mely_core.specs.Chains.{Chain}
 use Rattle.mely_worker.specs.declared.phase.Phase.{Phase}
 use Rattle.mely_worker.specs.declared.phase.Phase.TheVariants.{Free, Popped, Picked, Landing, Pushing, Turning}
-use Rattle.mely_worker.specs.declared.phase.Hand.{Hand}
-use Rattle.mely_worker.specs.declared.phase.Hand.TheVariants.{Empty, Marked, Reporting}
+use Rattle.mely_worker.specs.declared.delivery.Delivery.{Delivery}
+use Rattle.mely_worker.specs.declared.delivery.Delivery.TheVariants.{Nothing, PushMark, Report}
 use Rattle.mely_worker.specs.WorkerView.{WorkerView}
 use Rattle.mely_worker.specs.Conditions.{MayStep, PhaseMayStep}
 use Rattle.mely_weave.specs.Scene.{Scene, Readiness, readiness_of, history_for, readiness_for}
@@ -44,10 +44,10 @@ others_set Has xs i old new there all is k x at = ⊎_elim
     (cases_eq k i)
 
 -- a report that is told stays told
-pub report_onward : (of of' : Colour → Readiness) → ((d : Colour) → IsOnward (of d) (of' d)) → (hand : Hand) → ReportIsTold of hand → ReportIsTold of' hand
-report_onward of of' on Empty told = tt
-report_onward of of' on (Marked core mark) told = tt
-report_onward of of' on (Reporting core colour started worth) told =
+pub report_onward : (of of' : Colour → Readiness) → ((d : Colour) → IsOnward (of d) (of' d)) → (hand : Delivery) → ReportIsTold of hand → ReportIsTold of' hand
+report_onward of of' on Nothing told = tt
+report_onward of of' on (PushMark core mark) told = tt
+report_onward of of' on (Report core colour started worth) told =
     let less = (on colour).begun in
     let at_most = told.0 in (
       omega (arith, less, at_most),

@@ -17,7 +17,7 @@ use Rattle.mely_history.specs.Legal.{MayRegister}
 use Rattle.mely_queue.specs.Taken.{Taken}
 use Rattle.mely_shard.specs.Contents.{Contents}
 use Rattle.mely_worker.specs.declared.phase.Phase.TheVariants.{Turning}
-use Rattle.mely_worker.specs.declared.phase.Hand.TheVariants.{Empty, Marked, Reporting}
+use Rattle.mely_worker.specs.declared.delivery.Delivery.TheVariants.{Nothing, PushMark, Report}
 use Rattle.mely_worker.specs.declared.made.Made.{Made}
 use Rattle.mely_worker.specs.WorkerView.{WorkerView}
 use Rattle.mely_worker.specs.Step.{in_phase, after_register, register_name}
@@ -44,7 +44,7 @@ module _ {S P F : Type 0} (t : TrailWords S F) (fits : F → Colour → Event �
   abbrev to : List (Contents S P) → Scene S P
   to shards = record { setup = loom.setup; core = k; given = loom.given; shards = shards; chains = loom.chains }
 
-  module _ (turn : Taken S P) (c : Colour) (event : Event) (load : Option P) (rest : List (Colour × Event × Option P)) (phase : w.phase ≡ Turning turn Empty ((c, event, load) ∷ rest)) (may : MayRegister loom.setup c event) (b : Scene S P) where
+  module _ (turn : Taken S P) (c : Colour) (event : Event) (load : Option P) (rest : List (Colour × Event × Option P)) (phase : w.phase ≡ Turning turn Nothing ((c, event, load) ∷ rest)) (may : MayRegister loom.setup c event) (b : Scene S P) where
     of_turn : turn.core ≡ k
     of_turn = (subst (PhaseIsTold loom.setup (readiness_for loom.setup loom.shards) k) phase (told t fits loom well k w here low)).0
 
@@ -58,7 +58,7 @@ module _ {S P F : Type 0} (t : TrailWords S F) (fits : F → Colour → Event �
         let becomes : history_for loom.setup shards c ≡ at.new.history = history_becomes from (to shards) c (RegisterAs c event load k (Ok (Woke owner started worth))) at' in
         let old_setup = (well.shard (shard_of loom.setup c) at.old at.was).of_setup in
         let mark : Mark = record { colour = c; started = started; worth = worth } in
-        let v : WorkerView S P = in_phase w (Turning turn (Marked owner mark) rest) in
+        let v : WorkerView S P = in_phase w (Turning turn (PushMark owner mark) rest) in
         record {
           shards = shards;
           chains = loom.chains;
@@ -80,7 +80,7 @@ module _ {S P F : Type 0} (t : TrailWords S F) (fits : F → Colour → Event �
         let was : history_for loom.setup loom.shards c ≡ at.old.history = history_was from b c (RegisterAs c event load k (Ok (Told owner started worth))) at in
         let becomes : history_for loom.setup shards c ≡ at.new.history = history_becomes from (to shards) c (RegisterAs c event load k (Ok (Told owner started worth))) at' in
         let old_setup = (well.shard (shard_of loom.setup c) at.old at.was).of_setup in
-        let v : WorkerView S P = in_phase w (Turning turn (Reporting owner c started worth) rest) in
+        let v : WorkerView S P = in_phase w (Turning turn (Report owner c started worth) rest) in
         let begun : started ≡ begun_of (history_for loom.setup shards c) c = at.does.1.3 ∙ ap (λ (l : List Entry). begun_of l c) (sym becomes) in
         let most : worth ≡ worth_of loom.setup (history_for loom.setup shards c) c = at.does.1.4 ∙ ap (λ (s : Setup). worth_of s at.new.history c) old_setup ∙ ap (λ (l : List Entry). worth_of loom.setup l c) (sym becomes) in
         record {
@@ -99,7 +99,7 @@ module _ {S P F : Type 0} (t : TrailWords S F) (fits : F → Colour → Event �
         let at' : AtShard from (to shards) c (RegisterAs c event load k (Ok (Running core))) = record { old = at.old; new = at.new; was = at.was; does = at.does; becomes = refl } in
         let adds : Adds loom.setup (history_for loom.setup loom.shards) (history_for loom.setup shards) (Reg c event k) = register_adds t fits from (to shards) c (stands t fits loom well k w here low) event load k (Running core) may at' in
         let was : history_for loom.setup loom.shards c ≡ at.old.history = history_was from b c (RegisterAs c event load k (Ok (Running core))) at in
-        let v : WorkerView S P = in_phase w (Turning turn Empty rest) in
+        let v : WorkerView S P = in_phase w (Turning turn Nothing rest) in
         record {
           shards = shards;
           chains = loom.chains;
@@ -124,9 +124,9 @@ module _ {S P F : Type 0} (t : TrailWords S F) (fits : F → Colour → Event �
         }
 
   -- a handler runs: the worker turns on, and nothing else changes
-  pub run_line : (turn : Taken S P) (state : S) (left : List (Event × Option P)) (puts : List (Colour × Event × Option P)) (made : Made) → w.phase ≡ Turning turn Empty [] → (b : Scene S P) → b ≡ from → WasntRefused made → Keeps b (in_phase w (Turning (record turn { state = state; events = left }) Empty puts)) made
+  pub run_line : (turn : Taken S P) (state : S) (left : List (Event × Option P)) (puts : List (Colour × Event × Option P)) (made : Made) → w.phase ≡ Turning turn Nothing [] → (b : Scene S P) → b ≡ from → WasntRefused made → Keeps b (in_phase w (Turning (record turn { state = state; events = left }) Nothing puts)) made
   run_line turn state left puts made phase b same never =
-      let v : WorkerView S P = in_phase w (Turning (record turn { state = state; events = left }) Empty puts) in
+      let v : WorkerView S P = in_phase w (Turning (record turn { state = state; events = left }) Nothing puts) in
       record {
         shards = loom.shards;
         chains = loom.chains;

@@ -1,76 +1,89 @@
 -- What every list of posts and steps keeps.
-use Rattle.std.proofs.Common.{ℕ, zero, suc, ◌≤◌, ◌<◌, Option, Result, Ok, Err, sym, ap, subst, arith, ⊎_elim}
+use Rattle.std.proofs.Common.{◌≡◌, Bool, ℕ, zero, suc, ◌≤◌, ◌<◌, Option, Result, Ok, Err, sym, ap, subst, arith, ⊎_elim}
 use Rattle.mely_event.specs.declared.colour.Colour.{Colour}
 use Rattle.mely_event.specs.declared.event.Event.{Event}
+use Rattle.mely_event.specs.declared.mark.Mark.{Mark}
+use Rattle.mely_event.specs.declared.there.There.{There}
 use Rattle.mely_event.specs.declared.unregistered.Unregistered.{Unregistered}
 use Rattle.mely_event.specs.declared.trail.Trail.{Ghosts as TrailWords}
 use Rattle.mely_history.specs.declared.registered.Registered.{Registered}
-use Rattle.mely_history.specs.declared.registered.Registered.TheVariants.{Woke, Told, Running}
 use Rattle.mely_history.specs.Setup.{shape_of}
 use Rattle.mely_worker.specs.declared.app.App.{Ghosts as AppWords}
+use Rattle.mely_worker.specs.declared.delivery.Delivery.{Delivery}
+use Rattle.mely_worker.specs.declared.delivery.Delivery.TheVariants.{Nothing, PushMark, Report}
+use Rattle.mely_worker.specs.declared.made.Made.{Made}
+use Rattle.mely_worker.specs.Delivery.{delivery_after, Delivers}
+use Rattle.mely_weave.specs.Calls.{AtChain, PushAs, RetellAs, side_words, weave_words}
 use Rattle.mely_weave.specs.Scene.{Scene, readiness_for}
 use Rattle.mely_weave.specs.Hands.{held_by}
 use Rattle.mely_weave.proofs.WeaveWords.{step_on_side}
-use Rattle.mely_weave.specs.Trying.{TriesToDeliver, TriesToPost}
+use Rattle.mely_weave.specs.Trying.{TriesToPost}
 use Rattle.mely_weave.specs.StandsWell.{Loom, side_of, StandsWell, WasntRefused}
-use Rattle.mely_weave.specs.Steps.{Delivers, PostAs}
-use Rattle.mely_weave.specs.WeaveRun.{StepCall, PostCall, Call, WeaveRun, HistoriesGrow, NoneIsThere}
+use Rattle.mely_weave.specs.Steps.{PostAs}
+use Rattle.mely_weave.specs.WeaveRun.{StepCall, PostCall, SomeStep, SomePost, Call, WeaveRun, HistoriesGrow, NoneIsThere}
 use Rattle.mely_weave.proofs.HandLaws.{none_there}
 use Rattle.mely_weave.proofs.WholeStep.{step_keeps, step_stands}
 use Rattle.mely_weave.proofs.PostLaws.{post_stands, some_first}
 use Rattle.mely_weave.proofs.RunLaws.{ShardsGrow, shards_itself, shards_onward, shard_stays, chain_stays, same_stays, register_grows, step_stays}
 
+-- where a mark enters, its push was tried
+push_tries : {S P : Type 0} (a b : Scene S P) (core : ℕ) (mark : Mark) (answer : Result (Unit {0}) There) → (answer ≡ Ok tt) × AtChain a b core (PushAs mark (Ok tt)) → AtChain a b core (PushAs mark answer)
+push_tries a b core mark answer entered = subst (λ (r : Result (Unit {0}) There). AtChain a b core (PushAs mark r)) (sym entered.0) entered.1
+
+delivers_tries : {S P F : Type 0} (t : TrailWords S F) (Keep : Scene S P → Type 0) (a b : Scene S P) (delivery : Delivery) (arrived : Bool) → Delivers (weave_words t) a delivery arrived b → Delivers (side_words t Keep) a delivery arrived b
+delivers_tries t Keep a b Nothing arrived does = does
+delivers_tries t Keep a b (PushMark core mark) arrived does = (does.0, push_tries a b core mark does.0 does.1, does.2)
+delivers_tries t Keep a b (Report core colour started worth) arrived does = does
+
 -- a post that delivers tries to
-delivers_tries : {S P : Type 0} (a b : Scene S P) (c : Colour) (reply : Registered) → Delivers a c reply b → TriesToDeliver a c reply b
-delivers_tries a b c (Woke owner started worth) does = (Ok tt, does)
-delivers_tries a b c (Told owner started worth) does = does
-delivers_tries a b c (Running core) does = does
+posts_tries : {S P F : Type 0} (t : TrailWords S F) (Keep : Scene S P → Type 0) (a b : Scene S P) (c : Colour) (event : Event) (load : Option P) (answer : Result Registered (Unregistered P)) → PostAs t c event load answer a b → TriesToPost t Keep c event load answer a b
+posts_tries t Keep a b c event load (Ok reply) does = (does.0, does.1, (does.2.0, delivers_tries t Keep does.0 b (delivery_after c reply) does.2.0 does.2.1))
+posts_tries t Keep a b c event load (Err back) does = does
 
-posts_tries : {S P : Type 0} (a b : Scene S P) (c : Colour) (event : Event) (load : Option P) (answer : Result Registered (Unregistered P)) → PostAs c event load answer a b → TriesToPost c event load answer a b
-posts_tries a b c event load (Ok reply) does = (does.0, does.1, delivers_tries does.0 b c reply does.2)
-posts_tries a b c event load (Err back) does = does
+delivers_grow : {S P F : Type 0} (t : TrailWords S F) (a b : Scene S P) (delivery : Delivery) (arrived : Bool) → Delivers (weave_words t) a delivery arrived b → ShardsGrow a.shards b.shards
+delivers_grow t a b Nothing arrived does = (same_stays a b does.0).2
+delivers_grow t a b (PushMark core mark) arrived does = (chain_stays a b core (PushAs mark (Ok tt)) does.1.1).2
+delivers_grow t a b (Report core colour started worth) arrived does = (chain_stays a b core (RetellAs colour started worth arrived) does).2
 
-delivers_grow : {S P : Type 0} (a b : Scene S P) (c : Colour) (reply : Registered) → Delivers a c reply b → ShardsGrow a.shards b.shards
-delivers_grow a b c (Woke owner started worth) does = (chain_stays a b owner _ does).2
-delivers_grow a b c (Told owner started worth) does = (chain_stays a b owner _ does.1).2
-delivers_grow a b c (Running core) does = (same_stays a b does).2
-
-posts_grow : {S P : Type 0} (a b : Scene S P) (c : Colour) (event : Event) (load : Option P) (answer : Result Registered (Unregistered P)) → PostAs c event load answer a b → ShardsGrow a.shards b.shards
-posts_grow a b c event load (Ok reply) does = shards_onward a.shards does.0.shards b.shards (shard_stays a does.0 c _ (register_grows c event load (shape_of a.setup).cores (Ok reply)) does.1).2 (delivers_grow does.0 b c reply does.2)
-posts_grow a b c event load (Err back) does = (shard_stays a b c _ (register_grows c event load (shape_of a.setup).cores (Err back)) does).2
+posts_grow : {S P F : Type 0} (t : TrailWords S F) (a b : Scene S P) (c : Colour) (event : Event) (load : Option P) (answer : Result Registered (Unregistered P)) → PostAs t c event load answer a b → ShardsGrow a.shards b.shards
+posts_grow t a b c event load (Ok reply) does = shards_onward a.shards does.0.shards b.shards (shard_stays a does.0 c _ (register_grows c event load (shape_of a.setup).cores (Ok reply)) does.1).2 (delivers_grow t does.0 b (delivery_after c reply) does.2.0 does.2.1)
+posts_grow t a b c event load (Err back) does = (shard_stays a b c _ (register_grows c event load (shape_of a.setup).cores (Err back)) does).2
 
 module _ {R S P F : Type 0} (t : TrailWords S F) (fits : F → Colour → Event → Option P → Type 0) (y : AppWords R P S F) where
-  step_call_stands : (a b : Loom S P) → StandsWell t fits a → StepCall t fits y a b → StandsWell t fits b
-  step_call_stands a b well call =
+  step_call_stands : (app : R) (core : ℕ) (step : Made) (a b : Loom S P) → StandsWell t fits a → StepCall t fits y app core step a b → StandsWell t fits b
+  step_call_stands app core step a b well call =
       let s = call.steps in
       subst (λ (l : Loom S P). StandsWell t fits l) (sym s.leaves)
-      (step_stands t fits a well call.core s.worker s.was call.there (λ _. Unit {0}) y call.app call.step s.side s.becomes (step_on_side t y call.app (side_of a call.core) s.side s.worker s.becomes call.step s.steps) call.parts call.may)
+      (step_stands t fits a well core s.worker s.was call.there (λ _. Unit {0}) y app step s.side s.becomes (step_on_side t y app (side_of a core) s.side s.worker s.becomes step s.steps) call.parts call.may)
 
-  pub step_call_accepted : (a b : Loom S P) → StandsWell t fits a → (call : StepCall t fits y a b) → WasntRefused call.step
-  step_call_accepted a b well call =
+  pub step_call_accepted : (app : R) (core : ℕ) (step : Made) (a b : Loom S P) → StandsWell t fits a → StepCall t fits y app core step a b → WasntRefused step
+  step_call_accepted app core step a b well call =
       let s = call.steps in
-      (step_keeps t fits a well call.core s.worker s.was call.there (λ _. Unit {0}) y call.app call.step s.side s.becomes (step_on_side t y call.app (side_of a call.core) s.side s.worker s.becomes call.step s.steps)).never
+      (step_keeps t fits a well core s.worker s.was call.there (λ _. Unit {0}) y app step s.side s.becomes (step_on_side t y app (side_of a core) s.side s.worker s.becomes step s.steps)).never
 
-  post_call_stands : (a b : Loom S P) → StandsWell t fits a → PostCall t fits y a b → StandsWell t fits b
-  post_call_stands a b well call =
+  post_call_stands : (c : Colour) (event : Event) (load : Option P) (answer : Result Registered (Unregistered P)) (a b : Loom S P) → StandsWell t fits a → PostCall t fits c event load answer a b → StandsWell t fits b
+  post_call_stands c event load answer a b well call =
       let p = call.posts in
       let some : 1 ≤ (shape_of a.setup).cores = a.setup.cores_in.0 in
       let low : 0 < (shape_of a.setup).cores = omega (arith, some) in
       let first = some_first a.workers _ well.workers low in
       subst (λ (l : Loom S P). StandsWell t fits l) (sym p.leaves)
-      (post_stands t fits a well first.0 first.1 low call.colour call.event call.load (record { colour = call.may.colour; handler = call.may.handler }) call.answer p.side (posts_tries (side_of a 0) p.side call.colour call.event call.load call.answer p.posts) call.parts)
+      (post_stands t fits a well first.0 first.1 low c event load (record { colour = call.may.colour; handler = call.may.handler }) (λ _. Unit {0}) answer p.side (posts_tries t (λ _. Unit {0}) (side_of a 0) p.side c event load answer p.posts) call.parts)
 
   call_stands : (a b : Loom S P) → StandsWell t fits a → Call t fits y a b → StandsWell t fits b
-  call_stands a b well call = ⊎_elim (λ (step : StepCall t fits y a b). step_call_stands a b well step) (λ (post : PostCall t fits y a b). post_call_stands a b well post) call
+  call_stands a b well call = ⊎_elim
+      (λ (step : SomeStep t fits y a b). step_call_stands step.0 step.1 step.2 a b well step.3)
+      (λ (post : SomePost t fits y a b). post_call_stands post.0 post.1 post.2 post.3 a b well post.4)
+      call
 
   call_grows : (a b : Loom S P) → Call t fits y a b → ShardsGrow a.shards b.shards
   call_grows a b call = ⊎_elim
-      (λ (step : StepCall t fits y a b).
-      let s = step.steps in
-      subst (λ (l : Loom S P). ShardsGrow a.shards l.shards) (sym s.leaves) (step_stays t (λ _. Unit {0}) y step.app (side_of a step.core) s.side s.worker s.becomes step.step (step_on_side t y step.app (side_of a step.core) s.side s.worker s.becomes step.step s.steps)).grow)
-      (λ (post : PostCall t fits y a b).
-      let p = post.posts in
-      subst (λ (l : Loom S P). ShardsGrow a.shards l.shards) (sym p.leaves) (posts_grow (side_of a 0) p.side post.colour post.event post.load post.answer p.posts))
+      (λ (step : SomeStep t fits y a b).
+      let s = step.3.steps in
+      subst (λ (l : Loom S P). ShardsGrow a.shards l.shards) (sym s.leaves) (step_stays t (λ _. Unit {0}) y step.0 (side_of a step.1) s.side s.worker s.becomes step.2 (step_on_side t y step.0 (side_of a step.1) s.side s.worker s.becomes step.2 s.steps)).grow)
+      (λ (post : SomePost t fits y a b).
+      let p = post.4.posts in
+      subst (λ (l : Loom S P). ShardsGrow a.shards l.shards) (sym p.leaves) (posts_grow t (side_of a 0) p.side post.0 post.1 post.2 post.3 p.posts))
       call
 
   pub run_stands : (n : ℕ) (a b : Loom S P) → StandsWell t fits a → WeaveRun t fits y n a b → StandsWell t fits b

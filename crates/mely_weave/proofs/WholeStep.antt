@@ -8,8 +8,8 @@ use Rattle.mely_history.specs.Setup.{shape_of}
 use Rattle.mely_queue.specs.Taken.{Taken}
 use Rattle.mely_worker.specs.declared.phase.Phase.{Phase}
 use Rattle.mely_worker.specs.declared.phase.Phase.TheVariants.{Free, Popped, Picked, Landing, Pushing, Turning}
-use Rattle.mely_worker.specs.declared.phase.Hand.{Hand}
-use Rattle.mely_worker.specs.declared.phase.Hand.TheVariants.{Empty, Marked, Reporting}
+use Rattle.mely_worker.specs.declared.delivery.Delivery.{Delivery}
+use Rattle.mely_worker.specs.declared.delivery.Delivery.TheVariants.{Nothing, PushMark, Report}
 use Rattle.mely_worker.specs.declared.made.Made.{Made}
 use Rattle.mely_worker.specs.declared.made.Made.TheVariants as names
 use Rattle.mely_worker.specs.declared.app.App.{Ghosts as AppWords}
@@ -46,25 +46,25 @@ module _ {S P F R : Type 0} (t : TrailWords S F) (fits : F → Colour → Event 
   own_core : w.core ≡ k
   own_core = own t fits loom well k w here low
 
-  turn_keeps : (turn : Taken S P) (left : List (Event × Option P)) → w.phase ≡ Turning turn Empty [] → StepsTurn (side_words t Keep) y app from w made b v turn left → Keeps v made
+  turn_keeps : (turn : Taken S P) (left : List (Event × Option P)) → w.phase ≡ Turning turn Nothing [] → StepsTurn (side_words t Keep) y app from w made b v turn left → Keeps v made
   turn_keeps turn [] is line = carried _ _ _ (λ answer called. finish_line t fits loom well k w here low turn is b answer called) line
   turn_keeps turn (event ∷ rest) is r =
       subst (λ (u : WorkerView S P). Keeps u made) (sym r.becomes) (run_line t fits loom well k w here low turn r.state rest r.puts made is b r.untouched (subst WasntRefused (sym r.named) tt))
 
-  puts_keep : (turn : Taken S P) (puts : List (Colour × Event × Option P)) → w.phase ≡ Turning turn Empty puts → StepsPuts (side_words t Keep) y app from w made b v turn puts → Keeps v made
+  puts_keep : (turn : Taken S P) (puts : List (Colour × Event × Option P)) → w.phase ≡ Turning turn Nothing puts → StepsPuts (side_words t Keep) y app from w made b v turn puts → Keeps v made
   puts_keep turn [] is line = turn_keeps turn turn.events is line
   puts_keep turn (put ∷ rest) is line =
-      let may : PhaseMayStep t fits loom.setup k (t.frame_of loom.given) (IsOut from) (Turning turn Empty (put ∷ rest)) = subst (PhaseMayStep t fits loom.setup k (t.frame_of loom.given) (IsOut from)) is (well.worker k w here).may.phase in
+      let may : PhaseMayStep t fits loom.setup k (t.frame_of loom.given) (IsOut from) (Turning turn Nothing (put ∷ rest)) = subst (PhaseMayStep t fits loom.setup k (t.frame_of loom.given) (IsOut from)) is (well.worker k w here).may.phase in
       let fit = may.of_puts.0 in
       carried _ _ _ (λ answer called. register_line t fits loom well k w here low turn put.0 put.1 put.2 rest is (record { colour = fit.colour; handler = fit.handler }) b answer called) line
 
-  turning_keeps : (turn : Taken S P) (hand : Hand) (puts : List (Colour × Event × Option P)) → w.phase ≡ Turning turn hand puts → StepsTurning (side_words t Keep) y app from w made b v turn hand puts → Keeps v made
-  turning_keeps turn Empty puts is line = puts_keep turn puts is line
-  turning_keeps turn (Marked core mark) puts is line =
-      carried _ _ _ (λ answer called. push_line t fits loom well k w here low core mark (in_phase w (Turning turn Empty puts)) (names.Pushed mark.colour core) (ap (held_in w.core) is) refl refl (sym (ap colour_in is)) ((said (Turning turn (Marked core mark) puts) is).0, tt) tt b answer called) line
-  turning_keeps turn (Reporting core colour started worth) puts is line =
-      let told_of = said (Turning turn (Reporting core colour started worth) puts) is in
-      carried _ _ _ (λ found called. retell_line t fits loom well k w here low b core colour started worth found called (in_phase w (Turning turn Empty puts)) (sym (ap (held_in w.core) is)) told_of.1 (names.Told colour core found) refl (sym (ap colour_in is)) (told_of.0, tt) tt) line
+  turning_keeps : (turn : Taken S P) (hand : Delivery) (puts : List (Colour × Event × Option P)) → w.phase ≡ Turning turn hand puts → StepsTurning (side_words t Keep) y app from w made b v turn hand puts → Keeps v made
+  turning_keeps turn Nothing puts is line = puts_keep turn puts is line
+  turning_keeps turn (PushMark core mark) puts is line =
+      carried _ _ _ (λ answer called. push_line t fits loom well k w here low core mark (in_phase w (Turning turn Nothing puts)) (names.Pushed mark.colour core) (ap (held_in w.core) is) refl refl (sym (ap colour_in is)) ((said (Turning turn (PushMark core mark) puts) is).0, tt) tt b answer called) line
+  turning_keeps turn (Report core colour started worth) puts is line =
+      let told_of = said (Turning turn (Report core colour started worth) puts) is in
+      carried _ _ _ (λ found called. retell_line t fits loom well k w here low b core colour started worth found called (in_phase w (Turning turn Nothing puts)) (sym (ap (held_in w.core) is)) told_of.1 (names.Told colour core found) refl (sym (ap colour_in is)) (told_of.0, tt) tt) line
 
   hunt_keeps : (n : ℕ) (victim : Option ℕ) → slice_get w.victims n ≡ victim → w.phase ≡ Free (suc n) → StepsHunt (side_words t Keep) y app from w made b v (suc n) victim → Keeps v made
   hunt_keeps n None there is line = absurd line
@@ -109,10 +109,10 @@ module _ {S P F R : Type 0} (t : TrailWords S F) (fits : F → Colour → Event 
   puts_enter turn (put ∷ rest) line = line
 
   -- a mark in hand enters
-  turning_enters : (turn : Taken S P) (hand : Hand) (puts : List (Colour × Event × Option P)) → w.phase ≡ Turning turn hand puts → StepsTurning (side_words t Keep) y app from w made b v turn hand puts → StepsTurning (weave_words t) y app from w made b v turn hand puts
-  turning_enters turn Empty puts is line = puts_enter turn puts line
-  turning_enters turn (Marked core mark) puts is line = line_under (push_enters t fits loom well k w here low core mark (ap (held_in w.core) is) b) line
-  turning_enters turn (Reporting core colour started worth) puts is line = line
+  turning_enters : (turn : Taken S P) (hand : Delivery) (puts : List (Colour × Event × Option P)) → w.phase ≡ Turning turn hand puts → StepsTurning (side_words t Keep) y app from w made b v turn hand puts → StepsTurning (weave_words t) y app from w made b v turn hand puts
+  turning_enters turn Nothing puts is line = puts_enter turn puts line
+  turning_enters turn (PushMark core mark) puts is line = line_under (push_enters t fits loom well k w here low core mark (ap (held_in w.core) is) b) line
+  turning_enters turn (Report core colour started worth) puts is line = line
 
   hunt_enters : (place : ℕ) (victim : Option ℕ) → StepsHunt (side_words t Keep) y app from w made b v place victim → StepsHunt (weave_words t) y app from w made b v place victim
   hunt_enters place (Some victim) line = line

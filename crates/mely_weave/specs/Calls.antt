@@ -1,5 +1,5 @@
 -- What each call does to a shard or a chain, and what it answers; all else stays.
-use Rattle.std.specs.Prelude.{◌≡◌, ◌<◌, ◌++◌, ℕ, Bool, List, [], ◌∷◌, Option, None, Some, Result, Ok, Err, IsSome, MatchOption, is_some, take, slice_get, slice_set}
+use Rattle.std.specs.Prelude.{◌≡◌, ◌<◌, ◌≤◌, ◌++◌, ℕ, Bool, List, [], ◌∷◌, Option, None, Some, Result, Ok, Err, IsSome, MatchOption, is_some, take, slice_get, slice_set}
 use Rattle.mely_event.specs.declared.colour.Colour.{Colour}
 use Rattle.mely_event.specs.declared.event.Event.{Event}
 use Rattle.mely_event.specs.declared.mark.Mark.{Mark}
@@ -15,7 +15,7 @@ use Rattle.mely_history.specs.Setup.{colours_of}
 use Rattle.mely_history.specs.History.{registered_of, begun_of}
 use Rattle.mely_history.specs.Legal.{IsRunningOn}
 use Rattle.mely_queue.specs.Taken.{Taken}
-use Rattle.mely_shard.specs.Contents.{Contents, Registers, RegisteredAs, HasSameContents, Takes, IsRoomier, KeepsStates, NoTakeAs, Finishes, AfterAs, Steals, NoStealAs}
+use Rattle.mely_shard.specs.Contents.{Contents, Registers, RegisteredAs, HasSameContents, Takes, KeepsStates, NoTakeAs, Finishes, AfterAs, Steals, NoStealAs}
 use Rattle.mely_steal.specs.Marks.{mark_of, without, replaced}
 use Rattle.mely_steal.specs.Stealing.{entered, changed, pick_of}
 use Rattle.mely_core.specs.Chains.{Chain, told_of}
@@ -44,8 +44,8 @@ RegisterAs c event load by (Ok reply) old new = Registers old new c event load b
 RegisterAs c event load by (Err back) old new = HasSameContents old new
 
 abbrev pub TakeAs : {S P F : Type 0} → TrailWords S F → Colour → ℕ → Result (Taken S P) NoTake → Contents S P → Contents S P → Type 0
-TakeAs t c core (Ok turn) old new = Takes (IsRoomier t.alike t.spare_of) t.spare_of old new c core turn
-TakeAs t c core (Err why) old new = KeepsStates (IsRoomier t.alike t.spare_of) old new × NoTakeAs old.setup old.history c core why
+TakeAs t c core (Ok turn) old new = Takes t old new c core turn
+TakeAs t c core (Err why) old new = KeepsStates t old new × NoTakeAs old.setup old.history c core why
 
 abbrev pub FinishAs : {S P : Type 0} → Taken S P → After → Contents S P → Contents S P → Type 0
 FinishAs turn answer old new = Finishes old new turn × IsRunningOn old.history turn.colour turn.core turn.count × AfterAs old.setup new.history turn.colour answer
@@ -56,7 +56,7 @@ StealAs c to (Err why) old new = HasSameContents old new × NoStealAs old.setup 
 
 -- a mark enters at the back, unless one of its colour is there
 abbrev pub PushAs : Mark → Result (Unit {0}) There → Chain → Chain → Type 0
-PushAs mark (Ok done) old new = (mark_of mark.colour old.chain ≡ None) × (new ≡ record old { chain = old.chain ++ mark ∷ []; worthy = entered old.cost mark old.worthy })
+PushAs mark (Ok done) old new = (mark_of mark.colour old.chain ≡ None) × (new ≡ record old { chain = old.chain ++ mark ∷ []; worthy = entered old.cost old.pinned mark old.worthy })
 PushAs mark (Err there) old new = IsSome (mark_of mark.colour old.chain) × (new ≡ old)
 
 -- the front is taken
@@ -66,12 +66,12 @@ PopAs (Some mark) old new = (old.chain ≡ mark ∷ new.chain) × (new ≡ recor
 
 -- the mark of the colour is raised, unless it is of another period
 abbrev pub RetellAs : Colour → ℕ → ℕ → Bool → Chain → Chain → Type 0
-RetellAs c started worth found old new = (found ≡ is_some (told_of c started worth old.chain)) × MatchOption (told_of c started worth old.chain) (new ≡ old) (λ told. new ≡ record old { chain = replaced told old.chain; worthy = changed old.cost told old.worthy })
+RetellAs c started worth found old new = (found ≡ is_some (told_of c started worth old.chain)) × MatchOption (told_of c started worth old.chain) (new ≡ old) (λ told. new ≡ record old { chain = replaced told old.chain; worthy = changed old.cost old.pinned told old.worthy })
 
--- the first mark of the highest class is taken
+-- the first mark of the highest class is taken, of those whose colours aren't pinned
 abbrev pub PickAs : Option Mark → Chain → Chain → Type 0
 PickAs None old new = (pick_of old.cost old.worthy ≡ None) × (new ≡ old)
-PickAs (Some mark) old new = (pick_of old.cost old.worthy ≡ Some mark) × (mark_of mark.colour old.chain ≡ Some mark) × (old.cost < mark.worth) × (new ≡ record old { chain = without mark.colour old.chain; worthy = without mark.colour old.worthy })
+PickAs (Some mark) old new = (pick_of old.cost old.worthy ≡ Some mark) × (mark_of mark.colour old.chain ≡ Some mark) × (old.cost < mark.worth) × (old.pinned ≤ mark.colour.0) × (new ≡ record old { chain = without mark.colour old.chain; worthy = without mark.colour old.worthy })
 
 -- a turn of the colour is out on the core, and its state is to have all events that were begun
 pub record IsOut {S P : Type 0} (a : Scene S P) (c : Colour) (core count : ℕ) (trail : List Event) : Type 0 where

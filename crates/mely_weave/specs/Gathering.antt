@@ -6,7 +6,7 @@ use Rattle.mely_event.specs.declared.event.Event.{Event}
 use Rattle.mely_event.specs.declared.mark.Mark.{Mark}
 use Rattle.mely_event.specs.declared.trail.Trail.{Ghosts as TrailWords}
 use Rattle.mely_history.specs.declared.setup.Setup.{Setup}
-use Rattle.mely_history.specs.Setup.{shape_of, colours_of}
+use Rattle.mely_history.specs.Setup.{shape_of, colours_of, pinned_of}
 use Rattle.mely_history.specs.History.{IsRunning}
 use Rattle.mely_history.specs.Legal.{IsLegal}
 use Rattle.mely_shard.specs.Contents.{Contents, IsOwn, givens}
@@ -38,9 +38,10 @@ marks_below of core n = map (mark_for of) (filter (is_ready_on of core) (colours
 abbrev pub chain_of : Setup → List Mark → Chain
 chain_of setup marks = record {
   chain = marks;
-  worthy = filter (is_worthy (shape_of setup).steal_cost) marks;
+  worthy = filter (is_worthy (shape_of setup).steal_cost (pinned_of setup)) marks;
   colours = colours_of setup;
   cost = (shape_of setup).steal_cost;
+  pinned = pinned_of setup;
 }
 
 -- each core's chain has the marks of the ready colours below a number that the core owns
@@ -63,6 +64,7 @@ pub record MayGatherShard {S P F : Type 0} (t : TrailWords S F) (setup : Setup) 
 pub record MayGatherChain (setup : Setup) (queue : Chain) : Type 0 where
   pub colours : queue.colours ≡ colours_of setup
   pub cost : queue.cost ≡ (shape_of setup).steal_cost
+  pub pinned : queue.pinned ≡ pinned_of setup
 
 -- a worker that is gathered: it is free, it is the setup's worker of this core, and what it lost may be registered
 pub record MayGatherWorker {S P F : Type 0} (fits : F → Colour → Event → Option P → Type 0) (setup : Setup) (frame : F) (core : ℕ) (w : WorkerView S P) : Type 0 where

@@ -3,16 +3,16 @@ use Rattle.std.specs.Prelude.{ℕ, List, [], ◌∷◌, Option, None, Some}
 use Rattle.mely_event.specs.declared.colour.Colour.{Colour}
 use Rattle.mely_worker.specs.declared.phase.Phase.{Phase}
 use Rattle.mely_worker.specs.declared.phase.Phase.TheVariants.{Free, Popped, Picked, Landing, Pushing, Turning}
-use Rattle.mely_worker.specs.declared.phase.Hand.{Hand}
-use Rattle.mely_worker.specs.declared.phase.Hand.TheVariants.{Empty, Marked, Reporting}
+use Rattle.mely_worker.specs.declared.delivery.Delivery.{Delivery}
+use Rattle.mely_worker.specs.declared.delivery.Delivery.TheVariants.{Nothing, PushMark, Report}
 use Rattle.mely_worker.specs.WorkerView.{WorkerView}
 use Rattle.mely_weave.specs.Marks.{Placed}
 
 -- the mark of a turning worker
-abbrev pub mark_in : Hand → List Placed
-mark_in Empty = []
-mark_in (Marked core mark) = (core, mark) ∷ []
-mark_in (Reporting core colour started worth) = []
+abbrev pub mark_in : Delivery → List Placed
+mark_in Nothing = []
+mark_in (PushMark core mark) = (core, mark) ∷ []
+mark_in (Report core colour started worth) = []
 
 -- the mark that a worker of a core holds, with the core that it is for: a popped mark is for the worker's own, a picked one for the victim that it was taken from, and one that is to be pushed for the core that it is to be pushed to
 abbrev pub held_in : {S P : Type 0} → ℕ → Phase S P → List Placed

@@ -1,12 +1,13 @@
 -- A weave at first.
 use Rattle.std.specs.Prelude.{◌≡◌, ℕ, false, List, [], Some, length, slice_get}
 use Rattle.mely_event.specs.declared.colour.Colour.{Colour}
+use Rattle.mely_event.specs.declared.event.Event.{Event}
 use Rattle.mely_event.specs.declared.trail.Trail.{Ghosts as TrailWords}
 use Rattle.mely_history.specs.declared.setup.Setup.{Setup}
-use Rattle.mely_history.specs.Setup.{shape_of, colours_of}
+use Rattle.mely_history.specs.Setup.{shape_of, colours_of, pinned_of}
 use Rattle.mely_shard.specs.Contents.{Contents, first_lane}
 use Rattle.mely_steal.specs.Victims.{victims_of}
-use Rattle.mely_core.specs.Chains.{Chain}
+use Rattle.mely_core.specs.Chains.{Chain, empty_core}
 use Rattle.mely_worker.specs.declared.phase.Phase.TheVariants.{Free}
 use Rattle.mely_worker.specs.Rest.{Rest}
 use Rattle.mely_worker.specs.WorkerView.{WorkerView}
@@ -20,9 +21,14 @@ pub record AreFirst {S F : Type 0} (t : TrailWords S F) (setup : Setup) (states 
   pub untouched : (i : ℕ) (state : S) → slice_get states i ≡ Some state → t.trail_of state ≡ []
   pub one_frame : (i j : ℕ) (a b : S) → slice_get states i ≡ Some a → slice_get states j ≡ Some b → t.frame_of a ≡ t.frame_of b
 
+-- the first states of so many colours, as they are made one after another: one for each, on which nothing was run
+pub record AreBlank {S : Type 0} (colour_of : S → Colour) (trail_of : S → List Event) (count : ℕ) (states : List S) : Type 0 where
+  pub many : length states ≡ count
+  pub each : (i : ℕ) (state : S) → slice_get states i ≡ Some state → (colour_of state ≡ record { 0 = i }) × (trail_of state ≡ [])
+
 -- an empty chain
 abbrev pub empty_chain : Setup → Chain
-empty_chain setup = record { chain = []; worthy = []; colours = colours_of setup; cost = (shape_of setup).steal_cost }
+empty_chain setup = empty_core (colours_of setup) (shape_of setup).steal_cost (pinned_of setup)
 
 -- a worker at first
 abbrev pub first_worker : {S P : Type 0} → Setup → ℕ → WorkerView S P

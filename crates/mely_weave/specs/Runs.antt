@@ -9,7 +9,7 @@ use Rattle.mely_worker.specs.declared.app.App.{Ghosts as AppWords}
 use Rattle.mely_weave.specs.declared.running.Went.{Went}
 use Rattle.mely_weave.specs.declared.running.Went.TheVariants as went
 use Rattle.mely_weave.specs.StandsWell.{Loom, StandsWell, WasntRefused}
-use Rattle.mely_weave.specs.Steps.{StepsAt}
+use Rattle.mely_weave.specs.WeaveRun.{StepCall}
 
 -- the setup is as before, and so is the state that was given at first, which tells the frame
 pub record KeepsSetup {S P : Type 0} (before after : Loom S P) : Type 0 where
@@ -45,7 +45,7 @@ Goes cores steps (went.Memory count) = StopsAfter cores steps count
 module _ {R S P F : Type 0} (t : TrailWords S F) (fits : F → Colour → Event → Option P → Type 0) (y : AppWords R P S F) (app : R) where
   -- a step of the core by its worker's rule, for which no mark was refused, and after which all stands well
   pub record StepsWell (before : Loom S P) (core : ℕ) (step : Made) (after : Loom S P) : Type 0 where
-    pub steps : StepsAt t y app before core step after
+    pub call : StepCall t fits y app core step before after
     pub accepted : WasntRefused step
     pub stands : StandsWell t fits after
 

@@ -4,15 +4,15 @@ use Rattle.mely_event.specs.declared.colour.Colour.{Colour}
 use Rattle.mely_event.specs.declared.event.Event.{Event}
 use Rattle.mely_event.specs.declared.trail.Trail.{Ghosts as TrailWords}
 use Rattle.mely_history.specs.declared.setup.Setup.{Setup}
-use Rattle.mely_history.specs.Setup.{shape_of}
+use Rattle.mely_history.specs.Setup.{shape_of, pinned_of}
 use Rattle.mely_history.specs.Legal.{IsRunningOn}
 use Rattle.mely_shard.specs.Contents.{Contents}
 use Rattle.mely_steal.specs.Victims.{victims_of}
 use Rattle.mely_core.specs.Chains.{Chain}
 use Rattle.mely_worker.specs.declared.phase.Phase.{Phase}
 use Rattle.mely_worker.specs.declared.phase.Phase.TheVariants.{Free, Popped, Picked, Landing, Pushing, Turning}
-use Rattle.mely_worker.specs.declared.phase.Hand.{Hand}
-use Rattle.mely_worker.specs.declared.phase.Hand.TheVariants.{Empty, Marked, Reporting}
+use Rattle.mely_worker.specs.declared.delivery.Delivery.{Delivery}
+use Rattle.mely_worker.specs.declared.delivery.Delivery.TheVariants.{Nothing, PushMark, Report}
 use Rattle.mely_worker.specs.declared.made.Made.{Made}
 use Rattle.mely_worker.specs.declared.made.Made.TheVariants as made
 use Rattle.mely_worker.specs.WorkerView.{WorkerView}
@@ -36,16 +36,16 @@ abbrev pub side_of : {S P : Type 0} → Loom S P → ℕ → Scene S P
 side_of loom core = record { setup = loom.setup; core = core; given = loom.given; shards = loom.shards; chains = loom.chains }
 
 -- a report says no more than is so, unless more was begun since
-abbrev pub ReportIsTold : (Colour → Readiness) → Hand → Type 0
-ReportIsTold of Empty = Unit {0}
-ReportIsTold of (Marked core mark) = Unit {0}
-ReportIsTold of (Reporting core colour started worth) = (started ≤ (of colour).begun) × (started ≡ (of colour).begun → worth ≤ (of colour).worth)
+abbrev pub ReportIsTold : (Colour → Readiness) → Delivery → Type 0
+ReportIsTold of Nothing = Unit {0}
+ReportIsTold of (PushMark core mark) = Unit {0}
+ReportIsTold of (Report core colour started worth) = (started ≤ (of colour).begun) × (started ≡ (of colour).begun → worth ≤ (of colour).worth)
 
--- a turn is of the worker's own core, and a picked mark is from another core and worth a steal
+-- a turn is of the worker's own core, and a picked mark is from another core, worth a steal, and of a colour that isn't pinned
 abbrev pub PhaseIsTold : {S P : Type 0} → Setup → (Colour → Readiness) → ℕ → Phase S P → Type 0
 PhaseIsTold setup of core (Free place) = Unit {0}
 PhaseIsTold setup of core (Popped mark) = Unit {0}
-PhaseIsTold setup of core (Picked mark victim) = (victim ≢ core) × ((shape_of setup).steal_cost < mark.worth)
+PhaseIsTold setup of core (Picked mark victim) = (victim ≢ core) × ((shape_of setup).steal_cost < mark.worth) × (pinned_of setup ≤ mark.colour.0)
 PhaseIsTold setup of core (Landing mark) = Unit {0}
 PhaseIsTold setup of core (Pushing to mark) = Unit {0}
 PhaseIsTold setup of core (Turning turn hand puts) = (turn.core ≡ core) × ReportIsTold of hand

@@ -22,34 +22,39 @@ use Rattle.mely_weave.specs.SideStands.{SideStands}
 use Rattle.mely_weave.specs.StandsWell.{Loom}
 use Rattle.mely_weave.specs.Steps.{StepsAt, PostsAt}
 
+-- a post, refused or not: event and load fit, and the shards and the chains keep what each keeps for itself
+pub record PostCall {S P F : Type 0} (t : TrailWords S F) (fits : F → Colour → Event → Option P → Type 0) (colour : Colour) (event : Event) (load : Option P) (answer : Result Registered (Unregistered P)) (before after : Loom S P) : Type 0 where
+  pub may : FitsSetup fits before.setup (t.frame_of before.given) (colour, event, load)
+  pub posts : PostsAt t before colour event load answer after
+  pub parts : SideStands t fits posts.side
+
 module _ {R S P F : Type 0} (t : TrailWords S F) (fits : F → Colour → Event → Option P → Type 0) (y : AppWords R P S F) where
-  -- a step of a core under some app; the shards and the chains keep what each keeps for itself, and the worker what its next step asks
-  pub record StepCall (before after : Loom S P) : Type 0 where
-    pub app : R
-    pub core : ℕ
-    pub step : Made
+  -- a step of a core under an app: it is one of the cores, the shards and the chains keep what each keeps for itself, and the worker what its next step asks
+  pub record StepCall (app : R) (core : ℕ) (step : Made) (before after : Loom S P) : Type 0 where
     pub there : core < (shape_of before.setup).cores
     pub steps : StepsAt t y app before core step after
     pub parts : SideStands t fits steps.side
     pub may : MayStep t fits steps.side.setup steps.side.core (t.frame_of steps.side.given) (IsOut steps.side) steps.becomes
 
-  -- a post, refused or not; the shards and the chains keep what each keeps for itself
-  pub record PostCall (before after : Loom S P) : Type 0 where
-    pub colour : Colour
-    pub event : Event
-    pub load : Option P
-    pub answer : Result Registered (Unregistered P)
-    pub may : FitsSetup fits before.setup (t.frame_of before.given) (colour, event, load)
-    pub posts : PostsAt before colour event load answer after
-    pub parts : SideStands t fits posts.side
+  -- a step of some core under some app
+  abbrev pub SomeStep : Loom S P → Loom S P → Type 0
+  SomeStep before after = (app : R) × (core : ℕ) × (step : Made) × StepCall app core step before after
+
+  -- a post of something, with some answer
+  abbrev pub SomePost : Loom S P → Loom S P → Type 0
+  SomePost before after = (colour : Colour) × (event : Event) × (load : Option P) × (answer : Result Registered (Unregistered P)) × PostCall t fits colour event load answer before after
 
   abbrev pub Call : Loom S P → Loom S P → Type 0
-  Call before after = StepCall before after ⊎ PostCall before after
+  Call before after = SomeStep before after ⊎ SomePost before after
 
   -- so many calls, of whatever cores and colours
   unfoldable pub WeaveRun : ℕ → Loom S P → Loom S P → Type 0
   WeaveRun zero before after = after ≡ before
   WeaveRun (suc n) before after = (between : Loom S P) × WeaveRun n before between × Call between after
+
+  -- some number of calls
+  abbrev pub IsRun : Loom S P → Loom S P → Type 0
+  IsRun before after = (count : ℕ) × WeaveRun count before after
 
 module _ {S P : Type 0} where
   -- each history is an earlier one, and more

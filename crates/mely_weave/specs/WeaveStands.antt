@@ -6,14 +6,14 @@ use Rattle.mely_event.specs.declared.event.Event.{Event}
 use Rattle.mely_event.specs.declared.mark.Mark.{Mark}
 use Rattle.mely_event.specs.declared.trail.Trail.{Ghosts as TrailWords}
 use Rattle.mely_history.specs.declared.entry.Entry.{Entry}
-use Rattle.mely_history.specs.Setup.{shape_of}
+use Rattle.mely_history.specs.Setup.{shape_of, pinned_of}
 use Rattle.mely_history.specs.History.{registered_of, begun_of, owner_of, queued_of, ran_of, worth_of, IsRunning}
 use Rattle.mely_history.specs.Legal.{AreLegal, IsReady, IsRunningOn}
 use Rattle.mely_queue.specs.Taken.{Taken, EachFits}
 use Rattle.mely_shard.specs.Contents.{Lane}
 use Rattle.mely_worker.specs.declared.phase.Phase.TheVariants.{Picked, Turning}
-use Rattle.mely_worker.specs.declared.phase.Hand.{Hand}
-use Rattle.mely_worker.specs.declared.phase.Hand.TheVariants.{Reporting}
+use Rattle.mely_worker.specs.declared.delivery.Delivery.{Delivery}
+use Rattle.mely_worker.specs.declared.delivery.Delivery.TheVariants.{Report}
 use Rattle.mely_worker.specs.Access.{IsColour, FitsSetup, events_of}
 use Rattle.mely_worker.specs.WorkerView.{WorkerView}
 use Rattle.mely_weave.specs.Scene.{history_for}
@@ -36,7 +36,7 @@ module _ {S P F : Type 0} (t : TrailWords S F) (fits : F → Colour → Event �
   IsHeld core mark = (i : ℕ) × (slice_get marks_held i ≡ Some (core, mark))
 
   -- the worker of a core is turning
-  abbrev pub Turns : ℕ → Taken S P → Hand → List (Colour × Event × Option P) → Type 0
+  abbrev pub Turns : ℕ → Taken S P → Delivery → List (Colour × Event × Option P) → Type 0
   Turns core turn hand puts = (w : WorkerView S P) × ((slice_get loom.workers core ≡ Some w) × (w.phase ≡ Turning turn hand puts))
 
   -- beside the parts: there is a shard for each number, a lane for each colour, and a chain and a worker for each core
@@ -63,22 +63,23 @@ module _ {S P F : Type 0} (t : TrailWords S F) (fits : F → Colour → Event �
     pub owner : (core : ℕ) (mark : Mark) → IsHeld core mark → core ≡ owner_of loom.setup (history_of mark.colour) mark.colour
     pub thief : (core victim : ℕ) (w : WorkerView S P) (mark : Mark) → slice_get loom.workers core ≡ Some w → w.phase ≡ Picked mark victim → victim ≢ core
 
-  -- 4: each mark says how many events were begun and no more than the worth, and a picked one is worth a steal
+  -- 4: each mark says how many events were begun and no more than the worth, and a picked one is worth a steal and of a colour that isn't pinned
   pub record MarksAreTold : Type 0 where
     pub started : (core : ℕ) (mark : Mark) → IsHeld core mark → mark.started ≡ begun_of (history_of mark.colour) mark.colour
     pub worth : (core : ℕ) (mark : Mark) → IsHeld core mark → mark.worth ≤ worth_of loom.setup (history_of mark.colour) mark.colour
     pub worthy : (core victim : ℕ) (w : WorkerView S P) (mark : Mark) → slice_get loom.workers core ≡ Some w → w.phase ≡ Picked mark victim → (shape_of loom.setup).steal_cost < mark.worth
+    pub loose : (core victim : ℕ) (w : WorkerView S P) (mark : Mark) → slice_get loom.workers core ≡ Some w → w.phase ≡ Picked mark victim → pinned_of loom.setup ≤ mark.colour.0
 
   -- 5: a report says no more events than were begun, and where it says as many no more than the worth
   pub record ReportsAreTold : Type 0 where
-    pub started : (core to : ℕ) (turn : Taken S P) (c : Colour) (started worth : ℕ) (puts : List (Colour × Event × Option P)) → Turns core turn (Reporting to c started worth) puts → started ≤ begun_of (history_of c) c
-    pub worth : (core to : ℕ) (turn : Taken S P) (c : Colour) (started worth : ℕ) (puts : List (Colour × Event × Option P)) → Turns core turn (Reporting to c started worth) puts → started ≡ begun_of (history_of c) c → worth ≤ worth_of loom.setup (history_of c) c
+    pub started : (core to : ℕ) (turn : Taken S P) (c : Colour) (started worth : ℕ) (puts : List (Colour × Event × Option P)) → Turns core turn (Report to c started worth) puts → started ≤ begun_of (history_of c) c
+    pub worth : (core to : ℕ) (turn : Taken S P) (c : Colour) (started worth : ℕ) (puts : List (Colour × Event × Option P)) → Turns core turn (Report to c started worth) puts → started ≡ begun_of (history_of c) c → worth ≤ worth_of loom.setup (history_of c) c
 
   -- 6: a worker turns on a colour exactly where the colour runs on its core; the turn has the count of that take, and what was run on its state with what is left is what was begun
   pub record TurnsStand : Type 0 where
-    pub runs : (core : ℕ) (turn : Taken S P) (hand : Hand) (puts : List (Colour × Event × Option P)) → Turns core turn hand puts → IsRunningOn (history_of turn.colour) turn.colour core turn.count
+    pub runs : (core : ℕ) (turn : Taken S P) (hand : Delivery) (puts : List (Colour × Event × Option P)) → Turns core turn hand puts → IsRunningOn (history_of turn.colour) turn.colour core turn.count
     pub turns : (c : Colour) (core count : ℕ) → IsRunningOn (history_of c) c core count → IsTurningOn loom.workers core c
-    pub trailed : (core : ℕ) (turn : Taken S P) (hand : Hand) (puts : List (Colour × Event × Option P)) → Turns core turn hand puts → t.trail_of turn.state ++ events_of turn.events ≡ take (begun_of (history_of turn.colour) turn.colour) (registered_of (history_of turn.colour) turn.colour)
+    pub trailed : (core : ℕ) (turn : Taken S P) (hand : Delivery) (puts : List (Colour × Event × Option P)) → Turns core turn hand puts → t.trail_of turn.state ++ events_of turn.events ≡ take (begun_of (history_of turn.colour) turn.colour) (registered_of (history_of turn.colour) turn.colour)
 
   -- a state is at home: it is of the colour, has the frame, and its trail is what was run
   pub record IsHomeState (c : Colour) (state : S) : Type 0 where
@@ -96,11 +97,11 @@ module _ {S P F : Type 0} (t : TrailWords S F) (fits : F → Colour → Event �
   pub record StatesStand : Type 0 where
     pub home : (c : Colour) (lane : Lane S P) → IsColour loom.setup c → lane_for loom.setup loom.shards c ≡ Some lane → ¬ IsRunning (history_of c) c → (state : S) × ((lane.state ≡ Some state) × IsHomeState c state)
     pub away : (c : Colour) (lane : Lane S P) → IsColour loom.setup c → lane_for loom.setup loom.shards c ≡ Some lane → IsRunning (history_of c) c → lane.state ≡ None
-    pub turn : (core : ℕ) (turn : Taken S P) (hand : Hand) (puts : List (Colour × Event × Option P)) → Turns core turn hand puts → IsTurnState turn
+    pub turn : (core : ℕ) (turn : Taken S P) (hand : Delivery) (puts : List (Colour × Event × Option P)) → Turns core turn hand puts → IsTurnState turn
 
   -- 8: each registration that a worker has left or has lost is of a colour and a handler of the setup, and event and load fit
   pub record RegistrationsFit : Type 0 where
-    pub left : (core : ℕ) (turn : Taken S P) (hand : Hand) (puts : List (Colour × Event × Option P)) → Turns core turn hand puts → AllByRecursion (FitsSetup fits loom.setup (t.frame_of loom.given)) puts
+    pub left : (core : ℕ) (turn : Taken S P) (hand : Delivery) (puts : List (Colour × Event × Option P)) → Turns core turn hand puts → AllByRecursion (FitsSetup fits loom.setup (t.frame_of loom.given)) puts
     pub lost : (core : ℕ) (w : WorkerView S P) → slice_get loom.workers core ≡ Some w → AllByRecursion (FitsSetup fits loom.setup (t.frame_of loom.given)) w.lost
 
   -- the rules of a weave, whatever steps were made

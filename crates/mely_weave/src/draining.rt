@@ -1,8 +1,10 @@
+//! Rounds until nothing is left.
 ghost use Rattle.std.specs.Prelude.{◌≡◌, ◌<◌, ◌↔◌, ℕ, IsTrue, MatchBool};
 ghost use Rattle.mely_history.specs.Setup.{shape_of};
 ghost use Rattle.mely_worker.specs.Conditions.{AppServes};
 ghost use Rattle.mely_weave.specs.Runs.{KeepsSetup};
 ghost use Rattle.mely_weave.specs.StandsWell.{StandsWell};
+ghost use Rattle.mely_weave.specs.WeaveRun.{IsRun};
 ghost use Rattle.mely_weave.specs.Drains.{Drains, MakesRound, DrivesTo, AreDriven, IsQuiet, SomeHalted, NoneHalted, AllFree, AllEmpty};
 
 use crate::weave::Weave;
@@ -27,6 +29,7 @@ impl<S: Fits<P> + Drop, P: Drop> Weave<S, P> {
     pub fn drain<W: Wait, R: App<State = S, Load = P>>(&mut self, rt: &W, app: &R) -> Drained
         requires served { AppServes R.App self.old.setup (S.frame_of self.old.given) app.now }
         ensures drains { Drains S.Trail S.fits_under R.App app.now self.old result self.new }
+        ensures calls { IsRun S.Trail S.fits_under R.App self.old self.new }
         ensures free { AllFree self.new }
         ensures same { KeepsSetup self.old self.new }
         ensures stands { StandsWell S.Trail S.fits_under self.new }
@@ -114,7 +117,7 @@ impl<S: Fits<P> + Drop, P: Drop> Weave<S, P> {
         ensures { IsTrue result ↔ AllEmpty self.now }
     {
         for chain in &self.side.chains {
-            if !chain.marks().is_empty() {
+            if !chain.is_empty() {
                 return false;
             }
         }

@@ -1,8 +1,11 @@
+//! A weave of what comes back from elsewhere.
 ghost use Rattle.std.specs.Prelude.{◌≡◌, ◌<◌, ℕ, [], Some, length, slice_get};
 ghost use Rattle.mely_core.specs.Chains.{HoldTogether};
 ghost use Rattle.mely_history.specs.Setup.{shape_of, colours_of};
 ghost use Rattle.mely_shard.specs.Contents.{IsKept, lane_at};
+ghost use Rattle.mely_weave.specs.Dealing.{AtEach};
 ghost use Rattle.mely_weave.specs.Gathering.{AreChained, AreChainedAnew, IsFirstAtRest, IsOwnShard, MayGather, MayGatherChain};
+ghost use Rattle.mely_weave.specs.Making.{empty_chain};
 ghost use Rattle.mely_weave.specs.Scene.{readiness_for};
 ghost use Rattle.mely_weave.specs.SideStands.{ChainStands};
 
@@ -57,7 +60,7 @@ impl<S: Fits<P>, P> Weave<S, P> {
 
 /// What the type of each shard keeps, for contracts alone: shards are read and stay.
 fn are_kept<S: Fits<P>, P>(shards: &[Shard<S, P>])
-    ensures { (number : ℕ) (has : _) → slice_get shards.now number ≡ Some has → IsKept S.trail_of S.colour_of S.frame_of S.fits_under has }
+    ensures { AtEach (λ number has. IsKept S.Trail S.fits_under has) shards.now }
 {
     for shard in shards {
         let _history = shard.history();
@@ -67,7 +70,7 @@ fn are_kept<S: Fits<P>, P>(shards: &[Shard<S, P>])
 /// The state of colour 0, for contracts alone.
 fn first_state<S: Fits<P>, P>(shards: &[Shard<S, P>]) -> Snapshot<S>
     requires some { 0 < length shards.now }
-    requires kept { (has : _) → slice_get shards.now 0 ≡ Some has → IsKept S.trail_of S.colour_of S.frame_of S.fits_under has }
+    requires kept { (has : _) → slice_get shards.now 0 ≡ Some has → IsKept S.Trail S.fits_under has }
     requires at_rest { (has : _) → slice_get shards.now 0 ≡ Some has → IsFirstAtRest has }
     ensures { (has : _) (lane : _) → slice_get shards.now 0 ≡ Some has → lane_at has (record { 0 = 0 }) ≡ Some lane → S.frame_of result.value ≡ S.frame_of lane.given }
 {
@@ -79,9 +82,9 @@ fn first_state<S: Fits<P>, P>(shards: &[Shard<S, P>]) -> Snapshot<S>
 
 /// Drops all marks of all chains.
 fn empty_all(setup: &Setup, chains: &mut [CoreQueue])
-    requires own { (core : ℕ) (queue : _) → slice_get chains.old core ≡ Some queue → MayGatherChain setup.now queue }
-    ensures empty { (core : ℕ) (queue : _) → slice_get chains.new core ≡ Some queue → queue ≡ record { chain = []; worthy = []; colours = colours_of setup.now; cost = (shape_of setup.now).steal_cost } }
-    ensures stand { (core : ℕ) (queue : _) → slice_get chains.new core ≡ Some queue → ChainStands setup.now queue }
+    requires own { AtEach (λ core queue. MayGatherChain setup.now queue) chains.old }
+    ensures empty { AtEach (λ core queue. queue ≡ empty_chain setup.now) chains.new }
+    ensures stand { AtEach (λ core queue. ChainStands setup.now queue) chains.new }
 {
     for chain in chains.iter_mut() {
         empty(chain);
@@ -99,11 +102,11 @@ fn empty(chain: &mut CoreQueue)
 /// Chains each ready colour on its owner, in ascending order.
 fn chain_ready<S: Fits<P>, P>(setup: &Setup, shards: &[Shard<S, P>], chains: &mut [CoreQueue])
     requires many { length shards.now ≡ (shape_of setup.now).shards }
-    requires own { (number : ℕ) (has : _) → slice_get shards.now number ≡ Some has → IsOwnShard setup.now number has }
+    requires own { AtEach (λ number has. IsOwnShard setup.now number has) shards.now }
     requires empty { AreChained setup.now (readiness_for setup.now shards.now) 0 chains.old }
-    requires stand { (core : ℕ) (queue : _) → slice_get chains.old core ≡ Some queue → ChainStands setup.now queue }
+    requires stand { AtEach (λ core queue. ChainStands setup.now queue) chains.old }
     ensures chained { AreChained setup.now (readiness_for setup.now shards.now) (colours_of setup.now) chains.new }
-    ensures stand { (core : ℕ) (queue : _) → slice_get chains.new core ≡ Some queue → ChainStands setup.now queue }
+    ensures stand { AtEach (λ core queue. ChainStands setup.now queue) chains.new }
 {
     for number in 0..setup.colours() {
         let colour = Colour(number as u16);

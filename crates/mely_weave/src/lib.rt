@@ -10,8 +10,11 @@
 //! exactly one mark, which lies in the chain of its owner or on its way there, and no other colour has one. So a ready colour is
 //! never lost and never run twice at once, and no step meets a mark whose colour was run or stolen meanwhile.
 //!
+//! The colours below a setup's number of pinned colours are never stolen: they run on the core that they began on.
+//!
 //! It is for whoever runs coloured events in an order of their own: to replay a schedule, to try an app against every order, or
-//! to end what threads began ([`Weave::gather`]).
+//! to end what threads began ([`Weave::gather`]). What a first weave is made of is public too ([`deal`], [`shards_of`],
+//! [`chains_of`], [`rested_of`]), for whoever puts shards and chains behind locks.
 //!
 //! ```text
 //! let mut weave = Weave::new(alloc, &setup, states)?;
@@ -37,6 +40,7 @@ mod weave;
 
 pub use draining::Drained;
 pub use laws::no_run_loses_or_doubles_a_mark;
+pub use making::{chains_of, deal, rested_of, shards_of};
 pub use parts::WeaveParts;
 pub use room::WeaveRoom;
 pub use running::Went;

@@ -1,7 +1,8 @@
+//! A weave at first, and what it is made of.
 ghost use Rattle.std.specs.Prelude.{◌≡◌, ℕ, IfOk, Some, [], length, slice_get};
 ghost use Rattle.mely_history.specs.Setup.{shape_of};
 ghost use Rattle.mely_shard.specs.Contents.{AreFirstStates, IsFirst};
-ghost use Rattle.mely_weave.specs.Dealing.{AreDealt};
+ghost use Rattle.mely_weave.specs.Dealing.{AreDealt, AtEach};
 ghost use Rattle.mely_weave.specs.Making.{AreFirst, IsFirstWeave, empty_chain, first_rest, first_worker};
 
 use crate::room::WeaveRoom;
@@ -37,9 +38,15 @@ impl<S: Fits<P> + Drop, P: Drop> Weave<S, P> {
     }
 }
 
-/// Deals the states to the shards: that of colour `c` to shard `c % shards`.
-fn deal<S: Drop>(alloc: Global, setup: &Setup, states: Vec<S>) -> Result<Vec<Vec<S>>, Memory>
-    ensures { IfOk result (λ by_shard. AreDealt (λ pile. pile.items) (shape_of setup.now).shards states.items by_shard.items) }
+/// Deals states, one for each colour in ascending order, to the shards of a setup: that of colour `c` goes
+/// to pile `c % shards`, where it lies at place `c / shards`.
+///
+/// # Errors
+///
+/// There was no memory: the states are dropped.
+pub fn deal<S: Drop>(alloc: Global, setup: &Setup, states: Vec<S>) -> Result<Vec<Vec<S>>, Memory>
+    ensures { let shards = (shape_of setup.now).shards in
+        IfOk result (λ by_shard. AreDealt (λ pile. pile.items) shards states.items by_shard.items) }
 {
     let mut by_shard = empty_piles(alloc, setup.shards())?;
     let mut number = 0;
@@ -54,7 +61,7 @@ fn deal<S: Drop>(alloc: Global, setup: &Setup, states: Vec<S>) -> Result<Vec<Vec
 /// This many empty lists.
 fn empty_piles<S: Drop>(alloc: Global, count: u16) -> Result<Vec<Vec<S>>, Memory>
     ensures many { IfOk result (λ piles. length piles.items ≡ count) }
-    ensures empty { IfOk result (λ piles. (i : ℕ) (pile : _) → slice_get piles.items i ≡ Some pile → pile.items ≡ []) }
+    ensures empty { IfOk result (λ piles. AtEach (λ i pile. pile.items ≡ []) piles.items) }
 {
     let mut piles = Vec::with_capacity(alloc, count as usize)?;
     for number in 0..count {
@@ -63,16 +70,23 @@ fn empty_piles<S: Drop>(alloc: Global, count: u16) -> Result<Vec<Vec<S>>, Memory
     Ok(piles)
 }
 
-/// The shards at first, with these states.
-fn shards_of<S: Fits<P> + Drop, P: Drop>(
+/// The shards of a setup at first, in order, each with the states of its own colours in ascending order, as
+/// [`deal`] gives them. Nothing was registered in them. Whoever proves a call of it has the condition of dealt
+/// first states from the lemma `first_piles`.
+///
+/// # Errors
+///
+/// There was no memory: the states are dropped.
+pub fn shards_of<S: Fits<P> + Drop, P: Drop>(
     alloc: Global,
     setup: &Setup,
     by_shard: Vec<Vec<S>>,
 ) -> Result<Vec<Shard<S, P>>, Memory>
     requires many { length by_shard.items ≡ (shape_of setup.now).shards }
-    requires first { (shard : ℕ) (pile : _) → slice_get by_shard.items shard ≡ Some pile → AreFirstStates S.trail_of S.colour_of S.frame_of setup.now shard pile.items }
+    requires first { AtEach (λ shard pile. AreFirstStates S.Trail setup.now shard pile.items) by_shard.items }
     ensures many { IfOk result (λ shards. length shards.items ≡ (shape_of setup.now).shards) }
-    ensures first { IfOk result (λ shards. (shard : ℕ) (pile : _) (has : _) → slice_get by_shard.items shard ≡ Some pile → slice_get shards.items shard ≡ Some has → IsFirst setup.now shard pile.items has) }
+    ensures first { IfOk result (λ shards. (shard : ℕ) (pile : _) (has : _) → slice_get by_shard.items shard ≡ Some pile
+        → slice_get shards.items shard ≡ Some has → IsFirst setup.now shard pile.items has) }
 {
     let mut shards = Vec::with_capacity(alloc, by_shard.len())?;
     let mut number = 0;
@@ -83,14 +97,23 @@ fn shards_of<S: Fits<P> + Drop, P: Drop>(
     Ok(shards)
 }
 
-/// An empty chain for each core.
-fn chains_of(alloc: Global, setup: &Setup) -> Result<Vec<CoreQueue>, Memory>
+/// An empty chain for each core of a setup, with room for a mark of every colour.
+///
+/// # Errors
+///
+/// There was no memory.
+pub fn chains_of(alloc: Global, setup: &Setup) -> Result<Vec<CoreQueue>, Memory>
     ensures many { IfOk result (λ chains. length chains.items ≡ (shape_of setup.now).cores) }
-    ensures empty { IfOk result (λ chains. (core : ℕ) (queue : _) → slice_get chains.items core ≡ Some queue → queue ≡ empty_chain setup.now) }
+    ensures empty { IfOk result (λ chains. AtEach (λ core queue. queue ≡ empty_chain setup.now) chains.items) }
 {
     let mut chains = Vec::with_capacity(alloc, setup.cores() as usize)?;
     for core in 0..setup.cores() {
-        chains.push_reserved(CoreQueue::new(alloc, setup.colours(), setup.steal_cost())?);
+        chains.push_reserved(CoreQueue::new(
+            alloc,
+            setup.colours(),
+            setup.steal_cost(),
+            setup.pinned(),
+        )?);
     }
     Ok(chains)
 }
@@ -98,7 +121,7 @@ fn chains_of(alloc: Global, setup: &Setup) -> Result<Vec<CoreQueue>, Memory>
 /// A free worker for each core.
 fn workers_of<S, P: Drop>(alloc: Global, setup: &Setup) -> Result<Vec<Worker<S, P>>, Memory>
     ensures many { IfOk result (λ workers. length workers.items ≡ (shape_of setup.now).cores) }
-    ensures first { IfOk result (λ workers. (core : ℕ) (w : _) → slice_get workers.items core ≡ Some w → w ≡ first_worker setup.now core) }
+    ensures first { IfOk result (λ workers. AtEach (λ core w. w ≡ first_worker setup.now core) workers.items) }
 {
     let rested = rested_of(alloc, setup)?;
     let mut workers = Vec::with_capacity(alloc, rested.len())?;
@@ -108,11 +131,16 @@ fn workers_of<S, P: Drop>(alloc: Global, setup: &Setup) -> Result<Vec<Worker<S, 
     Ok(workers)
 }
 
-/// A worker at rest for each core. Unlike a worker it may be let go, as it must be where there is no memory
-/// for the next one.
-fn rested_of<P: Drop>(alloc: Global, setup: &Setup) -> Result<Vec<Rested<P>>, Memory>
+/// A worker at rest for each core of a setup, in order, with the setup's batch and the core's victims in the
+/// order in which it hunts. Unlike a worker it may be let go, as it must be where there is no memory for the
+/// next one, and so it may cross into a thread.
+///
+/// # Errors
+///
+/// There was no memory.
+pub fn rested_of<P: Drop>(alloc: Global, setup: &Setup) -> Result<Vec<Rested<P>>, Memory>
     ensures many { IfOk result (λ rested. length rested.items ≡ (shape_of setup.now).cores) }
-    ensures first { IfOk result (λ rested. (core : ℕ) (rest : _) → slice_get rested.items core ≡ Some rest → rest ≡ first_rest setup.now core) }
+    ensures first { IfOk result (λ rested. AtEach (λ core rest. rest ≡ first_rest setup.now core) rested.items) }
 {
     let mut rested = Vec::with_capacity(alloc, setup.cores() as usize)?;
     for core in 0..setup.cores() {

@@ -1,5 +1,6 @@
+//! What a weave is taken apart into.
 ghost use Rattle.std.specs.Prelude.{◌≡◌, ◌≤◌, ◌<◌, ◌+◌, ◌*◌, ◌++◌, ℕ, IsTrue, List, Some, [], length, map, flat_map, slice_get, vec_len, vec_capacity};
-ghost use Rattle.mely_weave.specs.Dealing.{AreDealt};
+ghost use Rattle.mely_weave.specs.Dealing.{AreDealt, AtEach};
 ghost use Rattle.mely_weave.specs.Spreading.{AreFull, IsAtRest};
 ghost use Rattle.mely_worker.specs.Phase.{is_free};
 
@@ -33,7 +34,7 @@ impl<S: Fits<P> + Drop, P: Drop> Weave<S, P> {
     /// The histories by shard, the states and the queued events by colour, and by core the registrations
     /// that were refused for memory. Every worker is free, so every state is at home. It takes no memory.
     pub fn into_parts(self) -> WeaveParts<S, P>
-        requires { (core : ℕ) (w : _) → slice_get self.workers core ≡ Some w → IsTrue (is_free w.phase) }
+        requires { AtEach (λ core w. IsTrue (is_free w.phase)) self.workers }
         ensures histories { map (λ history. history.items) result.histories.items ≡ map (λ has. has.history) self.shards }
         ensures states { AreByColour (λ lane. lane.state) self.setup self.shards (map (λ state. Some state) result.states.items) }
         ensures queued { AreByColour (λ lane. lane.events) self.setup self.shards (map (λ queue. queue.items) result.queued.items) }
@@ -85,11 +86,12 @@ fn take_apart<S: Fits<P> + Drop, P: Drop>(
     states: &mut Vec<Vec<S>>,
     queued: &mut Vec<Vec<Vec<(Event, Option<P>)>>>,
 )
-    requires at_rest { (number : ℕ) (has : _) → slice_get shards.items number ≡ Some has → IsAtRest has }
+    requires at_rest { AtEach (λ number has. IsAtRest has) shards.items }
     requires no_histories { histories.old.items ≡ [] }
     requires no_states { states.old.items ≡ [] }
     requires none_queued { queued.old.items ≡ [] }
-    requires room { (length shards.items ≤ vec_capacity histories.old) × (length shards.items ≤ vec_capacity states.old) × (length shards.items ≤ vec_capacity queued.old) }
+    requires room { (length shards.items ≤ vec_capacity histories.old) × (length shards.items ≤ vec_capacity states.old)
+        × (length shards.items ≤ vec_capacity queued.old) }
     ensures histories { map (λ history. history.items) histories.new.items ≡ map (λ has. has.history) shards.items }
     ensures states { map (λ pile. map (λ state. Some state) pile.items) states.new.items ≡ map (λ has. map (λ lane. lane.state) has.lanes) shards.items }
     ensures queued { map (λ pile. map (λ queue. queue.items) pile.items) queued.new.items ≡ map (λ has. map (λ lane. lane.events) has.lanes) shards.items }
@@ -130,7 +132,7 @@ fn collect_lost<S, P: Drop>(
     mut workers: Vec<Worker<S, P>>,
     lost: &mut Vec<(Colour, Event, Option<P>)>,
 )
-    requires free { (core : ℕ) (w : _) → slice_get workers.items core ≡ Some w → (IsTrue (is_free w.phase)) × (w.batch ≡ batch) }
+    requires free { AtEach (λ core w. (IsTrue (is_free w.phase)) × (w.batch ≡ batch)) workers.items }
     requires empty { lost.old.items ≡ [] }
     requires room { 2 * batch * length workers.items ≤ vec_capacity lost.old }
     ensures { lost.new.items ≡ flat_map (λ w. w.lost) workers.items }

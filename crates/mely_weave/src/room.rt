@@ -1,3 +1,4 @@
+//! Room for the parts of a weave, made beforehand.
 ghost use Rattle.std.specs.Prelude.{◌≡◌, ◌*◌, IfOk, [], vec_len, vec_capacity};
 
 use mely_event::{Colour, Event, Memory};

@@ -1,8 +1,10 @@
+//! Steps that a schedule names.
 ghost use Rattle.std.specs.Prelude.{◌≡◌, ◌<◌, ◌^◌, ℕ, All, sum_by, replicate};
 ghost use Rattle.mely_history.specs.Setup.{shape_of};
 ghost use Rattle.mely_worker.specs.Conditions.{AppServes};
 ghost use Rattle.mely_weave.specs.StandsWell.{StandsWell};
 ghost use Rattle.mely_weave.specs.Runs.{KeepsSetup, RunsTo, spelled_out};
+ghost use Rattle.mely_weave.specs.WeaveRun.{IsRun};
 
 use crate::weave::Weave;
 use mely_event::{Fits, Trail};
@@ -26,6 +28,7 @@ impl<S: Fits<P> + Drop, P: Drop> Weave<S, P> {
         requires count { sum_by (λ part. part.1) schedule.now < 2 ^ 64 }
         requires served { AppServes R.App self.old.setup (S.frame_of self.old.given) app.now }
         ensures runs { RunsTo S.Trail S.fits_under R.App app.now self.old (spelled_out schedule.now) result self.new }
+        ensures calls { IsRun S.Trail S.fits_under R.App self.old self.new }
         ensures same { KeepsSetup self.old self.new }
         ensures stands { StandsWell S.Trail S.fits_under self.new }
     {

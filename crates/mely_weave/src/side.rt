@@ -1,3 +1,4 @@
+//! Shards and chains, from the side of one core.
 ghost use Rattle.std.specs.Prelude.{◌≡◌, ◌<◌, ℕ, List, Option, Result, IfOk, IfErr, IfSome, MatchResult};
 ghost use Rattle.mely_worker.specs.Access.{IsColour, IsCore, FitsSetup, Stays, StillOwes, IsTaken, IsSpent, NamesCore, GivesBack};
 
@@ -6,7 +7,7 @@ use mely_event::{Colour, Event, Fits, Mark, There, Trail, Unregistered};
 use mely_history::{After, NoSteal, NoTake, Registered, Setup, Stolen};
 use mely_queue::Turn;
 use mely_shard::Shard;
-use mely_worker::Access;
+use mely_worker::{Access, Delivery};
 use std::marker::Model;
 use std::snapshot::Snapshot;
 
@@ -35,8 +36,7 @@ impl<S: Fits<P>, P> Model for Side<S, P> {
 
 impl<S: Fits<P> + Drop, P: Drop> Side<S, P> {
     ghost use Rattle.mely_weave.specs.SideStands.{SideStands};
-    ghost use Rattle.mely_weave.specs.Calls.{IsOut};
-    ghost use Rattle.mely_weave.specs.Trying.{TriesToPost, TriesToDeliver};
+    ghost use Rattle.mely_weave.specs.Trying.{TriesToPost};
     ghost use Rattle.mely_history.specs.Setup.{shape_of};
 
     /// Goes to the side of a core.
@@ -56,7 +56,7 @@ impl<S: Fits<P> + Drop, P: Drop> Side<S, P> {
         load: Option<P>,
     ) -> Result<Registered, Unregistered<P>>
         requires fits { FitsSetup S.fits_under self.old.setup (S.frame_of self.old.given) (colour, event, load) }
-        ensures posts { TriesToPost colour event load result self.old self.new }
+        ensures posts { TriesToPost S.Trail (SideStands S.Trail S.fits_under) colour event load result self.old self.new }
         ensures back { IfErr result (λ refused. (refused.event ≡ event) × (refused.load ≡ load)) }
         ensures stands { SideStands S.Trail S.fits_under self.new }
     {
@@ -64,41 +64,10 @@ impl<S: Fits<P> + Drop, P: Drop> Side<S, P> {
         let by = self.setup.cores();
         match self.shards[place].register(colour, event, load, by) {
             Ok(reply) => {
-                self.deliver(colour, reply);
+                Delivery::after(colour, &reply).deliver(self);
                 Ok(reply)
             }
             Err(refused) => Err(refused),
-        }
-    }
-
-    /// Gives the owner of a colour its mark, or tells it of what was registered.
-    fn deliver(&mut self, colour: Colour, reply: Registered)
-        requires colour { IsColour self.old.setup colour }
-        requires named { NamesCore self.old.setup reply }
-        ensures tries { TriesToDeliver self.old colour reply self.new }
-        ensures stands { SideStands S.Trail S.fits_under self.new }
-    {
-        match reply {
-            Registered::Woke {
-                owner,
-                started,
-                worth,
-            } => {
-                let mark = Mark {
-                    colour,
-                    started,
-                    worth,
-                };
-                let _ = self.chains[owner as usize].push(mark);
-            }
-            Registered::Told {
-                owner,
-                started,
-                worth,
-            } => {
-                let _ = self.chains[owner as usize].retell(colour, started, worth);
-            }
-            Registered::Running { core: _ } => {}
         }
     }
 }

@@ -3,13 +3,13 @@ ghost use Rattle.std.specs.Prelude.{◌≡◌, ◌<◌, ◌≤◌, IfOk};
 ghost use Rattle.mely_history.specs.Setup.{shape_of, colours_of};
 ghost use Rattle.mely_weave.specs.Examples.{IsExample};
 
-mod ledger;
+mod sending;
 
 use crate::{Drained, Weave, WeaveRoom, Went};
-use ledger::{Ledger, Sending, blank};
-use mely_event::{Colour, Event, Fits, Handlers, Mark, Memory, Trail};
+use mely_event::{Colour, Event, Fits, Handlers, Mark, Memory, Trail, TrailLog};
 use mely_history::{Entry, Judged, Registered, Setup, Shape, judge};
 use mely_worker::Made;
+use sending::Sending;
 use std::alloc::Global;
 use std::test::Fail;
 
@@ -17,33 +17,46 @@ const C0: Colour = Colour(0);
 
 const C1: Colour = Colour(1);
 
-/// One shard, cost 15, and two handlers of weight 10.
+/// One shard, cost 15, two handlers of weight 10, and no colour pinned.
 fn setup_of(cores: u16, colours: u32, batch: u16) -> Result<Setup, Fail>
+    ensures { IfOk result (IsExample cores colours) }
+{
+    setup_with(cores, colours, batch, 15, 0)
+}
+
+/// The same at this cost of a steal, with so many colours pinned.
+fn setup_with(
+    cores: u16,
+    colours: u32,
+    batch: u16,
+    steal_cost: u32,
+    pinned: u32,
+) -> Result<Setup, Fail>
     ensures { IfOk result (IsExample cores colours) }
 {
     let shape = Shape {
         cores,
         shards: 1,
         batch,
-        steal_cost: 15,
+        steal_cost,
         group: 1,
     };
     let Ok(handlers) = Handlers::new(&[(10, 1), (20, 2)]) else {
         return Err(Fail::from("no table"));
     };
-    match Setup::new(&shape, colours, handlers) {
+    match Setup::new(&shape, colours, handlers, pinned) {
         Ok(setup) => Ok(setup),
         Err(_) => Err(Fail::from("no setup")),
     }
 }
 
 /// A weave of a setup, at first.
-fn weave_of(alloc: Global, setup: &Setup) -> Result<Weave<Ledger, u8>, Fail>
+fn weave_of(alloc: Global, setup: &Setup) -> Result<Weave<TrailLog, u8>, Fail>
     ensures { IfOk result (λ weave. weave.setup ≡ setup.now) }
 {
     let mut states = Vec::new(alloc);
     for colour in 0..setup.colours() {
-        states.push(blank(alloc, colour as u16))?;
+        states.push(TrailLog::new(alloc, Colour(colour as u16)))?;
     }
     match Weave::new(alloc, setup, states) {
         Ok(weave) => Ok(weave),
@@ -51,7 +64,7 @@ fn weave_of(alloc: Global, setup: &Setup) -> Result<Weave<Ledger, u8>, Fail>
     }
 }
 
-fn post(weave: &mut Weave<Ledger, u8>, colour: u16, handler: u8, arg: u16) -> Option<Registered>
+fn post(weave: &mut Weave<TrailLog, u8>, colour: u16, handler: u8, arg: u16) -> Option<Registered>
     requires colour { colour < colours_of weave.old.setup }
     requires handler { handler < 2 }
     requires example { IsExample (shape_of weave.old.setup).cores (colours_of weave.old.setup) weave.old.setup }
@@ -63,7 +76,7 @@ fn post(weave: &mut Weave<Ledger, u8>, colour: u16, handler: u8, arg: u16) -> Op
 }
 
 /// Makes a step of a core for each of these names, and answers whether each was named so.
-fn follows(weave: &mut Weave<Ledger, u8>, core: u16, steps: &[Made]) -> bool
+fn follows(weave: &mut Weave<TrailLog, u8>, core: u16, steps: &[Made]) -> bool
     requires core { core < (shape_of weave.old.setup).cores }
     requires colours { 2 ≤ colours_of weave.old.setup }
     requires example { IsExample (shape_of weave.old.setup).cores (colours_of weave.old.setup) weave.old.setup }
@@ -179,7 +192,8 @@ fn a_late_report_finds_no_mark_of_its_period(rt: HostRuntime) -> Result<(), Fail
         started: 1,
         worth: 10,
     };
-    assert_eq!(rt; weave.chain(1), [mark].as_slice());
+    assert_eq!(rt; weave.chain_at(1, 0), Some(mark));
+    assert_eq!(rt; weave.chain_at(1, 1), None);
     assert_eq!(rt; weave.drain(&rt, &Sending), Drained::Empty);
     assert_eq!(rt; weave.history(0).len(), 9);
     let parts = weave.into_parts();
@@ -227,14 +241,66 @@ fn a_registration_between_finish_and_push_is_told(rt: HostRuntime) -> Result<(),
         started: 1,
         worth: 10,
     };
-    assert_eq!(rt; weave.chain(1), [mark].as_slice());
+    assert_eq!(rt; weave.chain_at(1, 0), Some(mark));
+    assert_eq!(rt; weave.chain_at(1, 1), None);
     assert_eq!(rt; weave.drain(&rt, &Sending), Drained::Empty);
     assert!(rt; weave.into_parts().lost.is_empty());
     Ok(())
 }
 
+#[test]
+fn a_pinned_colour_stays_on_its_core(rt: HostRuntime) -> Result<(), Fail> {
+    let setup = setup_with(2, 4, 1, 5, 1)?;
+    let mut weave = weave_of(rt.alloc(), &setup)?;
+    let c2 = Colour(2);
+    assert!(rt; post(&mut weave, 0, 0, 0).is_some());
+    assert!(rt; post(&mut weave, 2, 0, 0).is_some());
+    let steals = [
+        Made::NoneHere,
+        Made::Picked {
+            colour: c2,
+            victim: 0,
+        },
+        Made::Stole {
+            colour: c2,
+            from: 0,
+        },
+        Made::Landed { colour: c2 },
+    ];
+    assert!(rt; follows(&mut weave, 1, &steals));
+    assert_eq!(rt; weave.drain(&rt, &Sending), Drained::Empty);
+    let ran = [
+        Entry::Take {
+            colour: C0,
+            core: 0,
+            count: 1,
+        },
+        Entry::Take {
+            colour: c2,
+            core: 1,
+            count: 1,
+        },
+        Entry::Fin {
+            colour: C0,
+            core: 0,
+            count: 1,
+        },
+        Entry::Fin {
+            colour: c2,
+            core: 1,
+            count: 1,
+        },
+    ];
+    assert_eq!(rt; weave.history(0).len(), 7);
+    for entry in ran {
+        assert!(rt; weave.history(0).contains(&entry));
+    }
+    assert!(rt; weave.into_parts().lost.is_empty());
+    Ok(())
+}
+
 /// Posts ten events on colour 0, and then ten on colour 2.
-fn post_twenty(weave: &mut Weave<Ledger, u8>) -> bool
+fn post_twenty(weave: &mut Weave<TrailLog, u8>) -> bool
     requires colours { 2 < colours_of weave.old.setup }
     requires example { IsExample (shape_of weave.old.setup).cores (colours_of weave.old.setup) weave.old.setup }
     ensures { weave.new.setup ≡ weave.old.setup }
@@ -278,7 +344,7 @@ fn alternates(entries: &[Entry], count: u16) -> bool {
 }
 
 /// Whether the ten events were run on the state of a colour, in order.
-fn ran_ten(state: Option<&Ledger>) -> bool {
+fn ran_ten(state: Option<&TrailLog>) -> bool {
     let Some(state) = state else {
         return false;
     };
@@ -291,7 +357,7 @@ fn ran_ten(state: Option<&Ledger>) -> bool {
 }
 
 /// Whether these events were run on the state of a colour.
-fn ran(state: Option<&Ledger>, events: &[Event]) -> bool {
+fn ran(state: Option<&TrailLog>, events: &[Event]) -> bool {
     match state {
         Some(state) => state.trail() == events,
         None => false,
@@ -302,7 +368,7 @@ fn ran(state: Option<&Ledger>, events: &[Event]) -> bool {
 fn batches_alternate_or_take_all(rt: HostRuntime) -> Result<(), Fail> {
     for (batch, entries) in [(1, 60), (10, 24)] {
         let setup = setup_of(1, 3, batch)?;
-        let room: Result<WeaveRoom<Ledger, u8>, Memory> = WeaveRoom::new(rt.alloc(), &setup);
+        let room: Result<WeaveRoom<TrailLog, u8>, Memory> = WeaveRoom::new(rt.alloc(), &setup);
         assert!(rt; room.is_ok());
         let mut weave = weave_of(rt.alloc(), &setup)?;
         assert!(rt; post_twenty(&mut weave));

@@ -1,3 +1,4 @@
+//! All shards, chains and workers as one value.
 ghost use Rattle.std.specs.Prelude.{◌≡◌, ◌<◌, ◌∷◌, ◌++◌, [], ℕ, List, Option, Some, length, IfErr, slice_get, option_copied};
 
 use crate::room::WeaveRoom;
@@ -60,18 +61,21 @@ impl<S: Fits<P>, P> Weave<S, P> {
     /// The state of a colour, where it does not run.
     pub fn state(&self, colour: Colour) -> Option<&S>
         requires { colour.0 < colours_of self.now.setup }
-        ensures { (lane : _) → lane_for self.now.setup self.now.shards colour ≡ Some lane → option_copied result ≡ lane.state }
+        ensures { (lane : _) → lane_for self.now.setup self.now.shards colour ≡ Some lane
+            → option_copied result ≡ lane.state }
     {
         let place = (colour.0 % self.side.setup.shards()) as usize;
         self.side.shards[place].state(colour)
     }
 
-    /// The marks in the chain of a core, the next to run first.
-    pub fn chain(&self, core: u16) -> &[Mark]
+    /// The mark at this place of the chain of a core, and nothing exactly where the chain isn't longer. The
+    /// next to run is at place 0.
+    pub fn chain_at(&self, core: u16, place: usize) -> Option<Mark>
         requires { core < (shape_of self.now.setup).cores }
-        ensures { (queue : _) → slice_get self.now.chains core ≡ Some queue → result.now ≡ queue.chain }
+        ensures { (queue : _) → slice_get self.now.chains core ≡ Some queue
+            → result ≡ slice_get queue.chain place }
     {
-        self.side.chains[core as usize].marks()
+        self.side.chains[core as usize].at(place)
     }
 }
 
@@ -80,7 +84,7 @@ impl<S: Fits<P> + Drop, P: Drop> Weave<S, P> {
     ghost use Rattle.mely_worker.specs.Access.{FitsSetup};
     ghost use Rattle.mely_worker.specs.Conditions.{AppServes};
     ghost use Rattle.mely_weave.specs.StandsWell.{StandsWell, WasntRefused};
-    ghost use Rattle.mely_weave.specs.Steps.{StepsAt, PostsAt};
+    ghost use Rattle.mely_weave.specs.WeaveRun.{StepCall, PostCall};
     ghost use Rattle.mely_weave.specs.Runs.{KeepsSetup};
 
     /// Registers an event from outside, and delivers the mark or the report at once.
@@ -95,7 +99,7 @@ impl<S: Fits<P> + Drop, P: Drop> Weave<S, P> {
         load: Option<P>,
     ) -> Result<Registered, Unregistered<P>>
         requires fits { FitsSetup S.fits_under self.old.setup (S.frame_of self.old.given) (colour, event, load) }
-        ensures posts { PostsAt self.old colour event load result self.new }
+        ensures call { PostCall S.Trail S.fits_under colour event load result self.old self.new }
         ensures back { IfErr result (λ refused. (refused.event ≡ event) × (refused.load ≡ load)) }
         ensures same { KeepsSetup self.old self.new }
         ensures stands { StandsWell S.Trail S.fits_under self.new }
@@ -108,7 +112,7 @@ impl<S: Fits<P> + Drop, P: Drop> Weave<S, P> {
     pub fn step<R: App<State = S, Load = P>>(&mut self, core: u16, app: &R) -> Made
         requires core { core < (shape_of self.old.setup).cores }
         requires served { AppServes R.App self.old.setup (S.frame_of self.old.given) app.now }
-        ensures steps { StepsAt S.Trail R.App app.now self.old core result self.new }
+        ensures call { StepCall S.Trail S.fits_under R.App app.now core result self.old self.new }
         ensures accepted { WasntRefused result }
         ensures same { KeepsSetup self.old self.new }
         ensures stands { StandsWell S.Trail S.fits_under self.new }

@@ -1,3 +1,3 @@
-pub mod StepLemmas
+mod StepLemmas
 pub mod Views
-pub mod RuleLaws
+mod RuleLaws

@@ -16,8 +16,8 @@ use Rattle.mely_history.specs.declared.after.After.TheVariants.{More, Idle}
 use Rattle.mely_queue.specs.Taken.{Taken}
 use Rattle.mely_worker.specs.declared.phase.Phase.{Phase}
 use Rattle.mely_worker.specs.declared.phase.Phase.TheVariants.{Free, Popped, Picked, Landing, Pushing, Turning}
-use Rattle.mely_worker.specs.declared.phase.Hand.{Hand}
-use Rattle.mely_worker.specs.declared.phase.Hand.TheVariants.{Empty, Marked, Reporting}
+use Rattle.mely_worker.specs.declared.delivery.Delivery.{Delivery}
+use Rattle.mely_worker.specs.declared.delivery.Delivery.TheVariants.{Nothing, PushMark, Report}
 use Rattle.mely_worker.specs.declared.made.Made.{Made}
 use Rattle.mely_worker.specs.declared.made.Made.TheVariants as made
 use Rattle.mely_worker.specs.declared.access.Access.{Ghosts as AccessWords}
@@ -62,6 +62,7 @@ module _ {S P : Type 0} (w : WorkerView S P) where
   stolen_leaves : (mark : Mark) (victim : ℕ) (answer : Result Stolen NoSteal) → Leaves w (steal_name mark.colour answer) (after_steal w mark victim answer)
   stolen_leaves mark victim (Ok stolen) = moved _ _ (λ m. cc m)
   stolen_leaves mark victim (Err no_steal.Memory) = stopped _ _ w.lost
+  stolen_leaves mark victim (Err (no_steal.Pinned colour)) = moved _ _ (λ m. cc m)
   stolen_leaves mark victim (Err no_steal.Own) = moved _ _ (λ m. cc m)
   stolen_leaves mark victim (Err (no_steal.Busy core)) = moved _ _ (λ m. cc m)
   stolen_leaves mark victim (Err (no_steal.Empty registered)) = moved _ _ (λ m. cc m)
@@ -84,10 +85,10 @@ module _ {A R S P F : Type 0} (x : AccessWords A S P F) (y : AppWords R P S F) (
   puts_leave turn [] line = turn_leaves turn turn.events line
   puts_leave turn (put ∷ rest) line = by_answer (registered_leaves w turn rest put) line
 
-  turning_leaves : (turn : Taken S P) (hand : Hand) (puts : List (Colour × Event × Option P)) → StepsTurning x y app before w step after v turn hand puts → Leaves w step v
-  turning_leaves turn (Marked core mark) puts line = by_answer (λ answer. moved w _ _ (λ m. cc m)) line
-  turning_leaves turn (Reporting core colour started worth) puts line = by_answer (λ found. moved w _ _ (λ m. cc m)) line
-  turning_leaves turn Empty puts line = puts_leave turn puts line
+  turning_leaves : (turn : Taken S P) (hand : Delivery) (puts : List (Colour × Event × Option P)) → StepsTurning x y app before w step after v turn hand puts → Leaves w step v
+  turning_leaves turn (PushMark core mark) puts line = by_answer (λ answer. moved w _ _ (λ m. cc m)) line
+  turning_leaves turn (Report core colour started worth) puts line = by_answer (λ found. moved w _ _ (λ m. cc m)) line
+  turning_leaves turn Nothing puts line = puts_leave turn puts line
 
   hunt_leaves : (place : ℕ) (victim : Option ℕ) → StepsHunt x y app before w step after v place victim → Leaves w step v
   hunt_leaves place (Some victim) line = by_answer (picked_leaves w place victim) line

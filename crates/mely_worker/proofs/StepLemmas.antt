@@ -1,16 +1,15 @@
-use Rattle.std.proofs.Common.{◌≡◌, ℕ, ◌+◌, ◌≤◌, List, [], ◌∷◌, ◌++◌, length, Option, ap, subst, sym, ◌∙◌, append_assoc, arith, true}
+use Rattle.std.proofs.Common.{◌≡◌, ℕ, ◌+◌, ◌≤◌, List, [], ◌∷◌, ◌++◌, length, Option, ap, subst, sym, ◌∙◌, append_assoc, arith}
 use Rattle.std.specs.List.{AllByRecursion}
 use Rattle.mely_event.specs.declared.event.Event.{Event}
 use Rattle.mely_event.specs.declared.colour.Colour.{Colour}
 use Rattle.mely_event.specs.declared.trail.Trail.{Ghosts as TrailWords}
 use Rattle.mely_event.specs.HandlerTable.{rows_of}
-use Rattle.mely_history.specs.Setup.{shape_of, colours_of, handlers_of}
+use Rattle.mely_history.specs.Setup.{colours_of, handlers_of}
 use Rattle.mely_queue.specs.Taken.{Taken}
 use Rattle.mely_worker.specs.declared.phase.Phase.TheVariants.{Turning}
-use Rattle.mely_worker.specs.declared.phase.Hand.TheVariants.{Empty}
+use Rattle.mely_worker.specs.declared.delivery.Delivery.TheVariants.{Nothing}
 use Rattle.mely_worker.specs.declared.access.Access.{Ghosts as AccessWords}
-use Rattle.mely_worker.specs.Access.{IsColour, IsCore, FitsSetup, events_of, Stays, StillOwes}
-use Rattle.mely_history.specs.declared.setup.Setup.{Setup}
+use Rattle.mely_worker.specs.Access.{events_of}
 use Rattle.mely_worker.specs.Access.{FitsIn}
 use Rattle.mely_worker.specs.WorkerView.{WorkerView}
 use Rattle.mely_worker.specs.Step.{in_phase}
@@ -48,7 +47,7 @@ module _ {A S P F : Type 0} (t : TrailWords S F) (Fits : F → Colour → Event 
       subst (λ (n : Taken S P). WillBeSpentAt t Fits x access (record n { state = state })) (sym rest) after
 
   -- the worker may step again once the handler of the next event ran
-  pub stands_after_run : {R : Type 0} (y : AppWords R P S F) (app : R) (w : WorkerView S P) (turn next : Taken S P) (event : Event × Option P) (lent state : S) (none puts : List (Colour × Event × Option P)) → AppServesAt x y access app → MayStepAt t Fits x access (in_phase w (Turning turn Empty none)) → turn.events ≡ event ∷ next.events → next ≡ record turn { events = next.events } → lent ≡ next.state → t.colour_of state ≡ t.colour_of lent → t.frame_of state ≡ t.frame_of lent → t.trail_of state ≡ t.trail_of lent ++ event.0 ∷ [] → t.spare_of lent ≡ t.spare_of state + 1 → AllByRecursion (FitsIn (y.colours_of app) (y.handlers_of app) (Fits (t.frame_of lent))) puts → MayStepAt t Fits x access (in_phase w (Turning (record next { state = state }) Empty puts))
+  pub stands_after_run : {R : Type 0} (y : AppWords R P S F) (app : R) (w : WorkerView S P) (turn next : Taken S P) (event : Event × Option P) (lent state : S) (none puts : List (Colour × Event × Option P)) → AppServesAt x y access app → MayStepAt t Fits x access (in_phase w (Turning turn Nothing none)) → turn.events ≡ event ∷ next.events → next ≡ record turn { events = next.events } → lent ≡ next.state → t.colour_of state ≡ t.colour_of lent → t.frame_of state ≡ t.frame_of lent → t.trail_of state ≡ t.trail_of lent ++ event.0 ∷ [] → t.spare_of lent ≡ t.spare_of state + 1 → AllByRecursion (FitsIn (y.colours_of app) (y.handlers_of app) (Fits (t.frame_of lent))) puts → MayStepAt t Fits x access (in_phase w (Turning (record next { state = state }) Nothing puts))
   stands_after_run y app w turn next event lent state none puts served stands left rest given colour fr trail spare fit =
       let of_frame : t.frame_of lent ≡ x.frame_of access = ap t.frame_of (given ∙ ap (λ (n : Taken S P). n.state) rest) ∙ stands.phase.of_turn.of_frame in
       let fit' : AllByRecursion (FitsIn (y.colours_of app) (y.handlers_of app) (Fits (x.frame_of access))) puts = subst (λ (f : F). AllByRecursion (FitsIn (y.colours_of app) (y.handlers_of app) (Fits f)) puts) of_frame fit in
@@ -63,36 +62,4 @@ module _ {A S P F : Type 0} (t : TrailWords S F) (Fits : F → Colour → Event 
           of_puts = fits_more (y.colours_of app) (y.handlers_of app) (colours_of (x.setup_of access)) (length (rows_of (handlers_of (x.setup_of access)))) (Fits (x.frame_of access)) puts served.colours served.handlers fit';
         };
         lost = stands.lost;
-      }
-
--- one more behind
-pub all_behind : {A : Type 0} (Holds : A → Type 0) (xs : List A) (y : A) → AllByRecursion Holds xs → Holds y → AllByRecursion Holds (xs ++ y ∷ [])
-all_behind Holds [] y h p = (p, tt)
-all_behind Holds (x ∷ xs) y h p = (h.0, all_behind Holds xs y h.1 p)
-
-module _ {A S P F : Type 0} (t : TrailWords S F) (Fits : F → Colour → Event → Option P → Type 0) (x : AccessWords A S P F) (before after : A) (same : Stays x.setup_of x.core_of x.frame_of before after) where
-  -- the worker may step again once its first registration was refused
-  pub stands_after_refusal : (w : WorkerView S P) (turn : Taken S P) (put : Colour × Event × Option P) (rest lost : List (Colour × Event × Option P)) → MayStepAt t Fits x before (in_phase w (Turning turn Empty (put ∷ rest))) → StillOwes x.owes before after → lost ≡ w.lost ++ put ∷ [] → MayStepAt t Fits x after (record w { halted = true; lost = lost; phase = Turning turn Empty rest })
-  stands_after_refusal w turn put rest lost stands owes more =
-      let back : x.setup_of before ≡ x.setup_of after = sym same.setup in
-      let frame : x.frame_of before ≡ x.frame_of after = sym same.frame in
-      let fit : (list : List (Colour × Event × Option P)) → AllByRecursion (FitsSetup Fits (x.setup_of before) (x.frame_of before)) list → AllByRecursion (FitsSetup Fits (x.setup_of after) (x.frame_of after)) list = λ list h. subst (λ (s : Setup). AllByRecursion (FitsSetup Fits s (x.frame_of after)) list) back (subst (λ (f : F). AllByRecursion (FitsSetup Fits (x.setup_of before) f) list) frame h) in
-      record {
-        own_core = same.core ∙ stands.own_core;
-        core = subst (λ (s : Setup). IsCore s w.core) back stands.core;
-        batch = stands.batch ∙ ap (λ (s : Setup). (shape_of s).batch) back;
-        victims = subst (λ (s : Setup). AllByRecursion (IsCore s) w.victims) back stands.victims;
-        phase = record {
-          of_turn = record {
-            of_setup = subst (λ (s : Setup). IsColour s turn.colour) back stands.phase.of_turn.of_setup;
-            of_colour = stands.phase.of_turn.of_colour;
-            of_frame = stands.phase.of_turn.of_frame ∙ frame;
-            events_fit = subst (λ (f : F). AllByRecursion (λ (e : Event × Option P). Fits f turn.colour e.0 e.1) turn.events) frame stands.phase.of_turn.events_fit;
-            room = stands.phase.of_turn.room;
-            owed = owes turn.colour turn.core turn.count (t.trail_of turn.state ++ events_of turn.events) stands.phase.of_turn.owed;
-          };
-          in_hand = tt;
-          of_puts = fit rest stands.phase.of_puts.1;
-        };
-        lost = subst (λ (l : List (Colour × Event × Option P)). AllByRecursion (FitsSetup Fits (x.setup_of after) (x.frame_of after)) l) (sym more) (fit (w.lost ++ put ∷ []) (all_behind (FitsSetup Fits (x.setup_of before) (x.frame_of before)) w.lost put stands.lost stands.phase.of_puts.0));
       }

@@ -13,8 +13,8 @@ use Rattle.mely_history.specs.declared.after.After.{After}
 use Rattle.mely_queue.specs.Taken.{Taken}
 use Rattle.mely_worker.specs.declared.phase.Phase.{Phase}
 use Rattle.mely_worker.specs.declared.phase.Phase.TheVariants.{Free, Popped, Picked, Landing, Pushing, Turning}
-use Rattle.mely_worker.specs.declared.phase.Hand.{Hand}
-use Rattle.mely_worker.specs.declared.phase.Hand.TheVariants.{Empty, Marked, Reporting}
+use Rattle.mely_worker.specs.declared.delivery.Delivery.{Delivery}
+use Rattle.mely_worker.specs.declared.delivery.Delivery.TheVariants.{Nothing, PushMark, Report}
 use Rattle.mely_worker.specs.declared.made.Made.{Made}
 use Rattle.mely_worker.specs.declared.access.Access.{Ghosts as AccessWords}
 use Rattle.mely_worker.specs.declared.app.App.{Ghosts as AppWords}
@@ -45,10 +45,10 @@ module _ {B A R S P F : Type 0} (z : AccessWords B S P F) (x : AccessWords A S P
   puts_under turn [] line = turn_under turn turn.events line
   puts_under turn (put ∷ rest) line = line_under (λ answer. shows.registers put.0 put.1 put.2 answer) line
 
-  turning_under : (turn : Taken S P) (hand : Hand) (puts : List (Colour × Event × Option P)) → StepsTurning z y app b w step b' v turn hand puts → StepsTurning x y app (view b) w step (view b') v turn hand puts
-  turning_under turn (Marked core mark) puts line = line_under (λ answer. shows.pushes core mark answer) line
-  turning_under turn (Reporting core colour started worth) puts line = line_under (λ found. shows.retells core colour started worth found) line
-  turning_under turn Empty puts line = puts_under turn puts line
+  turning_under : (turn : Taken S P) (hand : Delivery) (puts : List (Colour × Event × Option P)) → StepsTurning z y app b w step b' v turn hand puts → StepsTurning x y app (view b) w step (view b') v turn hand puts
+  turning_under turn (PushMark core mark) puts line = line_under (λ answer. shows.pushes core mark answer) line
+  turning_under turn (Report core colour started worth) puts line = line_under (λ found. shows.retells core colour started worth found) line
+  turning_under turn Nothing puts line = puts_under turn puts line
 
   hunt_under : (place : ℕ) (victim : Option ℕ) → StepsHunt z y app b w step b' v place victim → StepsHunt x y app (view b) w step (view b') v place victim
   hunt_under place (Some victim) line = line_under (λ answer. shows.picks victim answer) line

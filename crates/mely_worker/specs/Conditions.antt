@@ -10,18 +10,12 @@ use Rattle.mely_history.specs.Setup.{shape_of, colours_of, handlers_of}
 use Rattle.mely_queue.specs.Taken.{Taken, EachFits}
 use Rattle.mely_worker.specs.declared.phase.Phase.{Phase}
 use Rattle.mely_worker.specs.declared.phase.Phase.TheVariants.{Free, Popped, Picked, Landing, Pushing, Turning}
-use Rattle.mely_worker.specs.declared.phase.Hand.{Hand}
-use Rattle.mely_worker.specs.declared.phase.Hand.TheVariants.{Empty, Marked, Reporting}
+use Rattle.mely_worker.specs.declared.delivery.Delivery.{Delivery}
 use Rattle.mely_worker.specs.declared.access.Access.{Ghosts as AccessWords}
 use Rattle.mely_worker.specs.declared.app.App.{Ghosts as AppWords}
 use Rattle.mely_worker.specs.Access.{IsColour, IsCore, FitsSetup, events_of}
+use Rattle.mely_worker.specs.Delivery.{MayDeliver}
 use Rattle.mely_worker.specs.WorkerView.{WorkerView}
-
--- a mark or a report in hand is for a core of the setup, and of a colour of it
-abbrev pub MayDeliver : Setup → Hand → Type 0
-MayDeliver setup Empty = Unit {0}
-MayDeliver setup (Marked core mark) = IsCore setup core × IsColour setup mark.colour
-MayDeliver setup (Reporting core colour started worth) = IsCore setup core × IsColour setup colour
 
 module _ {S P F : Type 0} (t : TrailWords S F) (fits : F → Colour → Event → Option P → Type 0) (setup : Setup) (own : ℕ) (frame : F) (owes : Colour → ℕ → ℕ → List Event → Type 0) where
   -- the turn meets the condition of its finish, once the events that are left were run
@@ -34,7 +28,7 @@ module _ {S P F : Type 0} (t : TrailWords S F) (fits : F → Colour → Event �
     pub owed : owes turn.colour turn.core turn.count (t.trail_of turn.state ++ events_of turn.events)
 
   -- what a turning worker has: its turn, what is in hand, and the registrations that are left
-  pub record MayTurn (turn : Taken S P) (hand : Hand) (puts : List (Colour × Event × Option P)) : Type 0 where
+  pub record MayTurn (turn : Taken S P) (hand : Delivery) (puts : List (Colour × Event × Option P)) : Type 0 where
     pub of_turn : WillBeSpent turn
     pub in_hand : MayDeliver setup hand
     pub of_puts : AllByRecursion (FitsSetup fits setup frame) puts
@@ -61,7 +55,7 @@ module _ {A S P F : Type 0} (t : TrailWords S F) (fits : F → Colour → Event 
   abbrev pub WillBeSpentAt : Taken S P → Type 0
   WillBeSpentAt turn = WillBeSpent t fits (x.setup_of access) (x.core_of access) (x.frame_of access) (x.owes access) turn
 
-  abbrev pub MayTurnAt : Taken S P → Hand → List (Colour × Event × Option P) → Type 0
+  abbrev pub MayTurnAt : Taken S P → Delivery → List (Colour × Event × Option P) → Type 0
   MayTurnAt turn hand puts = MayTurn t fits (x.setup_of access) (x.core_of access) (x.frame_of access) (x.owes access) turn hand puts
 
   abbrev pub MayStepAt : WorkerView S P → Type 0

@@ -1,6 +1,7 @@
 pub mod Outs
 pub mod Phase
 pub mod Access
+pub mod Delivery
 pub mod WorkerView
 pub mod Holdings
 pub mod Kept
@@ -8,3 +9,4 @@ pub mod Rest
 pub mod KeptRest
 pub mod Step
 pub mod Conditions
+pub mod Rule

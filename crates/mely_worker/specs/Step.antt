@@ -5,7 +5,6 @@ use Rattle.mely_event.specs.declared.event.Event.{Event}
 use Rattle.mely_event.specs.declared.mark.Mark.{Mark}
 use Rattle.mely_event.specs.declared.unregistered.Unregistered.{Unregistered}
 use Rattle.mely_history.specs.declared.registered.Registered.{Registered}
-use Rattle.mely_history.specs.declared.registered.Registered.TheVariants.{Woke, Told, Running}
 use Rattle.mely_history.specs.declared.no_take.NoTake.{NoTake}
 use Rattle.mely_history.specs.declared.no_take.NoTake.TheVariants as no_take
 use Rattle.mely_history.specs.declared.no_steal.NoSteal.{NoSteal}
@@ -16,12 +15,13 @@ use Rattle.mely_history.specs.declared.after.After.TheVariants.{More, Idle}
 use Rattle.mely_queue.specs.Taken.{Taken}
 use Rattle.mely_worker.specs.declared.phase.Phase.{Phase}
 use Rattle.mely_worker.specs.declared.phase.Phase.TheVariants.{Free, Popped, Picked, Landing, Pushing, Turning}
-use Rattle.mely_worker.specs.declared.phase.Hand.{Hand}
-use Rattle.mely_worker.specs.declared.phase.Hand.TheVariants.{Empty, Marked, Reporting}
+use Rattle.mely_worker.specs.declared.delivery.Delivery.{Delivery}
+use Rattle.mely_worker.specs.declared.delivery.Delivery.TheVariants.{Nothing, PushMark, Report}
 use Rattle.mely_worker.specs.declared.made.Made.{Made}
 use Rattle.mely_worker.specs.declared.made.Made.TheVariants as made
 use Rattle.mely_worker.specs.declared.access.Access.{Ghosts as AccessWords}
 use Rattle.mely_worker.specs.declared.app.App.{Ghosts as AppWords}
+use Rattle.mely_worker.specs.Delivery.{delivery_after}
 use Rattle.mely_worker.specs.WorkerView.{WorkerView}
 
 -- a line with a call: the call was made and gave an answer, which tells what the worker is then and the step's name
@@ -30,12 +30,6 @@ pub record Line {Answer W : Type 0} (Called : Answer → Type 0) (next : Answer 
   pub called : Called answer
   pub becomes : after ≡ next answer
   pub named : step ≡ name answer
-
--- what is in hand after a registration: a mark for the owner of a colour that it woke, a report for the owner of one that waited
-abbrev pub hand_after : Colour → Registered → Hand
-hand_after colour (Woke owner started worth) = Marked owner (record { colour = colour; started = started; worth = worth })
-hand_after colour (Told owner started worth) = Reporting owner colour started worth
-hand_after colour (Running core) = Empty
 
 module _ {S P : Type 0} (w : WorkerView S P) where
   -- the worker in another phase
@@ -48,8 +42,8 @@ module _ {S P : Type 0} (w : WorkerView S P) where
 
   -- what follows the registration of the first one put; without memory it is lost and the worker halted
   abbrev pub after_register : Taken S P → List (Colour × Event × Option P) → Colour × Event × Option P → Result Registered (Unregistered P) → WorkerView S P
-  after_register turn rest put (Ok answer) = in_phase (Turning turn (hand_after put.0 answer) rest)
-  after_register turn rest put (Err back) = record w { phase = Turning turn Empty rest; halted = true; lost = w.lost ++ put ∷ [] }
+  after_register turn rest put (Ok answer) = in_phase (Turning turn (delivery_after put.0 answer) rest)
+  after_register turn rest put (Err back) = record w { phase = Turning turn Nothing rest; halted = true; lost = w.lost ++ put ∷ [] }
 
   -- what follows a finish: the colour's mark is to go back on the own chain, where more of it waits
   abbrev pub after_finish : Colour → After → WorkerView S P
@@ -58,7 +52,7 @@ module _ {S P : Type 0} (w : WorkerView S P) where
 
   -- what follows a take of the popped mark's colour: without memory the mark is to go back, else a refused mark is dropped
   abbrev pub after_take : Mark → Result (Taken S P) NoTake → WorkerView S P
-  after_take mark (Ok turn) = in_phase (Turning turn Empty [])
+  after_take mark (Ok turn) = in_phase (Turning turn Nothing [])
   after_take mark (Err no_take.Memory) = halted_in (Pushing w.core mark)
   after_take mark (Err (no_take.Elsewhere owner)) = in_phase (Free 0)
   after_take mark (Err (no_take.Busy core)) = in_phase (Free 0)
@@ -68,6 +62,7 @@ module _ {S P : Type 0} (w : WorkerView S P) where
   abbrev pub after_steal : Mark → ℕ → Result Stolen NoSteal → WorkerView S P
   after_steal mark victim (Ok stolen) = in_phase (Landing (record { colour = mark.colour; started = stolen.started; worth = stolen.worth }))
   after_steal mark victim (Err no_steal.Memory) = halted_in (Pushing victim mark)
+  after_steal mark victim (Err (no_steal.Pinned colour)) = in_phase (Free 0)
   after_steal mark victim (Err no_steal.Own) = in_phase (Free 0)
   after_steal mark victim (Err (no_steal.Busy core)) = in_phase (Free 0)
   after_steal mark victim (Err (no_steal.Empty registered)) = in_phase (Free 0)
@@ -106,6 +101,7 @@ take_name (Err (no_take.Empty registered)) = made.NotTaken (no_take.Empty regist
 abbrev pub steal_name : Colour → Result Stolen NoSteal → Made
 steal_name colour (Ok stolen) = made.Stole colour stolen.from
 steal_name colour (Err no_steal.Memory) = made.Memory
+steal_name colour (Err (no_steal.Pinned pinned)) = made.NotStolen (no_steal.Pinned pinned)
 steal_name colour (Err no_steal.Own) = made.NotStolen no_steal.Own
 steal_name colour (Err (no_steal.Busy core)) = made.NotStolen (no_steal.Busy core)
 steal_name colour (Err (no_steal.Empty registered)) = made.NotStolen (no_steal.Empty registered)
@@ -125,7 +121,7 @@ module _ {A R S P F : Type 0} (x : AccessWords A S P F) (y : AppWords R P S F) (
     pub state : S
     pub puts : List (Colour × Event × Option P)
     pub ran : y.runs app turn.state event.0 event.1 state puts
-    pub becomes : v ≡ in_phase w (Turning (record turn { state = state; events = rest }) Empty puts)
+    pub becomes : v ≡ in_phase w (Turning (record turn { state = state; events = rest }) Nothing puts)
     pub named : step ≡ made.Ran turn.colour event.0.handler
     pub untouched : after ≡ before
 
@@ -140,10 +136,10 @@ module _ {A R S P F : Type 0} (x : AccessWords A S P F) (y : AppWords R P S F) (
   StepsPuts turn (put ∷ rest) = Line (λ answer. x.registers before put.0 put.1 put.2 answer after) (after_register w turn rest put) (register_name put.0) step v
 
   -- the step of a turn, by what is in hand
-  abbrev pub StepsTurning : Taken S P → Hand → List (Colour × Event × Option P) → Type 0
-  StepsTurning turn (Marked core mark) puts = Line (λ answer. x.pushes before core mark answer after) (λ _. in_phase w (Turning turn Empty puts)) (λ _. made.Pushed mark.colour core) step v
-  StepsTurning turn (Reporting core colour started worth) puts = Line (λ found. x.retells before core colour started worth found after) (λ _. in_phase w (Turning turn Empty puts)) (λ found. made.Told colour core found) step v
-  StepsTurning turn Empty puts = StepsPuts turn puts
+  abbrev pub StepsTurning : Taken S P → Delivery → List (Colour × Event × Option P) → Type 0
+  StepsTurning turn (PushMark core mark) puts = Line (λ answer. x.pushes before core mark answer after) (λ _. in_phase w (Turning turn Nothing puts)) (λ _. made.Pushed mark.colour core) step v
+  StepsTurning turn (Report core colour started worth) puts = Line (λ found. x.retells before core colour started worth found after) (λ _. in_phase w (Turning turn Nothing puts)) (λ found. made.Told colour core found) step v
+  StepsTurning turn Nothing puts = StepsPuts turn puts
 
   -- a hunt at the n-th victim, counted from 1, if there is one
   abbrev pub StepsHunt : ℕ → Option ℕ → Type 0

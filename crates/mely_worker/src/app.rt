@@ -1,3 +1,4 @@
+//! The handlers of a program.
 ghost use Rattle.std.specs.Prelude.{◌≡◌, ◌≤◌, ◌+◌, ◌∷◌, ◌++◌, [], ℕ, List, Option, length};
 ghost use Rattle.std.specs.List.{AllByRecursion};
 ghost use Rattle.mely_event.specs.declared.colour.Colour.{Colour};

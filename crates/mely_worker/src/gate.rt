@@ -1,3 +1,4 @@
+//! What is told before each handler.
 use mely_event::{Colour, Event};
 
 /// What is called before each handler, with no lock held: a place to wait, to count or to write a log.

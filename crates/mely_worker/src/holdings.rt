@@ -1,3 +1,4 @@
+//! What a worker has beside its phase.
 use mely_event::{Colour, Event};
 
 /// What a worker has beside its phase.

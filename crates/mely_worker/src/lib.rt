@@ -9,8 +9,9 @@
 //! handler.
 //!
 //! A program brings its handlers as an [`App`]. What the worker calls of shards and chains is an [`Access`], which says in
-//! contracts what each call does; a [`Gate`] is told before each handler. A worker that met want of memory is halted: it ends
-//! its turn, puts back its mark, and keeps what could not be registered.
+//! contracts what each call does; a [`Gate`] is told before each handler. What follows a registration is a [`Delivery`], which a
+//! worker keeps in its hand until its next step, and whoever posts from outside makes at once. A worker that met want of memory
+//! is halted: it ends its turn, puts back its mark, and keeps what could not be registered.
 //!
 //! ```text
 //! let mut worker = Worker::new(alloc, core, victims, batch)?;
@@ -25,6 +26,7 @@
 
 mod access;
 mod app;
+mod delivery;
 mod gate;
 mod holdings;
 mod made;
@@ -39,6 +41,7 @@ mod worker;
 
 pub use access::Access;
 pub use app::App;
+pub use delivery::Delivery;
 pub use gate::{Gate, OpenGate};
 pub use made::Made;
 pub use outs::Outs;

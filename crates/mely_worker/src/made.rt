@@ -1,3 +1,4 @@
+//! The names of the steps of a worker.
 use mely_event::Colour;
 use mely_history::{NoSteal, NoTake};
 

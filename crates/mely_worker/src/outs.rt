@@ -1,3 +1,4 @@
+//! What a handler registers.
 ghost use Rattle.std.specs.Prelude.{◌≡◌, ◌<◌, ◌∷◌, ◌++◌, [], ◌↔◌, List, Option, length, IsTrue, MatchOption};
 
 use mely_event::{Colour, Event};

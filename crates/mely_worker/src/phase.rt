@@ -1,31 +1,14 @@
-ghost use Rattle.std.specs.Prelude.{◌≡◌, IsTrue};
-ghost use Rattle.mely_worker.specs.declared.phase.Phase.TheVariants.{Free};
-ghost use Rattle.mely_worker.specs.Phase.{is_free};
+//! What a worker is at.
+ghost use Rattle.std.specs.Prelude.{◌≡◌, IsTrue, false, []};
+ghost use Rattle.mely_worker.specs.declared.delivery.Delivery.TheVariants.{Nothing};
+ghost use Rattle.mely_worker.specs.declared.phase.Phase.TheVariants.{Free, Turning};
+ghost use Rattle.mely_worker.specs.Phase.{is_free, is_turning, HasRunAll};
 
+use crate::delivery::Delivery;
 use crate::outs::Outs;
-use mely_event::{Colour, Mark};
+use mely_event::Mark;
 use mely_queue::Turn;
-
-/// A mark or a report that a turning worker is to deliver to the chain of a core.
-#[derive(Clone, Copy, Debug, PartialEq, Eq)]
-pub enum Hand {
-    /// Nothing is to be delivered.
-    Empty,
-
-    /// The mark of a colour that a registration woke.
-    Marked {
-        core: u16,
-        mark: Mark,
-    },
-
-    /// What a colour that waited already is worth after a registration.
-    Reporting {
-        core: u16,
-        colour: Colour,
-        started: u64,
-        worth: u128,
-    },
-}
+use std::mem;
 
 /// What a worker is at.
 pub enum Phase<S, P> {
@@ -59,7 +42,7 @@ pub enum Phase<S, P> {
     /// It runs a turn: what is in hand, and the registrations that the last handler put and that are left.
     Turning {
         turn: Turn<S, P>,
-        hand: Hand,
+        hand: Delivery,
         outs: Outs<P>,
     },
 }
@@ -81,6 +64,44 @@ impl<S, P: Drop> Phase<S, P> {
                 hand: _,
                 outs: _,
             } => unreachable!(),
+        }
+    }
+
+    /// The turn of a worker that has run all of it.
+    pub(crate) fn into_turn(self) -> Turn<S, P>
+        requires { HasRunAll self }
+        ensures { self ≡ Turning result Nothing [] }
+    {
+        match self {
+            Phase::Turning {
+                turn,
+                hand: _,
+                outs: _,
+            } => turn,
+            Phase::Free { place: _ } => unreachable!(),
+            Phase::Popped { mark: _ } => unreachable!(),
+            Phase::Picked { mark: _, victim: _ } => unreachable!(),
+            Phase::Landing { mark: _ } => unreachable!(),
+            Phase::Pushing { core: _, mark: _ } => unreachable!(),
+        }
+    }
+
+    /// Goes on to another phase. There is no turn, which would be lost.
+    pub(crate) fn go_to(&mut self, next: Phase<S, P>)
+        requires { is_turning self.old ≡ false }
+        ensures { self.new ≡ next }
+    {
+        match mem::replace(self, next) {
+            Phase::Turning {
+                turn: _turn,
+                hand: _,
+                outs: _,
+            } => unreachable!(),
+            Phase::Free { place: _ } => {}
+            Phase::Popped { mark: _ } => {}
+            Phase::Picked { mark: _, victim: _ } => {}
+            Phase::Landing { mark: _ } => {}
+            Phase::Pushing { core: _, mark: _ } => {}
         }
     }
 }

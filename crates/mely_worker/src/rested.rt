@@ -1,3 +1,4 @@
+//! A worker at rest.
 ghost use Rattle.std.specs.Prelude.{◌≡◌, ◌≤◌, ◌*◌, length};
 
 use crate::holdings::Holdings;

@@ -8,14 +8,13 @@ mod ledger;
 mod lent;
 mod script;
 
-use crate::{Access, App, Made, Outs, Rested, Worker};
-use ledger::{Counting, Forwarding, Ledger, NOTE};
+use crate::{Access, App, Delivery, Made, Outs, Rested, Worker};
+use ledger::{Forwarding, Ledger, NOTE, Pass};
 use lent::{step_lent, steps_lent};
 use mely_event::{Colour, Event, Fits, Handlers, Mark, Trail};
 use mely_history::{After, NoSteal, NoTake, Registered, Setup, Shape, Stolen};
 use script::{Call, Script};
 use std::alloc::Global;
-use std::cell::Cell;
 use std::process::Abort;
 use std::test::Fail;
 
@@ -43,7 +42,7 @@ fn script_of(alloc: Global, calls: &[Call]) -> Result<Script, Fail>
     let Ok(handlers) = Handlers::new(&[(60, 2), (7, 2)]) else {
         return Err(Fail::from("no table"));
     };
-    let Ok(setup) = Setup::new(&shape, 4, handlers) else {
+    let Ok(setup) = Setup::new(&shape, 4, handlers, 0) else {
         return Err(Fail::from("no setup"));
     };
     Ok(Script {
@@ -59,43 +58,60 @@ fn script_of(alloc: Global, calls: &[Call]) -> Result<Script, Fail>
 fn follows(
     worker: &mut Worker<Ledger, u8>,
     script: &mut Script,
-    gate: &Counting,
+    app: &Forwarding,
     steps: &[Made],
 ) -> bool
     requires may { MayStepAt ⟦<Ledger as Trail>⟧ ⟦<Ledger as Fits<u8>>⟧.fits_under ⟦<Script as Access<Ledger, u8>>⟧ script.old worker.old }
-    requires served { AppServesAt ⟦<Script as Access<Ledger, u8>>⟧ ⟦<Forwarding as App>⟧ script.old (record {}) }
+    requires served { AppServesAt ⟦<Script as Access<Ledger, u8>>⟧ ⟦<Forwarding as App>⟧ script.old app.now }
 {
     for made in steps {
-        if worker.step(script, &Forwarding, gate) != *made {
+        if worker.step(script, app, app) != *made {
             return false;
         }
     }
     true
 }
 
-/// Runs a worker of core 0 with victim 1 by a script, and answers what it lost and how often it passed the gate.
+/// Runs a worker of core 0 with victim 1 by a script, and answers what it lost and who passed the gate.
 fn run<R: AllocGlobal + Abort>(
     rt: &R,
     calls: &[Call],
     steps: &[Made],
-) -> Result<(Vec<(Colour, Event, Option<u8>)>, u32), Fail> {
+) -> Result<(Vec<(Colour, Event, Option<u8>)>, [Option<Pass>; 3]), Fail> {
     let mut script = script_of(rt.alloc(), calls)?;
     let mut worker = match Worker::new(rt.alloc(), 0, vec![in rt.alloc(); 1]?, 2) {
         Ok(worker) => worker,
         Err(_) => return Err(Fail::from("no worker")),
     };
-    let gate = Counting {
-        passes: Cell::new(0),
-    };
-    assert!(rt; follows(&mut worker, &mut script, &gate, steps));
+    let app = Forwarding::new();
+    assert!(rt; follows(&mut worker, &mut script, &app, steps));
     assert!(rt; script.is_done());
     assert!(rt; worker.is_free());
-    Ok((worker.into_lost(), gate.passes.get()))
+    Ok((worker.into_lost(), app.seen()))
+}
+
+/// Both events of a turn passed the gate on core 0, each once and before it was run.
+fn both_events(colour: Colour) -> [Option<Pass>; 3] {
+    [
+        Some(Pass {
+            core: 0,
+            colour,
+            event: Event { handler: 1, arg: 5 },
+            ran: 0,
+        }),
+        Some(Pass {
+            core: 0,
+            colour,
+            event: Event { handler: 0, arg: 6 },
+            ran: 1,
+        }),
+        None,
+    ]
 }
 
 #[test]
 fn every_line_of_the_table_is_made(rt: HostRuntime) -> Result<(), Fail> {
-    let (lost, passes) = run(
+    let (lost, seen) = run(
         &rt,
         &[
             Call::Pop(None),
@@ -199,7 +215,7 @@ fn every_line_of_the_table_is_made(rt: HostRuntime) -> Result<(), Fail> {
         ],
     )?;
     assert_eq!(rt; lost.len(), 0);
-    assert_eq!(rt; passes, 2);
+    assert_eq!(rt; seen, both_events(Colour(2)));
     Ok(())
 }
 
@@ -224,6 +240,7 @@ fn a_mark_that_is_refused_is_dropped(rt: HostRuntime) -> Result<(), Fail> {
         run(&rt, &calls, &steps)?;
     }
     for why in [
+        NoSteal::Pinned { colour: Colour(1) },
         NoSteal::Own,
         NoSteal::Busy { core: 1 },
         NoSteal::Empty { registered: 3 },
@@ -310,9 +327,36 @@ fn without_memory_a_registration_is_kept_and_the_turn_ended(rt: HostRuntime) -> 
         },
         Made::Halted,
     ];
-    let (lost, passes) = run(&rt, &calls, &steps)?;
+    let (lost, seen) = run(&rt, &calls, &steps)?;
     assert_eq!(rt; lost.as_slice(), [(Colour(0), NOTE, Some(7))].as_slice());
-    assert_eq!(rt; passes, 2);
+    assert_eq!(rt; seen, both_events(Colour(3)));
+    Ok(())
+}
+
+#[test]
+fn what_follows_a_registration_is_delivered(rt: HostRuntime) -> Result<(), Fail> {
+    let mut script = script_of(
+        rt.alloc(),
+        &[
+            Call::Push(1, mark(3, 4, 50)),
+            Call::Retell(1, Colour(3), 4, 60, false),
+        ],
+    )?;
+    let woke = Registered::Woke {
+        owner: 1,
+        started: 4,
+        worth: 50,
+    };
+    let told = Registered::Told {
+        owner: 1,
+        started: 4,
+        worth: 60,
+    };
+    let runs = Registered::Running { core: 0 };
+    assert!(rt; Delivery::after(Colour(3), &woke).deliver(&mut script));
+    assert!(rt; !Delivery::after(Colour(3), &told).deliver(&mut script));
+    assert!(rt; Delivery::after(Colour(3), &runs).deliver(&mut script));
+    assert!(rt; script.is_done());
     Ok(())
 }
 
@@ -353,11 +397,9 @@ fn a_step_on_a_lent_access_is_a_step_on_the_access(rt: HostRuntime) -> Result<()
         Ok(worker) => worker,
         Err(_) => return Err(Fail::from("no worker")),
     };
-    assert_eq!(rt;
-        step_lent(&mut worker, &mut script, &Forwarding),
-        Made::NoneHere
-    );
-    steps_lent(&mut worker, &mut script, &Forwarding, 2);
+    let app = Forwarding::new();
+    assert_eq!(rt; step_lent(&mut worker, &mut script, &app), Made::NoneHere);
+    steps_lent(&mut worker, &mut script, &app, 2);
     assert!(rt; script.is_done());
     assert!(rt; worker.is_free());
     assert_eq!(rt; worker.into_lost().len(), 0);

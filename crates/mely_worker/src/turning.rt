@@ -1,23 +1,31 @@
-ghost use Rattle.std.specs.Prelude.{◌≡◌, ◌∷◌, []};
+//! The steps of a worker at a turn.
+ghost use Rattle.std.specs.Prelude.{◌≡◌, ◌∷◌, [], ◌↔◌, IsTrue};
 ghost use Rattle.mely_worker.specs.declared.phase.Phase.TheVariants.{Turning};
-ghost use Rattle.mely_worker.specs.declared.phase.Hand.TheVariants.{Empty};
-ghost use Rattle.mely_worker.specs.Holdings.{worker_of, IsKept};
-ghost use Rattle.mely_worker.specs.Step.{Steps, hand_after};
-ghost use Rattle.mely_worker.specs.Conditions.{MayStepAt, AppServesAt};
-ghost use Rattle.mely_worker.specs.Access.{Stays};
+ghost use Rattle.mely_worker.specs.declared.delivery.Delivery.TheVariants.{Nothing};
+ghost use Rattle.mely_worker.specs.Phase.{HasRunAll};
+ghost use Rattle.mely_worker.specs.Rule.{StepsOn, StepDone};
 
 use crate::access::Access;
 use crate::app::App;
+use crate::delivery::Delivery;
 use crate::gate::Gate;
 use crate::holdings::Holdings;
 use crate::made::Made;
 use crate::outs::Outs;
-use crate::phase::{Hand, Phase};
+use crate::phase::Phase;
 use mely_event::{Colour, Event, Fits, Mark, Trail};
-use mely_history::{After, Registered};
+use mely_history::After;
 use mely_queue::Turn;
+use std::mem;
 
-/// Runs the handler of the next event, or finishes the turn.
+/// Whether nothing is left of a turn but its finish.
+pub(crate) fn has_run_all<S, P>(turn: &Turn<S, P>, hand: &Delivery, outs: &Outs<P>) -> bool
+    ensures { IsTrue result ↔ HasRunAll {P = P} (Turning turn.now hand.now outs.now) }
+{
+    matches!(hand, Delivery::Nothing) && outs.is_empty() && turn.left() == 0
+}
+
+/// The step of a worker that is at a turn with something left to deliver, to register or to run.
 pub(crate) fn step_turn<
     S: Fits<P> + Drop,
     P: Drop,
@@ -26,200 +34,140 @@ pub(crate) fn step_turn<
     G: Gate,
 >(
     holdings: &mut Holdings<P>,
-    mut turn: Turn<S, P>,
-    mut outs: Outs<P>,
+    turn: &mut Turn<S, P>,
+    hand: &mut Delivery,
+    outs: &mut Outs<P>,
     access: &mut A,
     app: &R,
     gate: &G,
-) -> (Phase<S, P>, Made)
-    requires fields { IsKept {S = S} {P = P} holdings.old (Turning turn Empty outs) }
-    requires may { MayStepAt S.Trail S.fits_under A.Access access.old (worker_of holdings.old (Turning turn Empty outs)) }
-    requires served { AppServesAt A.Access R.App access.old app.now }
-    requires none_left { outs ≡ [] }
-    ensures fields { IsKept holdings.new result.0 }
-    ensures steps { Steps A.Access R.App app.now access.old (worker_of holdings.old (Turning turn Empty outs)) result.1 access.new (worker_of holdings.new result.0) }
-    ensures kept { A.keeps access.old access.new }
-    ensures same { Stays A.setup_of A.core_of A.frame_of access.old access.new }
-    ensures may { MayStepAt S.Trail S.fits_under A.Access access.new (worker_of holdings.new result.0) }
+) -> Made
+    requires left { ¬ (HasRunAll {P = P} (Turning turn.old hand.old outs.old)) }
+    requires on { StepsOn S.Trail S.fits_under A.Access R.App app.now access.old holdings.old
+        (Turning turn.old hand.old outs.old) }
+    ensures done { StepDone S.Trail S.fits_under A.Access R.App app.now access.old
+        holdings.old (Turning turn.old hand.old outs.old)
+        result access.new holdings.new (Turning turn.new hand.new outs.new) }
 {
-    let colour = turn.colour();
-    match turn.next() {
-        Some((event, load)) => {
-            gate.pass(holdings.core, colour, event);
-            app.run(turn.state(), event, load, &mut outs);
-            (
-                Phase::Turning {
-                    turn,
-                    hand: Hand::Empty,
-                    outs,
-                },
-                Made::Ran {
-                    colour,
-                    handler: event.handler,
-                },
-            )
+    match *hand {
+        Delivery::Nothing => match outs.take_first() {
+            Some(first) => step_put(holdings, turn, hand, first, outs, access, app),
+            None => run_next(holdings, turn, outs, access, app, gate),
+        },
+        Delivery::PushMark { core, mark } => {
+            let _entered = hand.deliver(access);
+            *hand = Delivery::Nothing;
+            Made::Pushed {
+                colour: mark.colour,
+                core,
+            }
         }
-        None => match access.finish(turn) {
-            After::More { started, worth } => (
-                Phase::Pushing {
-                    core: holdings.core,
-                    mark: Mark {
-                        colour,
-                        started,
-                        worth,
-                    },
-                },
-                Made::Finished { colour, more: true },
-            ),
-            After::Idle => (
-                Phase::Free { place: 0 },
-                Made::Finished {
-                    colour,
-                    more: false,
-                },
-            ),
-        },
-    }
-}
-
-/// What is to be delivered after a registration.
-fn hand_after(colour: Colour, answer: Registered) -> Hand
-    ensures { result ≡ hand_after colour answer }
-{
-    match answer {
-        Registered::Woke {
-            owner,
-            started,
-            worth,
-        } => Hand::Marked {
-            core: owner,
-            mark: Mark {
-                colour,
-                started,
-                worth,
-            },
-        },
-        Registered::Told {
-            owner,
-            started,
-            worth,
-        } => Hand::Reporting {
-            core: owner,
+        Delivery::Report {
+            core,
             colour,
-            started,
-            worth,
-        },
-        Registered::Running { core: _ } => Hand::Empty,
+            started: _,
+            worth: _,
+        } => {
+            let found = hand.deliver(access);
+            *hand = Delivery::Nothing;
+            Made::Told {
+                colour,
+                core,
+                found,
+            }
+        }
     }
 }
 
 /// Registers the first of the registrations that are left.
 fn step_put<S: Fits<P> + Drop, P: Drop, A: Access<S, P>, R: App<State = S, Load = P>>(
     holdings: &mut Holdings<P>,
-    turn: Turn<S, P>,
+    turn: &Turn<S, P>,
+    hand: &mut Delivery,
     first: (Colour, Event, Option<P>),
-    outs: Outs<P>,
+    outs: &Outs<P>,
     access: &mut A,
     app: &R,
-) -> (Phase<S, P>, Made)
-    requires fields { IsKept {S = S} {P = P} holdings.old (Turning turn Empty (first ∷ outs)) }
-    requires may { MayStepAt S.Trail S.fits_under A.Access access.old (worker_of holdings.old (Turning turn Empty (first ∷ outs))) }
-    requires served { AppServesAt A.Access R.App access.old app.now }
-    ensures fields { IsKept holdings.new result.0 }
-    ensures steps { Steps A.Access R.App app.now access.old (worker_of holdings.old (Turning turn Empty (first ∷ outs))) result.1 access.new (worker_of holdings.new result.0) }
-    ensures kept { A.keeps access.old access.new }
-    ensures same { Stays A.setup_of A.core_of A.frame_of access.old access.new }
-    ensures may { MayStepAt S.Trail S.fits_under A.Access access.new (worker_of holdings.new result.0) }
+) -> Made
+    requires empty { hand.old ≡ Nothing }
+    requires on { StepsOn S.Trail S.fits_under A.Access R.App app.now access.old holdings.old
+        (Turning turn.now Nothing (first ∷ outs.now)) }
+    ensures done { StepDone S.Trail S.fits_under A.Access R.App app.now access.old
+        holdings.old (Turning turn.now Nothing (first ∷ outs.now))
+        result access.new holdings.new (Turning turn.now hand.new outs.now) }
 {
     let (colour, event, load) = first;
     match access.register(colour, event, load) {
         Ok(answer) => {
-            let hand = hand_after(colour, answer);
-            (
-                Phase::Turning { turn, hand, outs },
-                Made::Registered { colour },
-            )
+            *hand = Delivery::after(colour, &answer);
+            Made::Registered { colour }
         }
         Err(back) => {
             holdings.halted = true;
             holdings.lost.push_reserved((colour, back.event, back.load));
-            (
-                Phase::Turning {
-                    turn,
-                    hand: Hand::Empty,
-                    outs,
-                },
-                Made::Memory,
-            )
+            Made::Memory
         }
     }
 }
 
-/// The step of a worker that is at a turn.
-pub(crate) fn step_turning<
-    S: Fits<P> + Drop,
-    P: Drop,
-    A: Access<S, P>,
-    R: App<State = S, Load = P>,
-    G: Gate,
->(
+/// Runs the handler of the next event.
+fn run_next<S: Fits<P> + Drop, P: Drop, A: Access<S, P>, R: App<State = S, Load = P>, G: Gate>(
     holdings: &mut Holdings<P>,
-    turn: Turn<S, P>,
-    hand: Hand,
-    mut outs: Outs<P>,
+    turn: &mut Turn<S, P>,
+    outs: &mut Outs<P>,
     access: &mut A,
     app: &R,
     gate: &G,
-) -> (Phase<S, P>, Made)
-    requires fields { IsKept {S = S} {P = P} holdings.old (Turning turn hand outs) }
-    requires may { MayStepAt S.Trail S.fits_under A.Access access.old (worker_of holdings.old (Turning turn hand outs)) }
-    requires served { AppServesAt A.Access R.App access.old app.now }
-    ensures fields { IsKept holdings.new result.0 }
-    ensures steps { Steps A.Access R.App app.now access.old (worker_of holdings.old (Turning turn hand outs)) result.1 access.new (worker_of holdings.new result.0) }
-    ensures kept { A.keeps access.old access.new }
-    ensures same { Stays A.setup_of A.core_of A.frame_of access.old access.new }
-    ensures may { MayStepAt S.Trail S.fits_under A.Access access.new (worker_of holdings.new result.0) }
+) -> Made
+    requires some { ¬ (turn.old.events ≡ []) }
+    requires none_left { outs.old ≡ [] }
+    requires on { StepsOn S.Trail S.fits_under A.Access R.App app.now access.old holdings.old
+        (Turning turn.old Nothing outs.old) }
+    ensures done { StepDone S.Trail S.fits_under A.Access R.App app.now access.old
+        holdings.old (Turning turn.old Nothing outs.old)
+        result access.new holdings.new (Turning turn.new Nothing outs.new) }
 {
-    match hand {
-        Hand::Marked { core, mark } => {
-            let _ = access.push(core, mark);
-            (
-                Phase::Turning {
-                    turn,
-                    hand: Hand::Empty,
-                    outs,
-                },
-                Made::Pushed {
-                    colour: mark.colour,
-                    core,
-                },
-            )
+    let Some((event, load)) = turn.next() else {
+        unreachable!()
+    };
+    let colour = turn.colour();
+    gate.pass(holdings.core, colour, event);
+    app.run(turn.state(), event, load, outs);
+    Made::Ran {
+        colour,
+        handler: event.handler,
+    }
+}
+
+/// Finishes a turn of which nothing is left.
+pub(crate) fn finish_turn<S: Fits<P> + Drop, P: Drop, A: Access<S, P>, R: App<State = S, Load = P>>(
+    holdings: &mut Holdings<P>,
+    phase: &mut Phase<S, P>,
+    access: &mut A,
+    app: &R,
+) -> Made
+    requires ended { HasRunAll phase.old }
+    requires on { StepsOn S.Trail S.fits_under A.Access R.App app.now access.old holdings.old phase.old }
+    ensures done { StepDone S.Trail S.fits_under A.Access R.App app.now access.old holdings.old phase.old
+        result access.new holdings.new phase.new }
+{
+    let turn = mem::replace(phase, Phase::Free { place: 0 }).into_turn();
+    let colour = turn.colour();
+    match access.finish(turn) {
+        After::More { started, worth } => {
+            let mark = Mark {
+                colour,
+                started,
+                worth,
+            };
+            phase.go_to(Phase::Pushing {
+                core: holdings.core,
+                mark,
+            });
+            Made::Finished { colour, more: true }
         }
-        Hand::Reporting {
-            core,
+        After::Idle => Made::Finished {
             colour,
-            started,
-            worth,
-        } => {
-            let found = access.retell(core, colour, started, worth);
-            (
-                Phase::Turning {
-                    turn,
-                    hand: Hand::Empty,
-                    outs,
-                },
-                Made::Told {
-                    colour,
-                    core,
-                    found,
-                },
-            )
-        }
-        Hand::Empty => {
-            match outs.take_first() {
-                Some(first) => step_put(holdings, turn, first, outs, access, app),
-                None => step_turn(holdings, turn, outs, access, app, gate),
-            }
-        }
+            more: false,
+        },
     }
 }

@@ -1,3 +1,4 @@
+//! The rule of one core.
 ghost use Rattle.std.specs.Prelude.{◌≡◌, ◌≤◌, ◌*◌, [], ◌↔◌, false, List, Option, IsTrue, IfOk, length};
 ghost use Rattle.mely_worker.specs.Phase.{is_free};
 
@@ -8,11 +9,10 @@ use crate::holdings::Holdings;
 use crate::made::Made;
 use crate::phase::Phase;
 use crate::rested::Rested;
-use crate::rule::step_from;
+use crate::rule::step_by_phase;
 use mely_event::{Colour, Event, Fits, Memory, Trail};
 use std::alloc::Global;
 use std::marker::Model;
-use std::mem;
 
 /// The rule of one core: it takes colours off its chain, runs turns, delivers marks and reports, and
 /// hunts at its victims when its chain is empty.
@@ -53,7 +53,14 @@ impl<S, P> Worker<S, P> {
         victims: Vec<u16>,
         batch: u16,
     ) -> Result<Worker<S, P>, Memory>
-        ensures { IfOk result (λ worker. worker ≡ record { core = core; batch = batch; halted = false; victims = victims.items; lost = []; phase = Free 0 }) }
+        ensures { IfOk result (λ worker. worker ≡ record {
+          core = core;
+          batch = batch;
+          halted = false;
+          victims = victims.items;
+          lost = [];
+          phase = Free 0;
+        }) }
     {
         let Ok(lost) = Vec::with_capacity(alloc, 2 * batch as usize) else {
             return Err(Memory);
@@ -142,9 +149,6 @@ impl<S: Fits<P> + Drop, P: Drop> Worker<S, P> {
         ensures same { Stays A.setup_of A.core_of A.frame_of access.old access.new }
         ensures kept { A.keeps access.old access.new }
     {
-        let phase = mem::replace(&mut self.phase, Phase::Free { place: 0 });
-        let (next, made) = step_from(&mut self.holdings, phase, access, app, gate);
-        let _place = mem::replace(&mut self.phase, next).place();
-        made
+        step_by_phase(&mut self.holdings, &mut self.phase, access, app, gate)
     }
 }

@@ -3,7 +3,7 @@ use Rattle.std.specs.Prelude.{◌≡◌, ℕ, List, [], Some, length, slice_get}
 use Rattle.mely_event.specs.HandlerTable.{rows_of}
 use Rattle.mely_history.specs.Setup.{shape_of, colours_of, handlers_of}
 use Rattle.mely_shard.specs.Contents.{Contents}
-use Rattle.shard_loop.specs.declared.tally.Tally.{Tally}
+use Rattle.mely_event.specs.TrailLog.{TrailLogState}
 
 -- 1,024 colours on one core, and one handler
 pub record IsLoop {S P : Type 0} (has : Contents S P) : Type 0 where
@@ -13,9 +13,9 @@ pub record IsLoop {S P : Type 0} (has : Contents S P) : Type 0 where
   pub number : has.shard ≡ 0
 
 -- one state for each of the first colours, on which nothing was run
-pub record AreBlankBelow (count : ℕ) (states : List Tally) : Type 0 where
+pub record AreBlankBelow (count : ℕ) (states : List TrailLogState) : Type 0 where
   pub many : length states ≡ count
-  pub each : (i : ℕ) (state : Tally) → slice_get states i ≡ Some state → (state.colour ≡ record { 0 = i }) × (state.trail.items ≡ [])
+  pub each : (i : ℕ) (state : TrailLogState) → slice_get states i ≡ Some state → (state.colour ≡ record { 0 = i }) × (state.events ≡ [])
 
-abbrev pub AreBlank : List Tally → Type 0
+abbrev pub AreBlank : List TrailLogState → Type 0
 AreBlank states = AreBlankBelow 1024 states

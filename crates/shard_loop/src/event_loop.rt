@@ -3,8 +3,7 @@ ghost use Rattle.std.specs.Prelude.{◌≡◌, ◌<◌, ◌≤◌, ℕ, length, 
 ghost use Rattle.mely_shard.specs.Contents.{IsOwn, KeepsFrame, TurnStands};
 ghost use Rattle.shard_loop.specs.Loops.{IsLoop, AreBlank};
 
-use crate::tally::{Tally, blank};
-use mely_event::{Colour, Event, Fits, Handlers, Memory, Trail};
+use mely_event::{Colour, Event, Fits, Handlers, Memory, Trail, TrailLog};
 use mely_history::{After, Registered, Setup, Shape};
 use mely_queue::Turn;
 use mely_shard::Shard;
@@ -15,18 +14,18 @@ use std::collections::VecDeque;
 const COLOURS: u16 = 1024;
 
 /// A state for each colour.
-fn blank_states(alloc: Global) -> Result<Vec<Tally>, Memory>
+fn blank_states(alloc: Global) -> Result<Vec<TrailLog>, Memory>
     ensures { IfOk result (λ states. AreBlank states.items) }
 {
     let mut states = Vec::new(alloc);
     for colour in 0..COLOURS {
-        states.push(blank(alloc, colour))?;
+        states.push(TrailLog::new(alloc, Colour(colour)))?;
     }
     Ok(states)
 }
 
 /// The one shard, on one core.
-fn make_shard(alloc: Global, batch: u16) -> Option<Shard<Tally, u32>>
+fn make_shard(alloc: Global, batch: u16) -> Option<Shard<TrailLog, u32>>
     ensures { IfSome result IsLoop }
 {
     let shape = Shape {
@@ -39,7 +38,7 @@ fn make_shard(alloc: Global, batch: u16) -> Option<Shard<Tally, u32>>
     let Ok(handlers) = Handlers::new(&[(1, 1)]) else {
         return None;
     };
-    let Ok(setup) = Setup::new(&shape, 1024, handlers) else {
+    let Ok(setup) = Setup::new(&shape, 1024, handlers, 0) else {
         return None;
     };
     let Ok(states) = blank_states(alloc) else {
@@ -53,7 +52,7 @@ fn make_shard(alloc: Global, batch: u16) -> Option<Shard<Tally, u32>>
 
 /// Registers one event, and notes its colour where that woke.
 fn register(
-    shard: &mut Shard<Tally, u32>,
+    shard: &mut Shard<TrailLog, u32>,
     colour: u16,
     ready: &mut VecDeque<u16>,
 ) -> Result<(), Memory>
@@ -76,7 +75,7 @@ fn register(
 
 /// Registers so many events on the colours in turn.
 fn register_all(
-    shard: &mut Shard<Tally, u32>,
+    shard: &mut Shard<TrailLog, u32>,
     events: u32,
     ready: &mut VecDeque<u16>,
 ) -> Result<(), Memory>
@@ -95,21 +94,21 @@ fn register_all(
     Ok(())
 }
 
-/// Runs what a turn has, and takes its state home.
-fn run_and_finish(shard: &mut Shard<Tally, u32>, mut turn: Turn<Tally, u32>) -> After
+/// Runs what a turn has on an empty handler, which only records the event, and takes its state home.
+fn run_and_finish(shard: &mut Shard<TrailLog, u32>, mut turn: Turn<TrailLog, u32>) -> After
     requires own { IsOwn shard.old turn.colour }
-    requires stands { TurnStands ⟦<Tally as Trail>⟧.trail_of ⟦<Tally as Trail>⟧.colour_of ⟦<Tally as Trail>⟧.frame_of ⟦<Tally as Fits<u32>>⟧.fits_under shard.old turn }
-    requires room { length turn.events ≤ ⟦<Tally as Trail>⟧.spare_of turn.state }
+    requires stands { TurnStands ⟦<TrailLog as Trail>⟧ ⟦<TrailLog as Fits<u32>>⟧.fits_under shard.old turn }
+    requires room { length turn.events ≤ turn.state.spare }
     ensures { KeepsFrame shard.old shard.new }
 {
-    while let Some((event, load)) = turn.next() {
-        turn.state().run(event, load);
+    while let Some((event, _load)) = turn.next() {
+        turn.state().push(event);
     }
     shard.finish(turn)
 }
 
 /// Takes a colour, runs what was taken and finishes, and answers how many events that were.
-fn take_turn(shard: &mut Shard<Tally, u32>, colour: u16) -> Option<(u16, After)>
+fn take_turn(shard: &mut Shard<TrailLog, u32>, colour: u16) -> Option<(u16, After)>
     requires is { IsLoop shard.old }
     requires colour { colour < 1024 }
     ensures { IsLoop shard.new }
@@ -124,7 +123,7 @@ fn take_turn(shard: &mut Shard<Tally, u32>, colour: u16) -> Option<(u16, After)>
 }
 
 /// Takes the next ready colour, and notes it again where more of it waits; answers how many events were run.
-fn step(shard: &mut Shard<Tally, u32>, ready: &mut VecDeque<u16>) -> Option<u16>
+fn step(shard: &mut Shard<TrailLog, u32>, ready: &mut VecDeque<u16>) -> Option<u16>
     requires is { IsLoop shard.old }
     requires known { All (λ c. c < 1024) ready.old.items }
     ensures is { IsLoop shard.new }

@@ -6,7 +6,6 @@
 #![tactic(auto)]
 
 mod event_loop;
-mod tally;
 
 use std::process::ExitCode;
 use std::{env, io};

@@ -1,6 +1,7 @@
 //! The steps.
 ghost use Rattle.std.specs.Prelude.{◌≡◌, ◌<◌, ◌≤◌, ℕ, IfOk, IfSome};
-ghost use Rattle.weave_loop.specs.Loops.{IsLoop, AreBlankBelow};
+ghost use Rattle.mely_weave.specs.Making.{AreBlank};
+ghost use Rattle.weave_loop.specs.Loops.{IsLoop};
 
 use crate::passing::Passing;
 use crate::tally::{Tally, blank};
@@ -25,7 +26,7 @@ fn setup_of(colours: u16) -> Option<Setup>
     let Ok(handlers) = Handlers::new(&[(10, 1)]) else {
         return None;
     };
-    match Setup::new(&shape, u32::from(colours), handlers) {
+    match Setup::new(&shape, u32::from(colours), handlers, 0) {
         Ok(setup) => Some(setup),
         Err(_) => None,
     }
@@ -33,7 +34,7 @@ fn setup_of(colours: u16) -> Option<Setup>
 
 /// A state for each colour.
 fn blank_states(alloc: Global, colours: u16) -> Result<Vec<Tally>, Memory>
-    ensures { IfOk result (λ states. AreBlankBelow colours states.items) }
+    ensures { IfOk result (λ states. AreBlank (λ state. state.log.colour) (λ state. state.log.events) colours states.items) }
 {
     let mut states = Vec::new(alloc);
     'colours: for colour in 0..colours {

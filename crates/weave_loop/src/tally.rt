@@ -1,48 +1,47 @@
 //! The state of one colour.
-ghost use Rattle.std.specs.Prelude.{◌≡◌, ◌<◌, ◌+◌, ◌-◌, ◌++◌, ◌∷◌, [], vec_len, vec_capacity};
+ghost use Rattle.std.specs.Prelude.{◌≡◌, ◌≤◌, ◌-◌, ◌++◌, ◌∷◌, []};
 
-use mely_event::{Colour, Event, Fits, Memory, Trail};
+use mely_event::{Colour, Event, Fits, Memory, Trail, TrailLog};
 use std::alloc::Global;
 
 /// A state that keeps its trail, and draws numbers.
 #[derive(Drop)]
 pub struct Tally {
-    pub colour: Colour,
-    pub trail: Vec<Event>,
+    pub log: TrailLog,
     seed: u32,
 }
 
 impl Trail for Tally {
+    ghost use Rattle.mely_event.specs.TrailLog.{AreAlike, alike_itself, alike_onward};
+    ghost use Rattle.std.proofs.Common.{refl};
+
     type Frame = ();
 
-    ghost trail_of = { λ s. s.trail.items };
+    ghost trail_of = { λ s. s.log.events };
 
-    ghost colour_of = { λ s. s.colour };
+    ghost colour_of = { λ s. s.log.colour };
 
     ghost frame_of = { λ s. tt };
 
-    ghost spare_of = { λ s. vec_capacity s.trail - vec_len s.trail };
+    ghost spare_of = { λ s. s.log.spare };
 
-    ghost alike = { λ s t. (s.trail.items ≡ t.trail.items) × (s.colour ≡ t.colour) × (s.seed ≡ t.seed) };
+    ghost alike = { AreAlike (λ s. s.log) (λ s. s.seed) };
 
     fn trail(&self) -> &[Event] {
-        &self.trail
+        self.log.trail()
     }
 
     fn reserve(&mut self, n: usize) -> Result<(), Memory> {
-        self.trail.reserve(n)?;
-        Ok(())
+        self.log.reserve(n)
     }
 
-    ghost use Rattle.std.proofs.Common.{refl, ◌∙◌};
+    ghost alike_itself = { λ s. alike_itself s };
 
-    ghost alike_itself = { λ s. (refl, refl, refl) };
+    ghost alike_onward = { λ r s t one other. alike_onward one other };
 
-    ghost alike_onward = { λ r s t one other. (one.0 ∙ other.0, one.1 ∙ other.1, one.2 ∙ other.2) };
+    ghost alike_trail = { λ s t same. same.events };
 
-    ghost alike_trail = { λ s t same. same.0 };
-
-    ghost alike_colour = { λ s t same. same.1 };
+    ghost alike_colour = { λ s t same. same.colour };
 
     ghost alike_frame = { λ s t same. refl };
 }
@@ -54,25 +53,23 @@ impl Fits<u8> for Tally {
 
 /// A state on which nothing was run.
 pub fn blank(alloc: Global, colour: u16) -> Tally
-    ensures trail { result.trail.items ≡ [] }
-    ensures colour { result.colour ≡ record { 0 = colour } }
+    ensures { result.log ≡ record { colour = record { 0 = colour }; events = []; spare = 0 } }
 {
     Tally {
-        colour: Colour(colour),
-        trail: Vec::new(alloc),
+        log: TrailLog::new(alloc, Colour(colour)),
         seed: u32::from(colour),
     }
 }
 
 impl Tally {
+    ghost use Rattle.mely_event.specs.TrailLog.{TrailLogState};
+
     /// The event joins the trail, and a number is drawn by a linear congruential generator.
     pub fn run(&mut self, event: Event) -> u16
-        requires { vec_len self.old.trail < vec_capacity self.old.trail }
-        ensures trail { self.new.trail.items ≡ self.old.trail.items ++ event ∷ [] }
-        ensures colour { self.new.colour ≡ self.old.colour }
-        ensures spare { vec_capacity self.new.trail - vec_len self.new.trail + 1 ≡ vec_capacity self.old.trail - vec_len self.old.trail }
+        requires { 1 ≤ self.old.log.spare }
+        ensures { self.new.log ≡ record self.old.log { events = self.old.log.events ++ event ∷ []; spare = self.old.log.spare - 1 } }
     {
-        self.trail.push_reserved(event);
+        self.log.push(event);
         self.seed = self
             .seed
             .wrapping_mul(1_664_525)

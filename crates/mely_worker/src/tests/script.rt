@@ -4,7 +4,7 @@ ghost use Rattle.mely_history.specs.Setup.{shape_of, colours_of};
 
 use super::ledger::Ledger;
 use crate::Access;
-use mely_event::{Colour, Event, Mark, There, Trail, Unregistered};
+use mely_event::{Colour, Event, Mark, There, Trail, TrailLog, Unregistered};
 use mely_history::{After, NoSteal, NoTake, Registered, Setup, Stolen};
 use mely_queue::Turn;
 use std::alloc::Global;
@@ -76,12 +76,11 @@ fn turn_of(alloc: Global, colour: Colour) -> Option<Turn<Ledger, u8>>
     ensures core { IfSome result (λ turn. turn.core ≡ 0) }
     ensures count { IfSome result (λ turn. turn.count ≡ 2) }
     ensures events { IfSome result (λ turn. turn.events ≡ (record { handler = 1; arg = 5 }, Some 7) ∷ (record { handler = 0; arg = 6 }, None) ∷ []) }
-    ensures of_colour { IfSome result (λ turn. turn.state.colour ≡ colour) }
-    ensures room { IfSome result (λ turn. 2 ≤ vec_capacity turn.state.trail - vec_len turn.state.trail) }
+    ensures of_colour { IfSome result (λ turn. turn.state.log.colour ≡ colour) }
+    ensures room { IfSome result (λ turn. 2 ≤ turn.state.log.spare) }
 {
     let mut state = Ledger {
-        colour,
-        trail: Vec::new(alloc),
+        log: TrailLog::new(alloc, colour),
         total: 0,
     };
     let mut events = Vec::new(alloc);
@@ -173,7 +172,9 @@ impl Access<Ledger, u8> for Script {
         let state = turn.into_state();
         match self.next() {
             Some(Call::Finish(c, total, after))
-                if c == state.colour && total == state.total && state.trail.len() == 2 => { after }
+                if c == state.log.colour()
+                    && total == state.total
+                    && state.log.trail().len() == 2 => { after }
             _ => {
                 self.astray = true;
                 After::Idle

@@ -1,13 +1,19 @@
-use Rattle.std.proofs.Common.{◌≤◌, ◌-◌, length, vec_len, vec_capacity}
+use Rattle.std.proofs.Common.{◌≤◌, length}
+use Rattle.mely_event.specs.TrailLog.{AreAlike}
+use Rattle.mely_event.specs.declared.trail.Trail.{Ghosts as TrailWords}
 use Rattle.mely_shard.specs.declared.tests.Tally.{Tally}
 use Rattle.mely_shard.specs.Contents.{TurnStands, IsOwn}
 use Rattle.mely_shard.proofs.tests.run_and_finish.Given as goal
 
+-- what contracts see of the state
+abbrev pub tally_words : TrailWords Tally (Unit {0})
+tally_words = record { trail_of = λ s. s.log.events; colour_of = λ s. s.log.colour; frame_of = λ s. tt; spare_of = λ s. s.log.spare; alike = AreAlike (λ (s : Tally). s.log) (λ (s : Tally). s.total) }
+
 abbrev pub invariant-loop-event : goal.invariant-loop-event
 invariant-loop-event l = record {
-  stands : TurnStands {F = Unit {0}} (λ (s : Tally). s.trail.items) (λ (s : Tally). s.colour) (λ (s : Tally). tt) (λ f c e p. Unit {0}) l.shard l.turn;
+  stands : TurnStands tally_words (λ f c e p. Unit {0}) l.shard l.turn;
   own : IsOwn l.shard l.turn.colour;
-  room : length l.turn.events ≤ vec_capacity l.turn.state.trail - vec_len l.turn.state.trail;
+  room : length l.turn.events ≤ l.turn.state.log.spare;
 }
 
 abbrev pub decreases-loop-event : goal.decreases-loop-event

@@ -8,7 +8,7 @@ use Rattle.mely_weave.proofs.gathering.are_kept.Goals as goal
 pub loop-shard-preserved : goal.loop-shard-preserved
 loop-shard-preserved g c = λ number has low there. ⊎_elim
     (λ (before : number < c.loop-shard.shard-index). c.loop-shard.invariant number has before there)
-    (λ (here : number ≡ c.loop-shard.shard-index). subst (IsKept g.S.Trail.trail_of g.S.Trail.colour_of g.S.Trail.frame_of g.S.Fits.fits_under) (element_is c.args.shards.now number c.loop-shard.shard-index c.shard-item.result has here c.shard-item.is there) c.history-history.ensures.kept)
+    (λ (here : number ≡ c.loop-shard.shard-index). subst (IsKept g.S.Trail g.S.Fits.fits_under) (element_is c.args.shards.now number c.loop-shard.shard-index c.shard-item.result has here c.shard-item.is there) c.history-history.ensures.kept)
     (split_below number c.loop-shard.shard-index low)
 
 pub returns : goal.returns

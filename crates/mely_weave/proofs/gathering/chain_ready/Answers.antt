@@ -47,7 +47,7 @@ loop-number-preserved g c = elim c.match-ready.branch [
       let at : slice_get c.loop-number.chains w.in-Some.owner ≡ Some queue = slice_get-get_or c.loop-number.chains w.in-Some.owner w.index-chains-owner.result (omega (arith, many, core)) in
       let stood = c.loop-number.invariant.stand w.in-Some.owner queue at in
       let chained = chained_ready c.args.setup.now (readiness_for c.args.setup.now c.args.shards.now) c.loop-number.number c.loop-number.chains c.loop-number.invariant.chained w.in-Some.owner _ queue w.push.new.self says.ready says.owner_is says.mark_is at w.in-Ok.ensures.ok in
-      let stands : ChainStands c.args.setup.now w.push.new.self = record { colours = w.push.ensures.same.0 ∙ stood.colours; cost = w.push.ensures.same.1 ∙ stood.cost; together = w.push.ensures.together } in
+      let stands : ChainStands c.args.setup.now w.push.new.self = record { colours = w.push.ensures.same.colours ∙ stood.colours; cost = w.push.ensures.same.cost ∙ stood.cost; pinned = w.push.ensures.same.pinned ∙ stood.pinned; together = w.push.ensures.together } in
       let all = each_set (λ _. ChainStands c.args.setup.now) c.loop-number.chains w.in-Some.owner queue w.push.new.self at c.loop-number.invariant.stand stands in
       rw w.chains-is (record { chained = chained; stand = all })
   | in_default w ↦

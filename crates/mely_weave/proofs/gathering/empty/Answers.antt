@@ -6,4 +6,4 @@ use Rattle.mely_weave.proofs.gathering.empty.Goals as goal
 pub returns-clause-empty : goal.returns-clause-empty
 returns-clause-empty c =
     let none = c.in_default.ensures in
-    emptied c.pop.new.self c.args.chain.now.colours c.args.chain.now.cost c.pop.ensures.together (ap (λ (q : Chain). q.chain) none.rest ∙ none.front) (none.same.0 ∙ c.loop.invariant.colours) (none.same.1 ∙ c.loop.invariant.cost)
+    emptied c.pop.new.self c.args.chain.now.colours c.args.chain.now.cost c.args.chain.now.pinned c.pop.ensures.together (ap (λ (q : Chain). q.chain) none.rest ∙ none.front) (none.same.colours ∙ c.loop.invariant.colours) (none.same.cost ∙ c.loop.invariant.cost) (none.same.pinned ∙ c.loop.invariant.pinned)

@@ -5,7 +5,7 @@ pub returns-clause-stands : goal.returns-clause-stands
 returns-clause-stands g c = λ n a b well run. run_stands g.S.Trail g.S.Fits.fits_under g.R.App n a b well run
 
 pub returns-clause-accepted : goal.returns-clause-accepted
-returns-clause-accepted g c = λ n a b d well run call. step_call_accepted g.S.Trail g.S.Fits.fits_under g.R.App b d (run_stands g.S.Trail g.S.Fits.fits_under g.R.App n a b well run) call
+returns-clause-accepted g c = λ n a b d well run app core step call. step_call_accepted g.S.Trail g.S.Fits.fits_under g.R.App app core step b d (run_stands g.S.Trail g.S.Fits.fits_under g.R.App n a b well run) call
 
 pub returns-clause-grow : goal.returns-clause-grow
 returns-clause-grow g c = λ n a b run. run_grows g.S.Trail g.S.Fits.fits_under g.R.App n a b run

@@ -7,7 +7,7 @@ pub loop-core-preserved : goal.loop-core-preserved
 loop-core-preserved c =
     let at = c.loop-core.invariant in
     let pushed = c.push_reserved.ensures.items in
-    let queue : c.in_ok-new.field-0 ≡ empty_chain c.args.setup.now = c.in_ok-new.ensures.empty ∙ (λ i. record { chain = []; worthy = []; colours = c.colours.ensures.value i; cost = c.steal_cost.ensures i }) in
+    let queue : c.in_ok-new.field-0 ≡ empty_chain c.args.setup.now = c.in_ok-new.ensures.empty ∙ (λ i. record { chain = []; worthy = []; colours = c.colours.ensures.value i; cost = c.steal_cost.ensures i; pinned = c.pinned.ensures.value i }) in
     record {
       room = let room = at.room in let kept = c.push_reserved.ensures.capacity in omega (arith, room, kept);
       len = let len = at.len in let more = c.push_reserved.ensures.len in omega (arith, len, more);

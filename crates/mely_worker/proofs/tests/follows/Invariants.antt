@@ -1,4 +1,5 @@
-use Rattle.std.proofs.Common.{◌≡◌, ◌≤◌, ◌-◌, length, vec_len, vec_capacity}
+use Rattle.std.proofs.Common.{◌≤◌, length}
+use Rattle.mely_event.specs.TrailLog.{AreAlike}
 use Rattle.mely_event.specs.HandlerTable.{rows_of}
 use Rattle.mely_event.specs.declared.trail.Trail.{Ghosts as TrailWords}
 use Rattle.mely_history.specs.Setup.{colours_of, handlers_of}
@@ -8,7 +9,7 @@ use Rattle.mely_worker.proofs.tests.follows.Given as goal
 
 -- what contracts see of the state
 abbrev pub ledger_words : TrailWords Ledger (Unit {0})
-ledger_words = record { trail_of = λ s. s.trail.items; colour_of = λ s. s.colour; frame_of = λ s. tt; spare_of = λ s. vec_capacity s.trail - vec_len s.trail; alike = λ s t. (s.trail.items ≡ t.trail.items) × (s.colour ≡ t.colour) × (s.total ≡ t.total) }
+ledger_words = record { trail_of = λ s. s.log.events; colour_of = λ s. s.log.colour; frame_of = λ s. tt; spare_of = λ s. s.log.spare; alike = AreAlike (λ (s : Ledger). s.log) (λ (s : Ledger). s.total) }
 
 abbrev pub invariant-loop-made : goal.invariant-loop-made
 invariant-loop-made l = record {

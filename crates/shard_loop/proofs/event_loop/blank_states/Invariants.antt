@@ -1,4 +1,3 @@
-use Rattle.std.proofs.Common.{◌≡◌, length}
 use Rattle.shard_loop.specs.Loops.{AreBlankBelow}
 use Rattle.shard_loop.proofs.event_loop.blank_states.Given as goal
 

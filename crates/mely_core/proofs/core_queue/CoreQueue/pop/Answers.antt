@@ -1,22 +1,59 @@
-use Rattle.std.proofs.Common.{◌≡◌, ◌∷◌, Some, slice_get, sym, ap, subst, ◌∙◌}
+use Rattle.std.proofs.Common.{◌≡◌, ◌∷◌, [], ℕ, List, sym, ap, subst, ◌∙◌}
+use Rattle.mely_event.specs.declared.mark.Mark.{Mark}
 use Rattle.mely_steal.specs.Marks.{without}
-use Rattle.mely_core.specs.Chains.{Chain}
-use Rattle.mely_core.proofs.ChainLaws.{hold-without, front-of}
+use Rattle.mely_steal.specs.Links.{dropped}
+use Rattle.mely_steal.specs.ColourLists.{Colours}
+use Rattle.mely_steal.specs.Tables.{worthy_of, mark_in}
+use Rattle.mely_core.specs.Chains.{Chain, HoldTogether, chain_of}
+use Rattle.mely_core.proofs.ChainLaws.{marks_by, front-none, front-holds, leave-holds}
 use Rattle.mely_core.proofs.core_queue.CoreQueue.pop.Goals as goal
 
-pub invariant_of-self : goal.invariant_of-self
-invariant_of-self c =
-    rw (c.remove.ensures.after, c.remove-2.ensures.after)
-    (hold-without c.in_ok-mark.mark.colour c.self.inside.chain.marks c.self.inside.worthy.marks c.self.inside.chain.colours c.self.inside.worthy.cost c.self.invariant.0, c.self.invariant.1)
+pub returns-in_err-colour-clause-front : goal.returns-in_err-colour-clause-front
+returns-in_err-colour-clause-front c =
+    let q = c.self.inside in
+    let empty = front-none q.worthy.told q.chain.list c.first.result c.in_err-colour.was c.first.ensures.value in
+    let Empty : Chain → Type 0 = λ v. v.chain ≡ [] in
+    rw c.from_residual.ensures (subst Empty c.self.view_is empty)
 
-pub returns-clause-together : goal.returns-clause-together
-returns-clause-together c = (invariant_of-self c).0
+left : (c : goal.After-remove-2) → (chain_of c.remove.new.self.list c.remove-2.new.self ≡ record (chain_of c.self.inside.chain.list c.self.inside.worthy) {
+  chain = without c.in_ok-colour.colour (marks_by c.self.inside.worthy.told c.self.inside.chain.list);
+  worthy = without c.in_ok-colour.colour (chain_of c.self.inside.chain.list c.self.inside.worthy).worthy;
+}) × HoldTogether (chain_of c.remove.new.self.list c.remove-2.new.self)
+left c =
+    let q = c.self.inside in
+    let colour = c.in_ok-colour.colour in
+    let done = leave-holds q.chain.list q.worthy c.remove-2.new.self colour c.self.invariant.0 c.remove-2.ensures.told c.remove-2.ensures.worthy in
+    let list : c.remove.new.self.list ≡ dropped colour.0 q.chain.list = ap (λ (x : Colours). x.list) c.remove.ensures.after in
+    let Done : List ℕ → Type 0 = λ xs. (chain_of xs c.remove-2.new.self ≡ record (chain_of q.chain.list q.worthy) { chain = without colour (marks_by q.worthy.told q.chain.list); worthy = without colour (chain_of q.chain.list q.worthy).worthy })
+    × HoldTogether (chain_of xs c.remove-2.new.self) in
+    subst Done (sym list) done
+
+pub invariant_of-self : goal.invariant_of-self
+invariant_of-self c = ((left c).1, ap (λ (x : Colours). x.colours) c.remove.ensures.after ∙ (c.self.invariant.1 ∙ sym c.remove-2.ensures.same.colours))
 
 pub returns-clause-front : goal.returns-clause-front
 returns-clause-front c =
-    let mark = c.in_ok-mark.mark in
-    let marks = c.self.inside.chain.marks in
-    let first : slice_get marks 0 ≡ Some mark =
-    sym (ap (λ xs. slice_get xs 0) c.as_slice.ensures.value) ∙ (sym c.first.ensures.value ∙ (sym c.copied.ensures ∙ c.in_ok-mark.was)) in
-    let Front : Chain → Type 0 = λ v. v.chain ≡ mark ∷ without mark.colour marks in
-    rw c.remove.ensures.after (subst Front c.self.view_is (front-of marks mark c.self.invariant.0.apart first))
+    let q = c.self.inside in
+    let colour = c.in_ok-colour.colour in
+    let list : c.remove.new.self.list ≡ dropped colour.0 q.chain.list = ap (λ (x : Colours). x.list) c.remove.ensures.after in
+    let front : marks_by q.worthy.told q.chain.list ≡ mark_in q.worthy.told colour.0 ∷ marks_by q.worthy.told (dropped colour.0 q.chain.list) =
+    front-holds q.worthy.told q.chain.list c.first.result colour c.self.invariant.0.apart c.in_ok-colour.was c.first.ensures.value in
+    let rest : marks_by q.worthy.told (dropped colour.0 q.chain.list) ≡ marks_by c.remove-2.new.self.told c.remove.new.self.list =
+    ap (λ t. marks_by t (dropped colour.0 q.chain.list)) (sym c.remove-2.ensures.told) ∙ ap (marks_by c.remove-2.new.self.told) (sym list) in
+    let Front : Chain → Type 0 = λ v. v.chain ≡ c.mark-mark.result ∷ marks_by c.remove-2.new.self.told c.remove.new.self.list in
+    subst Front c.self.view_is
+    (front ∙ (ap (λ k. k ∷ marks_by q.worthy.told (dropped colour.0 q.chain.list)) (sym c.mark-mark.ensures.value) ∙ ap (λ ys. c.mark-mark.result ∷ ys) rest))
+
+pub returns-clause-rest : goal.returns-clause-rest
+returns-clause-rest c =
+    let q = c.self.inside in
+    let colour = c.in_ok-colour.colour in
+    let same : colour ≡ c.mark-mark.result.colour = sym (ap (λ (m : Mark). m.colour) c.mark-mark.ensures.value) in
+    let w : worthy_of c.remove-2.new.self ≡ record (worthy_of q.worthy) { marks = without c.mark-mark.result.colour (worthy_of q.worthy).marks } =
+    c.remove-2.ensures.worthy ∙ ap (λ x. record (worthy_of q.worthy) { marks = without x (worthy_of q.worthy).marks }) same in
+    let now = chain_of c.remove.new.self.list c.remove-2.new.self in
+    let Rest : Chain → Type 0 = λ v. now ≡ record v { chain = now.chain; worthy = without c.mark-mark.result.colour v.worthy } in
+    subst Rest c.self.view_is (λ i. record { chain = now.chain; worthy = (w i).marks; colours = (w i).colours; cost = (w i).cost; pinned = (w i).pinned })
+
+pub returns-clause-together : goal.returns-clause-together
+returns-clause-together c = (left c).1

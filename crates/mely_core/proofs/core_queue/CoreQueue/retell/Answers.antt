@@ -1,34 +1,48 @@
-use Rattle.std.proofs.Common.{◌≡◌, ◌<◌, Some, sym, subst, ◌∙◌}
+use Rattle.std.proofs.Common.{◌≡◌, ◌<◌, Some, Option, None, MatchOption, max, eqb, sym, ap, subst, ◌∙◌}
+use Rattle.std.proofs.lemmas.Bool.{cond-true, eq-eqb}
 use Rattle.mely_event.specs.declared.mark.Mark.{Mark}
-use Rattle.mely_steal.specs.Marks.{mark_of}
-use Rattle.mely_steal.proofs.MarkLaws.{mark_of-same}
-use Rattle.mely_core.specs.Chains.{Chain}
-use Rattle.mely_core.proofs.ChainLaws.{hold-told, mark_of-colour}
+use Rattle.mely_steal.specs.Marks.{mark_of, replaced}
+use Rattle.mely_steal.specs.Stealing.{changed}
+use Rattle.mely_steal.proofs.MarkLaws.{mark_of-same, mark_of-colour}
+use Rattle.mely_core.specs.Chains.{Chain, HoldTogether, chain_of, raised, told_of}
+use Rattle.mely_core.proofs.ChainLaws.{marks_by, told-holds}
 use Rattle.mely_core.proofs.core_queue.CoreQueue.retell.Goals as goal
-
-pub replace-requires : goal.replace-requires
-replace-requires c =
-    let same : c.in-Some.mark.colour.0 ≡ c.args.colour.0 = mark_of-colour c.args.colour c.self.inside.chain.marks c.in-Some.mark (sym c.in-Some.ensures.value) in
-    let Below : Chain → Type 0 = λ v. c.in-Some.mark.colour.0 < v.colours in
-    subst Below (sym c.self.view_is) (rw same c.requires)
 
 pub change-requires : goal.change-requires
 change-requires c =
-    let same : c.in-Some.mark.colour.0 ≡ c.args.colour.0 = mark_of-colour c.args.colour c.self.inside.chain.marks c.in-Some.mark (sym c.in-Some.ensures.value) in
+    let same : c.in-Some.mark.colour.0 ≡ c.args.colour.0 = mark_of-colour c.args.colour c.args.self.now.chain c.in-Some.mark (sym c.in-Some.ensures) in
     let Below : Chain → Type 0 = λ v. c.in-Some.mark.colour.0 < v.colours in
-    rw c.self.invariant.1 (subst Below (sym c.self.view_is) (rw same c.requires))
+    subst Below (sym c.self.view_is) (rw same c.requires)
+
+holds : (c : goal.After-change) → (chain_of c.self.inside.chain.list c.change.new.self ≡ record (chain_of c.self.inside.chain.list c.self.inside.worthy) {
+  chain = replaced (record { colour = c.in-Some.mark.colour; started = c.in-Some.mark.started; worth = c.max.result }) (marks_by c.self.inside.worthy.told c.self.inside.chain.list);
+  worthy = changed c.self.inside.worthy.cost c.self.inside.worthy.pinned (record { colour = c.in-Some.mark.colour; started = c.in-Some.mark.started; worth = c.max.result }) (chain_of c.self.inside.chain.list c.self.inside.worthy).worthy;
+}) × HoldTogether (chain_of c.self.inside.chain.list c.change.new.self)
+holds c =
+    let q = c.self.inside in
+    let mark = c.in-Some.mark in
+    let told : Mark = record { colour = mark.colour; started = mark.started; worth = c.max.result } in
+    let same : mark.colour.0 ≡ c.args.colour.0 = mark_of-colour c.args.colour c.args.self.now.chain mark (sym c.in-Some.ensures) in
+    let Below : Chain → Type 0 = λ v. told.colour.0 < v.colours in
+    let There : Chain → Type 0 = λ v. mark_of told.colour v.chain ≡ Some mark in
+    let there : mark_of told.colour c.args.self.now.chain ≡ Some mark = mark_of-same told.colour c.args.colour c.args.self.now.chain same ∙ sym c.in-Some.ensures in
+    told-holds q.chain.list q.worthy c.change.new.self told mark c.self.invariant.0 (subst Below (sym c.self.view_is) (rw same c.requires)) (subst There (sym c.self.view_is) there) c.change.ensures.told c.change.ensures.worthy
 
 pub invariant_of-self : goal.invariant_of-self
-invariant_of-self c =
+invariant_of-self c = ((holds c).1, c.self.invariant.1 ∙ sym c.change.ensures.same.colours)
+
+pub returns-in-Some-clause-told : goal.returns-in-Some-clause-told
+returns-in-Some-clause-told c =
     let mark = c.in-Some.mark in
-    let marks = c.self.inside.chain.marks in
+    let now = chain_of c.self.inside.chain.list c.change.new.self in
     let told : Mark = record { colour = mark.colour; started = mark.started; worth = c.max.result } in
-    let same : mark.colour.0 ≡ c.args.colour.0 = mark_of-colour c.args.colour marks mark (sym c.in-Some.ensures.value) in
-    let there : mark_of told.colour marks ≡ Some mark = mark_of-same told.colour c.args.colour marks same ∙ sym c.in-Some.ensures.value in
-    let Below : Chain → Type 0 = λ v. told.colour.0 < v.colours in
-    let below : told.colour.0 < c.self.inside.chain.colours = subst Below (sym c.self.view_is) (rw same c.requires) in
-    rw (c.replace.ensures.after, c.change.ensures.after)
-    (hold-told told mark marks c.self.inside.worthy.marks c.self.inside.chain.colours c.self.inside.worthy.cost c.self.invariant.0 below there, c.self.invariant.1)
+    let is : told_of c.args.colour c.args.started c.args.worth c.args.self.now.chain ≡ Some told =
+    ap (raised c.args.started c.args.worth) (sym c.in-Some.ensures)
+    ∙ (cond-true (eqb mark.started c.args.started) (Some (record mark { worth = max mark.worth c.args.worth })) None (eq-eqb mark.started c.args.started c.if-mark-started.true)
+    ∙ ap (λ w. Some (record mark { worth = w })) (sym c.max.ensures)) in
+    let Told : Chain → Type 0 = λ v. now ≡ record v { chain = replaced told v.chain; worthy = changed v.cost v.pinned told v.worthy } in
+    let At : Option Mark → Type 0 = λ o. MatchOption o (now ≡ c.args.self.now) (λ m. now ≡ record c.args.self.now { chain = replaced m c.args.self.now.chain; worthy = changed c.args.self.now.cost c.args.self.now.pinned m c.args.self.now.worthy }) in
+    subst At (sym is) (subst Told c.self.view_is (holds c).0)
 
 pub returns-in-Some-clause-together : goal.returns-in-Some-clause-together
-returns-in-Some-clause-together c = (invariant_of-self c).0
+returns-in-Some-clause-together c = (holds c).1

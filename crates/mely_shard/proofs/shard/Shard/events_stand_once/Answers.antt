@@ -2,4 +2,4 @@ use Rattle.mely_shard.proofs.OnceLaws.{stands_once}
 use Rattle.mely_shard.proofs.shard.Shard.events_stand_once.Goals as goal
 
 pub returns : goal.returns
-returns g c = λ k lane own is. stands_once _ _ _ _ c.args.self.now k lane c.history-history.ensures.kept own is
+returns g c = λ k lane own is. stands_once k lane c.history-history.ensures.kept own is

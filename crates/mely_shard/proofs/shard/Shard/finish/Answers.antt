@@ -1,83 +1,123 @@
-use Rattle.std.proofs.Common.{◌/◌, ◌++◌, map, arith, sym, ap, ◌∙◌, get_or, refl}
-use Rattle.std.proofs.lemmas.List.{map-set, append-nil}
+use Rattle.std.proofs.Common.{◌≡◌, ◌<◌, ◌≤◌, ◌/◌, ◌%◌, ◌+◌, ◌++◌, ◌∷◌, [], Some, map, length, length-append, arith, sym, ap, ◌∙◌, get_or, refl}
+use Rattle.std.specs.Prelude.{slice_get, reverse}
+use Rattle.std.proofs.lemmas.List.{map-set, append-nil, reverse-reverse}
 use Rattle.std.proofs.Math.ListN.{set}
-use Rattle.mely_history.specs.Setup.{shape_of}
-use Rattle.mely_shard.specs.Kept.{lane_of}
+use Rattle.mely_history.specs.Setup.{shape_of, colours_of}
+use Rattle.mely_history.specs.Account.{account_of}
+use Rattle.mely_history.specs.Legal.{IsRunningOn}
+use Rattle.mely_history.specs.declared.entry.Entry.TheVariants.{Fin}
+use Rattle.mely_shard.specs.Kept.{CellStands, lane_of}
 use Rattle.mely_shard.proofs.Registering.{cell_there, lane_there}
 use Rattle.mely_shard.proofs.Finishing.{finish_whole, running_positive, kept_finished, told_finished}
 use Rattle.mely_shard.proofs.Cells.{has_room_set}
 use Rattle.mely_shard.proofs.Exposing.{kept_contents, givens_set, given_there}
 use Rattle.mely_shard.proofs.shard.Shard.finish.Goals as goal
+use Rattle.mely_shard.proofs.shard.Shard.finish.Goals.{After-shards, After-index_mut}
+
+-- the colour of the turn runs on it, so its state is away
+record Away (g : _) (c : After-shards g) : Type 0 where
+  pub there : c.args.turn.colour.0 < colours_of c.self.inside.setup
+  pub here : c.args.turn.colour.0 % (shape_of c.self.inside.setup).shards ≡ c.self.inside.shard
+  pub runs : IsRunningOn c.self.inside.history.items c.args.turn.colour c.args.turn.core c.args.turn.count
+  pub some : 1 ≤ c.self.inside.running
+
+away : (g : _) (c : After-shards g) → Away g c
+away g c =
+    let own = rw (← c.self.view_is) at c.requires.own in
+    let runs = rw (← c.self.view_is) at c.requires.stands.away in
+    record {
+      there = own.there;
+      here = own.here;
+      runs = runs;
+      some = running_positive c.self.invariant.0 c.args.turn.colour c.args.turn.core c.args.turn.count own.there own.here runs;
+    }
+
+-- what is known of the colour's cell
+record Found (g : _) (c : After-index_mut g) : Type 0 where
+  pub is : c.index_mut.result.now ≡ get_or c.self.inside.cells.items (c.args.turn.colour.0 / (shape_of c.self.inside.setup).shards) c.index_mut.result.now
+  pub lane : slice_get (map lane_of c.self.inside.cells.items) (c.args.turn.colour.0 / (shape_of c.self.inside.setup).shards) ≡ Some (lane_of c.index_mut.result.now)
+  pub stands : CellStands g.S.Trail g.S.Fits.fits_under c.self.inside.setup c.args.turn.colour (account_of c.self.inside.setup c.self.inside.history.items c.args.turn.colour) c.index_mut.result.now
+  pub history : c.push_reserved.new.self.items ≡ c.self.inside.history.items ++ Fin c.args.turn.colour c.args.turn.core c.args.turn.count ∷ []
+
+found : (g : _) (c : After-index_mut g) → Found g c
+found g c =
+    let own = rw (← c.self.view_is) at c.requires.own in
+    let cells = c.self.inside.cells.items in
+    let cell = c.index_mut.result.now in
+    let is = c.index_mut.ensures.value ∙ ap (λ k. get_or cells (k.0 / c.shards.result) cell) c.colour-colour.ensures ∙ ap (λ n. get_or cells (c.args.turn.colour.0 / n) cell) c.shards.ensures.value in
+    record {
+      is = is;
+      lane = lane_there c.self.invariant.0 c.args.turn.colour cell own.there own.here is;
+      stands = cell_there c.self.invariant.0 c.args.turn.colour cell own.there own.here is;
+      history = rw (c.push_reserved.ensures.items, c.colour-colour.ensures, c.core-core.ensures, c.count-count.ensures) refl;
+    }
 
 pub index_mut-requires : goal.index_mut-requires
 index_mut-requires g c =
-    let own = rw (← c.self.view_is) at c.requires.own in
-    let there = c.self.invariant.0.whole c.args.turn.colour.0 own.there own.here in
+    let a = away g (goal.at.index_mut-requires g c).After-shards in
+    let there = c.self.invariant.0.whole c.args.turn.colour.0 a.there a.here in
     rw (c.colour-colour.ensures, c.shards.ensures.value) (omega (arith, there, c.self.inside.cells.ok.0))
 
 pub finish-requires : goal.finish-requires
 finish-requires g c =
-    let own = rw (← c.self.view_is) at c.requires.own in
-    let away = rw (← c.self.view_is) at c.requires.stands.away in
-    let is = c.index_mut.ensures.value ∙ ap (λ k. get_or c.self.inside.cells.items (k.0 / c.shards.result) c.index_mut.result.now) c.colour-colour.ensures ∙ ap (λ n. get_or c.self.inside.cells.items (c.args.turn.colour.0 / n) c.index_mut.result.now) c.shards.ensures.value in
-    let stands = cell_there _ _ _ _ _ _ _ _ _ _ c.self.invariant.0 c.args.turn.colour c.index_mut.result.now own.there own.here is in
-    let whole = finish_whole _ _ _ _ _ _ _ _ _ _ c.self.invariant.0 c.args.turn.colour c.args.turn.core c.args.turn.count c.index_mut.result.now stands away in
-    omega (arith, whole.1, stands.started, stands.finished, c.count-count.ensures)
+    let a = away g (goal.at.finish-requires g c).After-shards in
+    let f = found g (goal.at.finish-requires g c).After-index_mut in
+    let whole = finish_whole c.self.invariant.0 c.args.turn.colour c.args.turn.core c.args.turn.count c.index_mut.result.now f.stands a.runs in
+    omega (arith, whole.1, f.stands.started, f.stands.finished, c.count-count.ensures)
 
 pub overflow_sub-self : goal.overflow_sub-self
-overflow_sub-self g c =
-    let own = rw (← c.self.view_is) at c.requires.own in
-    let away = rw (← c.self.view_is) at c.requires.stands.away in
-    running_positive _ _ _ _ _ _ _ _ _ _ c.self.invariant.0 c.args.turn.colour c.args.turn.core c.args.turn.count own.there own.here away
+overflow_sub-self g c = (away g (goal.at.overflow_sub-self g c).After-shards).some
 
 pub push_reserved-requires : goal.push_reserved-requires
 push_reserved-requires g c =
-    let own = rw (← c.self.view_is) at c.requires.own in
-    let away = rw (← c.self.view_is) at c.requires.stands.away in
-    let some = running_positive _ _ _ _ _ _ _ _ _ _ c.self.invariant.0 c.args.turn.colour c.args.turn.core c.args.turn.count own.there own.here away in
-    omega (arith, some, c.self.invariant.0.room, c.self.inside.history.ok.0)
+    let a = away g (goal.at.push_reserved-requires g c).After-shards in
+    omega (arith, a.some, c.self.invariant.0.room, c.self.inside.history.ok.0)
 
 pub invariant_of-self : goal.invariant_of-self
 invariant_of-self g c =
-    let own = rw (← c.self.view_is) at c.requires.own in
-    let away = rw (← c.self.view_is) at c.requires.stands.away in
+    let a = away g (goal.at.invariant_of-self g c).After-shards in
+    let f = found g (goal.at.invariant_of-self g c).After-index_mut in
+    let cell = c.index_mut.result.now in
+    let i = c.args.turn.colour.0 / (shape_of c.self.inside.setup).shards in
     let whole = rw (← c.self.view_is) at c.requires.stands.trailed in
     let of_trail = sym (ap (λ es. g.S.Trail.trail_of c.args.turn.state ++ map (λ e. e.0) es) c.requires.spent ∙ append-nil (g.S.Trail.trail_of c.args.turn.state)) ∙ whole in
     let of_frame = rw (← c.self.view_is) at c.requires.stands.framed in
-    let is = c.index_mut.ensures.value ∙ ap (λ k. get_or c.self.inside.cells.items (k.0 / c.shards.result) c.index_mut.result.now) c.colour-colour.ensures ∙ ap (λ n. get_or c.self.inside.cells.items (c.args.turn.colour.0 / n) c.index_mut.result.now) c.shards.ensures.value in
-    let lane = lane_there _ _ _ _ _ _ _ _ _ _ c.self.invariant.0 c.args.turn.colour c.index_mut.result.now own.there own.here is in
-    let i = c.args.turn.colour.0 / (shape_of c.self.inside.setup).shards in
-    let kept = kept_finished _ _ _ _ _ _ _ _ _ _ c.self.invariant.0 c.args.turn.colour c.args.turn.core c.args.turn.count c.args.turn.state c.index_mut.result.now own.there own.here is away c.requires.stands.coloured (of_frame i c.index_mut.result.now.given.value (given_there (map lane_of c.self.inside.cells.items) i (lane_of c.index_mut.result.now) lane)) of_trail in
-    rw (c.push_reserved.ensures.items, c.push_reserved.ensures.capacity, c.finish.ensures.cell, c.into_state.ensures, c.colour-colour.ensures, c.core-core.ensures, c.count-count.ensures, c.shards.ensures.value) (kept.1, has_room_set _ _ _ _ _ _ _ c.self.invariant.1)
+    let kept = kept_finished c.self.invariant.0 c.args.turn.colour c.args.turn.core c.args.turn.count c.args.turn.state cell a.there a.here f.is a.runs c.requires.stands.coloured (of_frame i cell.given.value (given_there (map lane_of c.self.inside.cells.items) i (lane_of cell) f.lane)) of_trail in
+    let emptied = c.into_parts-state.result.1.items in
+    let none : emptied ≡ [] = sym (reverse-reverse emptied) ∙ ap reverse (c.into_parts-state.ensures.left ∙ c.requires.spent) in
+    rw (f.history, c.push_reserved.ensures.capacity, c.finish.ensures.cell, c.into_parts-state.ensures.state, c.colour-colour.ensures, c.count-count.ensures, c.shards.ensures.value) (kept.1, has_room_set _ _ _ _ _ _ _ c.self.invariant.1, none)
 
 pub returns-clause-home : goal.returns-clause-home
 returns-clause-home g c =
-    let own = rw (← c.self.view_is) at c.requires.own in
+    let f = found g (goal.at.returns-clause-home g c).After-index_mut in
     let cells = c.self.inside.cells.items in
-    let cell = c.index_mut.result.now in
     let i = c.args.turn.colour.0 / (shape_of c.self.inside.setup).shards in
-    let is = c.index_mut.ensures.value ∙ ap (λ k. get_or cells (k.0 / c.shards.result) cell) c.colour-colour.ensures ∙ ap (λ n. get_or cells (c.args.turn.colour.0 / n) cell) c.shards.ensures.value in
     rw (← c.self.view_is) (record {
-      before = lane_of cell;
-      was = lane_there _ _ _ _ _ _ _ _ _ _ c.self.invariant.0 c.args.turn.colour cell own.there own.here is;
+      before = lane_of c.index_mut.result.now;
+      was = f.lane;
       after = record {
         same_setup = refl;
         same_shard = refl;
-        history = rw (c.push_reserved.ensures.items, c.colour-colour.ensures, c.core-core.ensures, c.count-count.ensures) refl;
-        lanes = rw (c.colour-colour.ensures, c.shards.ensures.value) (map-set lane_of cells i c.finish.new.self ∙ ap (λ b. set (map lane_of cells) i (lane_of b)) c.finish.ensures.cell ∙ rw c.into_state.ensures refl);
+        history = f.history;
+        lanes = rw (c.colour-colour.ensures, c.shards.ensures.value) (map-set lane_of cells i c.finish.new.self ∙ ap (λ b. set (map lane_of cells) i (lane_of b)) c.finish.ensures.cell ∙ rw c.into_parts-state.ensures.state refl);
       };
     })
 
 pub returns-clause-reply : goal.returns-clause-reply
 returns-clause-reply g c =
-    let own = rw (← c.self.view_is) at c.requires.own in
-    let is = c.index_mut.ensures.value ∙ ap (λ k. get_or c.self.inside.cells.items (k.0 / c.shards.result) c.index_mut.result.now) c.colour-colour.ensures ∙ ap (λ n. get_or c.self.inside.cells.items (c.args.turn.colour.0 / n) c.index_mut.result.now) c.shards.ensures.value in
-    let stands = cell_there _ _ _ _ _ _ _ _ _ _ c.self.invariant.0 c.args.turn.colour c.index_mut.result.now own.there own.here is in
-    rw (← c.self.view_is, c.push_reserved.ensures.items, c.finish.ensures.reply, c.colour-colour.ensures, c.core-core.ensures, c.count-count.ensures)
-    (told_finished _ _ _ _ _ _ _ _ _ _ c.self.invariant.0 c.args.turn.colour c.args.turn.core c.args.turn.count c.index_mut.result.now stands)
+    let f = found g (goal.at.returns-clause-reply g c).After-index_mut in
+    rw (← c.self.view_is, f.history, c.finish.ensures.reply)
+    (told_finished c.self.invariant.0 c.args.turn.colour c.args.turn.core c.args.turn.count c.index_mut.result.now f.stands)
+
+pub returns-clause-spare_stays : goal.returns-clause-spare_stays
+returns-clause-spare_stays g c =
+    let a = away g (goal.at.returns-clause-spare_stays g c).After-shards in
+    let f = found g (goal.at.returns-clause-spare_stays g c).After-index_mut in
+    let longer : length c.push_reserved.new.self.items ≡ length c.self.inside.history.items + 1 = ap length f.history ∙ length-append c.self.inside.history.items (Fin c.args.turn.colour c.args.turn.core c.args.turn.count ∷ []) in
+    rw (← c.self.view_is, c.push_reserved.ensures.capacity) (omega (arith, a.some, longer))
 
 pub returns-clause-kept : goal.returns-clause-kept
-returns-clause-kept g c = kept_contents _ _ _ _ _ _ _ _ _ _ (invariant_of-self g c).0 _
+returns-clause-kept g c = kept_contents (invariant_of-self g c).0
 
 pub returns-clause-frame : goal.returns-clause-frame
 returns-clause-frame g c =

@@ -2,4 +2,4 @@ use Rattle.mely_shard.proofs.Exposing.{kept_contents}
 use Rattle.mely_shard.proofs.shard.Shard.history.Goals as goal
 
 pub returns-clause-kept : goal.returns-clause-kept
-returns-clause-kept g c = rw (← c.self.view_is) (kept_contents _ _ _ _ _ _ _ _ _ _ c.self.invariant.0 _)
+returns-clause-kept g c = rw (← c.self.view_is) (kept_contents c.self.invariant.0)

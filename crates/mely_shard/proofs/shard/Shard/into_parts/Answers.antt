@@ -7,7 +7,7 @@ use Rattle.mely_shard.proofs.shard.Shard.into_parts.Goals as goal
 pub take_apart-requires-clause-at_home : goal.take_apart-requires-clause-at_home
 take_apart-requires-clause-at_home g c =
     let rest = rw (← c.self.view_is) at c.requires in
-    all_at_home _ _ _ _ _ _ _ _ _ _ c.self.invariant.0 (λ k there here. rest k (record { there = there; here = here }))
+    all_at_home c.self.invariant.0 (λ k there here. rest k (record { there = there; here = here }))
 
 pub returns-clause-states : goal.returns-clause-states
 returns-clause-states g c =

@@ -9,5 +9,5 @@ returns g c =
     let cells = c.self.inside.cells.items in
     let cell = c.index.result.now in
     let is = c.index.ensures ∙ ap (λ n. get_or cells (c.args.colour.0 / n) cell) c.shards.ensures.value in
-    let stands = cell_there _ _ _ _ _ _ _ _ _ _ c.self.invariant.0 c.args.colour cell own.there own.here is in
-    rw (← c.self.view_is, c.ready.ensures) (told_ready _ _ _ _ _ _ _ _ _ _ c.self.invariant.0 c.args.colour cell stands)
+    let stands = cell_there c.self.invariant.0 c.args.colour cell own.there own.here is in
+    rw (← c.self.view_is, c.ready.ensures) (told_ready c.self.invariant.0 c.args.colour cell stands)

@@ -1,89 +1,143 @@
-use Rattle.std.proofs.Common.{◌≡◌, ◌/◌, length, arith, ap, ◌∙◌, get_or, refl, vec_len}
-use Rattle.std.proofs.lemmas.List.{set-get_or}
+use Rattle.std.proofs.Common.{◌≡◌, ◌≤◌, ◌<◌, ◌/◌, ◌%◌, ◌+◌, ◌++◌, ◌∷◌, [], Some, map, length, arith, ap, ◌∙◌, get_or, refl, vec_capacity}
+use Rattle.std.specs.Prelude.{slice_get, Result, Ok, Err, OnErr}
 use Rattle.std.proofs.Math.ListN.{set}
+use Rattle.std.proofs.lemmas.List.{set-get_or, map-set}
 use Rattle.mely_event.specs.HandlerTable.{rows_of, weight_of}
-use Rattle.mely_history.specs.Setup.{shape_of}
+use Rattle.mely_history.specs.Setup.{shape_of, colours_of}
 use Rattle.mely_history.specs.History.{weight}
-use Rattle.mely_shard.proofs.Registering.{kept_with_room, cell_there, registered_few, kept_registered, lane_there, told_registered}
-use Rattle.mely_shard.specs.Kept.{lane_of}
+use Rattle.mely_history.specs.Account.{account_of}
 use Rattle.mely_history.specs.declared.entry.Entry.TheVariants.{Reg}
-use Rattle.std.proofs.lemmas.List.{map-set}
-use Rattle.std.proofs.Common.{◌++◌, ◌∷◌, [], map}
+use Rattle.mely_shard.specs.Kept.{CellStands, lane_of, most_of}
+use Rattle.mely_shard.proofs.Registering.{kept_with_room, cell_there, registered_few, kept_registered, lane_there, told_registered}
 use Rattle.mely_shard.proofs.Cells.{has_room_set}
 use Rattle.mely_shard.proofs.Exposing.{kept_contents, givens_set}
 use Rattle.mely_shard.proofs.shard.Shard.register.Goals as goal
+use Rattle.mely_shard.proofs.shard.Shard.register.Goals.{After-index_mut, After-push_reserved, In_err-reply}
+
+-- what is known of the colour's cell before the event joins it
+record Found (g : _) (c : After-index_mut g) : Type 0 where
+  pub there : c.args.colour.0 < colours_of c.self.inside.setup
+  pub here : c.args.colour.0 % (shape_of c.self.inside.setup).shards ≡ c.self.inside.shard
+  pub is : c.index_mut.result.now ≡ get_or c.self.inside.cells.items (c.args.colour.0 / (shape_of c.self.inside.setup).shards) c.index_mut.result.now
+  pub lane : slice_get (map lane_of c.self.inside.cells.items) (c.args.colour.0 / (shape_of c.self.inside.setup).shards) ≡ Some (lane_of c.index_mut.result.now)
+  pub stands : CellStands g.S.Trail g.S.Fits.fits_under c.self.inside.setup c.args.colour (account_of c.self.inside.setup c.self.inside.history.items c.args.colour) c.index_mut.result.now
+  pub fit : g.S.Fits.fits_under (g.S.Trail.frame_of c.index_mut.result.now.given.value) c.args.colour c.args.event c.args.load
+  pub weighed : c.weight-weight.result ≡ weight c.self.inside.setup c.args.event
+
+found : (g : _) (c : After-index_mut g) → Found g c
+found g c =
+    let own = rw (← c.self.view_is) at c.requires.own in
+    let fit = rw (← c.self.view_is) at c.requires.fit in
+    let cells = c.self.inside.cells.items in
+    let cell = c.index_mut.result.now in
+    let is = c.index_mut.ensures.value ∙ ap (λ n. get_or cells (c.args.colour.0 / n) cell) c.shards.ensures.value in
+    let lane = lane_there c.self.invariant.0 c.args.colour cell own.there own.here is in
+    record {
+      there = own.there;
+      here = own.here;
+      is = is;
+      lane = lane;
+      stands = cell_there c.self.invariant.0 c.args.colour cell own.there own.here is;
+      fit = fit _ lane;
+      weighed = c.weight-weight.ensures ∙ ap (λ h. weight_of (rows_of h) c.args.event.handler) c.handlers.ensures;
+    }
+
+-- what is known once the entry was pushed
+record Pushed (g : _) (c : After-push_reserved g) : Type 0 where
+  pub history : c.push_reserved.new.self.items ≡ c.self.inside.history.items ++ Reg c.args.colour c.args.event c.args.by ∷ []
+  pub room : length c.self.inside.history.items + 1 + c.self.inside.running ≤ most_of (vec_capacity c.push_reserved.new.self)
+
+pushed : (g : _) (c : After-push_reserved g) → Pushed g c
+pushed g c =
+    let same = ap length c.make_room.ensures.same in
+    let room = c.in-Ok.ensures.room in
+    record {
+      history = c.push_reserved.ensures.items ∙ ap (λ es. es ++ Reg c.args.colour c.args.event c.args.by ∷ []) c.make_room.ensures.same;
+      room = rw c.push_reserved.ensures.capacity (omega (arith, same, room));
+    }
 
 pub register-requires : goal.register-requires
 register-requires g c =
-    let own = rw (← c.self.view_is) at c.requires.own in
-    let is = c.index_mut.ensures.value ∙ ap (λ n. get_or c.self.inside.cells.items (c.args.colour.0 / n) c.index_mut.result.now) c.shards.ensures.value in
-    let stands = cell_there _ _ _ _ _ _ _ _ _ _ c.self.invariant.0 c.args.colour c.index_mut.result.now own.there own.here is in
-    let few = registered_few _ _ _ _ _ _ _ _ _ _ c.self.invariant.0 c.args.colour c.index_mut.result.now stands in
+    let f = found g (goal.at.register-requires g c).After-index_mut in
+    let few = registered_few c.self.invariant.0 c.args.colour c.index_mut.result.now f.stands in
     omega (arith, few, c.self.inside.history.ok.0, c.self.inside.history.ok.1, c.self.inside.history.small)
 
 pub invariant_of-self : goal.invariant_of-self
-invariant_of-self g c = rw c.reserve.ensures.items ((kept_with_room _ _ _ _ _ _ _ _ _ _ c.self.invariant.0 _ c.reserve.ensures.capacity), c.self.invariant.1)
+invariant_of-self g c =
+    let more = c.make_room.ensures.not_lower in
+    rw c.make_room.ensures.same (kept_with_room c.self.invariant.0 (most_of (vec_capacity c.make_room.new.history)) (omega (arith, more)) (omega arith), c.self.invariant.1, c.self.invariant.2)
+
+-- a refused push leaves the cells as they were
+same_cells : (g : _) (c : In_err-reply g) → set c.self.inside.cells.items (c.args.colour.0 / c.shards.result) c.register.new.self ≡ c.self.inside.cells.items
+same_cells g c =
+    let cells = c.self.inside.cells.items in
+    let k = c.args.colour.0 / c.shards.result in
+    ap (set cells k) (c.in_err-reply.ensures.err ∙ c.index_mut.ensures.value) ∙ set-get_or cells k c.index_mut.result.now
 
 pub invariant_of-self-in_err-reply : goal.invariant_of-self-in_err-reply
 invariant_of-self-in_err-reply g c =
-    let k = c.args.colour.0 / c.shards.result in
-    let same : set c.self.inside.cells.items k c.register.new.self ≡ c.self.inside.cells.items =
-    ap (set c.self.inside.cells.items k) (c.in_err-reply.ensures.err ∙ c.index_mut.ensures.value) ∙ set-get_or c.self.inside.cells.items k c.index_mut.result.now in
-    rw (c.reserve.ensures.items, same) ((kept_with_room _ _ _ _ _ _ _ _ _ _ c.self.invariant.0 _ c.reserve.ensures.capacity), c.self.invariant.1)
+    let more = c.make_room.ensures.not_lower in
+    rw (c.make_room.ensures.same, same_cells g (goal.at.invariant_of-self-in_err-reply g c).In_err-reply) (kept_with_room c.self.invariant.0 (most_of (vec_capacity c.make_room.new.history)) (omega (arith, more)) (omega arith), c.self.invariant.1, c.self.invariant.2)
+
+-- what holds anyway holds where there is an error
+on_err : {T E P : Type 0} (r : Result T E) → P → OnErr r P
+on_err (Ok value) holds = tt
+on_err (Err error) holds = holds
+
+pub returns-in_err-reply-clause-err : goal.returns-in_err-reply-clause-err
+returns-in_err-reply-clause-err g c =
+    let same = same_cells g (goal.at.returns-in_err-reply-clause-err g c).In_err-reply in
+    rw (← c.self.view_is) (on_err c.from_residual.result (record {
+      same_setup = refl;
+      same_shard = refl;
+      history = c.make_room.ensures.same;
+      lanes = ap (map lane_of) same;
+    }))
 
 pub invariant_of-self-2 : goal.invariant_of-self-2
 invariant_of-self-2 g c =
-    let own = rw (← c.self.view_is) at c.requires.own in
+    let f = found g (goal.at.invariant_of-self-2 g c).After-index_mut in
+    let p = pushed g c in
     let may = rw (← c.self.view_is) at c.requires.may in
-    let fit = rw (← c.self.view_is) at c.requires.fit in
-    let is = c.index_mut.ensures.value ∙ ap (λ n. get_or c.self.inside.cells.items (c.args.colour.0 / n) c.index_mut.result.now) c.shards.ensures.value in
-    let lane = lane_there _ _ _ _ _ _ _ _ _ _ c.self.invariant.0 c.args.colour c.index_mut.result.now own.there own.here is in
-    let weighed : c.weight-weight.result ≡ weight c.self.inside.setup c.args.event = c.weight-weight.ensures ∙ ap (λ h. weight_of (rows_of h) c.args.event.handler) c.handlers.ensures in
-    let same_len : vec_len c.reserve.new.self ≡ length c.self.inside.history.items = c.reserve.ensures.len ∙ c.self.inside.history.ok.0 in
-    rw (c.push_reserved.ensures.items, c.reserve.ensures.items, c.in_ok-reply.ensures.ok, weighed, c.shards.ensures.value) (
-      kept_registered _ _ _ _ _ _ _ _ _ _ c.self.invariant.0 c.args.colour c.args.event c.args.load c.args.by _ c.index_mut.result.now own.there own.here is may (fit _ lane)
-          (omega (arith, c.in-Ok.ensures.ok, c.push_reserved.ensures.capacity, same_len)),
+    rw (p.history, c.in_ok-reply.ensures.ok, f.weighed, c.shards.ensures.value) (
+      kept_registered c.self.invariant.0 c.args.colour c.args.event c.args.load c.args.by (most_of (vec_capacity c.push_reserved.new.self)) c.index_mut.result.now f.there f.here f.is may f.fit p.room (omega arith),
       has_room_set _ _ _ _ _ _ _ c.self.invariant.1,
+      c.self.invariant.2,
     )
 
 pub returns-clause-ok : goal.returns-clause-ok
 returns-clause-ok g c =
-    let own = rw (← c.self.view_is) at c.requires.own in
+    let f = found g (goal.at.returns-clause-ok g c).After-index_mut in
+    let p = pushed g c in
     let cells = c.self.inside.cells.items in
     let cell = c.index_mut.result.now in
     let i = c.args.colour.0 / (shape_of c.self.inside.setup).shards in
-    let is = c.index_mut.ensures.value ∙ ap (λ n. get_or cells (c.args.colour.0 / n) cell) c.shards.ensures.value in
-    let weighed : c.weight-weight.result ≡ weight c.self.inside.setup c.args.event = c.weight-weight.ensures ∙ ap (λ h. weight_of (rows_of h) c.args.event.handler) c.handlers.ensures in
     rw (← c.self.view_is) (record {
       before = lane_of cell;
-      was = lane_there _ _ _ _ _ _ _ _ _ _ c.self.invariant.0 c.args.colour cell own.there own.here is;
+      was = f.lane;
       after = record {
         same_setup = refl;
         same_shard = refl;
-        history = c.push_reserved.ensures.items ∙ ap (λ es. es ++ Reg c.args.colour c.args.event c.args.by ∷ []) c.reserve.ensures.items;
+        history = p.history;
         lanes = ap (λ n. map lane_of (set cells (c.args.colour.0 / n) c.register.new.self)) c.shards.ensures.value ∙ map-set lane_of cells i c.register.new.self ∙ ap (λ b. set (map lane_of cells) i (lane_of b)) c.in_ok-reply.ensures.ok;
       };
     })
 
 pub returns-clause-reply : goal.returns-clause-reply
 returns-clause-reply g c =
-    let own = rw (← c.self.view_is) at c.requires.own in
-    let fit = rw (← c.self.view_is) at c.requires.fit in
-    let is = c.index_mut.ensures.value ∙ ap (λ n. get_or c.self.inside.cells.items (c.args.colour.0 / n) c.index_mut.result.now) c.shards.ensures.value in
-    let lane = lane_there _ _ _ _ _ _ _ _ _ _ c.self.invariant.0 c.args.colour c.index_mut.result.now own.there own.here is in
-    let stands = cell_there _ _ _ _ _ _ _ _ _ _ c.self.invariant.0 c.args.colour c.index_mut.result.now own.there own.here is in
-    let weighed : c.weight-weight.result ≡ weight c.self.inside.setup c.args.event = c.weight-weight.ensures ∙ ap (λ h. weight_of (rows_of h) c.args.event.handler) c.handlers.ensures in
-    rw (← c.self.view_is, c.push_reserved.ensures.items, c.reserve.ensures.items, c.in_ok-reply.ensures.reply, c.in_ok-reply.ensures.ok, weighed)
-    (told_registered _ _ _ _ _ _ _ _ _ _ c.self.invariant.0 c.args.colour c.args.event c.args.load c.args.by c.index_mut.result.now stands (fit _ lane))
+    let f = found g (goal.at.returns-clause-reply g c).After-index_mut in
+    let p = pushed g c in
+    rw (← c.self.view_is, p.history, c.in_ok-reply.ensures.reply, c.in_ok-reply.ensures.ok, f.weighed)
+    (told_registered c.self.invariant.0 c.args.colour c.args.event c.args.load c.args.by c.index_mut.result.now f.stands f.fit)
 
 pub returns-in_default-clause-kept : goal.returns-in_default-clause-kept
-returns-in_default-clause-kept g c = kept_contents _ _ _ _ _ _ _ _ _ _ (invariant_of-self g c).0 _
+returns-in_default-clause-kept g c = kept_contents (invariant_of-self g c).0
 
 pub returns-in_err-reply-clause-kept : goal.returns-in_err-reply-clause-kept
-returns-in_err-reply-clause-kept g c = kept_contents _ _ _ _ _ _ _ _ _ _ (invariant_of-self-in_err-reply g c).0 _
+returns-in_err-reply-clause-kept g c = kept_contents (invariant_of-self-in_err-reply g c).0
 
 pub returns-clause-kept : goal.returns-clause-kept
-returns-clause-kept g c = kept_contents _ _ _ _ _ _ _ _ _ _ (invariant_of-self-2 g c).0 _
+returns-clause-kept g c = kept_contents (invariant_of-self-2 g c).0
 
 pub returns-clause-frame : goal.returns-clause-frame
 returns-clause-frame g c =

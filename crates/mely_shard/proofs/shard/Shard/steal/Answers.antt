@@ -1,107 +1,135 @@
-use Rattle.std.proofs.Common.{◌≡◌, ◌/◌, ◌++◌, ◌∷◌, [], length, arith, sym, ap, ◌∙◌, get_or, refl, vec_len, vec_capacity}
+use Rattle.std.proofs.Common.{◌≡◌, ◌≤◌, ◌<◌, ◌/◌, ◌%◌, ◌+◌, ◌++◌, ◌∷◌, [], length, arith, sym, ap, ◌∙◌, get_or, refl, vec_capacity, drop, sum}
 use Rattle.std.proofs.Math.Seq.{map-set_same}
-use Rattle.std.proofs.lemmas.List.{set-get_or}
-use Rattle.std.proofs.Common.{drop, sum}
-use Rattle.std.specs.List.{sum_by}
-use Rattle.std.proofs.lemmas.List.Sums.{sum-map}
-use Rattle.mely_history.specs.History.{weight, queued_of}
-use Rattle.mely_history.specs.Account.{Account}
-use Rattle.mely_history.proofs.AccountLaws.{account-own}
 use Rattle.std.proofs.Math.ListN.{set}
-use Rattle.mely_history.specs.Setup.{shape_of}
+use Rattle.std.proofs.lemmas.List.{set-get_or}
+use Rattle.std.proofs.lemmas.List.Sums.{sum-map}
+use Rattle.std.specs.List.{sum_by}
+use Rattle.mely_history.specs.Setup.{shape_of, pinned_of, colours_of}
+use Rattle.mely_history.specs.History.{weight, queued_of}
+use Rattle.mely_history.specs.Account.{Account, account_of}
 use Rattle.mely_history.specs.declared.entry.Entry.TheVariants.{Steal}
-use Rattle.mely_shard.specs.Kept.{lane_of}
+use Rattle.mely_history.proofs.AccountLaws.{account-own}
+use Rattle.mely_shard.specs.Kept.{CellStands, lane_of, most_of}
 use Rattle.mely_shard.proofs.Registering.{cell_there, kept_with_room}
-use Rattle.mely_shard.proofs.Stealing.{cell_refuses, kept_stolen}
+use Rattle.mely_shard.proofs.Stealing.{Refuses, cell_refuses, kept_stolen}
 use Rattle.mely_shard.proofs.Cells.{has_room_set}
 use Rattle.mely_shard.proofs.Exposing.{kept_contents, givens_set}
 use Rattle.mely_shard.proofs.shard.Shard.steal.Goals as goal
+use Rattle.mely_shard.proofs.shard.Shard.steal.Goals.{After-no_steal, After-push_reserved}
+
+-- what is known once the colour's cell was asked
+record Asked (g : _) (c : After-no_steal g) : Type 0 where
+  pub free : pinned_of c.self.inside.setup ≤ c.args.colour.0
+  pub there : c.args.colour.0 < colours_of c.self.inside.setup
+  pub here : c.args.colour.0 % (shape_of c.self.inside.setup).shards ≡ c.self.inside.shard
+  pub is : c.index_mut-cell.result.now ≡ get_or c.self.inside.cells.items (c.args.colour.0 / (shape_of c.self.inside.setup).shards) c.index_mut-cell.result.now
+  pub stands : CellStands g.S.Trail g.S.Fits.fits_under c.self.inside.setup c.args.colour (account_of c.self.inside.setup c.self.inside.history.items c.args.colour) c.index_mut-cell.result.now
+  pub refuses : Refuses c.self.invariant.0 c.args.colour c.args.to c.no_steal.result
+  pub same : set c.self.inside.cells.items (c.args.colour.0 / c.shards.result) c.index_mut-cell.result.now ≡ c.self.inside.cells.items
+
+asked : (g : _) (c : After-no_steal g) → Asked g c
+asked g c =
+    let own = rw (← c.self.view_is) at c.requires.own in
+    let cells = c.self.inside.cells.items in
+    let cell = c.index_mut-cell.result.now in
+    let free : pinned_of c.self.inside.setup ≤ c.args.colour.0 = omega (arith, c.pinned.ensures.value, c.from.ensures, c.if-from-pinned.false) in
+    let is = c.index_mut-cell.ensures.value ∙ ap (λ n. get_or cells (c.args.colour.0 / n) cell) c.shards.ensures.value in
+    let stands = cell_there c.self.invariant.0 c.args.colour cell own.there own.here is in
+    record {
+      free = free;
+      there = own.there;
+      here = own.here;
+      is = is;
+      stands = stands;
+      refuses = rw c.no_steal.ensures (cell_refuses c.self.invariant.0 c.args.colour free c.args.to c.steal_cost.result cell stands c.steal_cost.ensures);
+      same = ap (set cells (c.args.colour.0 / c.shards.result)) c.index_mut-cell.ensures.value ∙ set-get_or cells (c.args.colour.0 / c.shards.result) cell;
+    }
+
+pub index_mut-cell-requires : goal.index_mut-cell-requires
+index_mut-cell-requires g c =
+    let own = rw (← c.self.view_is) at c.requires.own in
+    let there = c.self.invariant.0.whole c.args.colour.0 own.there own.here in
+    rw c.shards.ensures.value (omega (arith, there, c.self.inside.cells.ok.0))
+
+pub returns-then-from-pinned-clause-kept : goal.returns-then-from-pinned-clause-kept
+returns-then-from-pinned-clause-kept g c = rw (← c.self.view_is) (kept_contents c.self.invariant.0)
+
+pub invariant_of-self : goal.invariant_of-self
+invariant_of-self g c = let a = asked g (goal.at.invariant_of-self g c).After-no_steal in rw a.same c.self.invariant
 
 pub returns-in-Some-clause-refusal : goal.returns-in-Some-clause-refusal
 returns-in-Some-clause-refusal g c =
-    let own = rw (← c.self.view_is) at c.requires.own in
-    let core = rw (← c.self.view_is) at c.requires.core in
-    let cells = c.self.inside.cells.items in
-    let cell = c.index_mut-cell.result.now in
-    let i = c.args.colour.0 / (shape_of c.self.inside.setup).shards in
-    let is = c.index_mut-cell.ensures.value ∙ ap (λ n. get_or cells (c.args.colour.0 / n) cell) c.shards.ensures.value in
-    let stands = cell_there _ _ _ _ _ _ _ _ _ _ c.self.invariant.0 c.args.colour cell own.there own.here is in
-    let refuses = cell_refuses _ _ _ _ _ _ _ _ _ _ c.self.invariant.0 c.args.colour c.args.to c.steal_cost.result cell stands c.steal_cost.ensures in
-    rw (← c.self.view_is) (rw (← c.in-Some.ensures) at refuses)
+    let a = asked g (goal.at.returns-in-Some-clause-refusal g c).After-no_steal in
+    rw (← c.self.view_is) (rw c.in-Some.is at a.refuses)
 
-pub returns-in_default-reserve-clause-refusal : goal.returns-in_default-reserve-clause-refusal
-returns-in_default-reserve-clause-refusal g c =
-    let own = rw (← c.self.view_is) at c.requires.own in
-    let core = rw (← c.self.view_is) at c.requires.core in
-    let cells = c.self.inside.cells.items in
-    let cell = c.index_mut-cell.result.now in
-    let i = c.args.colour.0 / (shape_of c.self.inside.setup).shards in
-    let is = c.index_mut-cell.ensures.value ∙ ap (λ n. get_or cells (c.args.colour.0 / n) cell) c.shards.ensures.value in
-    let stands = cell_there _ _ _ _ _ _ _ _ _ _ c.self.invariant.0 c.args.colour cell own.there own.here is in
-    let refuses = cell_refuses _ _ _ _ _ _ _ _ _ _ c.self.invariant.0 c.args.colour c.args.to c.steal_cost.result cell stands c.steal_cost.ensures in
-    let ready = rw (← c.in_default.ensures) at refuses in
-    rw (← c.self.view_is) (ready.0, ready.1, ready.2)
+pub returns-in-Some-clause-kept : goal.returns-in-Some-clause-kept
+returns-in-Some-clause-kept g c = kept_contents (invariant_of-self g c).0
+
+pub invariant_of-self-in_default-make_room : goal.invariant_of-self-in_default-make_room
+invariant_of-self-in_default-make_room g c =
+    let a = asked g (goal.at.invariant_of-self-in_default-make_room g c).After-no_steal in
+    let more = c.make_room.ensures.not_lower in
+    rw (c.make_room.ensures.same, a.same) (kept_with_room c.self.invariant.0 (most_of (vec_capacity c.make_room.new.history)) (omega (arith, more)) (omega arith), c.self.invariant.1, c.self.invariant.2)
+
+pub returns-in_default-make_room-clause-refusal : goal.returns-in_default-make_room-clause-refusal
+returns-in_default-make_room-clause-refusal g c =
+    let a = asked g (goal.at.returns-in_default-make_room-clause-refusal g c).After-no_steal in
+    let ready = rw c.in_default.is at a.refuses in
+    rw (← c.self.view_is) (a.free, ready.0, ready.1, ready.2)
+
+pub returns-in_default-make_room-clause-kept : goal.returns-in_default-make_room-clause-kept
+returns-in_default-make_room-clause-kept g c = kept_contents (invariant_of-self-in_default-make_room g c).0
+
+pub returns-in_default-make_room-clause-spare : goal.returns-in_default-make_room-clause-spare
+returns-in_default-make_room-clause-spare g c =
+    let spare : most_of (vec_capacity c.self.inside.history) ≤ length c.self.inside.history.items + c.self.inside.running = let full = c.in_default-make_room.ensures.full in omega (arith, full) in
+    rw (← c.self.view_is) (λ some same. omega (arith, some, spare))
+
+-- what is known once the entry was pushed
+record Pushed (g : _) (c : After-push_reserved g) : Type 0 where
+  pub history : c.push_reserved.new.self.items ≡ c.self.inside.history.items ++ Steal c.args.colour c.index_mut-cell.result.now.owner c.args.to ∷ []
+  pub room : length c.self.inside.history.items + 1 + c.self.inside.running ≤ most_of (vec_capacity c.push_reserved.new.self)
+
+pushed : (g : _) (c : After-push_reserved g) → Pushed g c
+pushed g c =
+    let same = ap length c.make_room.ensures.same in
+    let room = c.in-Ok.ensures.room in
+    record {
+      history = c.push_reserved.ensures.items ∙ ap (λ es. es ++ Steal c.args.colour c.index_mut-cell.result.now.owner c.args.to ∷ []) c.make_room.ensures.same;
+      room = rw c.push_reserved.ensures.capacity (omega (arith, same, room));
+    }
 
 pub invariant_of-self-2 : goal.invariant_of-self-2
 invariant_of-self-2 g c =
-    let own = rw (← c.self.view_is) at c.requires.own in
+    let a = asked g (goal.at.invariant_of-self-2 g c).After-no_steal in
+    let p = pushed g c in
     let core = rw (← c.self.view_is) at c.requires.core in
-    let cells = c.self.inside.cells.items in
-    let cell = c.index_mut-cell.result.now in
-    let i = c.args.colour.0 / (shape_of c.self.inside.setup).shards in
-    let is = c.index_mut-cell.ensures.value ∙ ap (λ n. get_or cells (c.args.colour.0 / n) cell) c.shards.ensures.value in
-    let stands = cell_there _ _ _ _ _ _ _ _ _ _ c.self.invariant.0 c.args.colour cell own.there own.here is in
-    let refuses = cell_refuses _ _ _ _ _ _ _ _ _ _ c.self.invariant.0 c.args.colour c.args.to c.steal_cost.result cell stands c.steal_cost.ensures in
-    let ready = rw (← c.in_default.ensures) at refuses in
-    let same_len : vec_len c.reserve.new.self ≡ length c.self.inside.history.items = c.reserve.ensures.len ∙ c.self.inside.history.ok.0 in
-    let both = kept_stolen _ _ _ _ _ _ _ _ _ _ c.self.invariant.0 c.args.colour c.args.to (vec_capacity c.push_reserved.new.self) cell own.there own.here is core ready (omega (arith, c.in-Ok.ensures.ok, c.push_reserved.ensures.capacity, same_len)) in
-    rw (c.push_reserved.ensures.items, c.reserve.ensures.items, c.shards.ensures.value) (both.1, has_room_set _ _ _ _ _ _ _ c.self.invariant.1)
+    let ready = rw c.in_default.is at a.refuses in
+    rw (p.history, c.shards.ensures.value)
+    ((kept_stolen c.self.invariant.0 c.args.colour a.free c.args.to (most_of (vec_capacity c.push_reserved.new.self)) c.index_mut-cell.result.now a.there a.here a.is core ready p.room (omega arith)).1, has_room_set _ _ _ _ _ _ _ c.self.invariant.1, c.self.invariant.2)
 
 pub returns-clause-ok : goal.returns-clause-ok
 returns-clause-ok g c =
-    let own = rw (← c.self.view_is) at c.requires.own in
-    let core = rw (← c.self.view_is) at c.requires.core in
+    let a = asked g (goal.at.returns-clause-ok g c).After-no_steal in
+    let p = pushed g c in
     let cells = c.self.inside.cells.items in
     let cell = c.index_mut-cell.result.now in
-    let i = c.args.colour.0 / (shape_of c.self.inside.setup).shards in
-    let is = c.index_mut-cell.ensures.value ∙ ap (λ n. get_or cells (c.args.colour.0 / n) cell) c.shards.ensures.value in
-    let stands = cell_there _ _ _ _ _ _ _ _ _ _ c.self.invariant.0 c.args.colour cell own.there own.here is in
-    let refuses = cell_refuses _ _ _ _ _ _ _ _ _ _ c.self.invariant.0 c.args.colour c.args.to c.steal_cost.result cell stands c.steal_cost.ensures in
-    let ready = rw (← c.in_default.ensures) at refuses in
-    let same_len : vec_len c.reserve.new.self ≡ length c.self.inside.history.items = c.reserve.ensures.len ∙ c.self.inside.history.ok.0 in
-    let both = kept_stolen _ _ _ _ _ _ _ _ _ _ c.self.invariant.0 c.args.colour c.args.to (vec_capacity c.push_reserved.new.self) cell own.there own.here is core ready (omega (arith, c.in-Ok.ensures.ok, c.push_reserved.ensures.capacity, same_len)) in
+    let core = rw (← c.self.view_is) at c.requires.core in
+    let ready = rw c.in_default.is at a.refuses in
+    let stolen = kept_stolen c.self.invariant.0 c.args.colour a.free c.args.to (most_of (vec_capacity c.push_reserved.new.self)) cell a.there a.here a.is core ready p.room (omega arith) in
     let next = account-own c.self.inside.setup c.self.inside.history.items (Steal c.args.colour cell.owner c.args.to) c.args.colour refl in
     rw (← c.self.view_is) (record {
-      allowed = both.0;
+      allowed = stolen.0;
       same_setup = refl;
       same_shard = refl;
-      history = c.push_reserved.ensures.items ∙ ap (λ es. es ++ Steal c.args.colour cell.owner c.args.to ∷ []) c.reserve.ensures.items;
+      history = p.history;
       lanes = map-set_same lane_of cells (c.args.colour.0 / c.shards.result) _ cell (ap lane_of c.index_mut-cell.ensures.value);
-      started = rw (c.push_reserved.ensures.items, c.reserve.ensures.items) (c.started-started.ensures ∙ stands.started ∙ ap (λ (s : Account). s.begun) (sym next));
-      left = rw (c.push_reserved.ensures.items, c.reserve.ensures.items) (c.time_left-worth.ensures ∙ ap sum stands.weights ∙ sum-map (weight c.self.inside.setup) (queued_of c.self.inside.history.items c.args.colour) ∙ ap (λ (s : Account). sum_by (weight c.self.inside.setup) (drop s.begun s.registered)) (sym next));
+      started = rw p.history (c.started-started.ensures ∙ a.stands.started ∙ ap (λ (s : Account). s.begun) (sym next));
+      left = rw p.history (c.time_left-worth.ensures ∙ ap sum a.stands.weights ∙ sum-map (weight c.self.inside.setup) (queued_of c.self.inside.history.items c.args.colour) ∙ ap (λ (s : Account). sum_by (weight c.self.inside.setup) (drop s.begun s.registered)) (sym next));
     })
 
-pub returns-in-Some-clause-kept : goal.returns-in-Some-clause-kept
-returns-in-Some-clause-kept g c =
-    let cells = c.self.inside.cells.items in
-    let cell = c.index_mut-cell.result.now in
-    let k = c.args.colour.0 / c.shards.result in
-    let same : set cells k cell ≡ cells = ap (set cells k) c.index_mut-cell.ensures.value ∙ set-get_or cells k cell in
-    rw same (kept_contents _ _ _ _ _ _ _ _ _ _ c.self.invariant.0 _)
-
-pub invariant_of-self-in_default-reserve : goal.invariant_of-self-in_default-reserve
-invariant_of-self-in_default-reserve g c =
-    let cells = c.self.inside.cells.items in
-    let cell = c.index_mut-cell.result.now in
-    let k = c.args.colour.0 / c.shards.result in
-    let same : set cells k cell ≡ cells = ap (set cells k) c.index_mut-cell.ensures.value ∙ set-get_or cells k cell in
-    rw (c.reserve.ensures.items, same) (kept_with_room _ _ _ _ _ _ _ _ _ _ c.self.invariant.0 _ c.reserve.ensures.capacity, c.self.invariant.1)
-
-pub returns-in_default-reserve-clause-kept : goal.returns-in_default-reserve-clause-kept
-returns-in_default-reserve-clause-kept g c = kept_contents _ _ _ _ _ _ _ _ _ _ (invariant_of-self-in_default-reserve g c).0 _
-
 pub returns-clause-kept : goal.returns-clause-kept
-returns-clause-kept g c = kept_contents _ _ _ _ _ _ _ _ _ _ (invariant_of-self-2 g c).0 _
+returns-clause-kept g c = kept_contents (invariant_of-self-2 g c).0
 
 pub returns-clause-frame : goal.returns-clause-frame
 returns-clause-frame g c =

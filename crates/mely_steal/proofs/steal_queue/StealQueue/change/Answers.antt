@@ -1,19 +1,14 @@
-use Rattle.std.proofs.Common.{◌≡◌, ◌<◌, true, refl, sym, subst, ◌∙◌}
-use Rattle.mely_steal.specs.Stealing.{Worthy, keeps_class}
-use Rattle.mely_steal.proofs.MarkLaws.{mark_of-without_same}
-use Rattle.mely_steal.proofs.StealLaws.{AreWorthy-replaced, keeps_class-worthy}
+use Rattle.std.proofs.Common.{◌<◌, List, sym, ap, subst, ◌∙◌}
+use Rattle.mely_event.specs.declared.mark.Mark.{Mark}
+use Rattle.mely_steal.specs.Stealing.{Worthy}
+use Rattle.mely_steal.specs.Tables.{marks_of}
+use Rattle.mely_steal.proofs.StealLaws.{changed-pinned}
 use Rattle.mely_steal.proofs.steal_queue.StealQueue.change.Goals as goal
 
-pub invariant_of-self : goal.invariant_of-self
-invariant_of-self c =
-    let marks = c.self.inside.list.marks in
-    let Keeps : Worthy → Type 0 = λ v. keeps_class v.cost c.args.mark v.marks ≡ true in
-    let keeps : keeps_class c.self.inside.cost c.args.mark marks ≡ true = subst Keeps (sym c.self.view_is) (sym c.keeps_class.ensures ∙ c.if-keeps_class.true) in
-    let worth : c.self.inside.cost < c.args.mark.worth = keeps_class-worthy c.self.inside.cost c.args.mark marks c.self.invariant.worthy keeps in
-    rw c.replace.ensures.after (AreWorthy-replaced c.args.mark marks c.self.inside.list.colours c.self.inside.cost c.self.invariant worth)
-
-pub returns-then-keeps_class-clause-worthy : goal.returns-then-keeps_class-clause-worthy
-returns-then-keeps_class-clause-worthy c = invariant_of-self c
-
-pub enter-requires-clause-absent : goal.enter-requires-clause-absent
-enter-requires-clause-absent c = rw c.remove.ensures.after (mark_of-without_same c.args.mark.colour c.args.mark.colour c.args.self.now.marks refl)
+pub returns-clause-pinned : goal.returns-clause-pinned
+returns-clause-pinned c lt =
+    let t = c.self.inside.table in
+    let Pinned : Worthy → Type 0 = λ v. c.args.mark.colour.0 < v.pinned in
+    let stays = changed-pinned t.cost t.pinned c.args.mark (marks_of t.told t.entries) c.self.invariant.worthy.loose (subst Pinned (sym c.self.view_is) lt) in
+    let like : List Mark → Worthy = λ xs. record { marks = xs; colours = t.colours; cost = t.cost; pinned = t.pinned } in
+    c.change.ensures.worthy ∙ (ap like stays ∙ c.self.view_is)

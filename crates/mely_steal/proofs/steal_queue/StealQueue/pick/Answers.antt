@@ -1,33 +1,26 @@
-use Rattle.std.proofs.Common.{◌≡◌, ◌<◌, [], None, Some, refl, sym, ap, subst, ◌∙◌}
+use Rattle.std.proofs.Common.{◌≡◌, ◌<◌, ◌≤◌, ◌↔◌, [], IsNone, IfSome, subst}
 use Rattle.mely_event.specs.declared.mark.Mark.{Mark}
-use Rattle.mely_steal.specs.Stealing.{Worthy, pick_of}
-use Rattle.mely_steal.proofs.StealLaws.{AreWorthy-without, pick_of-All, pick_of-none}
+use Rattle.mely_steal.specs.Stealing.{Worthy}
+use Rattle.mely_steal.specs.Tables.{marks_of}
+use Rattle.mely_steal.proofs.StealLaws.{pick_of-empty, pick_of-IfSome}
 use Rattle.mely_steal.proofs.steal_queue.StealQueue.pick.Goals as goal
 
-pub returns-in_err-mark-clause-none : goal.returns-in_err-mark-clause-none
-returns-in_err-mark-clause-none c =
-    let picked : pick_of c.self.inside.cost c.self.inside.list.marks ≡ None =
-    sym (c.first_of_highest.ensures ∙ ap (λ xs. pick_of c.self.inside.cost xs) c.as_slice.ensures.value) ∙ c.in_err-mark.was in
-    let empty = pick_of-none c.self.inside.cost c.self.inside.list.marks c.self.invariant.worthy picked in
-    let Empty : Worthy → Type 0 = λ v. v.marks ≡ [] in
-    rw c.from_residual.ensures (λ _. subst Empty c.self.view_is empty, λ _. refl)
+pub returns-clause-none : goal.returns-clause-none
+returns-clause-none c =
+    let t = c.self.inside.table in
+    let Empty : Worthy → Type 0 = λ v. IsNone c.pick.result ↔ (v.marks ≡ []) in
+    subst Empty c.self.view_is (pick_of-empty t.cost (marks_of t.told t.entries) c.pick.result c.self.invariant.worthy.worthy c.pick.ensures.value)
 
-pub invariant_of-self : goal.invariant_of-self
-invariant_of-self c = rw c.remove.ensures.after (AreWorthy-without c.in_ok-mark.mark.colour c.self.inside.list.marks c.self.inside.list.colours c.self.inside.cost c.self.invariant)
+pub returns-clause-paying : goal.returns-clause-paying
+returns-clause-paying c =
+    let t = c.self.inside.table in
+    let Paying : Mark → Type 0 = λ m. t.cost < m.worth in
+    let Mine : Worthy → Type 0 = λ v. IfSome c.pick.result (λ m. v.cost < m.worth) in
+    subst Mine c.self.view_is (pick_of-IfSome t.cost Paying (marks_of t.told t.entries) c.pick.result c.self.invariant.worthy.worthy c.pick.ensures.value)
 
-pub returns-clause-mark : goal.returns-clause-mark
-returns-clause-mark c =
-    let mark = c.in_ok-mark.mark in
-    let marks = c.self.inside.list.marks in
-    let picked : pick_of c.self.inside.cost marks ≡ Some mark =
-    sym (c.first_of_highest.ensures ∙ ap (λ xs. pick_of c.self.inside.cost xs) c.as_slice.ensures.value) ∙ c.in_ok-mark.was in
-    let Below : Mark → Type 0 = λ m. m.colour.0 < c.self.inside.list.colours in
-    let Paying : Mark → Type 0 = λ m. c.self.inside.cost < m.worth in
-    let Both : Worthy → Type 0 = λ v. (mark.colour.0 < v.colours) × (v.cost < mark.worth) in
-    subst Both c.self.view_is (
-      pick_of-All c.self.inside.cost Below marks mark c.self.invariant.below picked,
-      pick_of-All c.self.inside.cost Paying marks mark c.self.invariant.worthy picked,
-    )
-
-pub returns-clause-worthy : goal.returns-clause-worthy
-returns-clause-worthy c = invariant_of-self c
+pub returns-clause-unpinned : goal.returns-clause-unpinned
+returns-clause-unpinned c =
+    let t = c.self.inside.table in
+    let Loose : Mark → Type 0 = λ m. t.pinned ≤ m.colour.0 in
+    let Mine : Worthy → Type 0 = λ v. IfSome c.pick.result (λ m. v.pinned ≤ m.colour.0) in
+    subst Mine c.self.view_is (pick_of-IfSome t.cost Loose (marks_of t.told t.entries) c.pick.result c.self.invariant.worthy.loose c.pick.ensures.value)

@@ -32,11 +32,13 @@ invariant_of-self g c =
     let there = shard_there g.S.Trail g.S.Fits.fits_under _ c.self.invariant c.args.colour c.index_mut.result.now _ is c.index_mut.ensures.value in
     shards_stand g.S.Trail g.S.Fits.fits_under _ c.self.invariant c.args.colour c.index_mut.result.now c.register.new.self _ is there c.in-Ok.ensures.frame c.in-Ok.ensures.kept
 
-pub deliver-requires-clause-named : goal.deliver-requires-clause-named
-deliver-requires-clause-named g c =
+pub deliver-requires : goal.deliver-requires
+deliver-requires g c =
+    let fit = rw (← c.self.view_is) at c.requires.fits in
     let is = ap (λ n. c.args.colour.0 % n) c.shards.ensures.value in
     let there = shard_there g.S.Trail g.S.Fits.fits_under _ c.self.invariant c.args.colour c.index_mut.result.now _ is c.index_mut.ensures.value in
-    answer_of g.S.Trail g.S.Fits.fits_under _ c.self.invariant c.args.colour c.args.event c.args.load c.index_mut.result.now c.register.new.self (Ok c.in-Ok.reply) there c.in-Ok.ensures.frame c.in-Ok.ensures.kept c.in-Ok.ensures.reply c.in-Ok.ensures.back
+    let named = answer_of g.S.Trail g.S.Fits.fits_under _ c.self.invariant c.args.colour c.args.event c.args.load c.index_mut.result.now c.register.new.self (Ok c.in-Ok.reply) there c.in-Ok.ensures.frame c.in-Ok.ensures.kept c.in-Ok.ensures.reply c.in-Ok.ensures.back in
+    record { may = c.after.ensures.may c.self.inside.setup fit.colour named }
 
 pub invariant_of-self-in-Err : goal.invariant_of-self-in-Err
 invariant_of-self-in-Err g c =
@@ -48,7 +50,7 @@ pub returns-in-Ok-clause-posts : goal.returns-in-Ok-clause-posts
 returns-in-Ok-clause-posts g c =
     let is = ap (λ n. c.args.colour.0 % n) c.shards.ensures.value in
     let there = shard_there g.S.Trail g.S.Fits.fits_under _ c.self.invariant c.args.colour c.index_mut.result.now _ is c.index_mut.ensures.value in
-    rw (← c.self.view_is) (_, at_shard _ c.args.colour c.index_mut.result.now c.register.new.self _ (RegisterAs c.args.colour c.args.event c.args.load (shape_of c.self.inside.setup).cores (Ok c.in-Ok.reply)) is there (subst (λ n. RegisterAs c.args.colour c.args.event c.args.load n (Ok c.in-Ok.reply) c.index_mut.result.now c.register.new.self) c.cores-by.ensures.value (register_does _ _ _ _ _ _ (Ok c.in-Ok.reply) c.in-Ok.ensures.ok c.in-Ok.ensures.reply c.in-Ok.ensures.err)), c.deliver.ensures.tries)
+    rw (← c.self.view_is) (_, at_shard _ c.args.colour c.index_mut.result.now c.register.new.self _ (RegisterAs c.args.colour c.args.event c.args.load (shape_of c.self.inside.setup).cores (Ok c.in-Ok.reply)) is there (subst (λ n. RegisterAs c.args.colour c.args.event c.args.load n (Ok c.in-Ok.reply) c.index_mut.result.now c.register.new.self) c.cores-by.ensures.value (register_does _ _ _ _ _ _ (Ok c.in-Ok.reply) c.in-Ok.ensures.ok c.in-Ok.ensures.reply c.in-Ok.ensures.err)), (c.deliver.result, rw c.after.ensures.after at c.deliver.ensures.delivers))
 
 pub returns-in-Err-clause-posts : goal.returns-in-Err-clause-posts
 returns-in-Err-clause-posts g c =
@@ -61,3 +63,9 @@ returns-in-Err-clause-stands g c =
     let is = ap (λ n. c.args.colour.0 % n) c.shards.ensures.value in
     let there = shard_there g.S.Trail g.S.Fits.fits_under _ c.self.invariant c.args.colour c.index_mut.result.now _ is c.index_mut.ensures.value in
     shards_stand g.S.Trail g.S.Fits.fits_under _ c.self.invariant c.args.colour c.index_mut.result.now c.register.new.self _ is there c.in-Err.ensures.frame c.in-Err.ensures.kept
+
+pub returns-in-Ok-clause-stands : goal.returns-in-Ok-clause-stands
+returns-in-Ok-clause-stands g c =
+    let is = ap (λ n. c.args.colour.0 % n) c.shards.ensures.value in
+    let there = shard_there g.S.Trail g.S.Fits.fits_under _ c.self.invariant c.args.colour c.index_mut.result.now _ is c.index_mut.ensures.value in
+    c.deliver.ensures.kept (shards_stand g.S.Trail g.S.Fits.fits_under _ c.self.invariant c.args.colour c.index_mut.result.now c.register.new.self _ is there c.in-Ok.ensures.frame c.in-Ok.ensures.kept)

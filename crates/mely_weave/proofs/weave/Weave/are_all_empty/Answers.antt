@@ -1,9 +1,8 @@
-use Rattle.std.proofs.Common.{◌≡◌, ◌≤◌, ◌==◌, ◌∙◌, ap, sym, subst, length, List, [], Some, eqb-true, refl, arith}
+use Rattle.std.proofs.Common.{◌≡◌, ◌≤◌, subst, length, List, [], Some, refl, arith}
 use Rattle.std.proofs.lemmas.Option.{slice_get_read}
 use Rattle.std.specs.Prelude.{slice_get}
 use Rattle.mely_core.specs.Chains.{Chain}
 use Rattle.mely_weave.proofs.DrainLaws.{each_more, each_below}
-use Rattle.std.proofs.lemmas.List.{nil_from_length}
 use Rattle.mely_weave.proofs.weave.Weave.are_all_empty.Goals as goal
 
 pub loop-chain-init : goal.loop-chain-init
@@ -14,14 +13,14 @@ returns-then-not-is_empty g c =
     let there : slice_get c.args.self.now.chains c.loop-chain.chain-index ≡ Some c.chain-item.result = rw (← c.self.view_is)
     (rw (← c.self-inside.view_is) (subst (λ (l : List Chain). slice_get l c.loop-chain.chain-index ≡ Some c.chain-item.result) c.deref-chain-items.ensures.value
     (slice_get_read c.deref-chain-items.result.now (length c.deref-chain-items.result.now) c.loop-chain.chain-index c.chain-item.result refl c.loop-chain-test.true c.chain-item.is))) in
-    (λ none. cc, λ all. c.if-not-is_empty.ensures ∙ ap (λ l. length l == 0) (c.marks.ensures.value ∙ all c.loop-chain.chain-index c.chain-item.result there))
+    (λ none. cc, λ all. c.if-not-is_empty.ensures.value.1 (all c.loop-chain.chain-index c.chain-item.result there))
 
 pub loop-chain-preserved : goal.loop-chain-preserved
 loop-chain-preserved g c =
     let there : slice_get c.args.self.now.chains c.loop-chain.chain-index ≡ Some c.chain-item.result = rw (← c.self.view_is)
     (rw (← c.self-inside.view_is) (subst (λ (l : List Chain). slice_get l c.loop-chain.chain-index ≡ Some c.chain-item.result) c.deref-chain-items.ensures.value
     (slice_get_read c.deref-chain-items.result.now (length c.deref-chain-items.result.now) c.loop-chain.chain-index c.chain-item.result refl c.loop-chain-test.true c.chain-item.is))) in
-    let empty : c.chain-item.result.chain ≡ [] = sym c.marks.ensures.value ∙ nil_from_length c.marks.result.now (eqb-true (length c.marks.result.now) 0 (sym c.if-not-is_empty.ensures)) in
+    let empty : c.chain-item.result.chain ≡ [] = c.if-not-is_empty.ensures.value.0 refl in
     each_more (λ (queue : Chain). queue.chain ≡ []) c.args.self.now.chains c.loop-chain.chain-index c.chain-item.result there empty c.loop-chain.invariant
 
 pub returns : goal.returns

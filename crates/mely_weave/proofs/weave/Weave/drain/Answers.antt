@@ -5,6 +5,7 @@ use Rattle.mely_weave.specs.Drains.{AreDriven}
 use Rattle.mely_weave.specs.Runs.{KeepsSetup}
 use Rattle.mely_weave.proofs.RunLaws.{serves_on, same_onward}
 use Rattle.mely_weave.proofs.DrainLaws.{rounds_same, rounds_none, rounds_more, driven_same, quiet_drained, driven_free_all, driven_halted}
+use Rattle.mely_weave.proofs.CallRuns.{rounds_are_run, runs_on, driven_are_run}
 use Rattle.mely_weave.proofs.weave.Weave.drain.Goals as goal
 
 pub loop-init : goal.loop-init
@@ -55,3 +56,12 @@ returns-then-is_any_halted-clause-free g c = driven_free_all g.S.Trail g.S.Fits.
 
 pub returns-then-is_quiet-clause-free : goal.returns-then-is_quiet-clause-free
 returns-then-is_quiet-clause-free g c = (c.if-is_quiet.ensures.0 refl).free
+
+pub returns-then-is_any_halted-clause-calls : goal.returns-then-is_any_halted-clause-calls
+returns-then-is_any_halted-clause-calls g c =
+    runs_on g.S.Trail g.S.Fits.fits_under g.R.App c.args.self.now c.loop.self c.drive_all.new.self
+    (rounds_are_run g.S.Trail g.S.Fits.fits_under g.R.App c.args.app.now c.loop.invariant.rounds.0 c.args.self.now c.loop.self c.loop.invariant.rounds.1)
+    (driven_are_run g.S.Trail g.S.Fits.fits_under g.R.App c.args.app.now (shape_of c.loop.self.setup).cores c.loop.self c.drive_all.new.self c.drive_all.ensures.driven)
+
+pub returns-then-is_quiet-clause-calls : goal.returns-then-is_quiet-clause-calls
+returns-then-is_quiet-clause-calls g c = rounds_are_run g.S.Trail g.S.Fits.fits_under g.R.App c.args.app.now c.loop.invariant.rounds.0 c.args.self.now c.loop.self c.loop.invariant.rounds.1

@@ -29,7 +29,7 @@ loop-preserved g c =
     let there : slice_get c.self-in-loop.inside.workers.items c.args.core ≡ Some c.index.result.now = slice_get-get_or c.self-in-loop.inside.workers.items c.args.core c.index.result.now (omega (arith, low, many)) ∙ ap (λ v. Some v) (sym c.index.ensures) in
     let busy : IsFreeAt c.loop.self c.args.core false = rw (← c.self-in-loop.view_is) (record { worker = c.index.result.now; there = there; is = isnt_true _ c.if-is_free.ensures.1 }) in
     record {
-      drives = (suc c.loop.invariant.drives.0, drives_more g.S.Trail g.S.Fits.fits_under g.R.App c.args.app.now c.args.core c.loop.invariant.drives.0 c.args.self.now c.loop.self c.step.new.self c.step.result c.loop.invariant.drives.1 busy (record { steps = c.step.ensures.steps; accepted = c.step.ensures.accepted; stands = c.step.ensures.stands }));
+      drives = (suc c.loop.invariant.drives.0, drives_more g.S.Trail g.S.Fits.fits_under g.R.App c.args.app.now c.args.core c.loop.invariant.drives.0 c.args.self.now c.loop.self c.step.new.self c.step.result c.loop.invariant.drives.1 busy (record { call = c.step.ensures.call; accepted = c.step.ensures.accepted; stands = c.step.ensures.stands }));
       stands = c.step.ensures.stands;
     }
 

@@ -19,7 +19,7 @@ step-requires-clause-served g c = serves_on g.S.Trail.frame_of g.R.App c.args.ap
 
 pub loop-core-preserved : goal.loop-core-preserved
 loop-core-preserved g c = record {
-  round = round_more g.S.Trail g.S.Fits.fits_under g.R.App c.args.app.now c.loop-core.core c.args.self.now c.loop-core.self c.step.new.self c.step.result c.loop-core.invariant.round (record { steps = c.step.ensures.steps; accepted = c.step.ensures.accepted; stands = c.step.ensures.stands });
+  round = round_more g.S.Trail g.S.Fits.fits_under g.R.App c.args.app.now c.loop-core.core c.args.self.now c.loop-core.self c.step.new.self c.step.result c.loop-core.invariant.round (record { call = c.step.ensures.call; accepted = c.step.ensures.accepted; stands = c.step.ensures.stands });
   stands = c.step.ensures.stands;
 }
 

@@ -20,12 +20,12 @@ pub returns-in-Memory-clause-runs : goal.returns-in-Memory-clause-runs
 returns-in-Memory-clause-runs g c =
     subst (λ (n : ℕ). RunsTo g.S.Trail g.S.Fits.fits_under g.R.App c.args.app.now c.args.self.now (replicate c.args.count c.args.core) (went.Memory (n + 1)) c.step.new.self) (sym c.from.ensures)
     (repeat_stops g.S.Trail g.S.Fits.fits_under g.R.App c.args.app.now c.args.self.now c.loop-number.self c.step.new.self c.loop-number.number c.args.count c.args.core c.step.result c.in-Memory.is c.loop-number-test.true c.loop-number.invariant.runs
-    (record { steps = c.step.ensures.steps; accepted = c.step.ensures.accepted; stands = c.step.ensures.stands }))
+    (record { call = c.step.ensures.call; accepted = c.step.ensures.accepted; stands = c.step.ensures.stands }))
 
 pub loop-number-preserved : goal.loop-number-preserved
 loop-number-preserved g c = record {
   runs = repeat_more g.S.Trail g.S.Fits.fits_under g.R.App c.args.app.now c.args.self.now c.loop-number.self c.step.new.self c.loop-number.number c.args.core c.step.result c.in_default.not-Memory c.loop-number.invariant.runs
-      (record { steps = c.step.ensures.steps; accepted = c.step.ensures.accepted; stands = c.step.ensures.stands });
+      (record { call = c.step.ensures.call; accepted = c.step.ensures.accepted; stands = c.step.ensures.stands });
   stands = c.step.ensures.stands;
 }
 

@@ -3,6 +3,7 @@ use Rattle.std.proofs.lemmas.List.{length-replicate, take_all}
 use Rattle.mely_weave.specs.Runs.{RunsTo, spelled_out}
 use Rattle.mely_weave.specs.declared.running.Went.TheVariants as went
 use Rattle.mely_weave.proofs.RunLaws.{run_none, run_same, same_onward, low_on, serves_on, parts_more, parts_stop, parts_within, parts_counted, stops_within}
+use Rattle.mely_weave.proofs.CallRuns.{makes_is_run}
 use Rattle.mely_weave.proofs.weave.Weave.run.Goals as goal
 
 pub loop-core-init : goal.loop-core-init
@@ -67,3 +68,11 @@ returns-in-Memory-clause-same g c = same_onward c.args.self.now c.loop-core.self
 
 pub returns-clause-same : goal.returns-clause-same
 returns-clause-same g c = run_same g.S.Trail g.S.Fits.fits_under g.R.App c.args.app.now c.args.self.now c.loop-core.self _ went.All c.loop-core.invariant.runs
+
+pub returns-in-Memory-clause-calls : goal.returns-in-Memory-clause-calls
+returns-in-Memory-clause-calls g c =
+    let runs = parts_stop g.S.Trail g.S.Fits.fits_under g.R.App c.args.app.now c.args.self.now c.loop-core.self c.repeat.new.self c.args.schedule.now c.loop-core.core-index (0, 0) c.in-Memory.steps c.loop-core-test.true c.loop-core.invariant.runs c.in-Memory.ensures.runs in
+    makes_is_run g.S.Trail g.S.Fits.fits_under g.R.App c.args.app.now runs.steps c.args.self.now c.repeat.new.self runs.makes
+
+pub returns-clause-calls : goal.returns-clause-calls
+returns-clause-calls g c = makes_is_run g.S.Trail g.S.Fits.fits_under g.R.App c.args.app.now c.loop-core.invariant.runs.steps c.args.self.now c.loop-core.self c.loop-core.invariant.runs.makes
