@@ -1,25 +1,15 @@
 -- Laws of answers, whatever was asked: which close, that a head is sent, and how long head and body are.
 use Rattle.std.specs.Prelude.{◌≡◌, ◌<◌, Bool, true, false, ◌||◌, length}
-use Rattle.std.proofs.Common.{refl, ap, ◌∙◌, arith, length-append}
-use Rattle.sws_site.specs.declared.statuses.Status.{Status}
-use Rattle.sws_site.specs.declared.statuses.Status.TheVariants.{Success, NotModified, BadRequest, NotFound, MethodNotAllowed, HeaderFieldsTooLarge, NotImplemented}
+use Rattle.std.proofs.Common.{refl, arith, length-append}
 use Rattle.sws_site.specs.ResponseHeads.{ResponseHead, head_text, head_lines, lines_text, line_end}
 use Rattle.sws_site.specs.Sites.{SiteFiles}
 use Rattle.sws_answer.specs.Asked.{Asked, request, not_request, too_long}
+use Rattle.sws_site.specs.Statuses.{row_of}
+use Rattle.sws_answer.specs.Cases.{request_status}
 use Rattle.sws_answer.specs.Closing.{is_closing}
-use Rattle.sws_answer.specs.Answers.{response, closes_with, request_answer, answer_of}
+use Rattle.sws_answer.specs.Answers.{response, request_answer, answer_of}
 
 -- ---- closing
-
--- an answer closes where the request does, or where it is the last, whatever its status
-closes_with-true : (status : Status) → closes_with status true ≡ true
-closes_with-true Success = refl
-closes_with-true NotModified = refl
-closes_with-true BadRequest = refl
-closes_with-true NotFound = refl
-closes_with-true MethodNotAllowed = refl
-closes_with-true HeaderFieldsTooLarge = refl
-closes_with-true NotImplemented = refl
 
 or_true : (b : Bool) → (b || true) ≡ true
 or_true true = refl
@@ -28,7 +18,7 @@ or_true false = refl
 -- the last answer of a connection closes
 pub closes-last : (site : SiteFiles) (asked : Asked) → (answer_of site asked true).closes ≡ true
 unfolding request_answer response
-closes-last site (request asked) = ap (closes_with _) (or_true (is_closing asked)) ∙ closes_with-true _
+closes-last site (request asked) = or_true ((row_of (request_status site asked)).closes || is_closing asked)
 closes-last site not_request = refl
 closes-last site too_long = refl
 

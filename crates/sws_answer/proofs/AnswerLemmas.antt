@@ -1,6 +1,6 @@
 -- The responses of each status.
 use Rattle.std.proofs.Common.{◌≡◌, ℕ, Bool, true, false, List, [], drop, option_map, subst, refl, sym, ap, ◌∙◌, Option, Some, None}
-use Rattle.std.specs.Prelude.{if◌then◌else◌, not, ◌||◌, ◌∷◌, is_none, option_and_then}
+use Rattle.std.specs.Prelude.{if◌then◌else◌, IsTrue, not, ◌||◌, ◌∷◌, length, is_none, option_and_then}
 use Rattle.sws_request.specs.Request.{Request, IsRequest, IsNoRequest}
 use Rattle.sws_request.proofs.RequestInLaws.{request_in-request, request_in-none}
 use Rattle.sws_site.specs.Files.{File, file_named}
@@ -13,116 +13,181 @@ use Rattle.sws_answer.specs.Conditions.{is_unmodified}
 use Rattle.sws_answer.specs.Closing.{is_closing}
 use Rattle.httpdate.specs.declared.date.HttpDate.{HttpDate}
 use Rattle.sws_site.specs.declared.statuses.Status.{Status}
-use Rattle.sws_site.specs.declared.statuses.Status.TheVariants.{Success, NotModified, BadRequest, NotFound, MethodNotAllowed, HeaderFieldsTooLarge, NotImplemented}
-use Rattle.sws_site.specs.Statuses.{code_of}
+use Rattle.sws_site.specs.declared.statuses.Status.TheVariants.{Success, PartialContent, NotModified, BadRequest, NotFound, MethodNotAllowed, RangeNotSatisfiable, HeaderFieldsTooLarge, NotImplemented}
+use Rattle.sws_site.specs.Statuses.{row_of}
 use Rattle.sws_site.specs.ResponseHeads.{head_text}
-use Rattle.sws_site.specs.Fixed.{fixed_head, IsFixedHead, IsFixedBody}
+use Rattle.sws_site.specs.Fixed.{fixed_head, fixed_body, is_fixed}
 use Rattle.sws_answer.specs.Asked.{request, not_request, asked_in, asked_by}
 use Rattle.sws_answer.specs.Cases.{lacks_host, is_one_of, other_methods, file_methods, file_for, first_case, request_status}
-use Rattle.sws_answer.specs.Answers.{Answer, response, request_answer, closes_with, is_head_request}
-use Rattle.sws_answer.specs.FileAnswers.{IsRefusal, name_answer, file_answer}
+use Rattle.sws_answer.specs.Answers.{Answer, response, request_answer, is_head_request}
+use Rattle.sws_answer.specs.FileAnswers.{name_answer, file_answer, status_by}
+use Rattle.sws_answer.specs.declared.ranges.Selection.{Selection}
+use Rattle.sws_answer.specs.declared.ranges.Selection.TheVariants.{Whole, Part, Unsatisfied}
+use Rattle.sws_answer.specs.Ranges.{selection_in, selection_for, is_part, is_unsatisfied}
 use Rattle.sws_answer.specs.AnswerValues.{Sends}
 
 -- the head and the body of a refusal
-pub response-refusal_head : (date : Option HttpDate) (status : Status) (closes is_head : Bool) (head : List ℕ)
-    → IsRefusal status → IsFixedHead (code_of status) closes head → head ≡ (response date status None closes is_head).head
+pub response-refusal_head : (date : Option HttpDate) (status : Status) (closes is_head : Bool) → IsTrue (is_fixed status)
+    → fixed_head status closes ≡ (response date status None Whole closes is_head).head
 unfolding response fixed_head head_text
-response-refusal_head date Success closes is_head head refuses is = absurd refuses
-response-refusal_head date NotModified closes is_head head refuses is = absurd refuses
-response-refusal_head date BadRequest closes is_head head refuses is = is
-response-refusal_head date NotFound closes is_head head refuses is = is
-response-refusal_head date MethodNotAllowed closes is_head head refuses is = is
-response-refusal_head date HeaderFieldsTooLarge closes is_head head refuses is = is
-response-refusal_head date NotImplemented closes is_head head refuses is = is
+response-refusal_head date Success closes is_head refuses = (let never : false ≡ true = refuses in absurd (cc))
+response-refusal_head date PartialContent closes is_head refuses = (let never : false ≡ true = refuses in absurd (cc))
+response-refusal_head date NotModified closes is_head refuses = (let never : false ≡ true = refuses in absurd (cc))
+response-refusal_head date BadRequest closes is_head refuses = refl
+response-refusal_head date NotFound closes is_head refuses = refl
+response-refusal_head date MethodNotAllowed closes is_head refuses = refl
+response-refusal_head date RangeNotSatisfiable closes is_head refuses = (let never : false ≡ true = refuses in absurd (cc))
+response-refusal_head date HeaderFieldsTooLarge closes is_head refuses = refl
+response-refusal_head date NotImplemented closes is_head refuses = refl
 
-pub response-refusal_body : (date : Option HttpDate) (status : Status) (closes is_head : Bool) (body sent : List ℕ)
-    → IsRefusal status → IsFixedBody (code_of status) body → sent ≡ (if is_head then [] else body)
-    → sent ≡ (response date status None closes is_head).body
+pub response-refusal_body : (date : Option HttpDate) (status : Status) (closes is_head : Bool) → IsTrue (is_fixed status)
+    → (if is_head then [] else fixed_body status) ≡ (response date status None Whole closes is_head).body
 unfolding response
-response-refusal_body date Success closes is_head body sent refuses is e = absurd refuses
-response-refusal_body date NotModified closes is_head body sent refuses is e = absurd refuses
-response-refusal_body date BadRequest closes is_head body sent refuses is e = e ∙ ap (λ b. if is_head then [] else b) is
-response-refusal_body date NotFound closes is_head body sent refuses is e = e ∙ ap (λ b. if is_head then [] else b) is
-response-refusal_body date MethodNotAllowed closes is_head body sent refuses is e = e ∙ ap (λ b. if is_head then [] else b) is
-response-refusal_body date HeaderFieldsTooLarge closes is_head body sent refuses is e = e ∙ ap (λ b. if is_head then [] else b) is
-response-refusal_body date NotImplemented closes is_head body sent refuses is e = e ∙ ap (λ b. if is_head then [] else b) is
+response-refusal_body date Success closes is_head refuses = (let never : false ≡ true = refuses in absurd (cc))
+response-refusal_body date PartialContent closes is_head refuses = (let never : false ≡ true = refuses in absurd (cc))
+response-refusal_body date NotModified closes is_head refuses = (let never : false ≡ true = refuses in absurd (cc))
+response-refusal_body date BadRequest closes is_head refuses = refl
+response-refusal_body date NotFound closes is_head refuses = refl
+response-refusal_body date MethodNotAllowed closes is_head refuses = refl
+response-refusal_body date RangeNotSatisfiable closes is_head refuses = (let never : false ≡ true = refuses in absurd (cc))
+response-refusal_body date HeaderFieldsTooLarge closes is_head refuses = refl
+response-refusal_body date NotImplemented closes is_head refuses = refl
 
 -- ---- the table of cases
 
 -- the status by the tests of the cases
-abbrev table : Bool → Bool → Bool → Bool → Bool → Bool → Status
-table host other file form found modified = first_case ((host, BadRequest) ∷ (other, MethodNotAllowed) ∷ (file, NotImplemented) ∷ (form, BadRequest) ∷ (found, NotFound) ∷ (modified, NotModified) ∷ []) Success
+abbrev table : Bool → Bool → Bool → Bool → Bool → Bool → Bool → Bool → Status
+table host other file form found modified nothing part =
+    first_case ((host, BadRequest) ∷ (other, MethodNotAllowed) ∷ (file, NotImplemented) ∷ (form, BadRequest) ∷ (found, NotFound) ∷ (modified, NotModified)
+    ∷ (nothing, RangeNotSatisfiable) ∷ (part, PartialContent) ∷ []) Success
+
+-- what the request selects of the file that it names
+abbrev selected : SiteFiles → Request → Selection
+selected site asked = selection_for asked (file_for site asked)
+
+-- the tests behind that of the target
+abbrev by_target : SiteFiles → Request → Bool → Status
+by_target site asked form =
+    table false false false form (is_none (file_for site asked)) (is_unmodified site.date asked.fields) (is_unsatisfied (selected site asked)) (is_part (selected site asked))
 
 answer_at : (site : SiteFiles) (asked : Request) (last : Bool) (status : Status) → request_status site asked ≡ status
-    → request_answer site asked last ≡ response site.date status (file_for site asked) (closes_with status (is_closing asked || last)) (is_head_request asked)
+    → request_answer site asked last
+    ≡ response site.date status (file_for site asked) (selected site asked) ((row_of status).closes || is_closing asked || last) (is_head_request asked)
 unfolding request_answer
-answer_at site asked last status e = ap (λ s. response site.date s (file_for site asked) (closes_with s (is_closing asked || last)) (is_head_request asked)) e
+answer_at site asked last status e =
+    ap (λ s. response site.date s (file_for site asked) (selected site asked) ((row_of s).closes || is_closing asked || last) (is_head_request asked)) e
+
+-- a refusal is the same whatever the request names or selects
+unnamed : (date : Option HttpDate) (status : Status) (file : Option File) (selection : Selection) (closes is_head : Bool) → IsTrue (is_fixed status)
+    → response date status file selection closes is_head ≡ response date status None Whole closes is_head
+unfolding response head_text
+unnamed date Success file selection closes is_head refuses = (let never : false ≡ true = refuses in absurd (cc))
+unnamed date PartialContent file selection closes is_head refuses = (let never : false ≡ true = refuses in absurd (cc))
+unnamed date NotModified file selection closes is_head refuses = (let never : false ≡ true = refuses in absurd (cc))
+unnamed date BadRequest file selection closes is_head refuses = refl
+unnamed date NotFound file selection closes is_head refuses = refl
+unnamed date MethodNotAllowed file selection closes is_head refuses = refl
+unnamed date RangeNotSatisfiable file selection closes is_head refuses = (let never : false ≡ true = refuses in absurd (cc))
+unnamed date HeaderFieldsTooLarge file selection closes is_head refuses = refl
+unnamed date NotImplemented file selection closes is_head refuses = refl
 
 -- without the one field Host
 pub answer-no_host : (site : SiteFiles) (asked : Request) (last : Bool) → lacks_host asked ≡ true
-    → response site.date BadRequest None true (is_head_request asked) ≡ request_answer site asked last
-unfolding request_status response
-answer-no_host site asked last host =
-    sym (answer_at site asked last BadRequest (ap (λ t. table t (is_one_of other_methods asked.method) (not (is_one_of file_methods asked.method)) (is_none (path_and_query asked.target)) (is_none (file_for site asked)) (is_unmodified site.date asked.fields)) host))
+    → response site.date BadRequest None Whole true (is_head_request asked) ≡ request_answer site asked last
+unfolding request_status
+answer-no_host site asked last host = sym (
+    answer_at site asked last BadRequest (ap (λ t. table t (is_one_of other_methods asked.method) (not (is_one_of file_methods asked.method)) (is_none (path_and_query asked.target)) (is_none (file_for site asked)) (is_unmodified site.date asked.fields) (is_unsatisfied (selected site asked)) (is_part (selected site asked))) host)
+    ∙ unnamed site.date BadRequest (file_for site asked) (selected site asked) true (is_head_request asked) refl)
 
 -- with a known method that a file has not
 pub answer-other_method : (site : SiteFiles) (asked : Request) (last : Bool) → lacks_host asked ≡ false → is_one_of other_methods asked.method ≡ true
-    → response site.date MethodNotAllowed None (is_closing asked || last) (is_head_request asked) ≡ request_answer site asked last
-unfolding request_status response
-answer-other_method site asked last host other =
-    sym (answer_at site asked last MethodNotAllowed (
-    ap (λ t. table t (is_one_of other_methods asked.method) (not (is_one_of file_methods asked.method)) (is_none (path_and_query asked.target)) (is_none (file_for site asked)) (is_unmodified site.date asked.fields)) host
-    ∙ ap (λ t. table false t (not (is_one_of file_methods asked.method)) (is_none (path_and_query asked.target)) (is_none (file_for site asked)) (is_unmodified site.date asked.fields)) other))
+    → response site.date MethodNotAllowed None Whole (is_closing asked || last) (is_head_request asked) ≡ request_answer site asked last
+unfolding request_status
+answer-other_method site asked last host other = sym (
+    answer_at site asked last MethodNotAllowed (
+    ap (λ t. table t (is_one_of other_methods asked.method) (not (is_one_of file_methods asked.method)) (is_none (path_and_query asked.target)) (is_none (file_for site asked)) (is_unmodified site.date asked.fields) (is_unsatisfied (selected site asked)) (is_part (selected site asked))) host
+    ∙ ap (λ t. table false t (not (is_one_of file_methods asked.method)) (is_none (path_and_query asked.target)) (is_none (file_for site asked)) (is_unmodified site.date asked.fields) (is_unsatisfied (selected site asked)) (is_part (selected site asked))) other)
+    ∙ unnamed site.date MethodNotAllowed (file_for site asked) (selected site asked) (is_closing asked || last) (is_head_request asked) refl)
+
+-- the tests of the methods are passed
+status_from_file : (site : SiteFiles) (asked : Request) → lacks_host asked ≡ false → is_one_of other_methods asked.method ≡ false
+    → request_status site asked
+    ≡ table false false (not (is_one_of file_methods asked.method)) (is_none (path_and_query asked.target)) (is_none (file_for site asked)) (is_unmodified site.date asked.fields) (is_unsatisfied (selected site asked)) (is_part (selected site asked))
+unfolding request_status
+status_from_file site asked host other =
+    ap (λ t. table t (is_one_of other_methods asked.method) (not (is_one_of file_methods asked.method)) (is_none (path_and_query asked.target)) (is_none (file_for site asked)) (is_unmodified site.date asked.fields) (is_unsatisfied (selected site asked)) (is_part (selected site asked))) host
+    ∙ ap (λ t. table false t (not (is_one_of file_methods asked.method)) (is_none (path_and_query asked.target)) (is_none (file_for site asked)) (is_unmodified site.date asked.fields) (is_unsatisfied (selected site asked)) (is_part (selected site asked))) other
 
 -- with an unknown method
 pub answer-unknown_method : (site : SiteFiles) (asked : Request) (last : Bool) → lacks_host asked ≡ false → is_one_of other_methods asked.method ≡ false → is_one_of file_methods asked.method ≡ false
-    → response site.date NotImplemented None (is_closing asked || last) (is_head_request asked) ≡ request_answer site asked last
-unfolding request_status response
-answer-unknown_method site asked last host other file =
-    sym (answer_at site asked last NotImplemented (
-    ap (λ t. table t (is_one_of other_methods asked.method) (not (is_one_of file_methods asked.method)) (is_none (path_and_query asked.target)) (is_none (file_for site asked)) (is_unmodified site.date asked.fields)) host
-    ∙ ap (λ t. table false t (not (is_one_of file_methods asked.method)) (is_none (path_and_query asked.target)) (is_none (file_for site asked)) (is_unmodified site.date asked.fields)) other
-    ∙ ap (λ t. table false false (not t) (is_none (path_and_query asked.target)) (is_none (file_for site asked)) (is_unmodified site.date asked.fields)) file))
+    → response site.date NotImplemented None Whole (is_closing asked || last) (is_head_request asked) ≡ request_answer site asked last
+answer-unknown_method site asked last host other file = sym (
+    answer_at site asked last NotImplemented (
+    status_from_file site asked host other
+    ∙ ap (λ t. table false false (not t) (is_none (path_and_query asked.target)) (is_none (file_for site asked)) (is_unmodified site.date asked.fields) (is_unsatisfied (selected site asked)) (is_part (selected site asked))) file)
+    ∙ unnamed site.date NotImplemented (file_for site asked) (selected site asked) (is_closing asked || last) (is_head_request asked) refl)
 
 -- the tests of the target are left
 status_from_target : (site : SiteFiles) (asked : Request) → lacks_host asked ≡ false → is_one_of other_methods asked.method ≡ false → is_one_of file_methods asked.method ≡ true
-    → request_status site asked ≡ table false false false (is_none (path_and_query asked.target)) (is_none (file_for site asked)) (is_unmodified site.date asked.fields)
-unfolding request_status
+    → request_status site asked ≡ by_target site asked (is_none (path_and_query asked.target))
 status_from_target site asked host other file =
-    ap (λ t. table t (is_one_of other_methods asked.method) (not (is_one_of file_methods asked.method)) (is_none (path_and_query asked.target)) (is_none (file_for site asked)) (is_unmodified site.date asked.fields)) host
-    ∙ ap (λ t. table false t (not (is_one_of file_methods asked.method)) (is_none (path_and_query asked.target)) (is_none (file_for site asked)) (is_unmodified site.date asked.fields)) other
-    ∙ ap (λ t. table false false (not t) (is_none (path_and_query asked.target)) (is_none (file_for site asked)) (is_unmodified site.date asked.fields)) file
+    status_from_file site asked host other
+    ∙ ap (λ t. table false false (not t) (is_none (path_and_query asked.target)) (is_none (file_for site asked)) (is_unmodified site.date asked.fields) (is_unsatisfied (selected site asked)) (is_part (selected site asked))) file
 
 -- with a target of another form
 pub answer-other_form : (site : SiteFiles) (asked : Request) (last : Bool) → lacks_host asked ≡ false → is_one_of other_methods asked.method ≡ false → is_one_of file_methods asked.method ≡ true
     → path_and_query asked.target ≡ None
-    → response site.date BadRequest None true (is_head_request asked) ≡ request_answer site asked last
-unfolding response
-answer-other_form site asked last host other file form =
-    sym (answer_at site asked last BadRequest (status_from_target site asked host other file
-    ∙ ap (λ o. table false false false (is_none o) (is_none (file_for site asked)) (is_unmodified site.date asked.fields)) form))
+    → response site.date BadRequest None Whole true (is_head_request asked) ≡ request_answer site asked last
+answer-other_form site asked last host other file form = sym (
+    answer_at site asked last BadRequest (status_from_target site asked host other file ∙ ap (λ o. by_target site asked (is_none o)) form)
+    ∙ unnamed site.date BadRequest (file_for site asked) (selected site asked) true (is_head_request asked) refl)
+
+-- the status of a request for a file, by what is selected of it
+abbrev by_file : SiteFiles → Request → Option File → Status
+by_file site asked file =
+    table false false false false (is_none file) (is_unmodified site.date asked.fields) (is_unsatisfied (selection_for asked file)) (is_part (selection_for asked file))
+
+table-file : (modified : Bool) (selection : Selection)
+    → table false false false false false modified (is_unsatisfied selection) (is_part selection) ≡ (if modified then NotModified else status_by selection)
+table-file true selection = refl
+table-file false Whole = refl
+table-file false (Part first last) = refl
+table-file false Unsatisfied = refl
+
+-- what a file's response does not close by itself
+file_closes : (modified : Bool) (selection : Selection) (closes : Bool)
+    → ((row_of (if modified then NotModified else status_by selection)).closes || closes) ≡ closes
+file_closes true selection closes = refl
+file_closes false Whole closes = refl
+file_closes false (Part first last) closes = refl
+file_closes false Unsatisfied closes = refl
 
 -- with a target that names a file
 pub answer-named : (site : SiteFiles) (asked : Request) (last : Bool) (path name : List ℕ) → lacks_host asked ≡ false → is_one_of other_methods asked.method ≡ false → is_one_of file_methods asked.method ≡ true
     → path_and_query asked.target ≡ Some path → name_of asked.target ≡ Some name
     → name_answer site asked name (is_closing asked || last) (is_head_request asked) ≡ request_answer site asked last
-unfolding response
-answer-named site asked last path name host other file form named = by_file (file_named name site.files) (ap (option_and_then (λ n. file_named n site.files)) named)
+answer-named site asked last path name host other file form named = by_named (file_named name site.files) (ap (option_and_then (λ n. file_named n site.files)) named)
   where
-    status : request_status site asked ≡ table false false false false (is_none (file_for site asked)) (is_unmodified site.date asked.fields)
-    status = status_from_target site asked host other file ∙ ap (λ o. table false false false (is_none o) (is_none (file_for site asked)) (is_unmodified site.date asked.fields)) form
+    status : (found : Option File) → file_for site asked ≡ found → request_status site asked ≡ by_file site asked found
+    status found e = status_from_target site asked host other file ∙ ap (λ o. by_target site asked (is_none o)) form ∙ ap (by_file site asked) e
 
-    by_modified : (found : File) → file_for site asked ≡ Some found → (t : Bool) → is_unmodified site.date asked.fields ≡ t
-        → response site.date (if t then NotModified else Success) (Some found) (is_closing asked || last) (is_head_request asked) ≡ request_answer site asked last
-    by_modified found e true m =
-        sym (answer_at site asked last NotModified (status ∙ ap (λ o. table false false false false (is_none o) (is_unmodified site.date asked.fields)) e ∙ ap (table false false false false false) m))
-    by_modified found e false m =
-        sym (answer_at site asked last Success (status ∙ ap (λ o. table false false false false (is_none o) (is_unmodified site.date asked.fields)) e ∙ ap (table false false false false false) m)
-        ∙ ap (λ o. response site.date Success o (is_closing asked || last) (is_head_request asked)) e)
+    by_named : (found : Option File) → file_for site asked ≡ found → file_answer site asked found (is_closing asked || last) (is_head_request asked) ≡ request_answer site asked last
+    by_named None e = sym (
+        answer_at site asked last NotFound (status None e)
+        ∙ unnamed site.date NotFound (file_for site asked) (selected site asked) (is_closing asked || last) (is_head_request asked) refl)
+    by_named (Some found) e = sym (
+        answer_at site asked last kind (status (Some found) e ∙ table-file modified selection)
+        ∙ ap (λ o. response site.date kind o (selection_for asked o) ((row_of kind).closes || is_closing asked || last) (is_head_request asked)) e
+        ∙ ap (λ c. response site.date kind (Some found) selection (c || last) (is_head_request asked)) (file_closes modified selection (is_closing asked)))
+      where
+        modified : Bool
+        modified = is_unmodified site.date asked.fields
 
-    by_file : (found : Option File) → file_for site asked ≡ found → file_answer site asked found (is_closing asked || last) (is_head_request asked) ≡ request_answer site asked last
-    by_file None e = sym (answer_at site asked last NotFound (status ∙ ap (λ o. table false false false false (is_none o) (is_unmodified site.date asked.fields)) e))
-    by_file (Some found) e = by_modified found e (is_unmodified site.date asked.fields) refl
+        selection : Selection
+        selection = selection_in asked (length found.1)
+
+        kind : Status
+        kind = if modified then NotModified else status_by selection
 
 -- ---- what a call sent
 

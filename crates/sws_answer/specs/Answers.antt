@@ -1,11 +1,15 @@
 -- The answer to one head (RFC 9110, RFC 9112; RFC 6585, section 5).
-use Rattle.std.specs.Prelude.{ℕ, Bool, true, false, ◌||◌, if◌then◌else◌, List, [], ◌++◌, length, codes, Option, Some, None}
+use Rattle.std.specs.Prelude.{ℕ, ◌+◌, Bool, true, false, ◌||◌, if◌then◌else◌, List, [], ◌++◌, length, slice_range, codes, Option, Some, None}
 use Rattle.std.specs.Str.{bytes_eq}
 use Rattle.httpdate.specs.declared.date.HttpDate.{HttpDate}
 use Rattle.sws_request.specs.Request.{Request}
 use Rattle.sws_site.specs.declared.statuses.Status.{Status}
-use Rattle.sws_site.specs.declared.statuses.Status.TheVariants.{Success, NotModified, BadRequest, NotFound, MethodNotAllowed, HeaderFieldsTooLarge, NotImplemented}
-use Rattle.sws_site.specs.Statuses.{code_of}
+use Rattle.sws_site.specs.declared.statuses.Status.TheVariants.{BadRequest, HeaderFieldsTooLarge}
+use Rattle.sws_site.specs.declared.statuses.Body.{Body}
+use Rattle.sws_site.specs.declared.statuses.Body.TheVariants.{Nothing, WholeFile, PartOfFile, StatusText}
+use Rattle.sws_site.specs.declared.heads.ContentRange.{ContentRange}
+use Rattle.sws_site.specs.declared.heads.ContentRange.TheVariants.{Selected, NoSuch}
+use Rattle.sws_site.specs.Statuses.{row_of, code_of}
 use Rattle.sws_site.specs.ContentTypes.{content_type}
 use Rattle.sws_site.specs.ResponseHeads.{head_text}
 use Rattle.sws_site.specs.Fixed.{fixed_body, plain_text}
@@ -14,6 +18,9 @@ use Rattle.sws_site.specs.Sites.{SiteFiles}
 use Rattle.sws_answer.specs.Asked.{Asked, request, not_request, too_long}
 use Rattle.sws_answer.specs.Cases.{request_status, file_for}
 use Rattle.sws_answer.specs.Closing.{is_closing}
+use Rattle.sws_answer.specs.declared.ranges.Selection.{Selection}
+use Rattle.sws_answer.specs.declared.ranges.Selection.TheVariants.{Whole, Part, Unsatisfied}
+use Rattle.sws_answer.specs.Ranges.{selection_for}
 
 -- what is sent, with its status code, and whether the connection ends with it
 pub record Answer : Type 0 where
@@ -40,40 +47,58 @@ abbrev pub file_content : Option File → Content
 file_content None = no_content
 file_content (Some file) = record { kind = content_type file.0; bytes = file.1 }
 
-abbrev pub fixed_content : Status → Content
-fixed_content status = record { kind = plain_text; bytes = fixed_body status }
+-- the bytes from the first to the last one that are selected
+abbrev pub selected_bytes : Selection → List ℕ → List ℕ
+selected_bytes Whole bytes = bytes
+selected_bytes (Part first last) bytes = slice_range bytes first (last + 1)
+selected_bytes Unsatisfied bytes = []
 
-abbrev pub content_of : Status → Option File → Content
-content_of Success file = file_content file
-content_of NotModified file = no_content
-content_of BadRequest file = fixed_content BadRequest
-content_of NotFound file = fixed_content NotFound
-content_of MethodNotAllowed file = fixed_content MethodNotAllowed
-content_of HeaderFieldsTooLarge file = fixed_content HeaderFieldsTooLarge
-content_of NotImplemented file = fixed_content NotImplemented
+abbrev pub part_content : Option File → Selection → Content
+part_content None selection = no_content
+part_content (Some file) selection = record { kind = content_type file.0; bytes = selected_bytes selection file.1 }
+
+abbrev pub status_content : Status → Content
+status_content status = record { kind = plain_text; bytes = fixed_body status }
+
+-- the content by what that of the status is
+abbrev pub content_by : Body → Status → Option File → Selection → Content
+content_by Nothing status file selection = no_content
+content_by WholeFile status file selection = file_content file
+content_by PartOfFile status file selection = part_content file selection
+content_by StatusText status file selection = status_content status
+
+abbrev pub content_of : Status → Option File → Selection → Content
+content_of status file selection = content_by (row_of status).body status file selection
+
+-- which part of a file of so many bytes is sent, or that it has none such (RFC 9110, section 14.4)
+abbrev pub range_selected : Selection → ℕ → Option ContentRange
+range_selected Whole len = None
+range_selected (Part first last) len = Some (Selected first last len)
+range_selected Unsatisfied len = Some (NoSuch len)
+
+abbrev pub range_of : Option File → Selection → Option ContentRange
+range_of None selection = None
+range_of (Some file) selection = range_selected selection (length file.1)
 
 -- for HEAD the content is left out, and all lines stay (RFC 9110, section 9.3.2)
-unfoldable pub response : Option HttpDate → Status → Option File → Bool → Bool → Answer
-response date status file closes is_head =
-    let content = content_of status file in
+unfoldable pub response : Option HttpDate → Status → Option File → Selection → Bool → Bool → Answer
+response date status file selection closes is_head =
+    let content = content_of status file selection in
     record {
       code = code_of status;
       closes = closes;
-      head = head_text (record { status = status; closes = closes; date = date; kind = content.kind; len = length content.bytes });
+      head = head_text (record {
+        status = status;
+        closes = closes;
+        date = date;
+        range = range_of file selection;
+        kind = content.kind;
+        len = length content.bytes;
+      });
       body = if is_head then [] else content.bytes;
     }
 
 -- ---- the answer to what was asked
-
--- a bad request and a head that is too long end the connection by themselves
-abbrev pub closes_with : Status → Bool → Bool
-closes_with Success closes = closes
-closes_with NotModified closes = closes
-closes_with BadRequest closes = true
-closes_with NotFound closes = closes
-closes_with MethodNotAllowed closes = closes
-closes_with HeaderFieldsTooLarge closes = true
-closes_with NotImplemented closes = closes
 
 abbrev pub is_head_request : Request → Bool
 is_head_request asked = bytes_eq asked.method (codes "HEAD")
@@ -82,13 +107,15 @@ is_head_request asked = bytes_eq asked.method (codes "HEAD")
 unfoldable pub request_answer : SiteFiles → Request → Bool → Answer
 request_answer site asked last =
     let status = request_status site asked in
-    response site.date status (file_for site asked) (closes_with status (is_closing asked || last)) (is_head_request asked)
+    let file = file_for site asked in
+    let closes = (row_of status).closes || is_closing asked || last in
+    response site.date status file (selection_for asked file) closes (is_head_request asked)
 
 -- the answer to what was asked; of what is no request no method is known, so its body is sent
 abbrev pub answer_of : SiteFiles → Asked → Bool → Answer
 answer_of site (request asked) last = request_answer site asked last
-answer_of site not_request last = response site.date BadRequest None true false
-answer_of site too_long last = response site.date HeaderFieldsTooLarge None true false
+answer_of site not_request last = response site.date BadRequest None Whole true false
+answer_of site too_long last = response site.date HeaderFieldsTooLarge None Whole true false
 
 -- no answer out of a site within its limits has more bytes: 2^33
 abbrev pub text_limit : ℕ

@@ -4,12 +4,13 @@ use Rattle.std.specs.List.{list_any}
 use Rattle.std.specs.Str.{bytes_eq}
 use Rattle.sws_request.specs.Request.{Request}
 use Rattle.sws_site.specs.declared.statuses.Status.{Status}
-use Rattle.sws_site.specs.declared.statuses.Status.TheVariants.{Success, NotModified, BadRequest, NotFound, MethodNotAllowed, NotImplemented}
+use Rattle.sws_site.specs.declared.statuses.Status.TheVariants.{Success, PartialContent, NotModified, BadRequest, NotFound, MethodNotAllowed, RangeNotSatisfiable, NotImplemented}
 use Rattle.sws_site.specs.Files.{File, file_named}
 use Rattle.sws_site.specs.Sites.{SiteFiles}
 use Rattle.sws_answer.specs.Fields.{values_of}
 use Rattle.sws_answer.specs.Targets.{path_and_query, name_of}
 use Rattle.sws_answer.specs.Conditions.{is_unmodified}
+use Rattle.sws_answer.specs.Ranges.{selection_for, is_part, is_unsatisfied}
 
 -- there is more than one field Host, or none with HTTP/1.1 (RFC 9112, section 3.2)
 abbrev pub lacks_host : Request → Bool
@@ -47,6 +48,8 @@ request_cases site asked =
     ∷ (is_none (path_and_query asked.target), BadRequest)
     ∷ (is_none (file_for site asked), NotFound)
     ∷ (is_unmodified site.date asked.fields, NotModified)
+    ∷ (is_unsatisfied (selection_for asked (file_for site asked)), RangeNotSatisfiable)
+    ∷ (is_part (selection_for asked (file_for site asked)), PartialContent)
     ∷ []
 
 unfoldable pub request_status : SiteFiles → Request → Status

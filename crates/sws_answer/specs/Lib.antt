@@ -2,6 +2,7 @@ pub mod Fields
 pub mod Targets
 pub mod Conditions
 pub mod Closing
+pub mod Ranges
 pub mod Asked
 pub mod Cases
 pub mod Answers

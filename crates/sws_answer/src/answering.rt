@@ -1,15 +1,17 @@
 //! The answer to one head.
-ghost use Rattle.std.specs.Prelude.{◌≡◌, ◌≤◌, Bool, true, false, not, ◌||◌, length, [], codes, if◌then◌else◌, None, Some};
+ghost use Rattle.std.specs.Prelude.{◌≡◌, ◌≤◌, ◌<◌, IsTrue, Bool, true, false, not, ◌||◌, length, [], codes, if◌then◌else◌, None, Some};
 ghost use Rattle.sws_site.specs.declared.statuses.Status.{Status as StatusValue};
 ghost use Rattle.sws_site.specs.Sites.{SiteFile};
 ghost use Rattle.sws_answer.specs.Cases.{lacks_host, is_one_of, file_methods, other_methods};
 ghost use Rattle.sws_answer.specs.Answers.{is_head_request, response, request_answer, answer_of};
-ghost use Rattle.sws_answer.specs.FileAnswers.{IsRefusal, name_answer};
+ghost use Rattle.sws_answer.specs.FileAnswers.{file_answer, name_answer};
+ghost use Rattle.sws_answer.specs.declared.ranges.Selection.{Selection as SelectionValue};
+ghost use Rattle.sws_answer.specs.declared.ranges.Selection.TheVariants.{Whole, Part, Unsatisfied};
+ghost use Rattle.sws_site.specs.Fixed.{is_fixed};
 ghost use Rattle.percent_encoding.specs.Percent.{percent_decode as decoded};
 ghost use Rattle.sws_answer.specs.Targets.{with_index};
 ghost use Rattle.sws_answer.specs.AnswerValues.{asked_value, Sends};
 ghost use Rattle.sws_answer.specs.Closing.{is_closing};
-ghost use Rattle.sws_answer.specs.Conditions.{is_unmodified};
 
 use crate::answers::Answer;
 use crate::asking::Asked;
@@ -17,10 +19,11 @@ use crate::closing::closes_connection;
 use crate::conditions::is_not_modified;
 use crate::fields::count_of;
 use crate::path_room::PathRoom;
+use crate::ranges::{Selection, select_part};
 use crate::targets::{behind_first_slash, path_part, write_name};
-use sws_parts::Parts;
+use sws_parts::{OwnHead, Parts};
 use sws_request::RequestView;
-use sws_site::{HeadKind, Page, Site, Status};
+use sws_site::{ContentRange, HeadKind, HeadParts, Page, Site, Status, write_head};
 
 /// Whether the request has not the one field Host that it needs.
 fn is_without_host(request: &RequestView<'_>) -> bool
@@ -68,23 +71,33 @@ fn parts_of<'s>(head: &'s [u8], body: &'s [u8], is_head: bool) -> Parts<'s>
     Parts::new(head, body)
 }
 
+/// [`parts_of`] where the head is the response's own.
+fn own_parts<'s>(head: OwnHead, body: &'s [u8], is_head: bool) -> Parts<'s>
+    ensures head { result.head ≡ head }
+    ensures body { result.body ≡ (if is_head then [] else body.now) }
+{
+    if is_head {
+        return Parts::with_own(head, b"");
+    }
+    Parts::with_own(head, body)
+}
+
 /// The response that refuses.
 fn refuse<'s>(site: &'s Site, status: Status, closes: bool, is_head: bool) -> Answer<'s>
-    requires { IsRefusal status }
-    ensures { Sends result (response site.now.date status None closes is_head) }
+    requires { IsTrue (is_fixed status) }
+    ensures { Sends result (response site.now.date status None Whole closes is_head) }
 {
-    let code = status.code();
-    let (head, body) = site.fixed(code, closes);
+    let (head, body) = site.refusal(status, closes);
     Answer {
         parts: parts_of(head, body, is_head),
         closes,
-        code,
+        code: status.code(),
     }
 }
 
 /// The response that sends a file.
 fn send_file<'s>(page: &Page<'s>, closes: bool, is_head: bool) -> Answer<'s>
-    ensures { Sends result (response page.now.date StatusValue.Success (Some page.now.file) closes is_head) }
+    ensures { Sends result (response page.now.date StatusValue.Success (Some page.now.file) Whole closes is_head) }
 {
     let head = page.head(HeadKind {
         changed: true,
@@ -97,9 +110,9 @@ fn send_file<'s>(page: &Page<'s>, closes: bool, is_head: bool) -> Answer<'s>
     }
 }
 
-/// The response that a file was not modified.
+/// The response that a file was not modified, whatever part of it is asked for.
 fn say_not_modified<'s>(page: &Page<'s>, closes: bool, is_head: bool) -> Answer<'s>
-    ensures { Sends result (response page.now.date StatusValue.NotModified (Some page.now.file) closes is_head) }
+    ensures { (selection : SelectionValue) → Sends result (response page.now.date StatusValue.NotModified (Some page.now.file) selection closes is_head) }
 {
     let head = page.head(HeadKind {
         changed: false,
@@ -112,6 +125,63 @@ fn say_not_modified<'s>(page: &Page<'s>, closes: bool, is_head: bool) -> Answer<
     }
 }
 
+/// The response that sends a part of a file, from its first to its last byte, which the file has.
+fn send_part<'s>(
+    site: &'s Site,
+    page: &Page<'s>,
+    first: usize,
+    last: usize,
+    closes: bool,
+    is_head: bool,
+) -> Answer<'s>
+    requires { (first ≤ last) × (last < length page.now.file.1) }
+    ensures { Sends result (response site.now.date StatusValue.PartialContent (Some page.now.file) (Part first last) closes is_head) }
+{
+    let body = page.body();
+    let part = &body[first..last + 1];
+    let head = write_head(&HeadParts {
+        status: Status::PartialContent,
+        closes,
+        date: site.http_date(),
+        range: Some(ContentRange::Selected {
+            first: first as u32,
+            last: last as u32,
+            len: body.len() as u32,
+        }),
+        kind: page.kind(),
+        len: part.len(),
+    });
+    Answer {
+        parts: own_parts(head, part, is_head),
+        closes,
+        code: Status::PartialContent.code(),
+    }
+}
+
+/// The content of the response that a file has no such part.
+const NO_SUCH_PART: &[u8] = b"416 Range Not Satisfiable\n";
+
+/// The response that a file has no such part as the request asks for.
+fn refuse_range<'s>(site: &'s Site, page: &Page<'s>, closes: bool, is_head: bool) -> Answer<'s>
+    ensures { Sends result (response site.now.date StatusValue.RangeNotSatisfiable (Some page.now.file) Unsatisfied closes is_head) }
+{
+    let head = write_head(&HeadParts {
+        status: Status::RangeNotSatisfiable,
+        closes,
+        date: site.http_date(),
+        range: Some(ContentRange::NoSuch {
+            len: page.body().len() as u32,
+        }),
+        kind: b"text/plain",
+        len: NO_SUCH_PART.len(),
+    });
+    Answer {
+        parts: own_parts(head, NO_SUCH_PART, is_head),
+        closes,
+        code: Status::RangeNotSatisfiable.code(),
+    }
+}
+
 /// The answer to a request whose target names a file.
 fn answer_file<'s>(
     site: &'s Site,
@@ -121,13 +191,16 @@ fn answer_file<'s>(
     is_head: bool,
 ) -> Answer<'s>
     requires { page.now.date ≡ site.now.date }
-    ensures modified { is_unmodified site.now.date request.now.fields ≡ false → Sends result (response site.now.date StatusValue.Success (Some page.now.file) closes is_head) }
-    ensures not_modified { is_unmodified site.now.date request.now.fields ≡ true → Sends result (response site.now.date StatusValue.NotModified (Some page.now.file) closes is_head) }
+    ensures { Sends result (file_answer site.now request.now (Some page.now.file) closes is_head) }
 {
     if is_not_modified(site.http_date(), request) {
         return say_not_modified(page, closes, is_head);
     }
-    send_file(page, closes, is_head)
+    match select_part(request, page.body().len()) {
+        Selection::Whole => send_file(page, closes, is_head),
+        Selection::Part(first, last) => send_part(site, page, first, last, closes, is_head),
+        Selection::Unsatisfied => refuse_range(site, page, closes, is_head),
+    }
 }
 
 /// The answer to a request for the path, which stands without its first slash.

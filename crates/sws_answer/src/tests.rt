@@ -190,3 +190,139 @@ fn a_response_is_a_head_and_a_body(rt: HostRuntime) {
     every_answer();
     responses_only_grow();
 }
+
+/// All that is sent for a head.
+fn sent(rt: &(impl AllocGlobal + Abort), site: &Site, head: &[u8]) -> Vec<u8> {
+    let mut room = PathRoom::new(rt.alloc()).expect(rt, "memory");
+    let mut parts = answer(site, &ask(head), false, &mut room).parts;
+    let mut whole = owned(rt, parts.front());
+    let head_len = parts.front().len();
+    parts.advance(head_len);
+    whole.extend_from_slice(parts.front()).expect(rt, "memory");
+    whole
+}
+
+/// The head of a request for ten bytes, with a range.
+fn ranged(rt: &(impl AllocGlobal + Abort), method: &[u8], target: &[u8], range: &[u8]) -> Vec<u8> {
+    joined(
+        rt,
+        &[
+            method,
+            b" ",
+            target,
+            b" HTTP/1.1\r\nHost: x\r\nRange: ",
+            range,
+            b"\r\n\r\n",
+        ],
+    )
+}
+
+#[test]
+fn a_part_of_a_file_is_sent(rt: HostRuntime) {
+    let site = three_files(&rt, None);
+    let table: [(&[u8], &[u8], &[u8], &[u8], usize); 7] = [
+        (b"bytes=2-5", b"2-5", b"4", b"2345", 123),
+        (b"bytes=5-", b"5-9", b"5", b"56789", 124),
+        (b"bytes=-3", b"7-9", b"3", b"789", 122),
+        (b"bytes=-20", b"0-9", b"10", b"0123456789", 130),
+        (b"bytes=9-99", b"9-9", b"1", b"9", 120),
+        (
+            b" BYTES=0002-000000000000000005\t",
+            b"2-5",
+            b"4",
+            b"2345",
+            123,
+        ),
+        (
+            b"bytes=0-999999999999999999",
+            b"0-9",
+            b"10",
+            b"0123456789",
+            130,
+        ),
+    ];
+    for (range, said, count, body, len) in table {
+        let want = joined(
+            &rt,
+            &[
+                b"HTTP/1.1 206 Partial Content\r\nServer: sws\r\nContent-Range: bytes ",
+                said,
+                b"/10\r\nContent-Type: text/plain\r\nContent-Length: ",
+                count,
+                b"\r\n\r\n",
+                body,
+            ],
+        );
+        let head = ranged(&rt, b"GET", b"/a/b.txt", range);
+        assert_eq!(rt; sent(&rt, &site, &head).as_slice(), want.as_slice());
+        assert_eq!(rt; want.len(), len);
+    }
+}
+
+#[test]
+fn a_part_that_a_file_has_not_is_refused(rt: HostRuntime) {
+    let site = three_files(&rt, None);
+    let table: [(&[u8], &[u8], &[u8]); 4] = [
+        (b"/a/b.txt", b"bytes=10-", b"10"),
+        (b"/a/b.txt", b"bytes=-0", b"10"),
+        (b"/empty.css", b"bytes=0-", b"0"),
+        (b"/empty.css", b"bytes=-0", b"0"),
+    ];
+    for (target, range, len) in table {
+        let want = joined(
+            &rt,
+            &[
+                b"HTTP/1.1 416 Range Not Satisfiable\r\nServer: sws\r\nContent-Range: bytes */",
+                len,
+                b"\r\nContent-Type: text/plain\r\nContent-Length: 26\r\n\r\n416 Range Not Satisfiable\n",
+            ],
+        );
+        let head = ranged(&rt, b"GET", target, range);
+        assert_eq!(rt; sent(&rt, &site, &head).as_slice(), want.as_slice());
+    }
+}
+
+#[test]
+fn other_ranges_are_ignored(rt: HostRuntime) {
+    let site = three_files(&rt, None);
+    let table: [(&[u8], &[u8], &[u8], usize); 11] = [
+        (b"GET", b"/a/b.txt", b"bytes=5-2", 88),
+        (b"GET", b"/a/b.txt", b"bytes=0-1,3-4", 88),
+        (b"GET", b"/a/b.txt", b"lines=1-2", 88),
+        (b"GET", b"/a/b.txt", b"bytes=-", 88),
+        (b"GET", b"/a/b.txt", b"bytes=1", 88),
+        (b"GET", b"/a/b.txt", b"bytes= 1-2", 88),
+        (b"GET", b"/a/b.txt", b"bytes=+1-2", 88),
+        (b"GET", b"/a/b.txt", b"bytes=0-0000000000000000009", 88),
+        (b"GET", b"/a/b.txt", b"bytes=2-5\r\nIf-Range: x", 88),
+        (b"GET", b"/a/b.txt", b"bytes=2-5\r\nRange: bytes=2-5", 88),
+        (b"GET", b"/empty.css", b"bytes=-5", 75),
+    ];
+    for (method, target, range, len) in table {
+        let head = ranged(&rt, method, target, range);
+        assert_eq!(rt; told(&rt, &site, &head).0, 200);
+        assert_eq!(rt; sent(&rt, &site, &head).len(), len);
+    }
+    let head = ranged(&rt, b"HEAD", b"/a/b.txt", b"bytes=2-5");
+    assert_eq!(rt; told(&rt, &site, &head).0, 200);
+    assert_eq!(rt;
+        sent(&rt, &site, &head).as_slice(),
+        b"HTTP/1.1 200 OK\r\nServer: sws\r\nContent-Type: text/plain\r\nContent-Length: 10\r\n\r\n".as_slice()
+    );
+}
+
+#[test]
+fn a_file_that_was_not_modified_is_sent_in_no_part(rt: HostRuntime) {
+    let site = three_files(&rt, Some(784111777));
+    let range = b"bytes=2-5\r\nIf-Modified-Since: Sun, 06 Nov 1994 08:49:37 GMT";
+    let head = ranged(&rt, b"GET", b"/a/b.txt", range);
+    assert_eq!(rt;
+        sent(&rt, &site, &head).as_slice(),
+        b"HTTP/1.1 304 Not Modified\r\nServer: sws\r\nLast-Modified: Sun, 06 Nov 1994 08:49:37 GMT\r\n\r\n".as_slice()
+    );
+    let head = ranged(&rt, b"GET", b"/a/b.txt", b"bytes=2-5");
+    assert_eq!(rt;
+        sent(&rt, &site, &head).as_slice(),
+        b"HTTP/1.1 206 Partial Content\r\nServer: sws\r\nLast-Modified: Sun, 06 Nov 1994 08:49:37 GMT\r\nContent-Range: bytes 2-5/10\r\nContent-Type: text/plain\r\nContent-Length: 4\r\n\r\n2345".as_slice()
+    );
+}

@@ -1,4 +1,6 @@
 mod PartLemmas
+mod WindowLemmas
+mod SearchLemmas
 mod LookLemmas
 mod ReadySteps
 mod SoundSteps

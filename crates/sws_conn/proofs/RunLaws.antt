@@ -1,29 +1,30 @@
 -- What holds along a run of a connection, and at its end.
-use Rattle.std.specs.Prelude.{IsSome}
-use Rattle.std.proofs.Common.{◌≡◌, true, false, List, [], ◌∷◌, ◌++◌, Option, Some, None, refl, sym, ap, ◌∙◌, subst, arith, append_assoc, append-nil}
+use Rattle.std.specs.Prelude.{IsSome, is_some, if◌then◌else◌}
+use Rattle.std.proofs.Common.{◌≡◌, ◌≢◌, Bool, true, false, List, [], ◌∷◌, ◌++◌, Option, Some, None, refl, sym, ap, ◌∙◌, subst, arith, append_assoc, append-nil}
 use Rattle.sws_link.specs.declared.Link.{Ghosts as LinkWords}
 use Rattle.sws_link.specs.Links.{LinkTells}
 use Rattle.sws_link.specs.Scripts.{Script}
 use Rattle.sws_site.specs.Sites.{SiteFiles}
 use Rattle.sws_site.specs.Limits.{IsWithinLimits}
 use Rattle.sws_parts.specs.Unsent.{front_of}
-use Rattle.sws_conn.specs.Standing.{Connection}
+use Rattle.sws_conn.specs.Standing.{Standing, Connection, is_waiting}
 use Rattle.sws_conn.specs.declared.End.{End}
 use Rattle.sws_conn.specs.declared.End.TheVariants as ending
+use Rattle.sws_conn.specs.declared.Next.{Next}
 use Rattle.sws_conn.specs.declared.Next.TheVariants as next
 use Rattle.sws_conn.specs.Step.{Steps, IsFresh, going_to}
-use Rattle.sws_conn.specs.Sound.{unopened, IsSound, IsTold}
+use Rattle.sws_conn.specs.Sound.{unopened, IsSound, IsShutAtEnd, IsTold, IsReadyTo}
 use Rattle.sws_conn.specs.Outcome.{Outcome, UnlessMemory}
 use Rattle.sws_conn.specs.Heading.{HeadsFor, HeadsForLink}
-use Rattle.sws_conn.specs.Path.{Handler, open_link, event_of, path_by, path_told, rest_by, rest_told, answers_to_come, rest_of_path, TakesOff, HasNoEvents}
-use Rattle.sws_conn.specs.Run.{opened, RunsBy, IsWhole, HasRun, EndsRun}
+use Rattle.sws_conn.specs.Path.{Handler, open_link, read_piece, parse, look, write_part, resume, close, handler_of, event_of, path_by, path_told, rest_by, rest_told, answers_to_come, rest_of_path, TakesOff, HasNoEvents}
+use Rattle.sws_conn.specs.Run.{opened, RunsBy, IsWhole, HasRun, HasEnded, EndsRun}
 use Rattle.sws_conn.proofs.SoundSteps.{step_sound, step_linked}
 use Rattle.sws_conn.proofs.HeadingSteps.{heads_step, ends_as}
 use Rattle.sws_conn.proofs.SiteSteps.{step_site}
 use Rattle.sws_conn.proofs.Since.{since-step, since-opened, SinceLink}
 use Rattle.sws_conn.proofs.Served.{served}
 use Rattle.sws_conn.proofs.PathSteps.{step_follows}
-use Rattle.sws_conn.proofs.PathLaws.{opened-ready, takes-event, takes-both, path_of-open, unless-map, unless-both, end-stays, none-left}
+use Rattle.sws_conn.proofs.PathLaws.{not_opened, opened-ready, takes-event, takes-both, path_of-open, unless-map, unless-both, end-stays, none-left}
 
 module _ {L : Type 0} (x : LinkWords L) where
   -- one more event
@@ -42,6 +43,24 @@ module _ {L : Type 0} (x : LinkWords L) where
   runs-keep Fact keeps [] first last is fact = subst Fact (sym is) fact
   runs-keep Fact keeps (event ∷ trail) first last (between, e, step, later) fact =
       runs-keep Fact keeps trail between last later (keeps first between step fact)
+
+  -- a step is one event
+  event-one : (c : Standing) → IsReadyTo c.pending c → c.pending ≢ next.Nothing → (event : Handler) × (event_of c ≡ event ∷ [])
+  event-one c ready goes_on = by_wait (is_waiting c)
+    where
+      by_pending : (pending : Next) → IsReadyTo pending c → pending ≢ next.Nothing → (event : Handler) × (handler_of pending ≡ event ∷ [])
+      by_pending next.Open ready goes_on = (open_link, refl)
+      by_pending next.Read ready goes_on = (read_piece, refl)
+      by_pending next.Parse ready goes_on = (parse, refl)
+      by_pending next.Look ready goes_on = (look, refl)
+      by_pending next.Write ready goes_on = (write_part, refl)
+      by_pending next.Wait ready goes_on = absurd ready
+      by_pending next.Close ready goes_on = (close, refl)
+      by_pending next.Nothing ready goes_on = absurd (goes_on refl)
+
+      by_wait : (waiting : Bool) → (event : Handler) × ((if waiting then resume ∷ [] else handler_of c.pending) ≡ event ∷ [])
+      by_wait true = (resume, refl)
+      by_wait false = by_pending c.pending ready goes_on
 
   -- ---- the path
 
@@ -74,12 +93,13 @@ module _ {L : Type 0} (x : LinkWords L) where
   module _ (site : SiteFiles) (first : L) where
     -- ---- the opened connection
 
-    opened-sound : IsWithinLimits site.files → IsFresh (x.tells first) → IsSound x (opened site first)
-    opened-sound limits fresh = record {
+    opened-sound : IsWithinLimits site.files → IsFresh (x.tells first) → x.is_shut first ≡ false → IsSound x (opened site first)
+    opened-sound limits fresh not_shut = record {
       taken = [];
       sent = [];
       ready = opened-ready site;
       linked = refl;
+      shut = not_shut;
       course = record {
         consumed = [];
         given = [];
@@ -105,6 +125,16 @@ module _ {L : Type 0} (x : LinkWords L) where
           λ ended. absurd (let no : false ≡ true = ended in cc),
         )
 
+    -- a connection that got its link is one that was just opened
+    pub opens-sound : (before : Connection L) → before.standing.site ≡ site → IsSound x before → false ≡ is_some before.link
+        → IsFresh (x.tells first) → x.is_shut first ≡ false
+        → IsSound x (record { standing = going_to before.standing next.Read; link = Some first })
+    opens-sound before same sound none fresh not_shut =
+        let limits : IsWithinLimits site.files = subst (λ (s : SiteFiles). IsWithinLimits s.files) same sound.course.limits in
+        let is : before.standing ≡ unopened site =
+        not_opened before.standing before.link sound.ready sound.linked none ∙ ap unopened same in
+        subst (λ (c : Standing). IsSound x (record { standing = going_to c next.Read; link = Some first })) (sym is) (opened-sound limits fresh not_shut)
+
     opened-off : RunsOff (path_told site (x.tells first)) (open_link ∷ []) (opened site first)
     opened-off = by_script (answers_to_come (x.tells first))
       where
@@ -117,31 +147,31 @@ module _ {L : Type 0} (x : LinkWords L) where
     pub run-sound : (trail : List Handler) (conn : Connection L) → HasRun x site first trail conn → IsSound x conn
     run-sound trail conn run =
         runs-keep (IsSound x) (λ before after steps sound. step_sound x before.standing after.standing before.link after.link sound steps)
-        trail (opened site first) conn run.runs (opened-sound run.limits run.fresh)
+        trail (opened site first) conn run.runs (opened-sound run.limits run.fresh run.not_shut)
 
     pub run-path : (trail : List Handler) (conn : Connection L) → HasRun x site first trail conn
         → UnlessMemory conn.standing.end (TakesOff (open_link ∷ trail) (path_told site (x.tells first)) (rest_told x conn))
     run-path trail conn run =
-        off-run (path_told site (x.tells first)) trail (open_link ∷ []) (opened site first) conn run.runs (opened-sound run.limits run.fresh) opened-off
+        off-run (path_told site (x.tells first)) trail (open_link ∷ []) (opened site first) conn run.runs (opened-sound run.limits run.fresh run.not_shut) opened-off
 
-    pub run-start : IsWithinLimits site.files → IsFresh (x.tells first) → HasRun x site first [] (opened site first)
+    pub run-start : IsWithinLimits site.files → IsFresh (x.tells first) → x.is_shut first ≡ false → HasRun x site first [] (opened site first)
     unfolding RunsBy
-    run-start limits fresh = record { limits = limits; fresh = fresh; runs = refl }
+    run-start limits fresh not_shut = record { limits = limits; fresh = fresh; not_shut = not_shut; runs = refl }
 
     pub run-on : (trail : List Handler) (event : Handler) (before after : Connection L) → HasRun x site first trail before
         → event_of before.standing ≡ event ∷ [] → Steps x before after → HasRun x site first (trail ++ event ∷ []) after
     run-on trail event before after run e steps =
-        record { limits = run.limits; fresh = run.fresh; runs = runs-more trail event (opened site first) before after run.runs e steps }
+        record { limits = run.limits; fresh = run.fresh; not_shut = run.not_shut; runs = runs-more trail event (opened site first) before after run.runs e steps }
 
     -- ---- at the end
 
     -- what each step keeps since the opening
-    record Kept (conn : Connection L) : Type 0 where
-      sound : IsSound x conn
-      linked : IsSome conn.link
-      heads : (o : Outcome) → HeadsFor (x.tells first) (going_to (unopened site) next.Read) o → HeadsForLink x conn.link conn.standing o
-      since : SinceLink x first conn.standing conn.link
-      site_is : conn.standing.site ≡ site
+    pub record Kept (conn : Connection L) : Type 0 where
+      pub sound : IsSound x conn
+      pub linked : IsSome conn.link
+      pub heads : (o : Outcome) → HeadsFor (x.tells first) (going_to (unopened site) next.Read) o → HeadsForLink x conn.link conn.standing o
+      pub since : SinceLink x first conn.standing conn.link
+      pub site_is : conn.standing.site ≡ site
 
     keeps : (before after : Connection L) → Steps x before after → Kept before → Kept after
     keeps before after steps kept = record {
@@ -152,9 +182,9 @@ module _ {L : Type 0} (x : LinkWords L) where
       site_is = step_site x before.standing after.standing before.link after.link steps ∙ kept.site_is;
     }
 
-    run-kept : (trail : List Handler) (conn : Connection L) → HasRun x site first trail conn → Kept conn
+    pub run-kept : (trail : List Handler) (conn : Connection L) → HasRun x site first trail conn → Kept conn
     run-kept trail conn run = runs-keep Kept keeps trail (opened site first) conn run.runs (record {
-      sound = opened-sound run.limits run.fresh;
+      sound = opened-sound run.limits run.fresh run.not_shut;
       linked = refl;
       heads = λ o h. h;
       since = since-opened x first (going_to (unopened site) next.Read) refl refl;
@@ -176,6 +206,7 @@ module _ {L : Type 0} (x : LinkWords L) where
               (IsWhole (open_link ∷ trail) (path_told site (x.tells first)))
               (whole (path_told site (x.tells first)))
               (run-path trail conn run));
+          shut = subst (λ l. IsShutAtEnd x next.Nothing l) link_is (subst (λ p. IsShutAtEnd x p conn.link) pending kept.sound.shut);
           fault = facts.1;
           idle = facts.2;
         }
@@ -185,3 +216,14 @@ module _ {L : Type 0} (x : LinkWords L) where
         whole (Some path) (left, is, split) =
             let none : left ≡ [] = subst HasNoEvents is (none-left x conn (run-sound trail conn run) pending) in
             sym (split ∙ ap (λ l. (open_link ∷ trail) ++ l) none ∙ append-nil (open_link ∷ trail))
+
+    -- the same of a run that has ended
+    pub ended-ends : (now : L) (end : End) (ended : HasEnded x site first now end) → EndsRun x site first ended.trail now end
+    ended-ends now end ended = run-ends ended.trail ended.conn now end ended.run ended.closed ended.link_is ended.end_is
+
+    -- one step more, while the connection isn't closed
+    pub ran-on : (before after : Connection L) → (trail : List Handler) × HasRun x site first trail before → before.standing.pending ≢ next.Nothing
+        → Steps x before after → (trail : List Handler) × HasRun x site first trail after
+    ran-on before after (trail, run) goes_on steps =
+        let event = event-one before.standing (run-sound trail before run).ready goes_on in
+        (trail ++ event.0 ∷ [], run-on trail event.0 before after run event.1 steps)

@@ -1,4 +1,7 @@
 pub mod Responses
+pub mod Windows
+pub mod WindowRooms
+pub mod Searches
 pub mod Standing
 pub mod Step
 pub mod Shown

@@ -1,5 +1,5 @@
 -- Runs of a connection: the events that were run since it was opened over a link, and how such a run ends.
-use Rattle.std.specs.Prelude.{◌≡◌, List, [], ◌∷◌, Option, Some, None, ⊤}
+use Rattle.std.specs.Prelude.{◌≡◌, true, false, List, [], ◌∷◌, Option, Some, None, ⊤}
 use Rattle.sws_link.specs.declared.Link.{Ghosts as LinkWords}
 use Rattle.sws_link.specs.Counts.{Rose}
 use Rattle.sws_site.specs.Sites.{SiteFiles}
@@ -30,11 +30,22 @@ IsWhole trail None = ⊤
 IsWhole trail (Some path) = trail ≡ path
 
 module _ {L : Type 0} (x : LinkWords L) (site : SiteFiles) (first : L) where
-  -- the connection was opened over this link, of which nothing was taken or written before, and has run these events since
+  -- the connection was opened over this link, which wasn't shut and of which nothing was taken or written before, and has run these
+  -- events since
   pub record HasRun (trail : List Handler) (conn : Connection L) : Type 0 where
     pub limits : IsWithinLimits site.files
     pub fresh : IsFresh (x.tells first)
+    pub not_shut : x.is_shut first ≡ false
     pub runs : RunsBy x trail (opened site first) conn
+
+  -- a run has ended with this link and this end
+  pub record HasEnded (now : L) (end : End) : Type 0 where
+    pub trail : List Handler
+    pub conn : Connection L
+    pub run : HasRun trail conn
+    pub closed : conn.standing.pending ≡ next.Nothing
+    pub link_is : conn.link ≡ Some now
+    pub end_is : conn.standing.end ≡ Some end
 
   -- how a run ends with which the link is shut, by the link before and after it
   pub record EndsRun (trail : List Handler) (now : L) (end : End) : Type 0 where
@@ -43,6 +54,7 @@ module _ {L : Type 0} (x : LinkWords L) (site : SiteFiles) (first : L) where
     -- a link that told its answers to come got exactly its outcome, by its whole path
     pub outcome : EndsAs site (x.tells first) (x.tells now) end
     pub path : UnlessMemory (Some end) (IsWhole (open_link ∷ trail) (path_told site (x.tells first)))
+    pub shut : x.is_shut now ≡ true
     -- it failed in this run, or was not ready so often
     pub fault : end ≡ ending.Fault → Rose (x.faults first) (x.faults now)
     pub idle : end ≡ ending.Idle → RoseBy wait_limit (x.waits first) (x.waits now)

@@ -100,20 +100,20 @@ module _ {L : Type 0} (x : LinkWords L) (before after : Standing) where
   pub record ReadsOnce (link now : L) : Type 0 where
     pub answer : LinkRead
     pub into : List ℕ
-    pub called : Reads x.tells x.faults x.waits link (room_of before) answer into now
+    pub called : Reads x.tells x.is_shut x.faults x.waits link (room_of before) answer into now
     pub since : (first : L) → x.since first None link → x.since first (read_fault answer) now
     pub becomes : after ≡ after_read before answer into
 
   -- one write of the front of the parts was made
   pub record WritesOnce (link now : L) : Type 0 where
     pub answer : LinkWrite
-    pub called : Writes x.tells x.faults x.waits link (front_of before.parts) answer now
+    pub called : Writes x.tells x.is_shut x.faults x.waits link (front_of before.parts) answer now
     pub since : (first : L) → x.since first None link → x.since first (write_fault answer) now
     pub becomes : after ≡ after_write before answer
 
   -- the link was shut
   pub record ShutsOnce (link now : L) : Type 0 where
-    pub called : Shuts x.tells x.faults x.waits link now
+    pub called : Shuts x.tells x.is_shut x.faults x.waits link now
     pub since : (first : L) (fault : Option Way) → x.since first fault link → x.since first fault now
     pub becomes : after ≡ going_to before next.Nothing
 

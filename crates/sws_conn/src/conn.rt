@@ -1,8 +1,8 @@
 //! A connection.
-ghost use Rattle.std.specs.Prelude.{◌≡◌, ◌≢◌, ◌≤◌, ◌<◌, ◌^◌, ◌↔◌, ◌∷◌, [], IfOk, IsSome, Some, None};
+ghost use Rattle.std.specs.Prelude.{◌≡◌, ◌≢◌, ◌≤◌, ◌<◌, ◌^◌, ◌↔◌, ◌∷◌, [], false, IfOk, IsSome, Some, None};
 ghost use Rattle.sws_conn.specs.Standing.{told_next, told_end};
 ghost use Rattle.sws_conn.specs.Step.{Steps, StepsFrom, Opens, IsFresh};
-ghost use Rattle.sws_conn.specs.Sound.{IsSound, unopened};
+ghost use Rattle.sws_conn.specs.Sound.{IsSound, IsShutAtEnd, unopened};
 ghost use Rattle.sws_conn.specs.Path.{FollowsScript, TakesEvent, TakesOff, HasNoEvents, open_link, path_told, rest_told, told_by_link};
 ghost use Rattle.sws_conn.specs.Serving.{BeginsResponses};
 ghost use Rattle.sws_conn.specs.Shown.{shown};
@@ -67,10 +67,11 @@ impl<'s, L: Link + Drop> Conn<'s, L> {
         })
     }
 
-    /// Gives the connection its link, of which nothing was taken or written; hands it back where there is one
-    /// already. Where the link tells its answers to come, the opening is the first event of their path.
+    /// Gives the connection its link, which isn't shut and of which nothing was taken or written; hands it back where
+    /// there is one already. Where the link tells its answers to come, the opening is the first event of their path.
     pub fn open(&mut self, link: L) -> Result<Next, L>
-        requires { IsFresh (L.tells link) }
+        requires fresh { IsFresh (L.tells link) }
+        requires not_shut { L.is_shut link ≡ false }
         ensures opens { Opens self.old link result self.new }
         ensures path { IfOk result (λ next. TakesOff (open_link ∷ []) (path_told self.old.standing.site (L.tells link)) (rest_told L.Link self.new)) }
         ensures sound { IsSound L.Link self.new }
@@ -85,23 +86,25 @@ impl<'s, L: Link + Drop> Conn<'s, L> {
 
     /// Does the pending step, and answers the next one: `Wait` where the link was not ready and the same step is
     /// pending. Before `open` and after the close it does nothing. Where the link tells its answers to come, the step takes
-    /// its event off the rest of their path.
+    /// its event off the rest of their path. Only the close shuts the link.
     pub fn step(&mut self) -> Next
         ensures steps { Steps L.Link self.old self.new }
         ensures told { result ≡ told_next self.new.standing }
         ensures scripted { FollowsScript L.Link self.old self.new }
         ensures path { TakesEvent L.Link self.old self.new }
         ensures begins { BeginsResponses self.new.standing.site (told_by_link L.Link self.new.link) }
+        ensures shut { IsShutAtEnd L.Link self.new.standing.pending self.new.link }
         ensures sound { IsSound L.Link self.new }
     {
         step_over(&mut self.talking, &mut self.link);
         told(&self.talking)
     }
 
-    /// The step that comes next, which is never `Wait`.
+    /// The step that comes next, which is never `Wait`. The link is shut where the answer is `Nothing`, and not before.
     pub fn pending(&self) -> Next
         ensures pending { result ≡ self.now.standing.pending }
         ensures never { result ≢ Next.Wait }
+        ensures shut { IsShutAtEnd L.Link result self.now.link }
     {
         self.talking.pending
     }

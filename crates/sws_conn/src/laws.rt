@@ -1,5 +1,5 @@
 //! What holds of the path of a scripted connection, and of the events that a connection runs.
-ghost use Rattle.std.specs.Prelude.{◌≡◌, ℕ, List, Option, Some, [], ◌∷◌, ◌++◌};
+ghost use Rattle.std.specs.Prelude.{◌≡◌, ℕ, false, List, Option, Some, [], ◌∷◌, ◌++◌};
 ghost use Rattle.sws_link.specs.Scripts.{Script, wait};
 ghost use Rattle.sws_site.specs.Sites.{SiteFiles};
 ghost use Rattle.sws_site.specs.Limits.{IsWithinLimits};
@@ -31,10 +31,11 @@ pub fn a_path_is_of_steps()
 
 /// A run of a connection, from `Conn::open` on and over all calls of `Conn::step`, each of which runs the event of the
 /// pending step. At every moment the connection is sound, and the events so far, with the opening, are a front of the path;
-/// at its end it has served the link, and the events are the whole path. The path is that of a link that told its answers
+/// at its end it has served the link, which is then shut, and the events are the whole path. The path is that of a link that told its answers
 /// to come, unless memory ran out.
 pub fn a_run_serves_its_link<L: Link>()
-    ensures start { (site : SiteFiles) (first : L) → IsWithinLimits site.files → IsFresh (L.tells first) → HasRun L.Link site first [] (opened site first) }
+    ensures start { (site : SiteFiles) (first : L) → IsWithinLimits site.files → IsFresh (L.tells first) → L.is_shut first ≡ false
+        → HasRun L.Link site first [] (opened site first) }
     ensures goes_on { (site : SiteFiles) (first : L) (trail : List Handler) (event : Handler) (before after : Connection L)
         → HasRun L.Link site first trail before → event_of before.standing ≡ event ∷ [] → Steps L.Link before after
         → HasRun L.Link site first (trail ++ event ∷ []) after }

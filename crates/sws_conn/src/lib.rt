@@ -8,6 +8,8 @@
 //! A connection ends after its last response, at the end of its input or after 65,536 bytes of it, after 30
 //! answers in succession that the link isn't ready, and where the link fails.
 //!
+//! No contract ties want of memory to anything, so one that always answers it in `new` is seen by tests alone.
+//!
 //! ```text
 //! let mut conn = Conn::new(alloc, &site)?;
 //! conn.open(link)?;
@@ -24,9 +26,11 @@ mod serving;
 mod talking;
 #[cfg(test)]
 mod tests;
+mod window;
 
 pub use conn::Conn;
 pub use serving::serve_one;
+pub use window::Window;
 
 /// How a connection ended.
 #[derive(Clone, Copy, Debug, PartialEq, Eq)]

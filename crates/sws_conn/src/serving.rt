@@ -1,7 +1,8 @@
 //! A whole connection.
-ghost use Rattle.std.specs.Prelude.{◌≡◌, None, IfOk, IfErr};
+ghost use Rattle.std.specs.Prelude.{◌≡◌, true, false, None, IfOk, IfErr};
 ghost use Rattle.sws_link.specs.Counts.{Rose};
 ghost use Rattle.sws_conn.specs.Step.{IsFresh, wait_limit};
+ghost use Rattle.sws_conn.specs.Run.{HasEnded};
 ghost use Rattle.sws_conn.specs.Serving.{EndsAs, Serves, RoseBy, KeepsBy};
 
 use crate::End;
@@ -10,7 +11,10 @@ use std::alloc::Global;
 use sws_link::Link;
 use sws_site::Site;
 
-/// Runs a connection to its end, and gives the link back with that.
+/// Runs a connection to its end, and gives the link back, which is then shut, with that.
+///
+/// The run is one step after another from the opening to the close, so all that is said of a run holds of it: a read follows
+/// only where all was answered, and `Idle` means that the link was not ready 30 times in succession.
 ///
 /// What was written begins the responses to the bytes that were taken; where the end is `Done` it is the responses
 /// to the whole input. A link that tells its answers to come gets exactly what its script says, and ends so, unless
@@ -20,9 +24,12 @@ use sws_site::Site;
 ///
 /// Where the room for the connection was refused, the link comes back as it was.
 pub fn serve_one<L: Link + Drop>(alloc: Global, site: &Site, link: L) -> Result<(L, End), L>
-    requires { IsFresh (L.tells link) }
+    requires fresh { IsFresh (L.tells link) }
+    requires not_shut { L.is_shut link ≡ false }
+    ensures ran { IfOk result (λ served. HasEnded L.Link site.now link served.0 served.1) }
     ensures scripted { IfOk result (λ served. EndsAs site.now (L.tells link) (L.tells served.0) served.1) }
     ensures serves { IfOk result (λ served. Serves site.now (L.tells link) (L.tells served.0) served.1) }
+    ensures shut { IfOk result (λ served. L.is_shut served.0 ≡ true) }
     ensures fault { IfOk result (λ served. served.1 ≡ End.Fault → Rose (L.faults link) (L.faults served.0)) }
     ensures idle { IfOk result (λ served. served.1 ≡ End.Idle → RoseBy wait_limit (L.waits link) (L.waits served.0)) }
     ensures kept { IfOk result (λ served. L.since link None link → KeepsBy L.Link site.now link served.0 served.1) }

@@ -1,11 +1,11 @@
 -- What a link tells, and what its calls change in that. A link that tells nothing has `None`, and goes on telling nothing.
-use Rattle.std.specs.Prelude.{◌≡◌, ℕ, ◌<◌, ◌≤◌, List, [], ◌++◌, length, take, Option, Some, None, ⊤}
+use Rattle.std.specs.Prelude.{◌≡◌, ℕ, ◌<◌, ◌≤◌, Bool, true, false, List, [], ◌++◌, length, take, Option, Some, None, ⊤}
 use Rattle.sws_link.specs.declared.LinkRead.{LinkRead}
 use Rattle.sws_link.specs.declared.LinkRead.TheVariants as read
 use Rattle.sws_link.specs.declared.LinkWrite.{LinkWrite}
 use Rattle.sws_link.specs.declared.LinkWrite.TheVariants as write
 use Rattle.sws_link.specs.Contents.{IsPrefix}
-use Rattle.sws_link.specs.Counts.{Count, HasCause, IsLater}
+use Rattle.sws_link.specs.Counts.{Count, HasCause}
 use Rattle.sws_link.specs.Scripts.{Script, read_of, write_of}
 
 -- what was taken of the input and what is left of it, what was written, and the answers to come where the link is scripted
@@ -136,26 +136,29 @@ write_fault write.NotReady = None
 write_fault write.Failed = Some writing
 write_fault write.Memory = None
 
--- ---- whole calls, of a link that is seen by what it tells and by its two counts
+-- ---- whole calls, of a link that is seen by what it tells, by whether it was shut and by its two counts
 
-module _ {L : Type 0} (tells : L → Option LinkTells) (faults waits : L → Count) where
-  -- one read into a room of the size answered this, and left this in the room
+module _ {L : Type 0} (tells : L → Option LinkTells) (is_shut : L → Bool) (faults waits : L → Count) where
+  -- one read into a room of the size answered this, and left this in the room; the link isn't shut
   pub record Reads (before : L) (room : ℕ) (answer : LinkRead) (into : List ℕ) (after : L) : Type 0 where
     pub size : length into ≡ room
     pub fits : IsReadWithin answer room
     pub takes : LinkTakes (tells before) (tells after) room answer into
     pub failed : HasCause (faults before) (faults after) (answer ≡ read.Failed)
     pub waited : HasCause (waits before) (waits after) (answer ≡ read.NotReady)
+    pub not_shut : is_shut after ≡ false
 
-  -- one write of the piece answered this
+  -- one write of the piece answered this; the link isn't shut
   pub record Writes (before : L) (bytes : List ℕ) (answer : LinkWrite) (after : L) : Type 0 where
     pub fits : IsWriteWithin answer (length bytes)
     pub puts : LinkPuts (tells before) (tells after) answer bytes
     pub failed : HasCause (faults before) (faults after) (answer ≡ write.Failed)
     pub waited : HasCause (waits before) (waits after) (answer ≡ write.NotReady)
+    pub not_shut : is_shut after ≡ false
 
-  -- it was shut, which changes nothing that it tells
+  -- it is shut now, which changes nothing else
   pub record Shuts (before after : L) : Type 0 where
+    pub shut : is_shut after ≡ true
     pub same : tells after ≡ tells before
-    pub failed : IsLater (faults before) (faults after)
-    pub waited : IsLater (waits before) (waits after)
+    pub same_faults : faults after ≡ faults before
+    pub same_waits : waits after ≡ waits before

@@ -19,16 +19,18 @@ pub record WireState : Type 0 where
   pub step : Option ℕ
   pub cut : Option ℕ
 
--- a link with calls that fail; the failed calls are its faults
+-- a link with calls that fail, which are its faults; how often it wasn't ready, and whether it was shut
 pub record MemLinkState : Type 0 where
   pub wire : WireState
   pub calls : CallsMade
   pub waits : ℕ
+  pub shut : Bool
 
 -- a link without faults
 pub record SureLinkState : Type 0 where
   pub wire : WireState
   pub waits : ℕ
+  pub shut : Bool
 
 -- nothing was taken or written
 abbrev pub fresh_wire : List Item → Option ℕ → Option ℕ → WireState
@@ -139,6 +141,7 @@ pub record FailsOrReads (before : MemLinkState) (room : ℕ) (answer : LinkRead)
   pub wire_is : after.wire ≡ (if next_fails before.calls then before.wire else wire_after_read before.wire room)
   pub calls_are : after.calls ≡ counted before.calls (is_failed_read answer)
   pub waits_are : after.waits ≡ waited before.waits (is_waiting_read answer)
+  pub shut_is : after.shut ≡ before.shut
 
 -- a write that is to fail fails, and another answers as the bounds say, but for want of memory; either is counted, and writes nothing
 -- but what it says
@@ -148,6 +151,7 @@ pub record FailsOrWrites (before : MemLinkState) (piece : List ℕ) (answer : Li
   pub wire_is : after.wire ≡ wire_after_write before.wire answer piece
   pub calls_are : after.calls ≡ counted before.calls (is_failed_write answer)
   pub waits_are : after.waits ≡ waited before.waits (is_waiting_write answer)
+  pub shut_is : after.shut ≡ before.shut
 
 -- the same of a link without faults
 pub record SureReads (before : SureLinkState) (room : ℕ) (answer : LinkRead) (into : List ℕ) (after : SureLinkState) : Type 0 where
@@ -155,8 +159,10 @@ pub record SureReads (before : SureLinkState) (room : ℕ) (answer : LinkRead) (
   pub bytes_are : given_by answer into ≡ (read_of room before.wire.input.items).bytes
   pub wire_is : after.wire ≡ wire_after_read before.wire room
   pub waits_are : after.waits ≡ waited before.waits (is_waiting_read answer)
+  pub shut_is : after.shut ≡ before.shut
 
 pub record SureWrites (before : SureLinkState) (piece : List ℕ) (answer : LinkWrite) (after : SureLinkState) : Type 0 where
   pub by_bounds : MayAnswer before.wire (length piece) answer
   pub wire_is : after.wire ≡ wire_after_write before.wire answer piece
   pub waits_are : after.waits ≡ waited before.waits (is_waiting_write answer)
+  pub shut_is : after.shut ≡ before.shut

@@ -6,9 +6,11 @@
 //! traits of this crate. An object of the outside *tells* contracts what it holds, as far as that is
 //! known: a source the bytes that are left, a sink the bytes that were written, a folder its files, a
 //! link its input, what was taken of it and what was written. An object that tells nothing goes on
-//! telling nothing. Each object also has a count of its faults, which never falls, and every answer
-//! `Failed` comes only where that count rose in the call. A link counts likewise how often it was not
-//! ready. A link that answers as the lines of a script say tells these lines as well.
+//! telling nothing. Each object also has a count of its faults, which never falls: every answer
+//! `Failed` comes only where that count rose in the call, and a call that answers anything else leaves
+//! it as it was. A link counts likewise how often it was not ready, and tells whether it was shut, after
+//! which it is neither read nor written. A link that answers as the lines of a script say tells these
+//! lines as well.
 //!
 //! [`MemSource`], [`MemSink`], [`MemFolder`] and [`MemLink`] hold their contents in memory, tell all of
 //! them, and fail at the calls that they are told to. [`SureSource`], [`SureSink`], [`SureFolder`] and
@@ -27,7 +29,7 @@
 //! ```
 #![tactic(auto)]
 
-ghost use Rattle.std.specs.Prelude.{◌≡◌, ◌<◌, List, ℕ, Bool, IsTrue, Option, None, length};
+ghost use Rattle.std.specs.Prelude.{◌≡◌, ◌<◌, List, ℕ, Bool, false, IsTrue, Option, None, length};
 ghost use Rattle.sws_link.specs.Counts.{Count, HasCause};
 ghost use Rattle.sws_link.specs.Contents.{TakesWithin, Takes, Puts};
 ghost use Rattle.sws_link.specs.Told.{FolderTells};
@@ -208,6 +210,9 @@ pub trait Link {
     /// How often a call has failed.
     ghost faults: { Self → Count };
 
+    /// Whether the link was shut. Then it is not read or written any more, nor shut again.
+    ghost is_shut: { Self → Bool };
+
     /// How often a call found the link not ready.
     ghost waits: { Self → Count };
 
@@ -218,19 +223,22 @@ pub trait Link {
     /// Takes at least one of the bytes that are left, and at most as many as there is room for, unless the link
     /// is at its end, not ready, or at fault.
     fn read(&mut self, into: &mut [u8]) -> LinkRead
-        requires { 0 < length into.old }
-        ensures reads { Reads tells faults waits self.old (length into.old) result into.new self.new }
+        requires room { 0 < length into.old }
+        requires not_shut { is_shut self.old ≡ false }
+        ensures reads { Reads tells is_shut faults waits self.old (length into.old) result into.new self.new }
         ensures since { (first : Self) → since first None self.old → since first (read_fault result) self.new };
 
     /// Writes at least one byte of the piece, and as many as the peer takes, unless the link is not ready or at
     /// fault.
     fn write(&mut self, bytes: &[u8]) -> LinkWrite
-        requires { 0 < length bytes.now }
-        ensures writes { Writes tells faults waits self.old bytes.now result self.new }
+        requires some { 0 < length bytes.now }
+        requires not_shut { is_shut self.old ≡ false }
+        ensures writes { Writes tells is_shut faults waits self.old bytes.now result self.new }
         ensures since { (first : Self) → since first None self.old → since first (write_fault result) self.new };
 
-    /// Ends the connection, which changes nothing that the link tells.
+    /// Ends the connection, once. What was taken and written and both counts stay as they are.
     fn shut(&mut self)
-        ensures shuts { Shuts tells faults waits self.old self.new }
+        requires { is_shut self.old ≡ false }
+        ensures shuts { Shuts tells is_shut faults waits self.old self.new }
         ensures since { (first : Self) (fault : Option Way) → since first fault self.old → since first fault self.new };
 }

@@ -1,4 +1,5 @@
 //! What the forms in memory give with ample memory.
+ghost use Rattle.std.specs.Prelude.{◌≡◌, false};
 
 use crate::{
     Folder, Got, Link, LinkItem, LinkRead, LinkWrite, MemFolder, MemLink, MemSink, MemSource,
@@ -120,7 +121,9 @@ fn a_folder_copies_names_and_lends_bytes(rt: HostRuntime) -> Result<(), Fail> {
 }
 
 /// Five reads of two bytes each, through the bound.
-fn five_reads<L: Link>(link: &mut L) -> [LinkRead; 5] {
+fn five_reads<L: Link>(link: &mut L) -> [LinkRead; 5]
+    requires { L.is_shut link.old ≡ false }
+{
     let mut room = [0; 2];
     [
         link.read(&mut room),
@@ -178,13 +181,41 @@ fn a_link_copies_the_bytes_of_its_items(rt: HostRuntime) -> Result<(), Fail> {
     assert_eq!(rt; &room[..2], b"xy".as_slice());
     assert_eq!(rt; link.read(&mut room), LinkRead::Took(3));
     assert_eq!(rt; &room[..3], b"aaa".as_slice());
-    link.shut();
     assert_eq!(rt; link.read(&mut room), LinkRead::End);
     Ok(())
 }
 
+/// Shuts through the bound.
+fn shut_once<L: Link>(link: &mut L)
+    requires { L.is_shut link.old ≡ false }
+{
+    link.shut();
+}
+
+#[test]
+fn a_link_tells_whether_it_was_shut(rt: HostRuntime) -> Result<(), Fail> {
+    let mut sure = SureLink::new(rt.alloc(), Vec::new(rt.alloc()), None);
+    assert!(rt; !sure.is_shut());
+    shut_once(&mut sure);
+    assert!(rt; sure.is_shut());
+
+    let mut failing = MemLink::new(
+        rt.alloc(),
+        Vec::new(rt.alloc()),
+        None,
+        None,
+        vec![in rt.alloc(); 1]?,
+    );
+    assert!(rt; !failing.is_shut());
+    shut_once(&mut failing);
+    assert!(rt; failing.is_shut(), "no call of it is to fail");
+    Ok(())
+}
+
 /// Three writes of a piece of five bytes, through the bound.
-fn three_writes<L: Link>(link: &mut L) -> [LinkWrite; 3] {
+fn three_writes<L: Link>(link: &mut L) -> [LinkWrite; 3]
+    requires { L.is_shut link.old ≡ false }
+{
     [
         link.write(b"abcde"),
         link.write(b"abcde"),
@@ -204,6 +235,11 @@ fn a_link_takes_as_much_as_its_bounds_allow(rt: HostRuntime) -> Result<(), Fail>
     let mut nothing = SureLink::new(rt.alloc(), Vec::new(rt.alloc()), Some(0));
     assert_eq!(rt; three_writes(&mut nothing), [LinkWrite::NotReady; 3]);
 
+    Ok(())
+}
+
+#[test]
+fn a_link_fails_at_its_cut(rt: HostRuntime) -> Result<(), Fail> {
     let mut cut = MemLink::new(
         rt.alloc(),
         Vec::new(rt.alloc()),
@@ -216,7 +252,11 @@ fn a_link_takes_as_much_as_its_bounds_allow(rt: HostRuntime) -> Result<(), Fail>
         [LinkWrite::Wrote(5), LinkWrite::Wrote(2), LinkWrite::Failed]
     );
     assert_eq!(rt; cut.written(), b"abcdeab".as_slice());
+    Ok(())
+}
 
+#[test]
+fn a_link_writes_nothing_in_a_failing_call(rt: HostRuntime) -> Result<(), Fail> {
     let mut failing = MemLink::new(
         rt.alloc(),
         Vec::new(rt.alloc()),

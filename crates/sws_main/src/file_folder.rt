@@ -3,7 +3,7 @@ ghost use Rattle.std.specs.Prelude.{◌≡◌, None, is_some};
 ghost use Rattle.sws_link.specs.Counts.{kept_count};
 
 use crate::file_walk::FileWalk;
-use std::fs::{self, File};
+use std::fs::File;
 use std::io::{self, ErrorKind, Read};
 use sws_link::{Folder, Got, NextFile, Opened};
 
@@ -35,16 +35,11 @@ fn is_want_of_memory(error: &io::Error) -> bool {
 }
 
 /// Opens the next file, copies its name as far as there is room, and gives it with the length of its name.
-fn open_next(
-    rt: &HostRuntime,
-    walk: &mut FileWalk<'_>,
-    name: &mut [u8; 1024],
-) -> io::Result<Option<(File, usize)>> {
-    let Some(entry) = walk.next_file()? else {
+fn open_next(walk: &mut FileWalk<'_>, name: &mut [u8; 1024]) -> io::Result<Option<(File, usize)>> {
+    let Some(file) = walk.next_file()? else {
         return Ok(None);
     };
-    let file = fs::open(rt, entry.path())?;
-    let given = walk.name_of(&entry).as_bytes();
+    let given = walk.name().as_bytes();
     let count = given.len().min(name.len());
     name[..count].copy_from_slice(&given[..count]);
     Ok(Some((file, given.len())))
@@ -77,7 +72,7 @@ impl<'r> Folder for FileFolder<'r> {
         let Some(walk) = &mut self.walk else {
             return NextFile::End;
         };
-        match open_next(self.rt, walk, name) {
+        match open_next(walk, name) {
             Ok(Some((file, len))) => {
                 self.file = Some(file);
                 NextFile::File { len }

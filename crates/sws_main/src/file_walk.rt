@@ -1,47 +1,112 @@
 //! A walk over the regular files below a folder.
 
-use std::fs::{self, DirEntry, ReadDir};
+use std::fs::{self, DirEntry, File, Metadata, ReadDir};
 use std::io::{self, ErrorKind};
+use std::os::fd::AsRawFd;
+use std::os::unix::fs::MetadataExt;
 
 /// How many folders deep a folder may lie.
 const MAX_DEPTH: usize = 32;
 
+/// An entry of a folder, and which file of the machine it was when it was listed.
+#[derive(Drop)]
+struct Listed {
+    entry: DirEntry,
+    device: u64,
+    inode: u64,
+}
+
+impl Listed {
+    fn new(entry: DirEntry, listed: &Metadata) -> Listed {
+        Listed {
+            entry,
+            device: listed.dev(),
+            inode: listed.ino(),
+        }
+    }
+
+    /// Opens it. Where something else has taken its place since it was listed, as a link, that is an error.
+    fn open(&self, rt: &HostRuntime) -> io::Result<File> {
+        let file = fs::open(rt, self.entry.path())?;
+        let opened = file.metadata()?;
+        if opened.dev() == self.device && opened.ino() == self.inode {
+            return Ok(file);
+        }
+        Err(io::Error::from(ErrorKind::Other))
+    }
+}
+
+/// A folder on the way to where the walk is.
+///
+/// It is held open, and the paths of its entries go by its descriptor: whatever takes the place of a folder on the way, what
+/// is opened lies in this one.
+#[derive(Drop)]
+struct Level {
+    _folder: File,
+    listing: ReadDir,
+    /// The name of the folder, with the slash behind it; none of the folder of the walk.
+    name: String,
+}
+
+impl Level {
+    fn new(rt: &HostRuntime, folder: File, name: String) -> io::Result<Level> {
+        let path = format!(in rt.alloc(); "/proc/self/fd/{}", folder.as_raw_fd())?;
+        let listing = fs::read_dir(rt, path.as_str())?;
+        Ok(Level {
+            _folder: folder,
+            listing,
+            name,
+        })
+    }
+
+    /// The name of an entry: its path from the folder of the walk on.
+    fn name_of(&self, rt: &HostRuntime, entry: &DirEntry) -> io::Result<String> {
+        let mut name = String::from_str(rt.alloc(), self.name.as_str())?;
+        name.push_str(entry.file_name())?;
+        Ok(name)
+    }
+}
+
 /// Gives the regular files below a folder one after another, in the order in which the machine lists them.
 ///
-/// Links are not followed. A folder that lies more than 32 deep is an error, as is a name that is not UTF-8.
+/// Links are not followed, but for the folder itself. A folder that lies more than 32 deep is an error, as is a name that is
+/// not UTF-8, and an entry in whose place another file stands when it is opened.
 #[derive(Drop)]
 pub struct FileWalk<'r> {
     rt: &'r HostRuntime,
-    /// The folder, with the slash that stands before a file's name.
-    root: String,
     /// The folders on the way to where the walk is, each as far as it was listed.
-    listings: Vec<ReadDir>,
+    levels: Vec<Level>,
+    /// The name of the file that was opened last.
+    name: String,
 }
 
 impl<'r> FileWalk<'r> {
     /// A walk that begins in the folder of this path.
     pub fn new(rt: &'r HostRuntime, path: &str) -> io::Result<FileWalk<'r>> {
-        let mut root = String::from_str(rt.alloc(), path)?;
-        if !path.ends_with('/') {
-            root.push('/')?;
-        }
-        let mut listings = Vec::new(rt.alloc());
-        listings.push(fs::read_dir(rt, path)?)?;
-        Ok(FileWalk { rt, root, listings })
+        let folder = fs::open(rt, path)?;
+        let mut levels = Vec::new(rt.alloc());
+        levels.push(Level::new(rt, folder, String::new(rt.alloc()))?)?;
+        Ok(FileWalk {
+            rt,
+            levels,
+            name: String::new(rt.alloc()),
+        })
     }
 
-    /// The next regular file, if there is one.
-    pub fn next_file(&mut self) -> io::Result<Option<DirEntry>> {
+    /// Opens the next regular file, if there is one. [`FileWalk::name`] is then its name.
+    pub fn next_file(&mut self) -> io::Result<Option<File>> {
         for _ in 0..u64::MAX {
-            let Some(listing) = self.listings.last_mut() else {
+            let Some(level) = self.levels.last_mut() else {
                 return Ok(None);
             };
-            match listing.next() {
+            match level.listing.next() {
                 None => {
-                    self.listings.pop();
+                    self.levels.pop();
                 }
                 Some(entry) => {
-                    if let Some(file) = self.enter(entry?)? {
+                    let entry = entry?;
+                    let name = level.name_of(self.rt, &entry)?;
+                    if let Some(file) = self.enter(entry, name)? {
                         return Ok(Some(file));
                     }
                 }
@@ -50,24 +115,28 @@ impl<'r> FileWalk<'r> {
         Err(io::Error::from(ErrorKind::Other))
     }
 
-    /// The entry, if it is a regular file; into a folder the walk goes on.
-    fn enter(&mut self, entry: DirEntry) -> io::Result<Option<DirEntry>> {
-        let kind = entry.file_type()?;
+    /// Opens the entry of this name, if it is a regular file; into a folder the walk goes on.
+    fn enter(&mut self, entry: DirEntry, name: String) -> io::Result<Option<File>> {
+        let kind = entry.metadata()?;
         if kind.is_file() {
-            return Ok(Some(entry));
+            let file = Listed::new(entry, &kind).open(self.rt)?;
+            self.name = name;
+            return Ok(Some(file));
         }
         if kind.is_dir() {
-            if self.listings.len() > MAX_DEPTH {
+            if self.levels.len() > MAX_DEPTH {
                 return Err(io::Error::from(ErrorKind::Other));
             }
-            self.listings.push(fs::read_dir(self.rt, entry.path())?)?;
+            let folder = Listed::new(entry, &kind).open(self.rt)?;
+            let mut name = name;
+            name.push('/')?;
+            self.levels.push(Level::new(self.rt, folder, name)?)?;
         }
         Ok(None)
     }
 
-    /// The name of a file of this walk: its path from the folder on.
-    pub fn name_of<'e>(&self, file: &'e DirEntry) -> &'e str {
-        let path = file.path().as_str();
-        path.strip_prefix(self.root.as_str()).unwrap_or(path)
+    /// The name of the file that was opened last: its path from the folder of the walk on.
+    pub fn name(&self) -> &str {
+        self.name.as_str()
     }
 }

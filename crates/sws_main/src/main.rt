@@ -6,10 +6,14 @@
 
 mod file_folder;
 mod file_walk;
+mod output;
 mod std_sink;
 mod std_source;
+#[cfg(test)]
+mod tests;
 
 use file_folder::FileFolder;
+use output::Output;
 use std::io::ErrorKind;
 use std::process::ExitCode;
 use std::{env, io};
@@ -46,8 +50,15 @@ fn words(rt: &HostRuntime) -> Result<Vec<String>, TopFault> {
 
 /// Runs the command on the machine's files and streams.
 fn run(rt: &HostRuntime, words: &[String]) -> Outcome {
+    let Ok(output) = Output::new(rt.alloc(), io::writer(rt)) else {
+        return Outcome::of(Err(TopFault::Memory));
+    };
     let mut folder = FileFolder::new(rt);
-    let mut source = StdSource::new(rt.reader());
-    let mut sink = StdSink::new(io::writer(rt));
-    sws(rt, words, &mut folder, &mut source, &mut sink)
+    let mut source = StdSource::new(rt.reader(), &output);
+    let mut sink = StdSink::new(&output);
+    let outcome = sws(rt, words, &mut folder, &mut source, &mut sink);
+    if !sink.finish() && outcome.fault.is_none() {
+        return Outcome::of(Err(TopFault::WriteFault));
+    }
+    outcome
 }

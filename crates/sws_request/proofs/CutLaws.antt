@@ -1,12 +1,14 @@
 -- Laws of cuts: there is one, and once it is a head or too long, more bytes do not change it.
-use Rattle.std.specs.Prelude.{◌≡◌, ◌≢◌, ℕ, ◌≤◌, Bool, true, false, nat_le, List, ◌++◌, length, take}
+use Rattle.std.specs.Prelude.{◌≡◌, ◌≢◌, ℕ, ◌≤◌, Bool, true, false, if◌then◌else◌, nat_le, List, ◌++◌, length, take, Option, Some, None}
 use Rattle.std.proofs.Common.{refl, sym, ap, subst, arith, length-append, length-take, take_all, leb-true, leb-false}
 use Rattle.std.proofs.lemmas.List.{take-append-le, take-take}
 use Rattle.sws_request.specs.declared.cuts.Cut.{Cut}
 use Rattle.sws_request.specs.declared.cuts.Cut.TheVariants.{Head, TooLong, NotYet}
 use Rattle.sws_request.specs.Head.{IsHead, BeginsWithHead, IsCutOf}
-use Rattle.sws_request.specs.HeadLaws.{find_cut}
-use Rattle.sws_request.specs.Cuts.{cut_of}
+use Rattle.sws_request.specs.Cuts.{head_len, cut_without, cut_by, cut_of}
+use Rattle.sws_request.specs.Head.{HasNoHeadWithin, head_limit}
+use Rattle.sws_request.proofs.HeadLemmas.{IsCutOf-ends, HasNoHeadWithin-past}
+use Rattle.sws_request.proofs.LineLemmas.{IsEnding, ending-is}
 
 -- there is no other cut
 pub IsCutOf-unique : (bytes : List ℕ) (a b : Cut) → IsCutOf bytes a → IsCutOf bytes b → a ≡ b
@@ -25,12 +27,29 @@ IsCutOf-unique bytes NotYet (Head n) x y = absurd (x.0 n y.1 y.0.head)
 IsCutOf-unique bytes NotYet TooLong x y = let long = y.1 in let short = x.1 in absurd (omega arith)
 IsCutOf-unique bytes NotYet NotYet x y = refl
 
+-- the cut by lines is one
+cut_of-cut : (bytes : List ℕ) → IsCutOf bytes (cut_of bytes)
+unfolding cut_of
+cut_of-cut bytes = by_end (head_len bytes) (ending-is false bytes)
+  where
+    without : HasNoHeadWithin head_limit bytes → (long : Bool) → long ≡ nat_le head_limit (length bytes) → IsCutOf bytes (if long then TooLong else NotYet)
+    without none true e = (none, leb-true head_limit (length bytes) (sym e))
+    without none false e = (none, leb-false head_limit (length bytes) (sym e))
+
+    by_end : (found : Option ℕ) → IsEnding false bytes found → IsCutOf bytes (cut_by found (length bytes))
+    by_end None never = without (λ n le h. never n h) (nat_le head_limit (length bytes)) refl
+    by_end (Some len) at = within (nat_le len head_limit) refl
+      where
+        within : (short : Bool) → short ≡ nat_le len head_limit → IsCutOf bytes (if short then Head len else cut_without (length bytes))
+        within true e = IsCutOf-ends bytes len at (leb-true len head_limit (sym e))
+        within false e = without (HasNoHeadWithin-past bytes len at (leb-false len head_limit (sym e))) (nat_le head_limit (length bytes)) refl
+
 -- so it is the cut of the bytes
 pub cut_of-is : (bytes : List ℕ) (cut : Cut) → IsCutOf bytes cut → cut_of bytes ≡ cut
-cut_of-is bytes cut is = IsCutOf-unique bytes (cut_of bytes) cut (find_cut bytes).1 is
+cut_of-is bytes cut is = IsCutOf-unique bytes (cut_of bytes) cut (cut_of-cut bytes) is
 
 pub IsCutOf-cut_of : (bytes : List ℕ) (cut : Cut) → cut_of bytes ≡ cut → IsCutOf bytes cut
-IsCutOf-cut_of bytes cut e = subst (IsCutOf bytes) e (find_cut bytes).1
+IsCutOf-cut_of bytes cut e = subst (IsCutOf bytes) e (cut_of-cut bytes)
 
 same_front : (n : ℕ) (bytes more : List ℕ) → n ≤ length bytes → IsHead (take n (bytes ++ more)) → IsHead (take n bytes)
 same_front n bytes more le h = subst IsHead (take-append-le n bytes more le) h
@@ -52,7 +71,7 @@ IsCutOf-append bytes more NotYet there is = absurd (there refl)
 
 -- more bytes don't change it, once it is there
 pub cut_of-append : (bytes more : List ℕ) → cut_of bytes ≢ NotYet → cut_of (bytes ++ more) ≡ cut_of bytes
-cut_of-append bytes more there = cut_of-is (bytes ++ more) (cut_of bytes) (IsCutOf-append bytes more (cut_of bytes) there (find_cut bytes).1)
+cut_of-append bytes more there = cut_of-is (bytes ++ more) (cut_of bytes) (IsCutOf-append bytes more (cut_of bytes) there (cut_of-cut bytes))
 
 -- the head by itself is cut off at its end
 pub cut_of-take : (bytes : List ℕ) (len : ℕ) → cut_of bytes ≡ Head len → cut_of (take len bytes) ≡ Head len

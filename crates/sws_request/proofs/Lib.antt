@@ -1,4 +1,8 @@
 pub mod CutLaws
 pub mod RequestInLaws
+pub mod ScanLaws
+mod HeadLemmas
+mod LineLemmas
 mod CuttingLemmas
+mod ScanLemmas
 mod ViewLemmas

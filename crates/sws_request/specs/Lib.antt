@@ -1,6 +1,6 @@
 pub mod Head
-pub mod HeadLaws
 pub mod Cuts
+pub mod Scans
 pub mod Request
 pub mod RequestLaws
 pub mod Requests

@@ -1,11 +1,11 @@
 //! The end of a head.
-ghost use Rattle.std.specs.Prelude.{◌≡◌, ◌≢◌, ◌↔◌, false, ℕ, List, ◌++◌, length, IsTrue, IfSome, MatchOption};
+ghost use Rattle.std.specs.Prelude.{◌≡◌, ◌≢◌, ◌<◌, ◌↔◌, false, ℕ, List, ◌++◌, length, IsTrue};
 ghost use Rattle.sws_request.specs.declared.cuts.Cut.{Cut as CutValue};
-ghost use Rattle.sws_request.specs.Head.{IsCutOf, IsEmptyLine, BeginsWithHead, HasNoHeadWithin};
-ghost use Rattle.sws_request.specs.HeadLaws.{EndsAt, NeverEnds};
+ghost use Rattle.sws_request.specs.Head.{IsCutOf, IsEmptyLine};
 ghost use Rattle.sws_request.specs.Cuts.{cut_of};
+ghost use Rattle.sws_request.specs.Scans.{StandsFor, whole_lines, IsFound, EndsWithin};
 
-use crate::Cut;
+use crate::{Cut, Scan};
 use memchr::memchr;
 
 /// The most bytes that a head has.
@@ -19,30 +19,60 @@ pub fn cut(bytes: &[u8]) -> Cut
     ensures cut { IsCutOf bytes.now result }
     ensures only { result ≡ cut_of bytes.now }
 {
-    let most = bytes.len().min(MAX_HEAD);
-    match head_len(&bytes[..most]) {
-        Some(len) => Cut::Head { len },
-        None if bytes.len() < MAX_HEAD => Cut::NotYet,
-        None => Cut::TooLong,
+    scan(bytes, Scan::start()).0
+}
+
+/// The cut of some bytes of which the front was searched already, and how far that is searched now.
+///
+/// `rest` is what comes behind the bytes that `from` stands for; these are not needed again. Where more bytes may
+/// still make up a head, the scan stands for all lines that are whole now; otherwise it is that of no bytes.
+pub fn scan(rest: &[u8], from: Scan) -> (Cut, Scan)
+    requires { from.at < 8192 }
+    ensures cut { (front : List ℕ) → StandsFor from front → result.0 ≡ cut_of (front ++ rest.now) }
+    ensures goes_on { (front : List ℕ) → StandsFor from front → result.0 ≡ Cut.NotYet
+        → StandsFor result.1 (whole_lines (front ++ rest.now)) }
+    ensures starts { result.0 ≢ Cut.NotYet → result.1 ≡ record { at = 0; begun = false } }
+{
+    let room = MAX_HEAD - from.at;
+    let most = rest.len().min(room);
+    match find_end(&rest[..most], from.begun) {
+        Found::End(len) => (Cut::Head { len: from.at + len }, Scan::start()),
+        Found::Lines(lines) if rest.len() < room => (
+            Cut::NotYet,
+            Scan {
+                at: from.at + lines.at,
+                begun: lines.begun,
+            },
+        ),
+        Found::Lines(_) => (Cut::TooLong, Scan::start()),
     }
 }
 
-/// How many bytes the first head has, if one ends.
-fn head_len(bytes: &[u8]) -> Option<usize>
-    ensures { MatchOption result (NeverEnds false bytes.now) (EndsAt false bytes.now) }
+/// What a search of some bytes finds.
+enum Found {
+    /// The head ends after so many bytes.
+    End(usize),
+    /// It doesn't end in these lines.
+    Lines(Scan),
+}
+
+/// Looks for the end of a head, of which a line that isn't empty has come before or not.
+fn find_end(bytes: &[u8], begun: bool) -> Found
+    ensures found { IsFound begun bytes.now result }
+    ensures within { EndsWithin result (length bytes.now) }
 {
     let mut start = 0;
-    let mut begun = false;
+    let mut begun = begun;
     while let Some(feed) = memchr(b'\n', &bytes[start..]) {
         let end = start + feed + 1;
         let is_empty = is_empty_line(&bytes[start..end]);
         if is_empty && begun {
-            return Some(end);
+            return Found::End(end);
         }
         begun = begun | !is_empty;
         start = end;
     }
-    None
+    Found::Lines(Scan { at: start, begun })
 }
 
 /// Whether the line is LF or CR LF.

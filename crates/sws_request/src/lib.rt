@@ -2,7 +2,8 @@
 //!
 //! A server reads bytes piece by piece. [`cut`] says whether they begin with a whole head yet, and
 //! [`view`] shows such a head as a request: its method, target, version and fields are slices of it.
-//! Neither call copies a byte or takes memory.
+//! Neither call copies a byte or takes memory. Where more bytes come behind those that were searched,
+//! [`scan`] goes on behind the last whole line and needs the bytes before it no more.
 //!
 //! ```text
 //! match cut(bytes) {
@@ -19,9 +20,11 @@
 mod cuts;
 pub mod head;
 pub mod request;
+mod scans;
 #[cfg(test)]
 mod tests;
 
 pub use cuts::Cut;
-pub use head::{MAX_HEAD, cut, cut_is_stable};
+pub use head::{MAX_HEAD, cut, cut_is_stable, scan};
 pub use request::{MAX_FIELDS, NotARequest, RequestView, empty_lines_change_nothing, view};
+pub use scans::Scan;

@@ -1,4 +1,4 @@
-use crate::{Cut, NotARequest, cut, cut_is_stable, empty_lines_change_nothing, view};
+use crate::{Cut, NotARequest, Scan, cut, cut_is_stable, empty_lines_change_nothing, scan, view};
 use std::process::Abort;
 
 /// A text, and then a byte so many times.
@@ -32,6 +32,34 @@ fn a_head_ends_with_the_first_empty_line_behind_another(rt: HostRuntime) {
         assert_eq!(rt; cut(bytes), want);
     }
     cut_is_stable();
+}
+
+#[test]
+fn a_search_goes_on_where_it_stopped(rt: HostRuntime) {
+    let (first, line) = scan(b"GET / HTTP/1.1\r\nHo", Scan::start());
+    assert_eq!(rt; first, Cut::NotYet);
+    assert_eq!(rt;
+        line,
+        Scan {
+            at: 16,
+            begun: true
+        }
+    );
+    let (whole, next) = scan(b"Host: x\r\n\r\n", line);
+    assert_eq!(rt; whole, Cut::Head { len: 27 });
+    assert_eq!(rt; next, Scan::start());
+
+    let (empty, blank) = scan(b"\r\n\n\r", Scan::start());
+    assert_eq!(rt; empty, Cut::NotYet);
+    assert_eq!(rt;
+        blank,
+        Scan {
+            at: 3,
+            begun: false
+        }
+    );
+    let rest = padded(&rt, b"", b'x', 8189);
+    assert_eq!(rt; scan(&rest, blank), (Cut::TooLong, Scan::start()));
 }
 
 #[test]

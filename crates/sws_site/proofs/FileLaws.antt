@@ -1,10 +1,11 @@
 -- The first file of a name.
-use Rattle.std.proofs.Common.{◌≡◌, ℕ, ◌<◌, ◌≤◌, suc, Bool, true, false, List, [], ◌∷◌, length, None, refl, ap, ◌∙◌, arith}
+use Rattle.std.proofs.Common.{◌≡◌, ℕ, ◌+◌, ◌<◌, ◌≤◌, suc, Bool, true, false, List, [], ◌∷◌, length, None, refl, ap, ◌∙◌, arith}
 use Rattle.std.specs.Prelude.{All, Some, if◌then◌else◌}
 use Rattle.std.specs.Str.{bytes_eq}
+use Rattle.std.proofs.lemmas.List.Sums.{sum_by-append}
 use Rattle.std.proofs.lemmas.Slice.Eq.{bytes_eq-Decides}
 use Rattle.sws_site.specs.Files.{File, file_named}
-use Rattle.sws_site.specs.Limits.{IsWithinLimits}
+use Rattle.sws_site.specs.Limits.{IsWithinLimits, bytes_of}
 
 -- names of another length differ
 other_name : (a b : List ℕ) → length a < length b → bytes_eq a b ≡ false
@@ -25,3 +26,16 @@ no_file-longer (file ∷ files) name short long =
 -- a site has no file of a name that is too long
 pub file_named-long : (files : List File) (name : List ℕ) → IsWithinLimits files → 1024 < length name → file_named name files ≡ None
 file_named-long files name within long = no_file-longer files name within.names long
+
+-- the contents of a file are some of the contents of all
+pub file_named-short : (files : List File) (name : List ℕ) (file : File) → file_named name files ≡ Some file → length file.1 ≤ bytes_of files
+file_named-short [] name file e = absurd (cc)
+file_named-short (first ∷ files) name file e = by_test (bytes_eq first.0 name) (λ f. file_named-short files name file f) e
+  where
+    sum : bytes_of (first ∷ files) ≡ bytes_of (first ∷ []) + bytes_of files
+    sum = sum_by-append (λ (f : File). length f.1) (first ∷ []) files
+
+    by_test : (t : Bool) → (file_named name files ≡ Some file → length file.1 ≤ bytes_of files)
+        → (if t then Some first else file_named name files) ≡ Some file → length file.1 ≤ bytes_of (first ∷ files)
+    by_test true later f = let same : first ≡ file = cc in let long = ap (λ (x : File). length x.1) same in omega (arith, sum)
+    by_test false later f = let short = later f in omega (arith, sum)

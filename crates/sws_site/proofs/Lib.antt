@@ -1,5 +1,6 @@
 pub mod LimitLaws
 pub mod FileLaws
+pub mod HeadLengths
 mod ContentTypeLemmas
 mod HeadLemmas
 mod PlaceLemmas

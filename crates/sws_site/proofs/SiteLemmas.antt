@@ -1,6 +1,5 @@
 -- The responses of a site.
-use Rattle.std.proofs.Common.{◌≡◌, ℕ, Bool, true, false, List, [], ◌∷◌, ◌++◌, length, Option, Some, None, ap, ◌∙◌}
-use Rattle.std.specs.Prelude.{IfSome}
+use Rattle.std.proofs.Common.{◌≡◌, ℕ, Bool, true, false, List, [], ◌∷◌, ◌++◌, length, Option, None, ap, ◌∙◌}
 use Rattle.httpdate.specs.declared.date.HttpDate.{HttpDate}
 use Rattle.sws_site.specs.declared.statuses.Status.{Status}
 use Rattle.sws_site.specs.declared.statuses.Status.TheVariants.{Success, NotModified}
@@ -15,7 +14,7 @@ use Rattle.sws_site.specs.Stored.{HasHeads, file_of}
 
 -- either head
 pub built_head-text : (status : Status) (date : Option HttpDate) (kind : List ℕ) (response : BuiltResponse) (closes : Bool) → IsBuilt status date kind response
-    → built_head response closes ≡ head_text (record { status = status; closes = closes; date = date; kind = kind; len = length response.body.items })
+    → built_head response closes ≡ head_text (record { status = status; closes = closes; date = date; range = None; kind = kind; len = length response.body.items })
 built_head-text status date kind response true built = built.closing_head
 built_head-text status date kind response false built = built.open_head
 
@@ -29,22 +28,16 @@ pub built_head-not_modified : (date : Option HttpDate) (response : BuiltResponse
 unfolding not_modified_head
 built_head-not_modified date response closes built none =
     built_head-text NotModified date [] response closes built
-    ∙ ap (λ (body : List ℕ). head_text (record { status = NotModified; closes = closes; date = date; kind = []; len = length body })) none
+    ∙ ap (λ (body : List ℕ). head_text (record { status = NotModified; closes = closes; date = date; range = None; kind = []; len = length body })) none
 
 pub built_head-refusal : (status : Status) (response : BuiltResponse) (closes : Bool) → IsRefusal status response
     → built_head response closes ≡ fixed_head status closes
 unfolding fixed_head
 built_head-refusal status response closes refusal =
     built_head-text status None plain_text response closes refusal.heads
-    ∙ ap (λ (body : List ℕ). head_text (record { status = status; closes = closes; date = None; kind = plain_text; len = length body })) refusal.body
+    ∙ ap (λ (body : List ℕ). head_text (record { status = status; closes = closes; date = None; range = None; kind = plain_text; len = length body })) refusal.body
 
 -- the line that tells the status
 pub fixed_body-text : (status : Status) (body : List ℕ) → body ≡ ([] ++ status_text status) ++ 10 ∷ [] → body ≡ fixed_body status
 unfolding fixed_body
 fixed_body-text status body is = is
-
--- the head of the response that refuses with a code, where there is one
-pub fixed_head-found : (found : Option Status) (response : BuiltResponse) (closes : Bool) (head : List ℕ) → IfSome found (λ status. IsRefusal status response)
-    → head ≡ built_head response closes → IfSome found (λ status. head ≡ fixed_head status closes)
-fixed_head-found None response closes head refuses is = tt
-fixed_head-found (Some status) response closes head refuses is = is ∙ built_head-refusal status response closes refuses

@@ -9,9 +9,9 @@ use Rattle.sws_site.specs.Fixed.{fixed_body, plain_text}
 -- the two heads are those of such a response with this body
 pub record IsBuilt (status : Status) (date : Option HttpDate) (kind : List ℕ) (response : BuiltResponse) : Type 0 where
   pub open_head : response.open_head.items
-      ≡ head_text (record { status = status; closes = false; date = date; kind = kind; len = length response.body.items })
+      ≡ head_text (record { status = status; closes = false; date = date; range = None; kind = kind; len = length response.body.items })
   pub closing_head : response.closing_head.items
-      ≡ head_text (record { status = status; closes = true; date = date; kind = kind; len = length response.body.items })
+      ≡ head_text (record { status = status; closes = true; date = date; range = None; kind = kind; len = length response.body.items })
 
 -- the head that ends the connection, or the other one
 abbrev pub built_head : BuiltResponse → Bool → List ℕ

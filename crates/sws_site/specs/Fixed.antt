@@ -1,7 +1,9 @@
 -- The responses that are the same for each site: those that refuse.
-use Rattle.std.specs.Prelude.{◌≡◌, ◌⊎◌, ℕ, Bool, List, [], ◌∷◌, ◌++◌, length, codes, None, IfSome}
+use Rattle.std.specs.Prelude.{◌≡◌, ◌⊎◌, ℕ, Bool, true, false, not, ◌&&◌, List, [], ◌∷◌, ◌++◌, length, codes, None, IfSome}
 use Rattle.sws_site.specs.declared.statuses.Status.{Status}
-use Rattle.sws_site.specs.Statuses.{status_text, status_with}
+use Rattle.sws_site.specs.declared.statuses.Body.{Body}
+use Rattle.sws_site.specs.declared.statuses.Body.TheVariants.{Nothing, WholeFile, PartOfFile, StatusText}
+use Rattle.sws_site.specs.Statuses.{row_of, status_text, status_with}
 use Rattle.sws_site.specs.ResponseHeads.{head_text}
 
 abbrev pub plain_text : List ℕ
@@ -13,9 +15,20 @@ fixed_body status = status_text status ++ 10 ∷ []
 
 unfoldable pub fixed_head : Status → Bool → List ℕ
 fixed_head status closes =
-    head_text (record { status = status; closes = closes; date = None; kind = plain_text; len = length (fixed_body status) })
+    head_text (record { status = status; closes = closes; date = None; range = None; kind = plain_text; len = length (fixed_body status) })
 
--- the code is that of a response that refuses
+-- the content tells the status
+abbrev pub tells_status : Body → Bool
+tells_status Nothing = false
+tells_status WholeFile = false
+tells_status PartOfFile = false
+tells_status StatusText = true
+
+-- a status whose response is the same for each site: its content tells the status, and it is about no part of a file
+abbrev pub is_fixed : Status → Bool
+is_fixed status = tells_status (row_of status).body && not (row_of status).has_range
+
+-- the code is that of such a response
 abbrev pub IsFixed : ℕ → Type 0
 IsFixed code = (code ≡ 400) ⊎ ((code ≡ 404) ⊎ ((code ≡ 405) ⊎ ((code ≡ 431) ⊎ (code ≡ 501))))
 

@@ -1,9 +1,6 @@
 -- The responses that refuse, as they are stored.
-use Rattle.std.specs.Prelude.{ℕ, IfSome}
 use Rattle.sws_site.specs.declared.statuses.Status.TheVariants.{BadRequest, NotFound, MethodNotAllowed, HeaderFieldsTooLarge, NotImplemented}
-use Rattle.sws_site.specs.declared.built_responses.BuiltResponse.{BuiltResponse}
 use Rattle.sws_site.specs.declared.refusals.Refusals.{Refusals}
-use Rattle.sws_site.specs.Statuses.{status_with}
 use Rattle.sws_site.specs.BuiltResponses.{IsRefusal}
 
 pub record AreRefusals (refusals : Refusals) : Type 0 where
@@ -12,7 +9,3 @@ pub record AreRefusals (refusals : Refusals) : Type 0 where
   pub method_not_allowed : IsRefusal MethodNotAllowed refusals.method_not_allowed
   pub header_fields_too_large : IsRefusal HeaderFieldsTooLarge refusals.header_fields_too_large
   pub not_implemented : IsRefusal NotImplemented refusals.not_implemented
-
--- the response refuses with this code
-abbrev pub IsRefusalOf : ℕ → BuiltResponse → Type 0
-IsRefusalOf code response = IfSome (status_with code) (λ status. IsRefusal status response)

@@ -1,19 +1,23 @@
 -- The head of a response: the status line and the header fields (RFC 9112, sections 2.1 and 4).
-use Rattle.std.specs.Prelude.{ℕ, Bool, true, false, List, [], ◌∷◌, ◌++◌, codes, Option, Some, None}
+use Rattle.std.specs.Prelude.{if◌then◌else◌, ℕ, Bool, true, false, List, [], ◌∷◌, ◌++◌, codes, Option, Some, None}
 use Rattle.std.specs.List.{flat_map}
 use Rattle.std.specs.Fmt.{decimal}
 use Rattle.httpdate.specs.declared.date.HttpDate.{HttpDate}
 use Rattle.httpdate.specs.Date.{date_text}
 use Rattle.sws_site.specs.declared.statuses.Status.{Status}
-use Rattle.sws_site.specs.declared.statuses.Status.TheVariants.{Success, NotModified, BadRequest, NotFound, MethodNotAllowed, HeaderFieldsTooLarge, NotImplemented}
-use Rattle.sws_site.specs.Statuses.{status_text}
+use Rattle.sws_site.specs.declared.statuses.Body.{Body}
+use Rattle.sws_site.specs.declared.statuses.Body.TheVariants.{Nothing, WholeFile, PartOfFile, StatusText}
+use Rattle.sws_site.specs.declared.heads.ContentRange.{ContentRange}
+use Rattle.sws_site.specs.declared.heads.ContentRange.TheVariants.{Selected, NoSuch}
+use Rattle.sws_site.specs.Statuses.{row_of, status_text}
 
--- what a head says: the status, whether the connection ends with this response, when the site was last modified, and the media type
--- and the length of the content that the response has, or would have for GET
+-- what a head says: the status, whether the connection ends with this response, when the site was last modified, which part of a file
+-- the response is about, and the media type and the length of the content that it has, or would have for GET
 pub record ResponseHead : Type 0 where
   pub status : Status
   pub closes : Bool
   pub date : Option HttpDate
+  pub range : Option ContentRange
   pub kind : List ℕ
   pub len : ℕ
 
@@ -35,49 +39,50 @@ abbrev pub date_lines : Option HttpDate → List (List ℕ)
 date_lines None = []
 date_lines (Some date) = (codes "Last-Modified: " ++ date_text date) ∷ []
 
--- a response that sends a file, or that says that it was not modified, has the date
-abbrev pub last_modified_lines : Status → Option HttpDate → List (List ℕ)
-last_modified_lines Success date = date_lines date
-last_modified_lines NotModified date = date_lines date
-last_modified_lines BadRequest date = []
-last_modified_lines NotFound date = []
-last_modified_lines MethodNotAllowed date = []
-last_modified_lines HeaderFieldsTooLarge date = []
-last_modified_lines NotImplemented date = []
+-- a response of such a status has the date, if that is known
+abbrev pub last_modified_lines : Bool → Option HttpDate → List (List ℕ)
+last_modified_lines is_dated date = if is_dated then date_lines date else []
 
 -- the methods that a file has (RFC 9110, sections 10.2.1 and 15.5.6)
-abbrev pub allow_lines : Status → List (List ℕ)
-allow_lines Success = []
-allow_lines NotModified = []
-allow_lines BadRequest = []
-allow_lines NotFound = []
-allow_lines MethodNotAllowed = codes "Allow: GET, HEAD" ∷ []
-allow_lines HeaderFieldsTooLarge = []
-allow_lines NotImplemented = []
+abbrev pub allow_lines : Bool → List (List ℕ)
+allow_lines lists_methods = if lists_methods then codes "Allow: GET, HEAD" ∷ [] else []
+
+-- the first and the last byte of the part, and how many the whole file has; or that the file has no such part
+abbrev pub range_text : ContentRange → List ℕ
+range_text (Selected first last len) = decimal first ++ codes "-" ++ decimal last ++ codes "/" ++ decimal len
+range_text (NoSuch len) = codes "*/" ++ decimal len
+
+-- RFC 9110, section 14.4
+abbrev pub content_range_lines : Option ContentRange → List (List ℕ)
+content_range_lines None = []
+content_range_lines (Some range) = (codes "Content-Range: bytes " ++ range_text range) ∷ []
+
+-- a response of such a status says which part of a file it is about
+abbrev pub range_lines : Bool → Option ContentRange → List (List ℕ)
+range_lines has_range range = if has_range then content_range_lines range else []
 
 -- RFC 9110, sections 8.3 and 8.6
 abbrev pub kind_and_len_lines : List ℕ → ℕ → List (List ℕ)
 kind_and_len_lines kind len = (codes "Content-Type: " ++ kind) ∷ (codes "Content-Length: " ++ decimal len) ∷ []
 
 -- every response but 304 has content (RFC 9110, section 15.4.5)
-abbrev pub content_lines : Status → List ℕ → ℕ → List (List ℕ)
-content_lines Success kind len = kind_and_len_lines kind len
-content_lines NotModified kind len = []
-content_lines BadRequest kind len = kind_and_len_lines kind len
-content_lines NotFound kind len = kind_and_len_lines kind len
-content_lines MethodNotAllowed kind len = kind_and_len_lines kind len
-content_lines HeaderFieldsTooLarge kind len = kind_and_len_lines kind len
-content_lines NotImplemented kind len = kind_and_len_lines kind len
+abbrev pub content_lines : Body → List ℕ → ℕ → List (List ℕ)
+content_lines Nothing kind len = []
+content_lines WholeFile kind len = kind_and_len_lines kind len
+content_lines PartOfFile kind len = kind_and_len_lines kind len
+content_lines StatusText kind len = kind_and_len_lines kind len
 
 -- the lines of the head in their order, without their ends
 abbrev pub head_lines : ResponseHead → List (List ℕ)
 head_lines head =
+    let row = row_of head.status in
     status_line head.status
     ∷ server_line
     ∷ (connection_lines head.closes
-    ++ last_modified_lines head.status head.date
-    ++ allow_lines head.status
-    ++ content_lines head.status head.kind head.len)
+    ++ last_modified_lines row.is_dated head.date
+    ++ allow_lines row.lists_methods
+    ++ range_lines row.has_range head.range
+    ++ content_lines row.body head.kind head.len)
 
 -- CR LF
 abbrev pub line_end : List ℕ

@@ -1,8 +1,8 @@
 //! A response that is built once and sent many times.
-ghost use Rattle.std.specs.Prelude.{◌≡◌, IfOk};
+ghost use Rattle.std.specs.Prelude.{◌≡◌, ◌≤◌, IfOk, length};
 ghost use Rattle.sws_site.specs.BuiltResponses.{IsBuilt, built_head};
 
-use crate::heads::{HeadParts, make_head};
+use crate::heads::{HeadParts, MAX_KIND, write_head};
 use crate::statuses::Status;
 use httpdate::HttpDate;
 use std::alloc::{AllocError, Global};
@@ -24,6 +24,7 @@ impl BuiltResponse {
         kind: &[u8],
         body: Vec<u8>,
     ) -> Result<BuiltResponse, AllocError>
+        requires { length kind.now ≤ MAX_KIND }
         ensures built { IfOk result (IsBuilt status date.now kind.now) }
         ensures body { IfOk result (λ response. response.body.items ≡ body.items) }
     {
@@ -31,6 +32,7 @@ impl BuiltResponse {
             status,
             closes: false,
             date,
+            range: None,
             kind,
             len: body.len(),
         };
@@ -38,8 +40,8 @@ impl BuiltResponse {
             closes: true,
             ..open
         };
-        let open_head = make_head(alloc, &open)?;
-        let closing_head = make_head(alloc, &closing)?;
+        let open_head = Vec::from_slice(alloc, write_head(&open).bytes())?;
+        let closing_head = Vec::from_slice(alloc, write_head(&closing).bytes())?;
         Ok(BuiltResponse {
             body,
             open_head,

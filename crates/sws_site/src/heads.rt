@@ -1,123 +1,170 @@
 //! Writing the head of a response, line by line.
-ghost use Rattle.std.specs.Prelude.{◌≡◌, ◌++◌, Option, IfOk, OnOk};
-ghost use Rattle.sws_site.specs.ResponseHeads.{lines_text, line_end, connection_lines, date_lines, last_modified_lines, allow_lines, kind_and_len_lines, content_lines, head_text};
+ghost use Rattle.std.specs.Prelude.{◌≡◌, ◌≤◌, ◌+◌, ◌++◌, Option, length};
+ghost use Rattle.sws_site.specs.ResponseHeads.{lines_text, line_end, connection_lines, last_modified_lines, allow_lines, range_text, range_lines, kind_and_len_lines, content_lines, head_text};
 ghost use Rattle.sws_site.specs.HeadParts.{head_of};
 
-use crate::statuses::Status;
+use crate::statuses::{Body, Status};
 use httpdate::HttpDate;
-use std::alloc::{AllocError, Global};
+use sws_parts::{MAX_OWN_HEAD, OwnHead};
+
+/// The most bytes of the media type of a content.
+pub const MAX_KIND: usize = 32;
+
+/// Which part of a file a response is about, as its `Content-Range` says (RFC 9110, section 14.4). Bytes are counted from 0.
+#[derive(Clone, Copy, Debug, PartialEq, Eq)]
+pub enum ContentRange {
+    /// The response has the bytes from the first to the last.
+    Selected {
+        /// The place of the first byte of the part.
+        first: u32,
+        /// The place of its last byte.
+        last: u32,
+        /// How many bytes the whole file has.
+        len: u32,
+    },
+    /// The file has no such bytes as the request asks for.
+    NoSuch {
+        /// How many bytes the whole file has.
+        len: u32,
+    },
+}
 
 /// What a head says, beside what all heads say.
 #[derive(Clone, Copy)]
-pub(crate) struct HeadParts<'a> {
-    pub(crate) status: Status,
-    pub(crate) closes: bool,
+pub struct HeadParts<'a> {
+    /// The status, whose row says which of the lines below there are.
+    pub status: Status,
+    /// The connection ends with the response.
+    pub closes: bool,
     /// When the site was last modified, if that is known.
-    pub(crate) date: &'a Option<HttpDate>,
+    pub date: &'a Option<HttpDate>,
+    /// Which part of a file the response is about, if it is about a part.
+    pub range: Option<ContentRange>,
     /// The media type of the content.
-    pub(crate) kind: &'a [u8],
+    pub kind: &'a [u8],
     /// How many bytes the content has.
-    pub(crate) len: usize,
+    pub len: usize,
 }
 
 /// Adds a line that is made of these two parts.
-fn add_line(head: &mut Vec<u8>, name: &[u8], value: &[u8]) -> Result<(), AllocError>
-    ensures { OnOk result (head.new.items ≡ head.old.items ++ ((name.now ++ value.now) ++ line_end)) }
+fn add_line(head: &mut OwnHead, name: &[u8], value: &[u8])
+    requires { length head.old + length ((name.now ++ value.now) ++ line_end) ≤ MAX_OWN_HEAD }
+    ensures { head.new ≡ head.old ++ ((name.now ++ value.now) ++ line_end) }
 {
-    head.extend_from_slice(name)?;
-    head.extend_from_slice(value)?;
-    head.extend_from_slice(b"\r\n")?;
-    Ok(())
+    head.put(name);
+    head.put(value);
+    head.put(b"\r\n");
 }
 
 /// Says that the connection ends, if it does.
-fn add_connection(head: &mut Vec<u8>, closes: bool) -> Result<(), AllocError>
-    ensures { OnOk result (head.new.items ≡ head.old.items ++ lines_text (connection_lines closes)) }
+fn add_connection(head: &mut OwnHead, closes: bool)
+    requires { length head.old + length (lines_text (connection_lines closes)) ≤ MAX_OWN_HEAD }
+    ensures { head.new ≡ head.old ++ lines_text (connection_lines closes) }
 {
     if closes {
-        add_line(head, b"Connection: ", b"close")?;
+        add_line(head, b"Connection: ", b"close");
     }
-    Ok(())
 }
 
-/// Says when the site was last modified, if that is known.
-fn add_date(head: &mut Vec<u8>, date: &Option<HttpDate>) -> Result<(), AllocError>
-    ensures { OnOk result (head.new.items ≡ head.old.items ++ lines_text (date_lines date.now)) }
+/// Says when the site was last modified, where the response has the date and it is known.
+fn add_last_modified(head: &mut OwnHead, is_dated: bool, date: &Option<HttpDate>)
+    requires { length head.old + length (lines_text (last_modified_lines is_dated date.now)) ≤ MAX_OWN_HEAD }
+    ensures { head.new ≡ head.old ++ lines_text (last_modified_lines is_dated date.now) }
 {
+    if !is_dated {
+        return;
+    }
     if let Some(date) = date {
-        add_line(head, b"Last-Modified: ", &date.to_bytes())?;
-    }
-    Ok(())
-}
-
-/// Says the same where the response is about a file.
-fn add_last_modified(
-    head: &mut Vec<u8>,
-    status: Status,
-    date: &Option<HttpDate>,
-) -> Result<(), AllocError>
-    ensures { OnOk result (head.new.items ≡ head.old.items ++ lines_text (last_modified_lines status date.now)) }
-{
-    match status {
-        Status::Success => add_date(head, date),
-        Status::NotModified => add_date(head, date),
-        _ => Ok(()),
+        add_line(head, b"Last-Modified: ", &date.to_bytes());
     }
 }
 
 /// Says which methods a file has, where the request has another.
-fn add_allow(head: &mut Vec<u8>, status: Status) -> Result<(), AllocError>
-    ensures { OnOk result (head.new.items ≡ head.old.items ++ lines_text (allow_lines status)) }
+fn add_allow(head: &mut OwnHead, lists_methods: bool)
+    requires { length head.old + length (lines_text (allow_lines lists_methods)) ≤ MAX_OWN_HEAD }
+    ensures { head.new ≡ head.old ++ lines_text (allow_lines lists_methods) }
 {
-    match status {
-        Status::MethodNotAllowed => add_line(head, b"Allow: ", b"GET, HEAD"),
-        _ => Ok(()),
+    if lists_methods {
+        add_line(head, b"Allow: ", b"GET, HEAD");
+    }
+}
+
+/// Writes which part of the file it is.
+fn put_range(head: &mut OwnHead, range: &ContentRange)
+    requires { length head.old + length (range_text range.now) ≤ MAX_OWN_HEAD }
+    ensures { head.new ≡ head.old ++ range_text range.now }
+{
+    match range {
+        ContentRange::Selected { first, last, len } => {
+            head.put_number(u64::from(*first));
+            head.put(b"-");
+            head.put_number(u64::from(*last));
+            head.put(b"/");
+            head.put_number(u64::from(*len));
+        }
+        ContentRange::NoSuch { len } => {
+            head.put(b"*/");
+            head.put_number(u64::from(*len));
+        }
+    }
+}
+
+/// Says which part of the file the response is about, where it is about one.
+fn add_range(head: &mut OwnHead, has_range: bool, range: &Option<ContentRange>)
+    requires { length head.old + length (lines_text (range_lines has_range range.now)) ≤ MAX_OWN_HEAD }
+    ensures { head.new ≡ head.old ++ lines_text (range_lines has_range range.now) }
+{
+    if !has_range {
+        return;
+    }
+    if let Some(range) = range {
+        head.put(b"Content-Range: bytes ");
+        put_range(head, range);
+        head.put(b"\r\n");
     }
 }
 
 /// Says of which media type the content is, and how long.
-fn add_kind_and_len(
-    alloc: Global,
-    head: &mut Vec<u8>,
-    kind: &[u8],
-    len: usize,
-) -> Result<(), AllocError>
-    ensures { OnOk result (head.new.items ≡ head.old.items ++ lines_text (kind_and_len_lines kind.now len)) }
+fn add_kind_and_len(head: &mut OwnHead, kind: &[u8], len: usize)
+    requires { length head.old + length (lines_text (kind_and_len_lines kind.now len)) ≤ MAX_OWN_HEAD }
+    ensures { head.new ≡ head.old ++ lines_text (kind_and_len_lines kind.now len) }
 {
-    add_line(head, b"Content-Type: ", kind)?;
-    let digits = len.to_string(alloc)?;
-    add_line(head, b"Content-Length: ", digits.as_bytes())?;
-    Ok(())
+    add_line(head, b"Content-Type: ", kind);
+    head.put(b"Content-Length: ");
+    head.put_number(len as u64);
+    head.put(b"\r\n");
 }
 
-/// Says the same where the response has content.
-fn add_content(
-    alloc: Global,
-    head: &mut Vec<u8>,
-    status: Status,
-    kind: &[u8],
-    len: usize,
-) -> Result<(), AllocError>
-    ensures { OnOk result (head.new.items ≡ head.old.items ++ lines_text (content_lines status kind.now len)) }
+/// Tells of the content, where there is any.
+fn add_content(head: &mut OwnHead, body: Body, kind: &[u8], len: usize)
+    requires { length head.old + length (lines_text (content_lines body kind.now len)) ≤ MAX_OWN_HEAD }
+    ensures { head.new ≡ head.old ++ lines_text (content_lines body kind.now len) }
 {
-    match status {
-        Status::NotModified => Ok(()),
-        _ => add_kind_and_len(alloc, head, kind, len),
+    match body {
+        Body::Nothing => {}
+        Body::WholeFile => add_kind_and_len(head, kind, len),
+        Body::PartOfFile => add_kind_and_len(head, kind, len),
+        Body::StatusText => add_kind_and_len(head, kind, len),
     }
 }
 
-/// The head of these parts.
-pub(crate) fn make_head(alloc: Global, parts: &HeadParts<'_>) -> Result<Vec<u8>, AllocError>
-    ensures { IfOk result (λ head. head.items ≡ head_text (head_of parts.now)) }
+/// The head of these parts, which has room. It takes no memory.
+///
+/// Every head has room whose media type is that of a page or `text/plain`, as a law has it that proofs can cite
+/// (`head_text-short`).
+pub fn write_head(parts: &HeadParts<'_>) -> OwnHead
+    requires { length (head_text (head_of parts.now)) ≤ MAX_OWN_HEAD }
+    ensures { result ≡ head_text (head_of parts.now) }
 {
-    let mut head = Vec::new(alloc);
-    add_line(&mut head, b"HTTP/1.1 ", parts.status.text())?;
-    add_line(&mut head, b"Server: ", b"sws")?;
-    add_connection(&mut head, parts.closes)?;
-    add_last_modified(&mut head, parts.status, parts.date)?;
-    add_allow(&mut head, parts.status)?;
-    add_content(alloc, &mut head, parts.status, parts.kind, parts.len)?;
-    head.extend_from_slice(b"\r\n")?;
-    head.shrink_to_fit();
-    Ok(head)
+    let row = parts.status.row();
+    let mut head = OwnHead::new();
+    add_line(&mut head, b"HTTP/1.1 ", row.text);
+    add_line(&mut head, b"Server: ", b"sws");
+    add_connection(&mut head, parts.closes);
+    add_last_modified(&mut head, row.is_dated, parts.date);
+    add_allow(&mut head, row.lists_methods);
+    add_range(&mut head, row.has_range, &parts.range);
+    add_content(&mut head, row.body, parts.kind, parts.len);
+    head.put(b"\r\n");
+    head
 }

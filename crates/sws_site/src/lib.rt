@@ -3,13 +3,14 @@
 //! A site is loaded once from a [`Folder`](sws_link::Folder), within fixed limits: at most 4,096 files, 268,435,456 bytes of
 //! contents, and names of 1,024 bytes. All that a response needs is built then: the two heads of each file, with and without
 //! `Connection: close`, those that say that a file was not modified, and the responses that refuse. So a server answers out of a
-//! site without taking memory and without copying a byte: every head and every body is lent.
+//! site without taking memory and without copying a byte: every head and every body is lent. The head of a response about a
+//! part of a file has numbers of the request in it: [`write_head`] writes it into a room of its own, and takes no memory either.
 //!
 //! ```text
 //! let site = Site::load(alloc, &mut folder, Some(784111777))?;
 //! match site.lookup(b"index.html") {
 //!     Some(page) => send(page.head(HeadKind { changed: true, closes: false }), page.body()),
-//!     None => send(site.fixed(404, false)),
+//!     None => send(site.refusal(Status::NotFound, false)),
 //! }
 //! ```
 #![tactic(auto)]
@@ -29,7 +30,8 @@ mod stored;
 mod tests;
 
 pub use head_kinds::HeadKind;
+pub use heads::{ContentRange, HeadParts, MAX_KIND, write_head};
 pub use pages::Page;
 pub use site_faults::SiteFault;
 pub use sites::Site;
-pub use statuses::Status;
+pub use statuses::{Body, Status, StatusRow};

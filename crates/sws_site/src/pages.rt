@@ -1,9 +1,13 @@
 //! One file of a site.
-ghost use Rattle.std.specs.Prelude.{◌≡◌, Option};
+ghost use Rattle.std.specs.Prelude.{◌≡◌, ◌≤◌, Option, length};
+ghost use Rattle.sws_site.specs.ContentTypes.{content_type};
+ghost use Rattle.sws_site.specs.Limits.{max_bytes};
 ghost use Rattle.sws_site.specs.Sites.{page_head};
 
 use crate::built_responses::BuiltResponse;
+use crate::content_types::content_type_of;
 use crate::head_kinds::HeadKind;
+use crate::heads::MAX_KIND;
 use crate::stored::StoredFile;
 use httpdate::HttpDate;
 use std::marker::Model;
@@ -29,11 +33,20 @@ impl<'s> Model for Page<'s> {
 }
 
 impl<'s> Page<'s> {
-    /// The contents of the file.
+    /// The contents of the file, of at most 268,435,456 bytes.
     pub fn body(&self) -> &'s [u8]
-        ensures { result.now ≡ self.now.file.1 }
+        ensures contents { result.now ≡ self.now.file.1 }
+        ensures within { length result.now ≤ max_bytes }
     {
         &self.file.response.body
+    }
+
+    /// The media type of the file, by its name.
+    pub fn kind(&self) -> &'static [u8]
+        ensures kind { result.now ≡ content_type self.now.file.0 }
+        ensures short { length result.now ≤ MAX_KIND }
+    {
+        content_type_of(&self.file.name)
     }
 
     /// The head of the response to a request for the file.

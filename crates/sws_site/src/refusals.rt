@@ -1,8 +1,8 @@
 //! The responses that are the same for each site: those that refuse.
-ghost use Rattle.std.specs.Prelude.{◌≡◌, IfOk};
-ghost use Rattle.sws_site.specs.Fixed.{IsFixed};
+ghost use Rattle.std.specs.Prelude.{◌≡◌, IfOk, IsTrue};
+ghost use Rattle.sws_site.specs.Fixed.{is_fixed};
 ghost use Rattle.sws_site.specs.BuiltResponses.{IsRefusal};
-ghost use Rattle.sws_site.specs.Refusals.{AreRefusals, IsRefusalOf};
+ghost use Rattle.sws_site.specs.Refusals.{AreRefusals};
 
 use crate::built_responses::BuiltResponse;
 use crate::statuses::Status;
@@ -23,7 +23,7 @@ fn refusal(alloc: Global, status: Status) -> Result<BuiltResponse, AllocError>
     ensures { IfOk result (IsRefusal status) }
 {
     let mut body = Vec::new(alloc);
-    body.extend_from_slice(status.text())?;
+    body.extend_from_slice(status.row().text)?;
     body.extend_from_slice(b"\n")?;
     body.shrink_to_fit();
     let response = BuiltResponse::new(alloc, status, &None, b"text/plain", body)?;
@@ -43,18 +43,22 @@ impl Refusals {
         })
     }
 
-    /// The response of this code.
-    pub(crate) fn with_code(&self, code: u16) -> &BuiltResponse
-        requires fixed { IsFixed code }
+    /// The response of this status.
+    pub(crate) fn of(&self, status: Status) -> &BuiltResponse
+        requires fixed { IsTrue (is_fixed status) }
         requires refusals { AreRefusals self.now }
-        ensures { IsRefusalOf code result.now }
+        ensures { IsRefusal status result.now }
     {
-        match code {
-            400 => &self.bad_request,
-            404 => &self.not_found,
-            405 => &self.method_not_allowed,
-            431 => &self.header_fields_too_large,
-            _ => &self.not_implemented,
+        match status {
+            Status::BadRequest => &self.bad_request,
+            Status::NotFound => &self.not_found,
+            Status::MethodNotAllowed => &self.method_not_allowed,
+            Status::HeaderFieldsTooLarge => &self.header_fields_too_large,
+            Status::NotImplemented => &self.not_implemented,
+            Status::Success
+            | Status::PartialContent
+            | Status::NotModified
+            | Status::RangeNotSatisfiable => unreachable!(),
         }
     }
 }

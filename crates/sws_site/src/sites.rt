@@ -1,8 +1,8 @@
 //! A whole site.
-ghost use Rattle.std.specs.Prelude.{◌≡◌, ◌≤◌, length, Err, IfOk, IfSome, Some, None};
+ghost use Rattle.std.specs.Prelude.{◌≡◌, ◌≤◌, length, Err, IfOk, IfSome, IsTrue, Some, None};
 ghost use Rattle.sws_link.specs.Counts.{HasCause};
 ghost use Rattle.httpdate.specs.declared.date.HttpDate.{HttpDate as Date};
-ghost use Rattle.sws_site.specs.Fixed.{IsFixed, IsFixedHead, IsFixedBody};
+ghost use Rattle.sws_site.specs.Fixed.{is_fixed, fixed_head, fixed_body, IsFixed, IsFixedHead, IsFixedBody};
 ghost use Rattle.sws_site.specs.Limits.{IsWithinLimits};
 ghost use Rattle.sws_site.specs.Sites.{found_in, IsDateAt};
 ghost use Rattle.sws_site.specs.Loading.{IsFresh, LoadsSite, IsSameFolder};
@@ -145,7 +145,19 @@ impl Site {
         }
     }
 
-    /// The head and the body of the response of this code that is the same for each site.
+    /// The head and the body of the response of this status that is the same for each site.
+    ///
+    /// `status` is one whose content tells the status, and that is about no part of a file: all that refuse, but for 416.
+    pub fn refusal(&self, status: Status, closes: bool) -> (&[u8], &[u8])
+        requires { IsTrue (is_fixed status) }
+        ensures head { result.0.now ≡ fixed_head status closes }
+        ensures body { result.1.now ≡ fixed_body status }
+    {
+        let response = self.refusals.of(status);
+        (response.head(closes), &response.body)
+    }
+
+    /// [`Site::refusal`] by the code of the status.
     ///
     /// `code` is 400, 404, 405, 431 or 501.
     pub fn fixed(&self, code: u16, closes: bool) -> (&[u8], &[u8])
@@ -153,8 +165,13 @@ impl Site {
         ensures head { IsFixedHead code closes result.0.now }
         ensures body { IsFixedBody code result.1.now }
     {
-        let response = self.refusals.with_code(code);
-        (response.head(closes), &response.body)
+        match code {
+            400 => self.refusal(Status::BadRequest, closes),
+            404 => self.refusal(Status::NotFound, closes),
+            405 => self.refusal(Status::MethodNotAllowed, closes),
+            431 => self.refusal(Status::HeaderFieldsTooLarge, closes),
+            _ => self.refusal(Status::NotImplemented, closes),
+        }
     }
 
     /// How many files the site has.
@@ -174,7 +191,7 @@ impl Site {
         }
     }
 
-    /// The same as a date.
+    /// When the files were last modified, as a date, if that is known.
     pub fn http_date(&self) -> &Option<HttpDate>
         ensures { result.now ≡ self.now.date }
     {

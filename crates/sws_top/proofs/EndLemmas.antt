@@ -1,7 +1,8 @@
 -- How a run ends, by what a link keeps of its source and its sink.
 use Rattle.std.specs.Prelude.{IsSome}
-use Rattle.std.proofs.Common.{◌≡◌, ◌⊎◌, inl, inr, true, false, List, ℕ, Option, Some, None, refl, sym, subst, arith}
-use Rattle.sws_link.specs.Counts.{no_faults}
+use Rattle.std.proofs.Common.{◌≡◌, ◌⊎◌, inl, inr, true, false, List, ℕ, Option, Some, None, refl, sym, subst, ◌∙◌, arith}
+use Rattle.sws_link.specs.Counts.{Count, no_faults, HasCause}
+use Rattle.sws_link.proofs.CountLaws.{HasCause-none}
 use Rattle.sws_link.specs.Links.{Way, reading, writing}
 use Rattle.sws_site.specs.Sites.{SiteFiles}
 use Rattle.sws_conn.specs.declared.End.{End}
@@ -9,9 +10,9 @@ use Rattle.sws_conn.specs.declared.End.TheVariants as ending
 use Rattle.sws_conn.specs.Step.{wait_limit}
 use Rattle.sws_conn.specs.Serving.{RoseBy, Serves, IsAnswered}
 use Rattle.sws_top.specs.declared.faults.TopFault.{TopFault}
-use Rattle.sws_top.specs.declared.faults.TopFault.TheVariants.{ReadFault, WriteFault}
+use Rattle.sws_top.specs.declared.faults.TopFault.TheVariants.{ReadFault, WriteFault, Memory}
 use Rattle.sws_top.specs.Faults.{ended_by}
-use Rattle.sws_top.specs.Pipes.{IsWrittenBehind, KeepsFault, pipe_tells}
+use Rattle.sws_top.specs.Pipes.{IsWrittenBehind, GoesOn, pipe_tells}
 use Rattle.sws_top.specs.Answered.{AnswersFrom}
 use Rattle.sws_top.proofs.AnswerLemmas.{answered_by}
 
@@ -34,18 +35,42 @@ module _ (Since : Option Way → Type 0) (Answers : Type 0) where
   kept_still Fact ending.Fault kept says = elim kept [ inl read ↦ says (Some reading) read.0 | inr wrote ↦ says (Some writing) wrote ]
   kept_still Fact ending.Memory kept says = says None kept
 
-  module _ (fault : Option TopFault) (SourceRose SinkRose : Type 0) (says : (way : Option Way) → Since way → KeepsFault way fault SourceRose SinkRose) where
+  module _ (fault : Option TopFault) (source source_now sink sink_now : Count)
+      (says : (way : Option Way) → Since way → GoesOn way source source_now sink sink_now fault) where
+    -- neither failed
+    neither : (source_now ≡ source) × (sink_now ≡ sink) → (ended : Option TopFault) → ¬ (ended ≡ Some ReadFault) → ¬ (ended ≡ Some WriteFault)
+        → HasCause source source_now (ended ≡ Some ReadFault) × HasCause sink sink_now (ended ≡ Some WriteFault)
+    neither stand ended no_read no_write =
+        (HasCause-none source source_now (ended ≡ Some ReadFault) stand.0 no_read, HasCause-none sink sink_now (ended ≡ Some WriteFault) stand.1 no_write)
+
     pub fault_kept : (end : End) → KeptAs Since Answers end → end ≡ ending.Fault → IsSome fault
     fault_kept end kept is = elim (subst (KeptAs Since Answers) is kept) [
       | inl read ↦ subst (λ (f : Option TopFault). IsSome f) (sym (says (Some reading) read.0).0) refl
       | inr wrote ↦ subst (λ (f : Option TopFault). IsSome f) (sym (says (Some writing) wrote).0) refl
     ]
 
+    -- the counts, by the fault with which the run ends
+    pub causes : (end : End) → KeptAs Since Answers end
+        → HasCause source source_now (ended_by end fault ≡ Some ReadFault) × HasCause sink sink_now (ended_by end fault ≡ Some WriteFault)
+    causes ending.Done kept = neither (says None kept) None (λ f. cc) (λ f. cc)
+    causes ending.Idle kept = neither (says None kept) None (λ f. cc) (λ f. cc)
+    causes ending.Fault (inl read) =
+        let failed = says (Some reading) read.0 in (
+          record { later = failed.1.later; rose = λ is. failed.1.rose; stays = λ well. absurd (well failed.0) },
+          HasCause-none sink sink_now (fault ≡ Some WriteFault) failed.2 (λ is. (let other : Some ReadFault ≡ Some WriteFault = sym failed.0 ∙ is in cc)),
+        )
+    causes ending.Fault (inr wrote) =
+        let failed = says (Some writing) wrote in (
+          HasCause-none source source_now (fault ≡ Some ReadFault) failed.1 (λ is. (let other : Some WriteFault ≡ Some ReadFault = sym failed.0 ∙ is in cc)),
+          record { later = failed.2.later; rose = λ is. failed.2.rose; stays = λ well. absurd (well failed.0) },
+        )
+    causes ending.Memory kept = neither (says None kept) (Some Memory) (λ f. cc) (λ f. cc)
+
     -- a fault of reading is the source's, and all that was taken has been answered
-    pub read_kept : (end : End) → KeptAs Since Answers end → ended_by end fault ≡ Some ReadFault → SourceRose × Answers
+    pub read_kept : (end : End) → KeptAs Since Answers end → ended_by end fault ≡ Some ReadFault → Answers
     read_kept ending.Done kept is = cc
     read_kept ending.Idle kept is = cc
-    read_kept ending.Fault (inl read) is = ((says (Some reading) read.0).1, read.1)
+    read_kept ending.Fault (inl read) is = read.1
     read_kept ending.Fault (inr wrote) is = (let other : fault ≡ Some WriteFault = (says (Some writing) wrote).0 in cc)
     read_kept ending.Memory kept is = cc
 

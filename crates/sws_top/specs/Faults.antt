@@ -1,5 +1,6 @@
 -- How a run ends.
-use Rattle.std.specs.Prelude.{ℕ, Option, Some, None, Result, Ok, Err, ⊤}
+use Rattle.std.specs.Prelude.{◌≡◌, ◌⊎◌, ℕ, Option, Some, None, Result, Ok, Err, ⊤}
+use Rattle.sws_link.specs.Counts.{Count, Rose}
 use Rattle.sws_conn.specs.declared.End.{End}
 use Rattle.sws_conn.specs.declared.End.TheVariants.{Done, Idle, Fault, Memory as EndMemory}
 use Rattle.sws_site.specs.declared.site_faults.SiteFault.{SiteFault}
@@ -44,6 +45,12 @@ IsBeforeInput (Some ReadFault) = ⊥
 IsBeforeInput (Some WriteFault) = ⊥
 IsBeforeInput (Some Memory) = ⊥
 IsBeforeInput (Some (SiteFull limit)) = ⊤
+
+-- A fault of reading is the folder's, and then neither source nor sink was touched; or it is the source's, and then the folder had no
+-- fault.
+abbrev pub HasReadCause : Count → Count → Count → Count → Type 0 → Type 0
+HasReadCause folder folder_now source source_now Untouched =
+    (Rose folder folder_now × Untouched) ⊎ ((folder_now ≡ folder) × Rose source source_now)
 
 -- how the loading of a site can end
 abbrev pub EndsLoading : Option TopFault → Type 0

@@ -4,3 +4,4 @@ pub mod Faults
 pub mod Sites
 pub mod Pipes
 pub mod Answered
+pub mod PipeLinks

@@ -1,7 +1,11 @@
 -- A source and a sink as one link, which began with what each of them told then.
 use Rattle.std.specs.Prelude.{◌≡◌, ℕ, ◌+◌, ◌-◌, ◌||◌, List, [], ◌++◌, length, take, drop, Option, Some, None, option_map, option_and_then, ⊤}
 use Rattle.sws_link.specs.Counts.{Count, Rose, IsLater}
+use Rattle.sws_link.specs.Contents.{Puts}
 use Rattle.sws_link.specs.Links.{LinkTells, Way, reading, writing}
+use Rattle.sws_link.specs.declared.Put.TheVariants.{Done, Failed, Memory}
+use Rattle.sws_link.specs.declared.LinkWrite.{LinkWrite}
+use Rattle.sws_link.specs.declared.LinkWrite.TheVariants as write
 use Rattle.sws_top.specs.declared.faults.TopFault.{TopFault}
 use Rattle.sws_top.specs.declared.faults.TopFault.TheVariants.{ReadFault, WriteFault}
 
@@ -35,14 +39,21 @@ pipe_tells whole left first bytes = option_and_then (λ rest. option_map (λ fro
 abbrev pub both_counts : Count → Count → Count
 both_counts a b = record { number = a.number + b.number; full = a.full || b.full }
 
--- the fault that is kept of a way, by which it rose
-abbrev pub KeepsFault : Option Way → Option TopFault → Type 0 → Type 0 → Type 0
-KeepsFault None kept SourceRose SinkRose = ⊤
-KeepsFault (Some reading) kept SourceRose SinkRose = (kept ≡ Some ReadFault) × SourceRose
-KeepsFault (Some writing) kept SourceRose SinkRose = (kept ≡ Some WriteFault) × SinkRose
+-- a count is later, and rose
+pub record HasRisen (before now : Count) : Type 0 where
+  pub later : IsLater before now
+  pub rose : Rose before now
 
--- what became of the counts of a source and of a sink, where a link over them failed last in this way
-pub record GoesOn (fault : Option Way) (source source_now sink sink_now : Count) (kept : Option TopFault) : Type 0 where
-  pub source_later : IsLater source source_now
-  pub sink_later : IsLater sink sink_now
-  pub keeps : KeepsFault fault kept (Rose source source_now) (Rose sink sink_now)
+-- The counts of a source and of a sink, and the fault that is kept, where a link over them failed last in this way: where it didn't
+-- fail, both counts stand; else the count of the one that failed rose, alone, and the fault says which of the two that is.
+abbrev pub GoesOn : Option Way → Count → Count → Count → Count → Option TopFault → Type 0
+GoesOn None source source_now sink sink_now kept = (source_now ≡ source) × (sink_now ≡ sink)
+GoesOn (Some reading) source source_now sink sink_now kept = (kept ≡ Some ReadFault) × HasRisen source source_now × (sink_now ≡ sink)
+GoesOn (Some writing) source source_now sink sink_now kept = (kept ≡ Some WriteFault) × (source_now ≡ source) × HasRisen sink sink_now
+
+-- one `write_all` of the whole piece: where that is done, all of the piece was written
+abbrev pub WritesAll : Option (List ℕ) → Option (List ℕ) → LinkWrite → List ℕ → Type 0
+WritesAll before now (write.Wrote count) piece = (count ≡ length piece) × Puts before now Done piece
+WritesAll before now write.NotReady piece = ⊥
+WritesAll before now write.Failed piece = Puts before now Failed piece
+WritesAll before now write.Memory piece = Puts before now Memory piece

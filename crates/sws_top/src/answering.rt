@@ -1,5 +1,5 @@
 //! The command `answer`: one connection, from the bytes of its input to the bytes of its responses.
-ghost use Rattle.std.specs.Prelude.{◌≡◌, ◌≢◌, ◌≤◌, Some, IfSome, IfOk, IsSome};
+ghost use Rattle.std.specs.Prelude.{◌≡◌, ◌≢◌, ◌≤◌, false, Some, IfSome, IfOk, IsSome};
 ghost use Rattle.sws_link.specs.Counts.{HasCause, Rose};
 ghost use Rattle.sws_top.specs.Words.{last_second};
 ghost use Rattle.sws_top.specs.WordValues.{told_by};
@@ -83,6 +83,7 @@ fn serve<'f, 'p, R: Source, O: Sink>(
 ) -> Pipe<'f, 'p, R, O>
     requires source { pipe.first_source.now.value ≡ pipe.source.now }
     requires out { pipe.first_out.now.value ≡ pipe.out.now }
+    requires not_shut { pipe.shut ≡ false }
     ensures same_source { result.source.ghost_name ≡ pipe.entry.source.ghost_name }
     ensures same_out { result.out.ghost_name ≡ pipe.entry.out.ghost_name }
     ensures answered { AnswersFrom site.now (R.left pipe.entry.source.now) (R.left result.source.now) (O.written pipe.entry.out.now)

@@ -15,9 +15,9 @@
 #![tactic(auto)]
 
 ghost use Rattle.std.specs.Prelude.{◌≡◌, ◌≢◌, ◌⊎◌, ◌↔◌, Some, None, map, string_bytes};
-ghost use Rattle.sws_link.specs.Counts.{Rose};
+ghost use Rattle.sws_link.specs.Counts.{Rose, HasCause};
 ghost use Rattle.sws_top.specs.Words.{answering_of};
-ghost use Rattle.sws_top.specs.Faults.{status_of, fault_of, IsBeforeInput};
+ghost use Rattle.sws_top.specs.Faults.{status_of, fault_of, IsBeforeInput, HasReadCause};
 ghost use Rattle.sws_top.specs.Sites.{OpensNamed, MeetsLimit, TellsWithinLimits};
 ghost use Rattle.sws_top.specs.Answered.{AnswersNamed};
 
@@ -44,8 +44,9 @@ use sws_link::{Folder, Sink, Source};
 /// # Errors
 ///
 /// - `Usage` (status 2) exactly where the words are no command line; nothing is opened, read or written.
-/// - `ReadFault` (4) only where the folder or the source failed in this call.
-/// - `WriteFault` (5) only where the sink failed in this call.
+/// - `ReadFault` (4) only where the folder failed in this call, and then nothing is read or written, or the source did. Without it
+///   the counts of both stand as they were.
+/// - `WriteFault` (5) only where the sink failed in this call. Without it the count of the sink stands as it was.
 /// - `Memory` (7) where an allocation was refused.
 /// - `SiteFull` (8) exactly at the first file that is more than a site holds; nothing is read or written.
 pub fn sws<F: Folder, R: Source, O: Sink>(
@@ -60,8 +61,11 @@ pub fn sws<F: Folder, R: Source, O: Sink>(
     ensures usage { (result.fault ≡ Some TopFault.Usage) ↔ (answering_of (map string_bytes words.now) ≡ None) }
     ensures limit { MeetsLimit (F.tells folder.old) (Rose (F.faults folder.old) (F.faults folder.new)) result.fault }
     ensures read_cause { result.fault ≡ Some TopFault.ReadFault
-        → Rose (F.faults folder.old) (F.faults folder.new) ⊎ Rose (R.faults source.old) (R.faults source.new) }
-    ensures write_cause { result.fault ≡ Some TopFault.WriteFault → Rose (O.faults out.old) (O.faults out.new) }
+        → HasReadCause (F.faults folder.old) (F.faults folder.new) (R.faults source.old) (R.faults source.new)
+        ((source.new ≡ source.old) × (out.new ≡ out.old)) }
+    ensures no_read_fault { result.fault ≢ Some TopFault.ReadFault
+        → (F.faults folder.new ≡ F.faults folder.old) × (R.faults source.new ≡ R.faults source.old) }
+    ensures write_cause { HasCause (O.faults out.old) (O.faults out.new) (result.fault ≡ Some TopFault.WriteFault) }
 
     ensures opened { OpensNamed (answering_of (map string_bytes words.now)) (F.tells folder.old) (F.tells folder.new) result.fault }
     ensures untouched { IsBeforeInput result.fault → (source.new ≡ source.old) × (out.new ≡ out.old) }
@@ -87,8 +91,11 @@ fn run<F: Folder, R: Source, O: Sink>(
     ensures usage { (fault_of result ≡ Some TopFault.Usage) ↔ (answering_of (map string_bytes words.now) ≡ None) }
     ensures limit { MeetsLimit (F.tells folder.old) (Rose (F.faults folder.old) (F.faults folder.new)) (fault_of result) }
     ensures read_cause { fault_of result ≡ Some TopFault.ReadFault
-        → Rose (F.faults folder.old) (F.faults folder.new) ⊎ Rose (R.faults source.old) (R.faults source.new) }
-    ensures write_cause { fault_of result ≡ Some TopFault.WriteFault → Rose (O.faults out.old) (O.faults out.new) }
+        → HasReadCause (F.faults folder.old) (F.faults folder.new) (R.faults source.old) (R.faults source.new)
+        ((source.new ≡ source.old) × (out.new ≡ out.old)) }
+    ensures no_read_fault { fault_of result ≢ Some TopFault.ReadFault
+        → (F.faults folder.new ≡ F.faults folder.old) × (R.faults source.new ≡ R.faults source.old) }
+    ensures write_cause { HasCause (O.faults out.old) (O.faults out.new) (fault_of result ≡ Some TopFault.WriteFault) }
     ensures opened { OpensNamed (answering_of (map string_bytes words.now)) (F.tells folder.old) (F.tells folder.new) (fault_of result) }
     ensures untouched { IsBeforeInput (fault_of result) → (source.new ≡ source.old) × (out.new ≡ out.old) }
     ensures answered { AnswersNamed (answering_of (map string_bytes words.now)) (F.tells folder.old) (R.left source.old) (R.left source.new)

@@ -1,7 +1,8 @@
 //! A link over a source and a sink.
-ghost use Rattle.std.specs.Prelude.{◌≡◌, None};
+ghost use Rattle.std.specs.Prelude.{◌≡◌, ◌<◌, false, None, length};
 ghost use Rattle.sws_link.specs.Counts.{no_faults};
-ghost use Rattle.sws_top.specs.Pipes.{IsLeftOf, IsWrittenBehind, pipe_tells, both_counts, GoesOn};
+ghost use Rattle.sws_link.specs.Links.{Writes, write_fault};
+ghost use Rattle.sws_top.specs.Pipes.{IsLeftOf, IsWrittenBehind, WritesAll};
 
 use crate::faults::TopFault;
 use std::snapshot::Snapshot;
@@ -17,6 +18,8 @@ pub struct Pipe<'f, 'p, R: Source, O: Sink> {
     pub first_out: &'f Snapshot<O>,
     /// The fault of the one that failed last.
     pub fault: Option<TopFault>,
+    /// Whether it was shut.
+    pub shut: bool,
     ghost left: { IsLeftOf (R.left first_source.now.value) (R.left source.now) },
     ghost written: { IsWrittenBehind (O.written first_out.now.value) (O.written out.now) },
 }
@@ -35,6 +38,7 @@ impl<'f, 'p, R: Source, O: Sink> Pipe<'f, 'p, R, O> {
         ensures same_out { result.out.ghost_name ≡ out.entry.ghost_name }
         ensures source { (result.source.now ≡ source.old) × (result.first_source.now.value ≡ source.old) }
         ensures out { (result.out.now ≡ out.old) × (result.first_out.now.value ≡ out.old) }
+        ensures not_shut { result.shut ≡ false }
     {
         Pipe {
             source,
@@ -42,6 +46,7 @@ impl<'f, 'p, R: Source, O: Sink> Pipe<'f, 'p, R, O> {
             first_source,
             first_out,
             fault: None,
+            shut: false,
         }
     }
 
@@ -60,15 +65,18 @@ impl<'f, 'p, R: Source, O: Sink> Pipe<'f, 'p, R, O> {
 }
 
 impl<'f, 'p, R: Source, O: Sink> Link for Pipe<'f, 'p, R, O> {
-    ghost tells = { λ pipe. pipe_tells (R.left pipe.first_source.now.value) (R.left pipe.source.now) (O.written pipe.first_out.now.value) (O.written pipe.out.now) };
+    ghost use Rattle.sws_top.specs.declared.pipe.Pipe.{Pipe as PipeValue};
+    ghost use Rattle.sws_top.specs.PipeLinks.{told_by_pipe, faults_of_pipe, StaysPipe};
 
-    ghost faults = { λ pipe. both_counts (R.faults pipe.source.now) (O.faults pipe.out.now) };
+    ghost tells = { told_by_pipe R.Source O.Sink };
+
+    ghost faults = { faults_of_pipe R.Source O.Sink };
+
+    ghost is_shut = { λ pipe. pipe.shut };
 
     ghost waits = { λ pipe. no_faults };
 
-    ghost since = { λ first fault now. (now.source.ghost_name ≡ first.source.ghost_name) × (now.out.ghost_name ≡ first.out.ghost_name)
-        × (now.first_source.now.value ≡ first.first_source.now.value) × (now.first_out.now.value ≡ first.first_out.now.value)
-        × GoesOn fault (R.faults first.source.now) (R.faults now.source.now) (O.faults first.out.now) (O.faults now.out.now) now.fault };
+    ghost since = { StaysPipe R.Source O.Sink };
 
     /// Reads the source.
     fn read(&mut self, into: &mut [u8]) -> LinkRead {
@@ -82,8 +90,16 @@ impl<'f, 'p, R: Source, O: Sink> Link for Pipe<'f, 'p, R, O> {
         }
     }
 
-    /// Writes all the bytes to the sink.
-    fn write(&mut self, bytes: &[u8]) -> LinkWrite {
+    /// Writes all the bytes to the sink, by one `write_all`.
+    fn write(&mut self, bytes: &[u8]) -> LinkWrite
+        requires some { 0 < length bytes.now }
+        requires not_shut { self.old.shut ≡ false }
+        ensures writes { Writes (told_by_pipe R.Source O.Sink) (λ pipe. pipe.shut) (faults_of_pipe R.Source O.Sink) (λ pipe. no_faults)
+            self.old bytes.now result self.new }
+        ensures since { (first : PipeValue R O R.Source O.Sink) → StaysPipe R.Source O.Sink first None self.old
+            → StaysPipe R.Source O.Sink first (write_fault result) self.new }
+        ensures whole { WritesAll (O.written self.old.out.now) (O.written self.new.out.now) result bytes.now }
+    {
         match self.out.write_all(bytes) {
             Put::Done => LinkWrite::Wrote(bytes.len()),
             Put::Failed => {
@@ -94,6 +110,8 @@ impl<'f, 'p, R: Source, O: Sink> Link for Pipe<'f, 'p, R, O> {
         }
     }
 
-    /// Does nothing: whoever handed the two in goes on with them.
-    fn shut(&mut self) {}
+    /// Closes neither of the two: whoever handed them in goes on with them.
+    fn shut(&mut self) {
+        self.shut = true;
+    }
 }

@@ -21,6 +21,6 @@ returns-clause-complete g c some within folder source out =
     (only_lacks_memory (fault_of c.run.result) (g.F.Folder.tells c.args.folder.now)
     (Rose (g.F.Folder.faults c.args.folder.now) (g.F.Folder.faults c.run.new.folder))
     (λ is. some (c.run.ensures.usage.0 is))
-    (λ is. elim (c.run.ensures.read_cause is) [ inl rose ↦ folder rose | inr rose ↦ source rose ])
-    (λ is. out (c.run.ensures.write_cause is))
+    (λ is. elim (c.run.ensures.read_cause is) [ inl its ↦ folder its.0 | inr its ↦ source its.1 ])
+    (λ is. out (c.run.ensures.write_cause.rose is))
     c.run.ensures.limit within)

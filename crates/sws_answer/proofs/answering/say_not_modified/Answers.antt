@@ -1,11 +1,12 @@
 use Rattle.std.proofs.Common.{refl, ◌∙◌}
 use Rattle.sws_site.specs.Files.{not_modified_head}
+use Rattle.sws_site.specs.ResponseHeads.{head_text}
 use Rattle.sws_answer.specs.Answers.{response}
 use Rattle.sws_answer.proofs.answering.say_not_modified.Goals as goal
 
 pub returns : goal.returns
-unfolding response not_modified_head
-returns c = record {
+unfolding response not_modified_head head_text
+returns c = λ selection. record {
   code = c.code.ensures;
   closes = refl;
   head = c.parts_of.ensures.head ∙ c.head-head.ensures;

@@ -10,5 +10,5 @@ returns c = record {
   code = c.code.ensures;
   closes = refl;
   head = c.parts_of.ensures.head ∙ c.head-head.ensures;
-  body = c.parts_of.ensures.body ∙ ap (λ b. if c.args.is_head then [] else b) c.body.ensures;
+  body = c.parts_of.ensures.body ∙ ap (λ b. if c.args.is_head then [] else b) c.body.ensures.contents;
 }

@@ -1,6 +1,5 @@
-use Rattle.std.proofs.Common.{◌-◌, vec_len, ◌+◌}
+use Rattle.std.proofs.Common.{◌≡◌, ◌-◌, vec_len, ◌+◌}
 use Rattle.std.specs.Prelude.{IsTrue}
-use Rattle.sws_link.specs.Counts.{IsLater}
 use Rattle.sws_site.specs.Steps.{HasRead}
 use Rattle.sws_site.proofs.loading.read_file.Given as goal
 
@@ -8,7 +7,7 @@ abbrev pub invariant-pieces : goal.invariant-pieces
 invariant-pieces g l = record {
   read : HasRead (g.F.Folder.tells l.fn.folder) (g.F.Folder.tells l.folder) l.bytes.items;
   at : IsTrue (g.F.Folder.at_file l.folder);
-  later : IsLater (g.F.Folder.faults l.fn.folder) (g.F.Folder.faults l.folder);
+  same_faults : g.F.Folder.faults l.folder ≡ g.F.Folder.faults l.fn.folder;
 }
 
 abbrev pub decreases-pieces : goal.decreases-pieces

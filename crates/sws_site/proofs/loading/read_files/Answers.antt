@@ -1,7 +1,7 @@
-use Rattle.std.proofs.Common.{◌≡◌, ◌≤◌, ◌+◌, ◌++◌, ◌∷◌, [], zero, suc, List, length, Option, ◌∙◌, ap, sym, subst, arith}
+use Rattle.std.proofs.Common.{◌≡◌, ◌≤◌, ◌+◌, ◌++◌, ◌∷◌, [], zero, suc, List, length, Option, ◌∙◌, refl, ap, sym, subst, arith}
 use Rattle.std.proofs.lemmas.List.{map-append, length-map}
 use Rattle.std.proofs.lemmas.List.Elements.{All-append}
-use Rattle.sws_link.proofs.CountLaws.{IsLater-same, IsLater-trans}
+use Rattle.sws_link.proofs.CountLaws.{HasCause-as, HasCause-none}
 use Rattle.httpdate.specs.declared.date.HttpDate.{HttpDate}
 use Rattle.sws_site.specs.declared.stored.StoredFile.{StoredFile}
 use Rattle.sws_site.specs.Files.{File}
@@ -27,7 +27,7 @@ files-init g c =
       room = ap (λ (files : List File). bytes_of files + 268435456) none;
       heads = subst (AllHaveHeads c.args.date.now) (sym c.new-files.ensures.items) (AllHaveHeads-nil c.args.date.now);
       same = IsSameFolder-refl (g.F.Folder.tells c.args.folder.now);
-      later = IsLater-same (g.F.Folder.faults c.args.folder.now);
+      same_faults = refl;
     }
 
 pub files-preserved : goal.files-preserved
@@ -52,8 +52,7 @@ files-preserved g c =
           (AllHaveHeads-one c.args.date.now c.in-Ok-Some.file heads));
       same = IsSameFolder-trans (g.F.Folder.tells c.args.folder.now) (g.F.Folder.tells c.files.folder) (g.F.Folder.tells c.next_file.new.folder)
           c.files.invariant.same c.in-Ok-Some.ensures.same;
-      later = IsLater-trans (g.F.Folder.faults c.args.folder.now) (g.F.Folder.faults c.files.folder) (g.F.Folder.faults c.next_file.new.folder)
-          c.files.invariant.later c.in-Ok-Some.ensures.cause.later;
+      same_faults = c.next_file.ensures.cause.stays (λ fails. (cc)) ∙ c.files.invariant.same_faults;
     }
 
 pub returns-in-Err-clause-loads : goal.returns-in-Err-clause-loads
@@ -61,3 +60,12 @@ returns-in-Err-clause-loads g c =
     HasLoaded-fails (g.F.Folder.tells c.args.folder.now) (g.F.Folder.tells c.files.folder) (files_of c.files.files.items)
     (c.len.result + 1) c.files.room c.in-Err.fault c.files.invariant.loaded c.in-Err.ensures.fails
     (let long = length-map c.files.files.items file_of in omega arith) c.files.invariant.room
+
+pub returns-in-Err-push-clause-cause : goal.returns-in-Err-push-clause-cause
+returns-in-Err-push-clause-cause g c = HasCause-as _ _ _ _ _ c.files.invariant.same_faults c.next_file.ensures.cause (λ fails. (cc)) (λ fails. (cc))
+
+pub returns-in-Ok-None-clause-cause : goal.returns-in-Ok-None-clause-cause
+returns-in-Ok-None-clause-cause g c = HasCause-as _ _ _ _ _ c.files.invariant.same_faults c.next_file.ensures.cause (λ fails. (cc)) (λ fails. (cc))
+
+pub returns-in-Err-clause-cause : goal.returns-in-Err-clause-cause
+returns-in-Err-clause-cause g c = HasCause-as _ _ _ _ _ c.files.invariant.same_faults c.next_file.ensures.cause (λ fails. (cc)) (λ fails. (cc))

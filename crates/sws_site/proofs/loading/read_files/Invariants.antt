@@ -1,5 +1,4 @@
 use Rattle.std.proofs.Common.{◌≡◌, ◌+◌, ◌-◌, length}
-use Rattle.sws_link.specs.Counts.{IsLater}
 use Rattle.sws_site.specs.Limits.{IsWithinLimits, bytes_of, max_bytes}
 use Rattle.sws_site.specs.Loading.{IsSameFolder}
 use Rattle.sws_site.specs.Steps.{HasLoaded}
@@ -13,7 +12,7 @@ invariant-files g l = record {
   room : bytes_of (files_of l.files.items) + l.room ≡ max_bytes;
   heads : AllHaveHeads l.date l.files.items;
   same : IsSameFolder (g.F.Folder.tells l.fn.folder) (g.F.Folder.tells l.folder);
-  later : IsLater (g.F.Folder.faults l.fn.folder) (g.F.Folder.faults l.folder);
+  same_faults : g.F.Folder.faults l.folder ≡ g.F.Folder.faults l.fn.folder;
 }
 
 abbrev pub decreases-files : goal.decreases-files

@@ -6,6 +6,6 @@ pub returns : goal.returns
 returns c = record {
   body = c.in_ok-response.ensures.body ∙ fixed_body-text c.args.status c.shrink_to_fit.new.self.items
       (c.shrink_to_fit.ensures.items ∙ c.in_ok-extend_from_slice-2.ensures.items
-      ∙ ap (λ (body : List ℕ). body ++ 10 ∷ []) (c.in_ok-extend_from_slice.ensures.items ∙ (λ i. c.new-body.ensures.items i ++ c.text.ensures i)));
+      ∙ ap (λ (body : List ℕ). body ++ 10 ∷ []) (c.in_ok-extend_from_slice.ensures.items ∙ (λ i. c.new-body.ensures.items i ++ (c.row.ensures i).text)));
   heads = c.in_ok-response.ensures.built;
 }

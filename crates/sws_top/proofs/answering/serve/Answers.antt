@@ -1,12 +1,13 @@
-use Rattle.std.proofs.Common.{◌≡◌, Some, refl, ap, ◌∙◌, Option}
+use Rattle.std.proofs.Common.{◌≡◌, Some, refl, ap, sym, subst, ◌∙◌, Option}
 use Rattle.sws_link.specs.Links.{Way}
-use Rattle.sws_link.specs.Counts.{Rose}
-use Rattle.sws_link.proofs.CountLaws.{IsLater-same}
+use Rattle.sws_link.specs.Counts.{HasCause}
 use Rattle.sws_conn.specs.Serving.{IsAnswered}
-use Rattle.sws_top.specs.declared.faults.TopFault.TheVariants.{Memory}
+use Rattle.sws_top.specs.declared.faults.TopFault.{TopFault}
+use Rattle.sws_top.specs.declared.faults.TopFault.TheVariants.{ReadFault, WriteFault, Memory}
+use Rattle.sws_top.specs.Faults.{ended_by}
 use Rattle.sws_top.specs.Pipes.{pipe_tells, GoesOn}
 use Rattle.sws_top.proofs.AnswerLemmas.{nothing_done}
-use Rattle.sws_top.proofs.EndLemmas.{never_idle, kept_still, fault_kept, read_kept, answered_over, answers_as}
+use Rattle.sws_top.proofs.EndLemmas.{never_idle, kept_still, fault_kept, causes, read_kept, answered_over, answers_as}
 use Rattle.sws_top.proofs.answering.serve.Goals as goal
 
 pub returns-in-Ok-clause-answered : goal.returns-in-Ok-clause-answered
@@ -24,18 +25,12 @@ returns-in-Ok-clause-answered g c =
     × GoesOn way (source before.source.now) (source now.source.now) (sink before.out.now) (sink now.out.now) now.fault in
     let Answers : Type 0 =
     IsAnswered c.args.site.now (pipe_tells (left now.first_source.now.value) (left now.source.now) (written now.first_out.now.value) (written now.out.now)) in
-    let SourceRose = Rose (source before.source.now) (source now.source.now) in
-    let SinkRose = Rose (sink before.out.now) (sink now.out.now) in
     let kept = c.in-Ok.ensures.kept (
       refl,
       refl,
       refl,
       refl,
-      record {
-        source_later = IsLater-same (source before.source.now);
-        sink_later = IsLater-same (sink before.out.now);
-        keeps = tt;
-      },
+      (refl, refl),
     ) in
     let after = c.with_fault.result in
     answers_as c.args.site.now (left before.source.now) (written before.out.now) (left now.source.now) (left after.source.now)
@@ -48,11 +43,65 @@ returns-in-Ok-clause-answered g c =
     (kept_still Since Answers (left now.first_source.now.value ≡ left before.first_source.now.value) end kept (λ way since. ap left since.2) ∙ ap left c.requires.source)
     (kept_still Since Answers (written now.first_out.now.value ≡ written before.first_out.now.value) end kept (λ way since. ap written since.3) ∙ ap written c.requires.out)
     (never_idle end c.in-Ok.ensures.idle)
-    (fault_kept Since Answers now.fault SourceRose SinkRose (λ way since. since.4.keeps) end kept)
+    (fault_kept Since Answers now.fault (source before.source.now) (source now.source.now) (sink before.out.now) (sink now.out.now) (λ way since. since.4) end kept)
     now.written
     c.in-Ok.ensures.serves
-    (λ faulty. (read_kept Since Answers now.fault SourceRose SinkRose (λ way since. since.4.keeps) end kept faulty).1)
+    (λ faulty. read_kept Since Answers now.fault (source before.source.now) (source now.source.now) (sink before.out.now) (sink now.out.now) (λ way since. since.4) end kept faulty)
     c.fault_at-fault.ensures)
+
+pub returns-in-Ok-clause-read_cause : goal.returns-in-Ok-clause-read_cause
+returns-in-Ok-clause-read_cause g c =
+    let before = c.args.pipe in
+    let now = c.in-Ok.pipe in
+    let end = c.in-Ok.end in
+    let left = g.R.Source.left in
+    let written = g.O.Sink.written in
+    let source = g.R.Source.faults in
+    let sink = g.O.Sink.faults in
+    let Since : Option Way → Type 0 = λ way.
+    (now.source.ghost_name ≡ before.source.ghost_name) × (now.out.ghost_name ≡ before.out.ghost_name)
+    × (now.first_source.now.value ≡ before.first_source.now.value) × (now.first_out.now.value ≡ before.first_out.now.value)
+    × GoesOn way (source before.source.now) (source now.source.now) (sink before.out.now) (sink now.out.now) now.fault in
+    let Answers : Type 0 =
+    IsAnswered c.args.site.now (pipe_tells (left now.first_source.now.value) (left now.source.now) (written now.first_out.now.value) (written now.out.now)) in
+    let kept = c.in-Ok.ensures.kept (
+      refl,
+      refl,
+      refl,
+      refl,
+      (refl, refl),
+    ) in
+    let cause = (causes Since Answers now.fault (source before.source.now) (source now.source.now) (sink before.out.now) (sink now.out.now) (λ way since. since.4) end kept).0 in
+    let ended : c.with_fault.result.fault ≡ ended_by end now.fault = c.with_fault.ensures.fault ∙ c.fault_at-fault.ensures in
+    subst (λ count. HasCause (source before.source.now) count (c.with_fault.result.fault ≡ Some ReadFault)) (ap source (sym c.with_fault.ensures.source))
+    (subst (λ (fault : Option TopFault). HasCause (source before.source.now) (source now.source.now) (fault ≡ Some ReadFault)) (sym ended) cause)
+
+pub returns-in-Ok-clause-write_cause : goal.returns-in-Ok-clause-write_cause
+returns-in-Ok-clause-write_cause g c =
+    let before = c.args.pipe in
+    let now = c.in-Ok.pipe in
+    let end = c.in-Ok.end in
+    let left = g.R.Source.left in
+    let written = g.O.Sink.written in
+    let source = g.R.Source.faults in
+    let sink = g.O.Sink.faults in
+    let Since : Option Way → Type 0 = λ way.
+    (now.source.ghost_name ≡ before.source.ghost_name) × (now.out.ghost_name ≡ before.out.ghost_name)
+    × (now.first_source.now.value ≡ before.first_source.now.value) × (now.first_out.now.value ≡ before.first_out.now.value)
+    × GoesOn way (source before.source.now) (source now.source.now) (sink before.out.now) (sink now.out.now) now.fault in
+    let Answers : Type 0 =
+    IsAnswered c.args.site.now (pipe_tells (left now.first_source.now.value) (left now.source.now) (written now.first_out.now.value) (written now.out.now)) in
+    let kept = c.in-Ok.ensures.kept (
+      refl,
+      refl,
+      refl,
+      refl,
+      (refl, refl),
+    ) in
+    let cause = (causes Since Answers now.fault (source before.source.now) (source now.source.now) (sink before.out.now) (sink now.out.now) (λ way since. since.4) end kept).1 in
+    let ended : c.with_fault.result.fault ≡ ended_by end now.fault = c.with_fault.ensures.fault ∙ c.fault_at-fault.ensures in
+    subst (λ count. HasCause (sink before.out.now) count (c.with_fault.result.fault ≡ Some WriteFault)) (ap sink (sym c.with_fault.ensures.out))
+    (subst (λ (fault : Option TopFault). HasCause (sink before.out.now) (sink now.out.now) (fault ≡ Some WriteFault)) (sym ended) cause)
 
 pub returns-in-Err-clause-answered : goal.returns-in-Err-clause-answered
 returns-in-Err-clause-answered g c =

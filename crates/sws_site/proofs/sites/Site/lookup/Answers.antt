@@ -1,5 +1,7 @@
-use Rattle.std.proofs.Common.{◌≡◌, get_or, subst, arith, sym, ◌∙◌, ap}
-use Rattle.sws_site.specs.Stored.{HasHeads}
+use Rattle.std.proofs.Common.{◌≡◌, length, get_or, subst, arith, sym, ◌∙◌, ap}
+use Rattle.sws_site.specs.Stored.{HasHeads, file_of, files_of}
+use Rattle.sws_site.specs.declared.stored.StoredFile.{StoredFile}
+use Rattle.sws_site.proofs.FileLaws.{file_named-short}
 use Rattle.sws_site.proofs.PlaceLemmas.{place_from-some, place_from-none, found_in-some, found_in-none}
 use Rattle.sws_site.proofs.sites.Site.lookup.Goals as goal
 
@@ -26,4 +28,10 @@ invariant_of-result c =
           (c.self.invariant.heads c.in-Some.place.now c.index.result.now (omega (arith, found.1, found.2)));
       not_modified = c.self.invariant.not_modified;
       no_content = c.self.invariant.no_content;
+      short =
+          let file = c.index.result.now in
+          let files = c.self.inside.files.items in
+          let place : c.in-Some.place.now ≡ found.0 = (let s = found.1 in omega arith) in
+          let same = ap (λ (f : StoredFile). length (file_of f).1) (c.index.ensures ∙ ap (λ n. get_or files n file) place) in
+          omega (arith, same, file_named-short (files_of files) c.args.name.now (file_of (get_or files found.0 file)) (found.3 file), c.self.invariant.limits.bytes);
     }

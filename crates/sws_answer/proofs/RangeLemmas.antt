@@ -1,0 +1,183 @@
+-- Ranges of a file.
+use Rattle.std.specs.Prelude.{◌≡◌, ◌≢◌, ℕ, ◌+◌, ◌-◌, ◌*◌, ◌^◌, ◌<◌, get_or, ◌≤◌, ◌==◌, ◌&&◌, Bool, true, false, not, nat_lt, nat_le, min, if◌then◌else◌, List, take, drop, slice_range, length, codes, Option, Some, None, ⊤, option_map, option_and_then}
+use Rattle.std.specs.Str.{bytes_eq, str_eq_ignore_ascii_case, all_ascii_digits}
+use Rattle.std.specs.Str.Parse.{digits_value}
+use Rattle.std.specs.Char.{digit_value}
+use Rattle.std.proofs.lemmas.Str.Parse.{IsNumeralModel, numerals_by_value, tells_all_ascii_digits, digit_at, digits_value_short, digits_value-take-le}
+use Rattle.std.proofs.lemmas.Str.{digit_value_digit}
+use Rattle.std.proofs.lemmas.Int.Digits.{digits_value_more}
+use Rattle.std.specs.List.{position_or_len}
+use Rattle.std.proofs.Common.{refl, sym, ap, ◌∙◌, arith, lit≤, lit<, length-drop, ltb-true, leb-true}
+use Rattle.std.proofs.lemmas.Bool.{eq-eqb}
+use Rattle.std.proofs.lemmas.List.{length-take}
+use Rattle.sws_request.specs.Request.{Request}
+use Rattle.httpdate.specs.declared.date.HttpDate.{HttpDate}
+use Rattle.sws_site.specs.declared.statuses.Status.TheVariants.{PartialContent, RangeNotSatisfiable}
+use Rattle.sws_site.specs.declared.heads.ContentRange.TheVariants.{Selected, NoSuch}
+use Rattle.sws_site.specs.ResponseHeads.{ResponseHead, head_text}
+use Rattle.sws_site.specs.Fixed.{plain_text}
+use Rattle.sws_site.specs.Limits.{max_bytes}
+use Rattle.sws_site.specs.Files.{File}
+use Rattle.sws_site.proofs.HeadLengths.{head_text-short}
+use Rattle.sws_answer.specs.declared.ranges.RangeSpec.{RangeSpec}
+use Rattle.sws_answer.specs.declared.ranges.RangeSpec.TheVariants.{Between, Onward, Suffix}
+use Rattle.sws_answer.specs.declared.ranges.Selection.TheVariants.{Whole, Part, Unsatisfied}
+use Rattle.sws_answer.specs.Fields.{values_of, has_field, trimmed}
+use Rattle.sws_answer.specs.Conditions.{one_of}
+use Rattle.sws_answer.specs.Ranges.{number_in, between, spec_of, is_dash, spec_said, asked_range, part_from, selection_of, selection_by, selection_in, selection_for, IsWithin}
+
+-- ---- numbers
+
+own : IsNumeralModel (λ ds. all_ascii_digits ds ≡ true) (digits_value 10)
+own = numerals_by_value _ tells_all_ascii_digits
+
+-- what one digit more does to the number of those before it
+pub record NextDigit (digits : List ℕ) (place value digit : ℕ) : Type 0 where
+  pub low : 48 ≤ digit
+  pub high : digit ≤ 57
+  pub next : digits_value 10 (take (place + 1) digits) ≡ value * 10 + (digit - 48)
+  pub small : value * 10 + (digit - 48) < 10 ^ 18
+
+pub next_digit : (digits : List ℕ) (place value : ℕ) → all_ascii_digits digits ≡ true → length digits ≤ 18 → place < length digits
+    → value ≡ digits_value 10 (take place digits) → NextDigit digits place value (get_or digits place 0)
+next_digit digits place value all few within is =
+    let digit = digit_at digits place (own.to digits all) within in
+    let low : 48 ≤ get_or digits place 0 = digit.0 in
+    let high : get_or digits place 0 ≤ 57 = digit.1 in
+    let next : digits_value 10 (take (place + 1) digits) ≡ value * 10 + (get_or digits place 0 - 48) =
+    digits_value_more 10 digits place within
+    ∙ ap (λ n. n * 10 + digit_value (get_or digits place 0)) (sym is)
+    ∙ ap (λ n. value * 10 + n) (let e = digit_value_digit (get_or digits place 0) digit in let f : digit_value (get_or digits place 0) ≡ get_or digits place 0 - 48 = omega arith in f) in
+    let most : digits_value 10 digits < 10 ^ 18 = digits_value_short own digits 18 all few in
+    let part : digits_value 10 (take (place + 1) digits) ≤ digits_value 10 digits = digits_value-take-le 10 digits (place + 1) (lit≤ tt) in
+    record { low = low; high = high; next = next; small = omega arith }
+
+-- a range does not end before it begins
+IsOrdered : RangeSpec → Type 0
+IsOrdered (Between first last) = first ≤ last
+IsOrdered (Onward first) = ⊤
+IsOrdered (Suffix count) = ⊤
+
+AreOrdered : Option RangeSpec → Type 0
+AreOrdered None = ⊤
+AreOrdered (Some spec) = IsOrdered spec
+
+if-ordered : (t : Bool) (this that : Option RangeSpec) → AreOrdered this → AreOrdered that → AreOrdered (if t then this else that)
+if-ordered true this that a b = a
+if-ordered false this that a b = b
+
+then-ordered : {A : Type 0} (given : Option A) (f : A → Option RangeSpec) → ((x : A) → AreOrdered (f x)) → AreOrdered (option_and_then f given)
+unfolding AreOrdered
+then-ordered None f each = tt
+then-ordered (Some x) f each = each x
+
+between-ordered : (first last : ℕ) → AreOrdered (between first last)
+unfolding AreOrdered IsOrdered
+between-ordered first last = by_test (nat_le first last) refl
+  where
+    by_test : (t : Bool) → nat_le first last ≡ t → AreOrdered (if t then Some (Between first last) else None)
+    by_test true e = leb-true first last e
+    by_test false e = tt
+
+suffix-ordered : (given : Option ℕ) → AreOrdered (option_map Suffix given)
+unfolding AreOrdered IsOrdered
+suffix-ordered None = tt
+suffix-ordered (Some count) = tt
+
+onward-ordered : (given : Option ℕ) → AreOrdered (option_map Onward given)
+unfolding AreOrdered IsOrdered
+onward-ordered None = tt
+onward-ordered (Some first) = tt
+
+none-ordered : AreOrdered None
+unfolding AreOrdered
+none-ordered = tt
+
+spec_of-ordered : (before behind : List ℕ) → AreOrdered (spec_of before behind)
+spec_of-ordered before behind =
+    if-ordered (length before == 0) _ _ (suffix-ordered (number_in behind)) (
+    if-ordered (length behind == 0) _ _ (onward-ordered (number_in before)) (
+    then-ordered (number_in before) _ (λ first. then-ordered (number_in behind) _ (λ last. between-ordered first last))))
+
+spec_said-ordered : (value : List ℕ) → AreOrdered (spec_said value)
+spec_said-ordered value =
+    let text = drop 6 (trimmed value) in
+    let dash = position_or_len is_dash text in
+    if-ordered (str_eq_ignore_ascii_case (take 6 (trimmed value)) (codes "bytes=")) _ _
+    (if-ordered (nat_lt dash (length text)) _ _ (spec_of-ordered (take dash text) (drop (dash + 1) text)) none-ordered)
+    none-ordered
+
+asked_range-ordered : (asked : Request) → AreOrdered (asked_range asked)
+asked_range-ordered asked =
+    if-ordered (bytes_eq asked.method (codes "GET") && not (has_field (codes "if-range") asked.fields)) _ _
+    (then-ordered (one_of (values_of (codes "range") asked.fields)) _ spec_said-ordered) none-ordered
+
+-- ---- what is selected lies within the file
+
+part_from-within : (len first last : ℕ) → (first < len → first ≤ last) → IsWithin len (part_from len first last)
+part_from-within len first last ordered = by_test (nat_lt first len) refl
+  where
+    by_test : (t : Bool) → nat_lt first len ≡ t → IsWithin len (if t then Part first (min last (len - 1)) else Unsatisfied)
+    by_test true e = let lt : first < len = ltb-true first len e in let le = ordered lt in (omega arith, omega arith)
+    by_test false e = tt
+
+not_nil : (n : ℕ) → (n == 0) ≡ false → n ≢ 0
+not_nil n e h = let t = eq-eqb n 0 h in absurd (cc)
+
+suffix-within : (len count : ℕ) → IsWithin len (selection_of len (Suffix count))
+suffix-within len count = by_count (count == 0) refl
+  where
+    by_len : count ≢ 0 → (t : Bool) → (len == 0) ≡ t → IsWithin len (if t then Whole else Part (len - count) (len - 1))
+    by_len some true e = tt
+    by_len some false e = let more = not_nil len e in (omega arith, omega arith)
+
+    by_count : (t : Bool) → (count == 0) ≡ t → IsWithin len (if t then Unsatisfied else (if len == 0 then Whole else Part (len - count) (len - 1)))
+    by_count true e = tt
+    by_count false e = by_len (not_nil count e) (len == 0) refl
+
+selection_by-within : (len : ℕ) (spec : Option RangeSpec) → AreOrdered spec → IsWithin len (selection_by len spec)
+unfolding AreOrdered IsOrdered
+selection_by-within len None ordered = tt
+selection_by-within len (Some (Between first last)) ordered = part_from-within len first last (λ h. ordered)
+selection_by-within len (Some (Onward first)) ordered = part_from-within len first (len - 1) (λ h. omega arith)
+selection_by-within len (Some (Suffix count)) ordered = suffix-within len count
+
+pub selection_in-within : (asked : Request) (len : ℕ) → IsWithin len (selection_in asked len)
+selection_in-within asked len = selection_by-within len (asked_range asked) (asked_range-ordered asked)
+
+pub selection_for-within : (asked : Request) (file : File) → IsWithin (length file.1) (selection_for asked (Some file))
+selection_for-within asked file = selection_in-within asked (length file.1)
+
+-- a part of some bytes is no longer than they are
+pub length-part-le : (bytes : List ℕ) (first last limit : ℕ) → length bytes ≤ limit → length (slice_range bytes first last) ≤ limit
+length-part-le bytes first last limit short = omega (arith, length-take (last - first) (drop first bytes), length-drop first bytes)
+
+-- ---- the heads that say what is sent of a file
+
+abbrev pub part_head : Bool → ℕ → ℕ → Option HttpDate → List ℕ → List ℕ → ResponseHead
+part_head closes first last date kind bytes =
+    record {
+      status = PartialContent;
+      closes = closes;
+      date = date;
+      range = Some (Selected first last (length bytes));
+      kind = kind;
+      len = length (slice_range bytes first (last + 1));
+    }
+
+pub part_head-same : (closes : Bool) (first last : ℕ) (date other : Option HttpDate) (kind media bytes contents : List ℕ) → date ≡ other → kind ≡ media → bytes ≡ contents
+    → head_text (part_head closes first last date kind bytes) ≡ head_text (part_head closes first last other media contents)
+part_head-same closes first last date other kind media bytes contents d k b = cc
+
+pub part_head-short : (closes : Bool) (first last : ℕ) (date : Option HttpDate) (kind bytes : List ℕ) → length kind ≤ 32 → length bytes ≤ max_bytes
+    → first ≤ last → last < length bytes → length (head_text (part_head closes first last date kind bytes)) ≤ 256
+part_head-short closes first last date kind bytes short few ordered within =
+    let part = length-part-le bytes first (last + 1) max_bytes few in
+    head_text-short (part_head closes first last date kind bytes) short (omega arith) (omega arith, omega arith, omega arith)
+
+abbrev pub no_part_head : Bool → Option HttpDate → ℕ → ResponseHead
+no_part_head closes date len =
+    record { status = RangeNotSatisfiable; closes = closes; date = date; range = Some (NoSuch len); kind = plain_text; len = 26 }
+
+pub no_part_head-short : (closes : Bool) (date : Option HttpDate) (len : ℕ) → len ≤ max_bytes → length (head_text (no_part_head closes date len)) ≤ 256
+no_part_head-short closes date len few = head_text-short (no_part_head closes date len) (lit≤ tt) (lit< tt) (omega arith)

@@ -1,0 +1,95 @@
+-- The part of a file that a request asks for (RFC 9110, section 14).
+use Rattle.std.specs.Prelude.{ℕ, ◌<◌, ◌≤◌, ⊤, ◌+◌, ◌-◌, ◌==◌, ◌&&◌, Bool, true, false, not, nat_lt, nat_le, min, if◌then◌else◌, List, take, drop, length, codes, Option, Some, None, option_map, option_and_then}
+use Rattle.std.specs.List.{position_or_len}
+use Rattle.std.specs.Str.{bytes_eq, str_eq_ignore_ascii_case, all_ascii_digits}
+use Rattle.std.specs.Str.Parse.{digits_value}
+use Rattle.sws_request.specs.Request.{Request}
+use Rattle.sws_site.specs.Files.{File}
+use Rattle.sws_answer.specs.declared.ranges.RangeSpec.{RangeSpec}
+use Rattle.sws_answer.specs.declared.ranges.RangeSpec.TheVariants.{Between, Onward, Suffix}
+use Rattle.sws_answer.specs.declared.ranges.Selection.{Selection}
+use Rattle.sws_answer.specs.declared.ranges.Selection.TheVariants.{Whole, Part, Unsatisfied}
+use Rattle.sws_answer.specs.Fields.{values_of, has_field, trimmed}
+use Rattle.sws_answer.specs.Conditions.{one_of}
+
+-- ---- what is asked
+
+-- a number of 1 to 18 decimal digits, of which the first ones may be 0
+abbrev pub number_in : List ℕ → Option ℕ
+number_in digits =
+    if all_ascii_digits digits && not (length digits == 0) && nat_le (length digits) 18 then Some (digits_value 10 digits) else None
+
+-- from one byte to another that is not before it
+abbrev pub between : ℕ → ℕ → Option RangeSpec
+between first last = if nat_le first last then Some (Between first last) else None
+
+-- what stands before and behind the dash says a range (RFC 9110, section 14.1.1)
+abbrev pub spec_of : List ℕ → List ℕ → Option RangeSpec
+spec_of before behind =
+    if length before == 0 then option_map Suffix (number_in behind)
+    else (if length behind == 0 then option_map Onward (number_in before)
+    else option_and_then (λ first. option_and_then (λ last. between first last) (number_in behind)) (number_in before))
+
+abbrev pub is_dash : ℕ → Bool
+is_dash byte = byte == 45
+
+-- one range, with a dash in it
+abbrev pub spec_in : List ℕ → Option RangeSpec
+spec_in text =
+    let dash = position_or_len is_dash text in
+    if nat_lt dash (length text) then spec_of (take dash text) (drop (dash + 1) text) else None
+
+-- a value that says one range of bytes, without regard to ASCII case and to blanks round it (RFC 9110, sections 14.1.2 and 14.2)
+abbrev pub spec_said : List ℕ → Option RangeSpec
+spec_said value =
+    let text = trimmed value in
+    if str_eq_ignore_ascii_case (take 6 text) (codes "bytes=") then spec_in (drop 6 text) else None
+
+-- the range that a request asks for, if it asks for one: by GET, with one field Range and no condition on it; all else is ignored
+abbrev pub asked_range : Request → Option RangeSpec
+asked_range asked =
+    if bytes_eq asked.method (codes "GET") && not (has_field (codes "if-range") asked.fields)
+    then option_and_then spec_said (one_of (values_of (codes "range") asked.fields))
+    else None
+
+-- ---- what is sent for it
+
+-- from a byte that the file has
+abbrev pub part_from : ℕ → ℕ → ℕ → Selection
+part_from len first last = if nat_lt first len then Part first (min last (len - 1)) else Unsatisfied
+
+-- what is sent of a file of so many bytes; the last bytes of an empty file are the file
+abbrev pub selection_of : ℕ → RangeSpec → Selection
+selection_of len (Between first last) = part_from len first last
+selection_of len (Onward first) = part_from len first (len - 1)
+selection_of len (Suffix count) =
+    if count == 0 then Unsatisfied else (if len == 0 then Whole else Part (len - count) (len - 1))
+
+abbrev pub selection_by : ℕ → Option RangeSpec → Selection
+selection_by len None = Whole
+selection_by len (Some spec) = selection_of len spec
+
+-- what the request selects of a file of so many bytes
+abbrev pub selection_in : Request → ℕ → Selection
+selection_in asked len = selection_by len (asked_range asked)
+
+-- what the request selects of the file that it names, if it names one
+abbrev pub selection_for : Request → Option File → Selection
+selection_for asked None = Whole
+selection_for asked (Some file) = selection_in asked (length file.1)
+
+abbrev pub is_part : Selection → Bool
+is_part Whole = false
+is_part (Part first last) = true
+is_part Unsatisfied = false
+
+abbrev pub is_unsatisfied : Selection → Bool
+is_unsatisfied Whole = false
+is_unsatisfied (Part first last) = false
+is_unsatisfied Unsatisfied = true
+
+-- a part that is selected lies within the file
+abbrev pub IsWithin : ℕ → Selection → Type 0
+IsWithin len Whole = ⊤
+IsWithin len (Part first last) = (first ≤ last) × (last < len)
+IsWithin len Unsatisfied = ⊤
