@@ -1,6 +1,6 @@
 //! The rounds: a link, and a connection over it.
 ghost use Rattle.std.specs.Prelude.{◌≡◌, false, IfSome};
-ghost use Rattle.sws_conn.specs.Step.{IsFresh};
+ghost use Rattle.sws_link.specs.Links.{IsFresh};
 ghost use Rattle.sws_link.specs.MemLinks.{mem_link_tells};
 
 use std::alloc::Global;

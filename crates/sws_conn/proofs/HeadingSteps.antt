@@ -6,7 +6,7 @@ use Rattle.sws_link.specs.declared.LinkRead.{LinkRead}
 use Rattle.sws_link.specs.declared.LinkRead.TheVariants as read
 use Rattle.sws_link.specs.declared.LinkWrite.{LinkWrite}
 use Rattle.sws_link.specs.declared.LinkWrite.TheVariants as write
-use Rattle.sws_link.specs.Links.{LinkTells, LinkTakes, LinkPuts, given_by, ReadsAs, WritesAs, IsExact, IsWriteWithin, written_by}
+use Rattle.sws_link.specs.Links.{IsFresh, LinkTells, LinkTakes, LinkPuts, given_by, ReadsAs, WritesAs, IsExact, IsWriteWithin, written_by}
 use Rattle.sws_link.specs.Scripts.{Script, Item, read_of, write_of, write_by, write_count, within, within_step, lowered}
 use Rattle.sws_request.specs.declared.cuts.Cut.{Cut}
 use Rattle.sws_request.specs.declared.cuts.Cut.TheVariants.{Head, TooLong, NotYet}
@@ -23,7 +23,7 @@ use Rattle.sws_conn.specs.declared.End.{End}
 use Rattle.sws_conn.specs.declared.End.TheVariants as ending
 use Rattle.sws_conn.specs.declared.Next.{Next}
 use Rattle.sws_conn.specs.declared.Next.TheVariants as next
-use Rattle.sws_conn.specs.Step.{IsFresh, StepsFrom, ReadsOnce, WritesOnce, ShutsOnce, OverLink, going_to, ending_as, still_waiting, room_of, wait_limit, after_read, after_parse, answering, is_last, after_look, after_part, after_wrote, after_write}
+use Rattle.sws_conn.specs.Step.{StepsFrom, ReadsOnce, WritesOnce, ShutsOnce, OverLink, going_to, ending_as, still_waiting, room_of, wait_limit, after_read, after_parse, answering, is_last, after_look, after_part, after_wrote, after_write}
 use Rattle.sws_conn.specs.Sound.{unopened, IsReadyTo, IsBetween, IsToParse, IsToRead, IsToLook, IsToWrite}
 use Rattle.sws_conn.specs.Outcome.{Outcome, outcome_of, Input, Stop, at_end, at_limit, at_fault, at_pause, stopped, input_from, limited, cut_off, end_of, UnlessMemory}
 use Rattle.sws_conn.specs.Heading.{ahead, heading, heading_by, input_by, input_to_come, waits_at, with_written, HeadsFor, HeadsForLink, HeadsByScript}

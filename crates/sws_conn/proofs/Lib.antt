@@ -11,7 +11,9 @@ mod Measure
 mod SiteSteps
 mod Since
 mod Served
+mod Exchanging
 mod Kept
 pub mod PathLaws
 pub mod RunLaws
+mod TalkLaws
 pub mod ResponseLaws

@@ -2,7 +2,7 @@
 use Rattle.std.specs.Prelude.{IsSome, is_some, if◌then◌else◌}
 use Rattle.std.proofs.Common.{◌≡◌, ◌≢◌, Bool, true, false, List, [], ◌∷◌, ◌++◌, Option, Some, None, refl, sym, ap, ◌∙◌, subst, arith, append_assoc, append-nil}
 use Rattle.sws_link.specs.declared.Link.{Ghosts as LinkWords}
-use Rattle.sws_link.specs.Links.{LinkTells}
+use Rattle.sws_link.specs.Links.{LinkTells, IsFresh}
 use Rattle.sws_link.specs.Scripts.{Script}
 use Rattle.sws_site.specs.Sites.{SiteFiles}
 use Rattle.sws_site.specs.Limits.{IsWithinLimits}
@@ -12,7 +12,7 @@ use Rattle.sws_conn.specs.declared.End.{End}
 use Rattle.sws_conn.specs.declared.End.TheVariants as ending
 use Rattle.sws_conn.specs.declared.Next.{Next}
 use Rattle.sws_conn.specs.declared.Next.TheVariants as next
-use Rattle.sws_conn.specs.Step.{Steps, IsFresh, going_to}
+use Rattle.sws_conn.specs.Step.{Steps, going_to}
 use Rattle.sws_conn.specs.Sound.{unopened, IsSound, IsShutAtEnd, IsTold, IsReadyTo}
 use Rattle.sws_conn.specs.Outcome.{Outcome, UnlessMemory}
 use Rattle.sws_conn.specs.Heading.{HeadsFor, HeadsForLink}
@@ -23,6 +23,7 @@ use Rattle.sws_conn.proofs.HeadingSteps.{heads_step, ends_as}
 use Rattle.sws_conn.proofs.SiteSteps.{step_site}
 use Rattle.sws_conn.proofs.Since.{since-step, since-opened, SinceLink}
 use Rattle.sws_conn.proofs.Served.{served}
+use Rattle.sws_conn.proofs.Exchanging.{ExchangedLink, exchanged-opened, exchanged-step}
 use Rattle.sws_conn.proofs.PathSteps.{step_follows}
 use Rattle.sws_conn.proofs.PathLaws.{not_opened, opened-ready, takes-event, takes-both, path_of-open, unless-map, unless-both, end-stays, none-left}
 
@@ -171,6 +172,7 @@ module _ {L : Type 0} (x : LinkWords L) where
       pub linked : IsSome conn.link
       pub heads : (o : Outcome) → HeadsFor (x.tells first) (going_to (unopened site) next.Read) o → HeadsForLink x conn.link conn.standing o
       pub since : SinceLink x first conn.standing conn.link
+      pub exchanged : ExchangedLink x first conn.standing conn.link
       pub site_is : conn.standing.site ≡ site
 
     keeps : (before after : Connection L) → Steps x before after → Kept before → Kept after
@@ -179,6 +181,7 @@ module _ {L : Type 0} (x : LinkWords L) where
       linked = step_linked x before.standing after.standing before.link after.link kept.linked steps;
       heads = λ o h. heads_step x before.standing after.standing before.link after.link o kept.sound.ready steps (kept.heads o h);
       since = since-step x first before.standing after.standing before.link after.link kept.sound.ready steps kept.since;
+      exchanged = exchanged-step x first before.standing after.standing before.link after.link steps kept.exchanged;
       site_is = step_site x before.standing after.standing before.link after.link steps ∙ kept.site_is;
     }
 
@@ -188,6 +191,7 @@ module _ {L : Type 0} (x : LinkWords L) where
       linked = refl;
       heads = λ o h. h;
       since = since-opened x first (going_to (unopened site) next.Read) refl refl;
+      exchanged = exchanged-opened x first (going_to (unopened site) next.Read) refl refl;
       site_is = refl;
     })
 

@@ -11,3 +11,5 @@ pub mod Path
 pub mod Heading
 pub mod Serving
 pub mod Run
+pub mod Talks
+pub mod ConnTalks

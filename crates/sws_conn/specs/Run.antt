@@ -2,13 +2,14 @@
 use Rattle.std.specs.Prelude.{◌≡◌, true, false, List, [], ◌∷◌, Option, Some, None, ⊤}
 use Rattle.sws_link.specs.declared.Link.{Ghosts as LinkWords}
 use Rattle.sws_link.specs.Counts.{Rose}
+use Rattle.sws_link.specs.Links.{IsFresh}
 use Rattle.sws_site.specs.Sites.{SiteFiles}
 use Rattle.sws_site.specs.Limits.{IsWithinLimits}
 use Rattle.sws_conn.specs.Standing.{Connection}
 use Rattle.sws_conn.specs.declared.End.{End}
 use Rattle.sws_conn.specs.declared.End.TheVariants as ending
 use Rattle.sws_conn.specs.declared.Next.TheVariants as next
-use Rattle.sws_conn.specs.Step.{Steps, IsFresh, going_to, wait_limit}
+use Rattle.sws_conn.specs.Step.{Steps, going_to, wait_limit}
 use Rattle.sws_conn.specs.Sound.{unopened}
 use Rattle.sws_conn.specs.Outcome.{UnlessMemory}
 use Rattle.sws_conn.specs.Path.{Handler, event_of, open_link, path_told}

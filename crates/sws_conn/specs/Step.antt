@@ -1,11 +1,11 @@
 -- The table of a connection's steps: what each does and what is next, over what a contract sees of the connection.
-use Rattle.std.specs.Prelude.{◌≡◌, ℕ, ◌+◌, ◌-◌, ◌==◌, nat_le, min, Bool, true, false, ◌||◌, if◌then◌else◌, List, [], ◌++◌, take, drop, Option, Some, None, Result, Ok, Err, ⊤}
+use Rattle.std.specs.Prelude.{◌≡◌, ℕ, ◌+◌, ◌-◌, ◌==◌, nat_le, min, Bool, true, false, ◌||◌, if◌then◌else◌, List, [], ◌++◌, take, drop, Option, Some, None, Result, Ok, Err}
 use Rattle.sws_link.specs.declared.Link.{Ghosts as LinkWords}
 use Rattle.sws_link.specs.declared.LinkRead.{LinkRead}
 use Rattle.sws_link.specs.declared.LinkRead.TheVariants as read
 use Rattle.sws_link.specs.declared.LinkWrite.{LinkWrite}
 use Rattle.sws_link.specs.declared.LinkWrite.TheVariants as write
-use Rattle.sws_link.specs.Links.{LinkTells, Way, read_fault, write_fault, Reads, Writes, Shuts}
+use Rattle.sws_link.specs.Links.{Way, read_fault, write_fault, Reads, Writes, Shuts}
 use Rattle.sws_request.specs.declared.cuts.Cut.{Cut}
 use Rattle.sws_request.specs.declared.cuts.Cut.TheVariants.{Head, TooLong, NotYet}
 use Rattle.sws_request.specs.Cuts.{cut_of}
@@ -137,11 +137,6 @@ module _ {L : Type 0} (x : LinkWords L) (before after : Standing) where
 -- the step that is pending was done
 abbrev pub Steps : {L : Type 0} → LinkWords L → Connection L → Connection L → Type 0
 Steps x before after = StepsFrom x before.standing after.standing before.standing.pending before.link after.link
-
--- nothing was taken or written, where that is told
-abbrev pub IsFresh : Option LinkTells → Type 0
-IsFresh None = ⊤
-IsFresh (Some tells) = (tells.taken ≡ []) × (tells.written ≡ [])
 
 -- the connection gets its link, or has one already and hands this one back
 abbrev pub OpensAt : {L : Type 0} → Option L → Connection L → L → Result Next L → Connection L → Type 0

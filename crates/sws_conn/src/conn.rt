@@ -1,10 +1,12 @@
 //! A connection.
 ghost use Rattle.std.specs.Prelude.{◌≡◌, ◌≢◌, ◌≤◌, ◌<◌, ◌^◌, ◌↔◌, ◌∷◌, [], false, IfOk, IsSome, Some, None};
 ghost use Rattle.sws_conn.specs.Standing.{told_next, told_end};
-ghost use Rattle.sws_conn.specs.Step.{Steps, StepsFrom, Opens, IsFresh};
+ghost use Rattle.sws_link.specs.Links.{IsFresh};
+ghost use Rattle.sws_conn.specs.Step.{Steps, StepsFrom, Opens};
 ghost use Rattle.sws_conn.specs.Sound.{IsSound, IsShutAtEnd, unopened};
 ghost use Rattle.sws_conn.specs.Path.{FollowsScript, TakesEvent, TakesOff, HasNoEvents, open_link, path_told, rest_told, told_by_link};
 ghost use Rattle.sws_conn.specs.Serving.{BeginsResponses};
+ghost use Rattle.sws_conn.specs.Run.{HasRun};
 ghost use Rattle.sws_conn.specs.Shown.{shown};
 ghost use Rattle.std.specs.Option.{option_copied};
 
@@ -73,6 +75,7 @@ impl<'s, L: Link + Drop> Conn<'s, L> {
         requires fresh { IsFresh (L.tells link) }
         requires not_shut { L.is_shut link ≡ false }
         ensures opens { Opens self.old link result self.new }
+        ensures run { IfOk result (λ _. HasRun L.Link self.old.standing.site link [] self.new) }
         ensures path { IfOk result (λ next. TakesOff (open_link ∷ []) (path_told self.old.standing.site (L.tells link)) (rest_told L.Link self.new)) }
         ensures sound { IsSound L.Link self.new }
     {
@@ -104,6 +107,7 @@ impl<'s, L: Link + Drop> Conn<'s, L> {
     pub fn pending(&self) -> Next
         ensures pending { result ≡ self.now.standing.pending }
         ensures never { result ≢ Next.Wait }
+        ensures linked { (self.now.link ≡ None) ↔ (result ≡ Next.Open) }
         ensures shut { IsShutAtEnd L.Link result self.now.link }
     {
         self.talking.pending

@@ -1,12 +1,13 @@
 //! What holds of the path of a scripted connection, and of the events that a connection runs.
 ghost use Rattle.std.specs.Prelude.{◌≡◌, ℕ, false, List, Option, Some, [], ◌∷◌, ◌++◌};
+ghost use Rattle.sws_link.specs.Links.{IsFresh};
 ghost use Rattle.sws_link.specs.Scripts.{Script, wait};
 ghost use Rattle.sws_site.specs.Sites.{SiteFiles};
 ghost use Rattle.sws_site.specs.Limits.{IsWithinLimits};
 ghost use Rattle.sws_conn.specs.declared.End.{End as EndValue};
 ghost use Rattle.sws_conn.specs.declared.Next.{Next as NextValue};
 ghost use Rattle.sws_conn.specs.Standing.{Connection};
-ghost use Rattle.sws_conn.specs.Step.{going_to, Steps, IsFresh};
+ghost use Rattle.sws_conn.specs.Step.{going_to, Steps};
 ghost use Rattle.sws_conn.specs.Sound.{unopened, IsReadyTo, IsSound};
 ghost use Rattle.sws_conn.specs.Outcome.{UnlessMemory};
 ghost use Rattle.sws_conn.specs.Path.{Handler, Scripted, IsPathFrom, open_link, read_piece, parse, resume, close, event_of, scripted_step, path_of, rest_of_path, path_told, rest_told, TakesOff};

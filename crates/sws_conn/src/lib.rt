@@ -3,7 +3,8 @@
 //! A [`Conn`] reads pieces from its link, cuts heads off them, answers these out of a site and writes what the
 //! peer takes. Each call of [`Conn::step`] makes at most one call of the link, so that a server can give way to
 //! another connection after every step. However the bytes come in pieces and whatever the link answers, what was
-//! written begins the responses to the bytes that were taken. [`serve_one`] runs a connection to its end.
+//! written begins the responses to the bytes that were taken. [`serve_one`] runs a connection to its end. A server
+//! that runs many connections knows them by the trait [`Talk`], in which nothing is said of what they talk about.
 //!
 //! A connection ends after its last response, at the end of its input or after 65,536 bytes of it, after 30
 //! answers in succession that the link isn't ready, and where the link fails.
@@ -21,8 +22,10 @@
 
 mod buffer;
 mod conn;
+mod conn_talk;
 pub mod laws;
 mod serving;
+mod talk;
 mod talking;
 #[cfg(test)]
 mod tests;
@@ -30,6 +33,7 @@ mod window;
 
 pub use conn::Conn;
 pub use serving::serve_one;
+pub use talk::Talk;
 pub use window::Window;
 
 /// How a connection ended.

@@ -1,7 +1,8 @@
 //! A whole connection.
 ghost use Rattle.std.specs.Prelude.{◌≡◌, true, false, None, IfOk, IfErr};
 ghost use Rattle.sws_link.specs.Counts.{Rose};
-ghost use Rattle.sws_conn.specs.Step.{IsFresh, wait_limit};
+ghost use Rattle.sws_link.specs.Links.{IsFresh};
+ghost use Rattle.sws_conn.specs.Step.{wait_limit};
 ghost use Rattle.sws_conn.specs.Run.{HasEnded};
 ghost use Rattle.sws_conn.specs.Serving.{EndsAs, Serves, RoseBy, KeepsBy};
 

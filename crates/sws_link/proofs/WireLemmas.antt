@@ -52,6 +52,7 @@ takes_wire failing before now room answer into a b is =
       written = refl;
       to_come = reads_script failing before.step (lowered before.cut (length before.written)) before.input.items room answer into a b;
       ends = subst (λ r. EndsRead r (all_bytes before.input.items)) (sym a) (read_ends room before.input.items);
+      says_all = refl;
     }
 
 -- a read that fails takes nothing; where some call is to fail, no script is told
@@ -68,6 +69,7 @@ fails_wire call failing before now room answer into a is =
       written = refl;
       to_come = refl;
       ends = subst (λ r. EndsRead r (all_bytes before.input.items)) (sym a) tt;
+      says_all = refl;
     }
 
 -- a read that may be one that is to fail

@@ -1,5 +1,5 @@
 -- What a link tells, and what its calls change in that. A link that tells nothing has `None`, and goes on telling nothing.
-use Rattle.std.specs.Prelude.{◌≡◌, ℕ, ◌<◌, ◌≤◌, Bool, true, false, List, [], ◌++◌, length, take, Option, Some, None, ⊤}
+use Rattle.std.specs.Prelude.{◌≡◌, ℕ, ◌<◌, ◌≤◌, Bool, true, false, IsTrue, List, [], ◌++◌, length, take, Option, Some, None, ⊤}
 use Rattle.sws_link.specs.declared.LinkRead.{LinkRead}
 use Rattle.sws_link.specs.declared.LinkRead.TheVariants as read
 use Rattle.sws_link.specs.declared.LinkWrite.{LinkWrite}
@@ -8,16 +8,23 @@ use Rattle.sws_link.specs.Contents.{IsPrefix}
 use Rattle.sws_link.specs.Counts.{Count, HasCause}
 use Rattle.sws_link.specs.Scripts.{Script, read_of, write_of}
 
--- what was taken of the input and what is left of it, what was written, and the answers to come where the link is scripted
+-- what was taken of the input and what is left of it, what was written, and the answers to come where the link is scripted; and whether
+-- its writes write nothing but what their answers say, also where they fail
 pub record LinkTells : Type 0 where
   pub taken : List ℕ
   pub left : List ℕ
   pub written : List ℕ
   pub to_come : Option Script
+  pub says_all : Bool
 
 -- the whole input
 abbrev pub input_of : LinkTells → List ℕ
 input_of tells = tells.taken ++ tells.left
+
+-- nothing was taken or written, where that is told
+abbrev pub IsFresh : Option LinkTells → Type 0
+IsFresh None = ⊤
+IsFresh (Some tells) = (tells.taken ≡ []) × (tells.written ≡ [])
 
 -- ---- a read
 
@@ -58,6 +65,7 @@ pub record TakesTold (before : LinkTells) (now : Option LinkTells) (room : ℕ) 
   pub written : after.written ≡ before.written
   pub to_come : ReadsAs before.to_come room answer into after.to_come
   pub ends : EndsRead answer before.left
+  pub says_all : after.says_all ≡ before.says_all
 
 abbrev pub LinkTakes : Option LinkTells → Option LinkTells → ℕ → LinkRead → List ℕ → Type 0
 LinkTakes None now room answer into = now ≡ None
@@ -112,6 +120,8 @@ pub record PutsTold (before : LinkTells) (now : Option LinkTells) (answer : Link
   pub left : after.left ≡ before.left
   pub to_come : WritesAs before.to_come (length bytes) answer after.to_come
   pub exact : IsExact before.to_come answer bytes front
+  pub says_all : after.says_all ≡ before.says_all
+  pub said : IsTrue before.says_all → front ≡ written_by answer bytes
 
 abbrev pub LinkPuts : Option LinkTells → Option LinkTells → LinkWrite → List ℕ → Type 0
 LinkPuts None now answer piece = now ≡ None

@@ -59,6 +59,7 @@ wire_tells failing wire = record {
   left = all_bytes wire.input.items;
   written = wire.written;
   to_come = script_unless failing (script_of wire);
+  says_all = true;
 }
 
 abbrev pub mem_link_tells : MemLinkState → Option LinkTells

@@ -1,21 +1,21 @@
-//! What the server asks of the outside: a source of bytes, a sink for bytes, a folder of files, and links to
-//! clients.
+//! What the server asks of the outside: a source of bytes, a sink for bytes, a folder of files, links to
+//! clients, and a world that gives these links.
 //!
 //! A server that reads and writes the machine itself can promise nothing of what it sends, since no
-//! contract knows what a socket or a disk holds. So everything of the server is written over the
-//! traits of this crate. An object of the outside *tells* contracts what it holds, as far as that is
-//! known: a source the bytes that are left, a sink the bytes that were written, a folder its files, a
-//! link its input, what was taken of it and what was written. An object that tells nothing goes on
-//! telling nothing. Each object also has a count of its faults, which never falls: every answer
-//! `Failed` comes only where that count rose in the call, and a call that answers anything else leaves
-//! it as it was. A link counts likewise how often it was not ready, and tells whether it was shut, after
-//! which it is neither read nor written. A link that answers as the lines of a script say tells these
-//! lines as well.
+//! contract knows what a socket or a disk holds. So everything of the server is written over the traits
+//! of this crate. An object of the outside *tells* contracts what it holds, as far as that is known: a
+//! source the bytes that are left, a sink the bytes that were written, a folder its files, a link its
+//! input, what was taken of it and what was written, a world the inputs of the links to come. An object
+//! that tells nothing goes on telling nothing. Each object also has a count of its faults, which never
+//! falls: every answer `Failed` comes only where that count rose in the call, and a call that answers
+//! anything else leaves it as it was. A link counts likewise how often it was not ready, and tells
+//! whether it was shut, after which it is neither read nor written. A link that answers as the lines of
+//! a script say tells these lines as well.
 //!
-//! [`MemSource`], [`MemSink`], [`MemFolder`] and [`MemLink`] hold their contents in memory, tell all of
-//! them, and fail at the calls that they are told to. [`SureSource`], [`SureSink`], [`SureFolder`] and
-//! [`SureLink`] are the same without faults. Adapters of the machine's own files and streams tell
-//! nothing and count errors.
+//! [`MemSource`], [`MemSink`], [`MemFolder`], [`MemLink`] and [`MemWorld`] hold their contents in
+//! memory, tell all of them, and fail at the calls that they are told to. [`SureSource`], [`SureSink`],
+//! [`SureFolder`], [`SureLink`] and [`SureWorld`] are the same without faults. Adapters of the
+//! machine's own files and streams tell nothing and count errors.
 //!
 //! ```text
 //! let mut source = SureSource::new(bytes);
@@ -39,28 +39,35 @@ ghost use Rattle.sws_link.specs.Links.{LinkTells, Way, read_fault, write_fault, 
 mod calls;
 mod copying;
 mod link_item;
+mod lobby;
 mod mem_folder;
 mod mem_link;
 mod mem_sink;
 mod mem_source;
+mod mem_world;
 mod playing;
 mod sure_folder;
 mod sure_link;
 mod sure_sink;
 mod sure_source;
+mod sure_world;
 #[cfg(test)]
 mod tests;
 mod wire;
+mod world;
 
 pub use link_item::LinkItem;
 pub use mem_folder::MemFolder;
 pub use mem_link::MemLink;
 pub use mem_sink::MemSink;
 pub use mem_source::MemSource;
+pub use mem_world::MemWorld;
 pub use sure_folder::SureFolder;
 pub use sure_link::SureLink;
 pub use sure_sink::SureSink;
 pub use sure_source::SureSource;
+pub use sure_world::SureWorld;
+pub use world::World;
 
 /// Want of memory: an allocation was refused.
 #[derive(Clone, Copy, Debug, PartialEq, Eq)]
@@ -241,4 +248,26 @@ pub trait Link {
         requires { is_shut self.old ≡ false }
         ensures shuts { Shuts tells is_shut faults waits self.old self.new }
         ensures since { (first : Self) (fault : Option Way) → since first fault self.old → since first fault self.new };
+}
+
+/// What a poll of a world answers.
+#[derive(Clone, Copy, Debug, PartialEq, Eq)]
+pub enum Polled {
+    /// This one of those that wait may be ready.
+    Ready(u16),
+    /// None is ready yet.
+    Quiet,
+    /// The outside failed.
+    Failed,
+}
+
+/// What a world answers that is asked for the next link.
+#[derive(Debug, Drop)]
+pub enum Accepted<L> {
+    /// The next link.
+    Link(L),
+    /// It has not come yet.
+    NotYet,
+    /// The outside failed.
+    Failed,
 }

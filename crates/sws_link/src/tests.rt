@@ -1,6 +1,8 @@
 //! What the forms in memory give with ample memory.
 ghost use Rattle.std.specs.Prelude.{◌≡◌, false};
 
+mod worlds;
+
 use crate::{
     Folder, Got, Link, LinkItem, LinkRead, LinkWrite, MemFolder, MemLink, MemSink, MemSource,
     NextFile, Opened, Put, Sink, Source, SureFolder, SureLink, SureSink, SureSource,

@@ -1,5 +1,5 @@
 -- A source and a sink as one link, which began with what each of them told then.
-use Rattle.std.specs.Prelude.{◌≡◌, ℕ, ◌+◌, ◌-◌, ◌||◌, List, [], ◌++◌, length, take, drop, Option, Some, None, option_map, option_and_then, ⊤}
+use Rattle.std.specs.Prelude.{false, ◌≡◌, ℕ, ◌+◌, ◌-◌, ◌||◌, List, [], ◌++◌, length, take, drop, Option, Some, None, option_map, option_and_then, ⊤}
 use Rattle.sws_link.specs.Counts.{Count, Rose, IsLater}
 use Rattle.sws_link.specs.Contents.{Puts}
 use Rattle.sws_link.specs.Links.{LinkTells, Way, reading, writing}
@@ -33,6 +33,7 @@ pipe_tells whole left first bytes = option_and_then (λ rest. option_map (λ fro
   left = rest;
   written = written_behind front bytes;
   to_come = None;
+  says_all = false;
 }) first) left
 
 -- the faults of both

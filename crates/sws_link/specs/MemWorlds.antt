@@ -1,0 +1,118 @@
+-- What the worlds in memory hold and tell, and what stands after each call: it follows from the links that are to come and the calls that
+-- are to fail alone.
+use Rattle.std.specs.Prelude.{◌≡◌, ℕ, ◌+◌, ◌≤◌, min, Bool, true, false, if◌then◌else◌, List, [], ◌∷◌, length, map, Some}
+use Rattle.sws_link.specs.declared.Opened.{Opened}
+use Rattle.sws_link.specs.declared.Opened.TheVariants as opened
+use Rattle.sws_link.specs.declared.Polled.{Polled}
+use Rattle.sws_link.specs.declared.Polled.TheVariants as polled
+use Rattle.sws_link.specs.declared.Accepted.{Accepted}
+use Rattle.sws_link.specs.declared.Accepted.TheVariants as accepted
+use Rattle.sws_link.specs.Calls.{CallsMade, next_fails, called}
+use Rattle.sws_link.specs.LinkItems.{all_bytes}
+use Rattle.sws_link.specs.MemLinks.{WireState, MemLinkState, SureLinkState, script_of, script_unless}
+use Rattle.sws_link.specs.Worlds.{Coming, WorldTells, first_ready}
+
+-- links that wait to be accepted, the next one first; how many are given in all since the opening, and how many of these were accepted; and
+-- the port of the opening, or 0
+pub record LobbyState (L : Type 0) : Type 0 where
+  pub links : List L
+  pub total : ℕ
+  pub accepted : ℕ
+  pub port : ℕ
+
+-- all the links are to be given
+abbrev pub fresh_lobby : {L : Type 0} → List L → LobbyState L
+fresh_lobby links = record { links = links; total = length links; accepted = 0; port = 0 }
+
+-- as many as are asked for, or as there are
+abbrev pub lobby_opened : {L : Type 0} → LobbyState L → ℕ → ℕ → LobbyState L
+lobby_opened lobby port total = record lobby { total = min total (length lobby.links); accepted = 0; port = port }
+
+-- the next link was given
+pub record GivesNext {L : Type 0} (before : LobbyState L) (link : L) (after : LobbyState L) : Type 0 where
+  pub next : before.links ≡ link ∷ after.links
+  pub becomes : after ≡ record before { links = after.links; accepted = before.accepted + 1 }
+
+-- there are as many links to come as are still to be given
+abbrev pub HasEnough : {L : Type 0} → LobbyState L → Type 0
+HasEnough lobby = lobby.total ≤ lobby.accepted + length lobby.links
+
+-- ---- links that are to come
+
+-- nothing was taken or written, no call failed, the link was never waited for, and it isn't shut
+pub record IsFreshMemLink (link : MemLinkState) : Type 0 where
+  pub taken : link.wire.input.taken ≡ []
+  pub written : link.wire.written ≡ []
+  pub failed : link.calls.failed ≡ 0
+  pub waits : link.waits ≡ 0
+  pub not_shut : link.shut ≡ false
+
+pub record IsFreshSureLink (link : SureLinkState) : Type 0 where
+  pub taken : link.wire.input.taken ≡ []
+  pub written : link.wire.written ≡ []
+  pub waits : link.waits ≡ 0
+  pub not_shut : link.shut ≡ false
+
+-- what is to come of a link: the bytes of its items, and its answers where no call is to fail
+abbrev pub wire_coming : List ℕ → WireState → Coming
+wire_coming failing wire = record { input = all_bytes wire.input.items; answers = script_unless failing (script_of wire); says_all = true }
+
+abbrev pub mem_coming : MemLinkState → Coming
+mem_coming link = wire_coming link.calls.failing link.wire
+
+abbrev pub sure_coming : SureLinkState → Coming
+sure_coming link = wire_coming [] link.wire
+
+-- ---- worlds
+
+-- a world with calls that fail; the failed calls are its faults
+pub record MemWorldState : Type 0 where
+  pub lobby : LobbyState MemLinkState
+  pub calls : CallsMade
+
+abbrev pub is_none : List ℕ → Bool
+is_none [] = true
+is_none (call ∷ calls) = false
+
+abbrev pub lobby_tells : {L : Type 0} → (L → Coming) → Bool → LobbyState L → WorldTells
+lobby_tells coming scripted lobby = record {
+  coming = Some (map coming lobby.links);
+  total = lobby.total;
+  accepted = lobby.accepted;
+  port = lobby.port;
+  scripted = scripted;
+}
+
+-- it is scripted where no call is to fail
+abbrev pub mem_world_tells : MemWorldState → WorldTells
+mem_world_tells world = lobby_tells mem_coming (is_none world.calls.failing) world.lobby
+
+abbrev pub sure_world_tells : LobbyState SureLinkState → WorldTells
+sure_world_tells lobby = lobby_tells sure_coming true lobby
+
+-- ---- calls of a world with calls that fail
+
+abbrev pub opened_or_fails : MemWorldState → Opened
+opened_or_fails world = if next_fails world.calls then opened.Failed else opened.Ready
+
+abbrev pub mem_world_opened : MemWorldState → ℕ → ℕ → MemWorldState
+mem_world_opened world port total = record {
+  lobby = if next_fails world.calls then world.lobby else lobby_opened world.lobby port total;
+  calls = called world.calls;
+}
+
+abbrev pub ready_or_fails : MemWorldState → List ℕ → Polled
+ready_or_fails world waiting = if next_fails world.calls then polled.Failed else first_ready waiting
+
+-- the next link is given, or the call fails where it is to fail
+abbrev pub FailsOrGivesBy : Bool → MemWorldState → Accepted MemLinkState → MemWorldState → Type 0
+FailsOrGivesBy true before answer after = (answer ≡ accepted.Failed) × (after.lobby ≡ before.lobby)
+FailsOrGivesBy false before answer after = (link : MemLinkState) × (answer ≡ accepted.Link link) × GivesNext before.lobby link after.lobby
+
+pub record FailsOrGives (before : MemWorldState) (answer : Accepted MemLinkState) (after : MemWorldState) : Type 0 where
+  pub gives : FailsOrGivesBy (next_fails before.calls) before answer after
+  pub calls_are : after.calls ≡ called before.calls
+
+-- the next link is given
+abbrev pub Gives : LobbyState SureLinkState → Accepted SureLinkState → LobbyState SureLinkState → Type 0
+Gives before answer after = (link : SureLinkState) × (answer ≡ accepted.Link link) × GivesNext before link after
