@@ -1,0 +1,31 @@
+-- The summary of connections.
+use Rattle.std.specs.Prelude.{ℕ, Bool, true, false, List, [], ◌∷◌, ◌++◌, length, codes}
+use Rattle.std.specs.List.{count_by}
+use Rattle.sws_conn.specs.declared.End.{End}
+use Rattle.sws_conn.specs.declared.End.TheVariants.{Done, Idle, Fault}
+use Rattle.sws_report.specs.Numbers.{spaced}
+
+abbrev pub is_done : End → Bool
+is_done Done = true
+is_done _ = false
+
+abbrev pub is_idle : End → Bool
+is_idle Idle = true
+is_idle _ = false
+
+abbrev pub is_fault : End → Bool
+is_fault Fault = true
+is_fault _ = false
+
+-- how many connections there are, and how many of them ended in each way
+abbrev pub ends_line : List End → List ℕ
+ends_line ends =
+    (codes "connections" ++ spaced (length ends)) ++ (codes " done" ++ spaced (count_by is_done ends))
+    ++ (codes " idle" ++ spaced (count_by is_idle ends)) ++ (codes " fault" ++ spaced (count_by is_fault ends)) ++ 10 ∷ []
+
+-- how many bytes were read and written in all
+abbrev pub bytes_line : ℕ → ℕ → List ℕ
+bytes_line read written = (codes "read" ++ spaced read) ++ (codes " written" ++ spaced written) ++ 10 ∷ []
+
+abbrev pub summary : List End → ℕ → ℕ → List ℕ
+summary ends read written = ends_line ends ++ bytes_line read written

@@ -1,0 +1,14 @@
+pub mod NumberLaws
+pub mod WordLaws
+pub mod LineLaws
+pub mod ReadingLaws
+pub mod OrderLaws
+pub mod PlaceLaws
+pub mod SplitLaws
+pub mod StandingLaws
+pub mod PrintLaws
+pub mod PrintedLaws
+pub mod AnswerLaws
+pub mod ScriptedLaws
+pub mod ShortLaws
+pub mod WorldLaws

@@ -1,0 +1,10 @@
+use Rattle.sws_script.specs.Printed.{printed}
+use Rattle.sws_script.proofs.AnswerLaws.{Spells-unique}
+use Rattle.sws_script.proofs.PrintedLaws.{printed-spells}
+use Rattle.sws_script.proofs.laws.what_is_printed_is_read.Goals as goal
+
+pub returns : goal.returns
+returns c = record {
+  spells = printed-spells;
+  only = λ schedule cores input other is short spells. Spells-unique schedule cores (printed schedule input) other input spells (printed-spells schedule cores input is short);
+}

@@ -1,0 +1,10 @@
+pub mod Lines
+pub mod Inputs
+pub mod Grammar
+pub mod Words
+pub mod Splits
+pub mod Scripted
+pub mod Printed
+pub mod Order
+pub mod Parsers
+pub mod Adding

@@ -1,0 +1,67 @@
+-- The word with which a line begins, and what may stand behind it.
+use Rattle.std.specs.Prelude.{◌≡◌, ◌≢◌, ℕ, ◌<◌, ◌⊎◌, ◌==◌, if◌then◌else◌, List, [], ◌∷◌, ◌++◌, length, codes, Option, Some, None, MatchOption}
+use Rattle.std.specs.List.{AllByRecursion}
+use Rattle.std.specs.Fmt.{decimal}
+use Rattle.sws_text.specs.Texts.{StandsFor}
+use Rattle.sws_script.specs.declared.input.Item.TheVariants as item
+use Rattle.sws_script.specs.declared.line.Line.{Line}
+use Rattle.sws_script.specs.declared.line.Line.TheVariants as line
+use Rattle.sws_script.specs.declared.words.Word.{Word}
+use Rattle.sws_script.specs.declared.words.Word.TheVariants.{ScheduleHead, End, ScriptHead, Conn, Step, Cut, Send, Fill, Pause, Fault}
+use Rattle.sws_script.specs.Lines.{IsWithin}
+
+abbrev pub word_text : Word → List ℕ
+word_text ScheduleHead = codes "sws-schedule 1"
+word_text End = codes "end"
+word_text ScriptHead = codes "sws-script 1"
+word_text Conn = codes "conn"
+word_text Step = codes "step "
+word_text Cut = codes "cut "
+word_text Send = codes "send "
+word_text Fill = codes "fill "
+word_text Pause = codes "pause "
+word_text Fault = codes "fault"
+
+abbrev pub all_words : List Word
+all_words = ScheduleHead ∷ End ∷ ScriptHead ∷ Conn ∷ Step ∷ Cut ∷ Send ∷ Fill ∷ Pause ∷ Fault ∷ []
+
+-- what stands behind a word at the front of a line
+abbrev pub stripped : List ℕ → List ℕ → Option (List ℕ)
+stripped [] line = Some line
+stripped (letter ∷ word) [] = None
+stripped (letter ∷ word) (byte ∷ line) = if byte == letter then stripped word line else None
+
+abbrev pub onward : Word → Option (List ℕ) → Option (Word × List ℕ) → Option (Word × List ℕ)
+onward word None other = other
+onward word (Some rest) other = Some (word, rest)
+
+-- the first of the words with which a line begins
+abbrev pub first_word : List Word → List ℕ → Option (Word × List ℕ)
+first_word [] text = None
+first_word (word ∷ words) text = onward word (stripped (word_text word) text) (first_word words text)
+
+unfoldable pub word_in : List ℕ → Option (Word × List ℕ)
+word_in text = first_word all_words text
+
+-- no byte is this one
+abbrev pub HasNo : ℕ → List ℕ → Type 0
+HasNo byte bytes = AllByRecursion (λ b. b ≢ byte) bytes
+
+-- the lines that a word begins, by what stands behind it
+abbrev pub Says : Word → List ℕ → Line → Type 0
+Says ScheduleHead rest says = (rest ≡ []) × (says ≡ line.ScheduleHead)
+Says End rest says = (rest ≡ []) × (says ≡ line.End)
+Says ScriptHead rest says = (rest ≡ []) × (says ≡ line.ScriptHead)
+Says Conn rest says = (rest ≡ []) × (says ≡ line.Conn)
+Says Step rest says =
+    ((count : ℕ) × (says ≡ line.Step count) × (rest ≡ decimal count) × IsWithin 1 65536 count)
+    ⊎ ((core : ℕ) × (count : ℕ) × (says ≡ line.Run core count) × (rest ≡ decimal core ++ 32 ∷ decimal count) × (core < 65536) × IsWithin 1 1000000 count)
+Says Cut rest says = (count : ℕ) × (says ≡ line.Cut count) × (rest ≡ decimal count) × IsWithin 0 1000000000 count
+Says Send rest says = (bytes : List ℕ) × (says ≡ line.Item (item.Send bytes)) × StandsFor rest bytes × IsWithin 1 4096 (length bytes)
+Says Fill rest says = (count : ℕ) × (says ≡ line.Item (item.Fill count)) × (rest ≡ decimal count) × IsWithin 1 65536 count
+Says Pause rest says = (count : ℕ) × (says ≡ line.Item (item.Pause count)) × (rest ≡ decimal count) × IsWithin 1 1000 count
+Says Fault rest says = (rest ≡ []) × (says ≡ line.Item item.Fault)
+
+-- what was read of a line behind its word: the line that it says, or none where it says none
+abbrev pub ReadsBehind : Word → List ℕ → Option Line → Type 0
+ReadsBehind word rest read = MatchOption read ((says : Line) → Says word rest says → ⊥) (Says word rest)

@@ -1,0 +1,7 @@
+use Rattle.sws_text.proofs.TextLaws.{StandsFor-unique}
+use Rattle.sws_text.proofs.WrittenLaws.{StandsFor-shown}
+use Rattle.sws_text.proofs.LengthLaws.{StandsFor-few}
+use Rattle.sws_text.proofs.laws.a_text_stands_for_one_list.Goals as goal
+
+pub returns : goal.returns
+returns c = record { one = StandsFor-unique; seen = StandsFor-shown; few = StandsFor-few }

@@ -1,0 +1,25 @@
+use Rattle.std.proofs.Common.{rules, ◌≡◌, ◌++◌, ◌-◌, length, take, drop, None}
+use Rattle.sws_text.specs.Signs.{spelling_of}
+use Rattle.sws_text.specs.Texts.{text_of, sign_before}
+use Rattle.sws_text.proofs.SignLaws.{found_at}
+use Rattle.sws_text.proofs.PlainLaws.{front_written, sign_written, none_written}
+use Rattle.sws_text.proofs.writing.push_text.Goals as goal
+
+pub returns-in_default : goal.returns-in_default
+returns-in_default c =
+    let left = take (length c.signs.rest.now - c.plain_front-count.result) (drop c.plain_front-count.result c.signs.rest.now) in
+    let none : sign_before left ≡ None = search rules in
+    let pushed : c.extend_from_slice.new.self.items ≡ c.signs.text.items ++ take c.plain_front-count.result c.signs.rest.now = search rules in
+    none_written left c.extend_from_slice.new.self.items (c.args.text.now.items ++ text_of c.args.bytes.now) none
+    (front_written c.signs.rest.now c.plain_front-count.result c.signs.text.items c.extend_from_slice.new.self.items (c.args.text.now.items ++ text_of c.args.bytes.now)
+    c.plain_front-count.ensures.plain pushed c.signs.invariant)
+
+pub signs-preserved : goal.signs-preserved
+signs-preserved c =
+    let left = take (length c.signs.rest.now - c.plain_front-count.result) (drop c.plain_front-count.result c.signs.rest.now) in
+    let found : sign_before left ≡ found_at c.in-Some.sign c.in-Some.after.now = search rules in
+    let pushed : c.extend_from_slice.new.self.items ≡ c.signs.text.items ++ take c.plain_front-count.result c.signs.rest.now = search rules in
+    let spelled : c.push_spelling.new.text.items ≡ c.extend_from_slice.new.self.items ++ spelling_of c.in-Some.sign = search rules in
+    sign_written left c.in-Some.sign c.in-Some.after.now c.extend_from_slice.new.self.items c.push_spelling.new.text.items (c.args.text.now.items ++ text_of c.args.bytes.now) found spelled
+    (front_written c.signs.rest.now c.plain_front-count.result c.signs.text.items c.extend_from_slice.new.self.items (c.args.text.now.items ++ text_of c.args.bytes.now)
+    c.plain_front-count.ensures.plain pushed c.signs.invariant)

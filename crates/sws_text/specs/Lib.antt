@@ -1,0 +1,4 @@
+pub mod Signs
+pub mod Texts
+pub mod Shown
+pub mod SignsIn
