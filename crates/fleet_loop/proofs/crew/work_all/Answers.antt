@@ -1,0 +1,10 @@
+use Rattle.std.proofs.Common.{◌∙◌, Some, ap, sym}
+use Rattle.std.proofs.lemmas.Option.{slice_get-get_or}
+use Rattle.fleet_loop.proofs.crew.work_all.Goals as goal
+
+pub for_each_mut-requires-clause-accepts : goal.for_each_mut-requires-clause-accepts
+for_each_mut-requires-clause-accepts g c = λ _ _ i p low is. record {
+  shaped = c.requires.shaped;
+  of_setup = c.requires.of_setup;
+  passes = c.requires.seats.each i p.now (slice_get-get_or _ i p.now low ∙ ap (λ own. Some own) (sym is));
+}

@@ -1,0 +1,166 @@
+//! The workers of a fleet in threads.
+ghost use Rattle.std.specs.Prelude.{◌≡◌, IfOk, IfSome};
+ghost use Rattle.mely_weave.specs.Making.{AreBlank};
+ghost use Rattle.mely_fleet.specs.Fleets.{ArePasses};
+ghost use Rattle.mely_fleet.specs.Frames.{shard_frame};
+ghost use Rattle.fleet_loop.specs.Loops.{IsLoop, AreSeats, MayWorkHere};
+
+use crate::passing::Passing;
+use crate::tally::{Tally, blank};
+use mely_event::{Colour, Event, Handlers, Memory, Trail};
+use mely_fleet::{Fleet, Passes, Worked};
+use mely_history::{Setup, Shape};
+use mely_steal::victims;
+use mely_worker::{OpenGate, Worker};
+use std::alloc::Global;
+use std::sync::Wait;
+use std::sync::atomic::{AtomicU64, Ordering};
+use std::thread;
+use std::thread::Threads;
+
+/// What the run is shaped by.
+#[derive(Clone, Copy)]
+pub struct Order {
+    pub workers: u16,
+    pub shards: u16,
+    pub colours: u16,
+    pub passes: u16,
+    pub rounds: u32,
+    pub batch: u16,
+}
+
+/// A core for each worker, in groups of four; a colour is worth a steal where three events wait.
+fn setup_of(order: &Order) -> Option<Setup>
+    ensures { IfSome result (λ setup. IsLoop order.now.colours setup) }
+{
+    let shape = Shape {
+        cores: order.workers,
+        shards: order.shards,
+        batch: order.batch,
+        steal_cost: 20,
+        group: 4,
+    };
+    let Ok(handlers) = Handlers::new(&[(10, 1)]) else {
+        return None;
+    };
+    match Setup::new(&shape, u32::from(order.colours), handlers, 0) {
+        Ok(setup) => Some(setup),
+        Err(_) => None,
+    }
+}
+
+/// A state for each colour.
+fn blank_states(alloc: Global, colours: u16) -> Result<Vec<Tally>, Memory>
+    ensures { IfOk result (λ states.
+        AreBlank (λ state. state.log.colour) (λ state. state.log.events) colours states.items) }
+{
+    let mut states = Vec::new(alloc);
+    'colours: for colour in 0..colours {
+        states.push(blank(alloc, colour))?;
+    }
+    Ok(states)
+}
+
+/// Registers an event on each colour; whether there was memory.
+fn post_all<R: Wait>(
+    rt: &R,
+    fleet: &Fleet<Tally, u8>,
+    outside: &mut Passes<Tally, u8>,
+    colours: u16,
+    passes: u16,
+) -> bool
+    requires shaped { IsLoop colours fleet.now.setup }
+    requires passes { ArePasses (shard_frame ⟦<Tally as Trail>⟧.frame_of) fleet.now outside.old }
+{
+    let event = Event {
+        handler: 0,
+        arg: passes,
+    };
+    'colours: for colour in 0..colours {
+        if fleet
+            .post(rt, outside, Colour(colour), event, None)
+            .is_err()
+        {
+            return false;
+        }
+    }
+    true
+}
+
+/// The work of one core, in its thread. How it ended; nothing for want of memory.
+fn work_one<R: Wait>(
+    rt: &R,
+    alloc: Global,
+    fleet: &Fleet<Tally, u8>,
+    setup: &Setup,
+    passes: &mut Passes<Tally, u8>,
+    app: &Passing,
+) -> Option<Worked>
+    requires { MayWorkHere (shard_frame ⟦<Tally as Trail>⟧.frame_of) app.now.colours setup.now fleet.now passes.old }
+{
+    let core = passes.number();
+    if core >= setup.cores() {
+        return None;
+    }
+    let Ok(order) = victims(alloc, core, setup.cores(), setup.group()) else {
+        return None;
+    };
+    let Ok(mut worker) = Worker::new(alloc, core, order, setup.batch()) else {
+        return None;
+    };
+    let worked = fleet.work(rt, &mut worker, passes, app, &OpenGate);
+    let lost = worker.into_lost();
+    drop(lost);
+    Some(worked)
+}
+
+/// The work of all cores, each in a thread of its own.
+fn work_all<R: Threads + Wait + Sync>(
+    rt: &R,
+    alloc: Global,
+    fleet: &Fleet<Tally, u8>,
+    setup: &Setup,
+    seats: &mut [Passes<Tally, u8>],
+    app: &Passing,
+)
+    requires shaped { IsLoop app.now.colours setup.now }
+    requires of_setup { fleet.now.setup ≡ setup.now }
+    requires seats { AreSeats (shard_frame ⟦<Tally as Trail>⟧.frame_of) fleet.now seats.old }
+{
+    let threads = seats.len();
+    if threads == 0 {
+        return;
+    }
+    thread::for_each_mut(
+        rt,
+        seats,
+        threads,
+        &|_, own: &mut Passes<Tally, u8>|
+            requires { MayWorkHere (shard_frame (λ s. tt)) app.now.colours setup.now fleet.now own.now }
+        {
+            drop(work_one(rt, alloc, fleet, setup, own, app));
+        },
+    );
+}
+
+/// Runs an event on each of so many colours, passed on so often, and answers how many handlers ran.
+/// Nothing for want of memory, or where a number is out of its range.
+pub fn run<R: Threads + Wait + Sync>(rt: &R, alloc: Global, order: &Order) -> Option<u64> {
+    let setup = setup_of(order)?;
+    let states = blank_states(alloc, order.colours).ok()?;
+    let Ok((fleet, mut passes)) = Fleet::new(alloc, &setup, states, 1) else {
+        return None;
+    };
+    let mut outside = passes.pop()?;
+    let app = Passing {
+        colours: order.colours,
+        rounds: order.rounds,
+        ran: AtomicU64::new(0),
+    };
+    let is_posted = post_all(rt, &fleet, &mut outside, order.colours, order.passes);
+    work_all(rt, alloc, &fleet, &setup, &mut passes, &app);
+    if !is_posted {
+        return None;
+    }
+    Some(app.ran.load(Ordering::SeqCst))
+}

@@ -1,0 +1,46 @@
+//! `fleet_loop WORKERS SHARDS COLOURS PASSES ROUNDS BATCH`: events that are passed on at random, over
+//! a fleet with a thread for each worker.
+//!
+//! It registers one event on each of so many colours. The handler of an event computes so many rounds,
+//! draws a colour and registers an event there, until an event was passed on so often. The workers take
+//! up to BATCH events of a colour at a time, and end once all were run. It prints how many handlers ran,
+//! which are as many in whatever order. It is the smallest program that uses a fleet, and what a fleet is measured by.
+#![tactic(auto)]
+
+mod crew;
+mod passing;
+mod tally;
+
+use crew::Order;
+use std::process::ExitCode;
+use std::{env, io};
+
+/// The six numbers of the command line.
+fn order(rt: &HostRuntime) -> Option<Order> {
+    let mut words = env::args(rt).ok()?.skip(1);
+    Some(Order {
+        workers: words.next()?.as_str().parse::<u16>().ok()?,
+        shards: words.next()?.as_str().parse::<u16>().ok()?,
+        colours: words.next()?.as_str().parse::<u16>().ok()?,
+        passes: words.next()?.as_str().parse::<u16>().ok()?,
+        rounds: words.next()?.as_str().parse::<u32>().ok()?,
+        batch: words.next()?.as_str().parse::<u16>().ok()?,
+    })
+}
+
+fn main(rt: HostRuntime) -> io::Result<ExitCode> {
+    let Some(order) = order(&rt) else {
+        eprintln!(rt; "usage: fleet_loop WORKERS SHARDS COLOURS PASSES ROUNDS BATCH")?;
+        return Ok(ExitCode::from(2));
+    };
+    match crew::run(&rt, rt.alloc(), &order) {
+        Some(events) => {
+            println!(rt; "{events} events ran")?;
+            Ok(ExitCode::SUCCESS)
+        }
+        None => {
+            eprintln!(rt; "fleet_loop: no memory, or a number out of its range")?;
+            Ok(ExitCode::from(7))
+        }
+    }
+}

@@ -1,0 +1,57 @@
+//! An app that passes events on.
+ghost use Rattle.std.specs.Prelude.{◌≡◌, ◌≤◌, ◌+◌, ◌++◌, ◌∷◌, [], length};
+ghost use Rattle.std.specs.List.{AllByRecursion};
+ghost use Rattle.mely_worker.specs.Access.{FitsIn};
+
+use crate::tally::Tally;
+use mely_event::{Colour, Event};
+use mely_worker::{App, Outs};
+use std::sync::atomic::{AtomicU64, Ordering};
+
+/// One handler, which passes its event on to a colour that is drawn, until its argument has come down to 0.
+#[derive(Drop)]
+pub struct Passing {
+    pub colours: u16,
+
+    /// How many rounds a handler computes.
+    pub rounds: u32,
+
+    /// How many handlers ran.
+    pub ran: AtomicU64,
+}
+
+impl App for Passing {
+    type Load = u8;
+
+    type State = Tally;
+
+    ghost colours_of = { λ app. app.colours };
+
+    ghost handlers_of = { λ app. 1 };
+
+    ghost serves = { λ app frame. Unit {0} };
+
+    ghost runs = { λ app before event load after puts. Unit {0} };
+
+    fn run(&self, state: &mut Tally, event: Event, _load: Option<u8>, outs: &mut Outs<u8>)
+        requires room { 1 ≤ state.old.log.spare }
+        requires empty { outs.old ≡ [] }
+        ensures ran { Unit {0} }
+        ensures colour { state.new.log.colour ≡ state.old.log.colour }
+        ensures frame { Unit {0} }
+        ensures trail { state.new.log.events ≡ state.old.log.events ++ event ∷ [] }
+        ensures spare { state.old.log.spare ≡ state.new.log.spare + 1 }
+        ensures puts { AllByRecursion (FitsIn self.now.colours 1 (λ colour event load. Unit {0})) outs.new }
+        ensures few { length outs.new ≤ 2 }
+    {
+        self.ran.fetch_add(1, Ordering::Relaxed);
+        let drawn = state.run(event, self.rounds);
+        if event.arg > 0 && self.colours > 0 {
+            let next = Event {
+                handler: 0,
+                arg: event.arg - 1,
+            };
+            outs.put(Colour(drawn % self.colours), next, None);
+        }
+    }
+}

@@ -1,0 +1,79 @@
+-- Locks and their columns of passes, by place.
+use Rattle.std.proofs.Common.{◌≡◌, ℕ, zero, suc, ◌+◌, ◌<◌, ◌≤◌, ⊎_elim, List, [], ◌∷◌, ◌++◌, Some, length, get_or, drop, refl, sym, ◌∙◌, ap, subst, arith}
+use Rattle.std.specs.Prelude.{slice_get}
+use Rattle.mely_weave.proofs.DealLaws.{both_push}
+use Rattle.mely_weave.proofs.GatherLaws.{get_there}
+use Rattle.std.proofs.lemmas.Option.{slice_get-get_or}
+use Rattle.std.proofs.Math.ListN.{get_or-append}
+use Rattle.std.proofs.Math.Seq.{get_or-append_seam}
+use Rattle.std.proofs.lemmas.Bool.{cases_lt}
+use Rattle.mely_fleet.specs.Closed.{IsColumn, AreFilled}
+
+-- the first of the rest of a list stands at the place where the rest begins
+pub head_of_rest : {A : Type 0} (xs : List A) (n : ℕ) (x : A) (rest : List A) → x ∷ rest ≡ drop n xs → (slice_get xs n ≡ Some x) × (rest ≡ drop (suc n) xs)
+head_of_rest [] zero x rest is = cc
+head_of_rest [] (suc n) x rest is = cc
+head_of_rest (y ∷ ys) zero x rest is = let same : x ≡ y = cc in let behind : rest ≡ ys = cc in (ap (λ z. Some z) (sym same), behind)
+head_of_rest (y ∷ ys) (suc n) x rest is = head_of_rest ys n x rest is
+
+-- what stands behind some elements
+pub at_seam : {A : Type 0} (xs : List A) (x : A) (ys : List A) → slice_get (xs ++ x ∷ ys) (length xs) ≡ Some x
+at_seam [] x ys = refl
+at_seam (y ∷ xs) x ys = at_seam xs x ys
+
+-- one element more
+pub one_longer : {A : Type 0} (xs : List A) (x : A) → length (xs ++ x ∷ []) ≡ suc (length xs)
+one_longer [] x = refl
+one_longer (y ∷ xs) x = ap suc (one_longer xs x)
+
+-- a column with what one more row has at its place
+pub column_grow : {A : Type 0} (rows : List (List A)) (k : ℕ) (column : List A) (row : List A) (x : A) → IsColumn rows k column → slice_get row k ≡ Some x → IsColumn (rows ++ row ∷ []) k (column ++ x ∷ [])
+column_grow rows k column row x is at = record {
+  many = one_longer column x ∙ ap suc is.many ∙ sym (one_longer rows row);
+  each = both_push (λ _ r y. slice_get r k ≡ Some y) rows column row x (length rows) refl is.many is.each at;
+}
+
+module _ {A C : Type 0} (items : C → List A) (len room : C → ℕ) (rows : List (List A)) (left : ℕ) (old new : List C) (row : List A) where
+  -- columns with one more row handed in
+  pub filled_more : AreFilled items len room rows (suc left) old → length old ≡ length row → length new ≡ length old
+      → ((k : ℕ) (d : C) (p : A) → k < length old → items (get_or new k d) ≡ items (get_or old k d) ++ get_or row k p ∷ [])
+      → ((k : ℕ) (d : C) → k < length old → len (get_or new k d) ≡ len (get_or old k d) + 1)
+      → ((k : ℕ) (d : C) → k < length old → room (get_or new k d) ≡ room (get_or old k d))
+      → AreFilled items len room (rows ++ row ∷ []) left new
+  filled_more was as_many many each longer same = record {
+    are = λ k d low.
+        let low_old : k < length old = omega (arith, low, many) in
+        let low_row : k < length row = omega (arith, low_old, as_many) in
+        let x = (get_there row k low_row).0 in
+        subst (IsColumn (rows ++ row ∷ []) k) (sym (each k d x low_old)) (column_grow rows k (items (get_or old k d)) row (get_or row k x) (was.are k d low_old) (slice_get-get_or row k x low_row));
+    room_left = λ k d low.
+        let low_old : k < length old = omega (arith, low, many) in
+        let before = was.room_left k d low_old in
+        let len_is = longer k d low_old in
+        let room_is = same k d low_old in
+        omega (arith, before, len_is, room_is);
+  }
+
+-- no rows, and no elements
+none_column : {A : Type 0} (k : ℕ) (column : List A) → column ≡ [] → IsColumn [] k column
+none_column k column none = subst (IsColumn [] k) (sym none) (record { many = refl; each = λ n row x is. cc })
+
+module _ {A C : Type 0} (items : C → List A) (len room : C → ℕ) (left : ℕ) where
+  -- no columns
+  pub filled_none : AreFilled items len room [] left []
+  filled_none = record { are = λ k d low. absurd (omega (arith, low)); room_left = λ k d low. absurd (omega (arith, low)) }
+
+  -- one empty column more
+  pub filled_push : (columns : List C) (column : C) → AreFilled items len room [] left columns → items column ≡ [] → len column + left ≤ room column → AreFilled items len room [] left (columns ++ column ∷ [])
+  filled_push columns column was none roomy = record {
+    are = λ k d low. at (λ c. IsColumn [] k (items c)) k d low (λ before. was.are k d before) (none_column k (items column) none);
+    room_left = λ k d low. at (λ c. len c + left ≤ room c) k d low (λ before. was.room_left k d before) roomy;
+  } where
+    at : (Has : C → Type 0) (k : ℕ) (d : C) → k < length (columns ++ column ∷ []) → (k < length columns → Has (get_or columns k d)) → Has column → Has (get_or (columns ++ column ∷ []) k d)
+    at Has k d low before here = ⊎_elim
+        (λ (less : k < length columns). subst Has (sym (get_or-append columns (column ∷ []) d k less)) (before less))
+        (λ (more : length columns ≤ k).
+        let longer : length (columns ++ column ∷ []) ≡ suc (length columns) = one_longer columns column in
+        let last : k ≡ length columns = omega (arith, low, longer, more) in
+        subst (λ j. Has (get_or (columns ++ column ∷ []) j d)) (sym last) (subst Has (sym (get_or-append_seam columns column [] d)) here))
+        (cases_lt k (length columns))

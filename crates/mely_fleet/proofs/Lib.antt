@@ -1,0 +1,9 @@
+pub mod Keeping
+pub mod Rows
+pub mod Siding
+pub mod WorkLaws
+pub mod OpeningLaws
+mod ClosingRows
+mod ClosingLaws
+mod GatherClosed
+mod Seating

@@ -1,0 +1,23 @@
+use Rattle.std.proofs.Common.{◌≡◌, ◌∙◌, Some, ap, sym, subst, arith}
+use Rattle.std.proofs.lemmas.Option.{slice_get_within}
+use Rattle.mely_weave.proofs.GatherLaws.{get_there}
+use Rattle.mely_weave.specs.Making.{first_rest}
+use Rattle.mely_fleet.specs.Frames.{shard_frame}
+use Rattle.mely_fleet.specs.Opening.{AreFirstPasses}
+use Rattle.mely_fleet.proofs.Seating.{first_seat}
+use Rattle.mely_fleet.proofs.seat.FleetOf+KeptShard+S+P.seats.Goals as goal
+
+pub returns-clause-each : goal.returns-clause-each
+returns-clause-each g c = λ n seat at.
+    let fleet = c.args.self.now in
+    let made = c.in_ok-seats in
+    let low = slice_get_within made.seats.items n seat at in
+    let many = made.ensures.many in
+    let cores = c.requires.many in
+    let rested_many = c.in_ok-rested.ensures.many in
+    let own = get_there c.args.passes.items n (omega (arith, low, many)) in
+    let rest = get_there c.in_ok-rested.rested.items n (omega (arith, low, many, cores, rested_many)) in
+    let passes_is : seat.passes ≡ own.0 = made.ensures.passes n own.0 seat own.1 at in
+    let worker_is : seat.worker ≡ Some (first_rest fleet.setup n) = made.ensures.workers n rest.0 seat rest.1 at ∙ ap (λ r. Some r) (c.in_ok-rested.ensures.first n rest.0 rest.1) in
+    first_seat g.S.Trail g.S.Fits.fits_under fleet n seat.passes seat.worker (omega (arith, low, many, cores))
+    (subst (AreFirstPasses (shard_frame g.S.Trail.frame_of) fleet n) (sym passes_is) (c.requires.first n own.0 own.1)) worker_is

@@ -1,0 +1,33 @@
+use Rattle.std.proofs.Common.{◌≡◌, ◌+◌, ◌++◌, ◌∷◌, [], Some, length, map, ap, ◌∙◌, sym, arith, length-append, append_assoc}
+use Rattle.std.proofs.lemmas.List.{map-append, reverse-append}
+use Rattle.std.specs.Prelude.{reverse}
+use Rattle.std.specs.Vec.Iter.{into_iter_items}
+use Rattle.mely_fleet.proofs.OpeningLaws.{mapped_at}
+use Rattle.mely_fleet.proofs.Seating.{joined_at}
+use Rattle.mely_fleet.proofs.seat.seat_all.Goals as goal
+
+pub passes-preserved : goal.passes-preserved
+passes-preserved g c =
+    let at = c.passes.invariant in
+    let own = c.in-Some.own in
+    let worker = c.in-Some-pop.worker in
+    let steps : into_iter_items c.passes.own-iterator ≡ own ∷ into_iter_items c.next.new.self = c.in-Some.ensures.steps.0 in
+    let short = ap length steps in
+    let left = at.left in
+    let gone = c.in-Some.ensures.steps.1 in
+    let longer : length (c.passes.yielded ++ own ∷ []) ≡ length c.passes.yielded + 1 = length-append c.passes.yielded (own ∷ []) in
+    let many = at.many in
+    let pushed = c.push_reserved.ensures.items in
+    let last : reverse c.passes.left.items ≡ worker ∷ reverse c.pop.new.self.items = ap reverse c.in-Some-pop.ensures.items ∙ reverse-append c.pop.new.self.items (worker ∷ []) in
+    record {
+      split = append_assoc c.passes.yielded (own ∷ []) _ ∙ rw (← steps) at.split;
+      left = omega (arith, left, short, gone);
+      room = let room = at.room in let kept = c.push_reserved.ensures.capacity in let len = c.push_reserved.ensures.len in omega (arith, room, kept, len, short);
+      many = ap length pushed ∙ length-append c.passes.seats.items _ ∙ omega (arith, many, longer);
+      passes = ap (map (λ seat. seat.passes)) pushed ∙ map-append (λ seat. seat.passes) c.passes.seats.items _ ∙ ap (λ l. l ++ own ∷ []) at.passes;
+      workers = ap (λ l. map (λ seat. seat.worker) l ++ map (λ rest. Some rest) (reverse c.pop.new.self.items)) pushed ∙ ap (λ l. l ++ map (λ rest. Some rest) (reverse c.pop.new.self.items)) (map-append (λ seat. seat.worker) c.passes.seats.items _)
+          ∙ append_assoc (map (λ seat. seat.worker) c.passes.seats.items) (Some worker ∷ []) (map (λ rest. Some rest) (reverse c.pop.new.self.items)) ∙ ap (λ l. map (λ seat. seat.worker) c.passes.seats.items ++ map (λ rest. Some rest) l) (sym last) ∙ at.workers;
+    }
+
+pub returns-clause-workers : goal.returns-clause-workers
+returns-clause-workers g c = λ n rest seat at_rest at_seat. joined_at (λ seat. seat.worker) (λ rest. Some rest) c.passes.seats.items _ c.args.rested.items c.passes.invariant.workers n seat rest at_seat at_rest

@@ -1,0 +1,17 @@
+use Rattle.std.proofs.Common.{◌≡◌, ◌∙◌, sym, ap, refl, inl}
+use Rattle.mely_lock.specs.Words.{first_value, front}
+use Rattle.mely_fleet.specs.Frames.{shard_frame}
+use Rattle.mely_fleet.specs.Calls.{RegistersAt, TakesAt, StealsAt, LooksAt}
+use Rattle.mely_fleet.proofs.Keeping.{call_seen, adds_seen, registers_own, takes_own, steals_own}
+use Rattle.mely_fleet.proofs.shard_calls.take_at.Goals as goal
+
+pub leave-requires-clause-history : goal.leave-requires-clause-history
+leave-requires-clause-history g c =
+    let mid : front c.enter-held.new.pass ≡ c.value.result.now.has.history = c.enter-held.ensures.seen ∙ ap (λ v. v.has.history) (sym c.value.ensures.value) in
+    adds_seen c.enter-held.new.pass.number c.number-core.result (front c.enter-held.new.pass) c.value.result.now.has.history _ mid c.number-core.ensures (takes_own g.S.Trail g.S.Fits.fits_under c.value.result.now.has.setup _ c.number-core.result c.args.colour c.take-answer.result c.value.result.now.has.history _ c.take-answer.ensures.does)
+
+pub returns-clause-seen : goal.returns-clause-seen
+returns-clause-seen g c =
+    let mid : front c.enter-held.new.pass ≡ c.value.result.now.has.history = c.enter-held.ensures.seen ∙ ap (λ v. v.has.history) (sym c.value.ensures.value) in
+    call_seen (λ of n. TakesAt g.S.Trail g.S.Fits.fits_under of.setup of.states n c.args.colour c.take-answer.result) (shard_frame g.S.Trail.frame_of c.value.result.now) (shard_frame g.S.Trail.frame_of (first_value c.args.lock.now)) c.number-core.result c.args.pass.now.number (front c.args.pass.now) (front c.enter-held.new.pass) (front c.leave.new.pass) _ _
+    (ap (shard_frame g.S.Trail.frame_of) c.value.ensures.value ∙ c.enter-held.ensures.held.1) (c.number-core.ensures ∙ c.enter-held.ensures.pass.2) c.enter-held.ensures.point mid c.leave.ensures.seen c.take-answer.ensures.does c.take-answer.ensures.legal

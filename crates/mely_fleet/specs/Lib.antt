@@ -1,0 +1,10 @@
+pub mod Frames
+pub mod Calls
+pub mod Rows
+pub mod Fleets
+pub mod Work
+pub mod Dealing
+pub mod Opening
+pub mod Closing
+pub mod Closed
+pub mod Seats

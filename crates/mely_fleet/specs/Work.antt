@@ -1,0 +1,81 @@
+-- A fleet as the worker of a core sees it at work.
+use Rattle.std.specs.Prelude.{◌≡◌, ◌<◌, ◌++◌, ℕ, List, Option, Some}
+use Rattle.mely_event.specs.declared.colour.Colour.{Colour}
+use Rattle.mely_event.specs.declared.event.Event.{Event}
+use Rattle.mely_event.specs.declared.trail.Trail.{Ghosts as TrailWords}
+use Rattle.mely_history.specs.declared.setup.Setup.{Setup}
+use Rattle.mely_history.specs.declared.entry.Entry.{Entry}
+use Rattle.mely_history.specs.declared.entry.Entry.TheVariants.{Take}
+use Rattle.mely_history.specs.Setup.{shape_of}
+use Rattle.mely_history.specs.Legal.{IsDrained}
+use Rattle.mely_history.specs.Owing.{last_change, IsOwed}
+use Rattle.mely_worker.specs.declared.access.Access.{Ghosts as AccessWords}
+use Rattle.mely_worker.specs.WorkerView.{WorkerView}
+use Rattle.mely_weave.specs.Hands.{colour_run_by}
+use Rattle.mely_weave.specs.Scene.{shard_of}
+use Rattle.mely_fleet.specs.declared.fleet.FleetOf.{FleetOf}
+use Rattle.mely_fleet.specs.declared.passes.PassesOf.{PassesOf}
+use Rattle.mely_fleet.specs.declared.kept_shard.ShardFrame.{ShardFrame}
+use Rattle.mely_fleet.specs.Calls.{RegistersAt, TakesAt, FinishesAt, StealsAt, SeesAt, front_in, front_for}
+use Rattle.mely_fleet.specs.Rows.{fronts}
+use Rattle.mely_fleet.specs.Fleets.{frame_in}
+use Rattle.mely_fleet.specs.Frames.{KeptContents, shard_frame}
+use Rattle.mely_worker.specs.Conditions.{MayStepAt}
+
+-- where a caller stands: the setup, its number, the frame of the states, and what it has seen, shard by shard
+pub record Standpoint (F : Type 0) : Type 0 where
+  pub setup : Setup
+  pub number : ℕ
+  pub frame : F
+  pub fronts : List (List Entry)
+
+-- where the caller with these passes stands
+abbrev pub standpoint : {V F : Type 0} {g : _} → (V → ShardFrame F) → FleetOf V Entry (ShardFrame F) → PassesOf V Entry (ShardFrame F) g → Standpoint F
+standpoint kept_frame fleet passes = record { setup = fleet.setup; number = passes.number; frame = frame_in kept_frame fleet; fronts = fronts passes.shards.items }
+
+-- what the worker of a core may call, by what it has seen: each call on a shard stands at its point, and what a call on a chain does isn't said
+abbrev pub words : {S P F : Type 0} → TrailWords S F → (F → Colour → Event → Option P → Type 0) → AccessWords (Standpoint F) S P F
+words t fits = record {
+  setup_of = λ a. a.setup;
+  core_of = λ a. a.number;
+  frame_of = λ a. a.frame;
+  owes = λ a c core count trail. IsOwed a.number (front_for a.setup a.fronts c) c core count trail;
+  keeps = λ a b. Unit {0};
+  registers = λ a c event load answer b. SeesAt a.setup a.number (shard_of a.setup c) a.fronts b.fronts (RegistersAt a.setup a.number c event load answer);
+  takes = λ a c answer b. SeesAt a.setup a.number (shard_of a.setup c) a.fronts b.fronts (TakesAt t fits a.setup a.frame a.number c answer);
+  finishes = λ a turn answer b. SeesAt a.setup a.number (shard_of a.setup turn.colour) a.fronts b.fronts (FinishesAt a.setup a.number turn.colour turn.count answer);
+  steals = λ a c answer b. SeesAt a.setup a.number (shard_of a.setup c) a.fronts b.fronts (StealsAt a.setup a.number c answer);
+  pushes = λ a core mark answer b. b.fronts ≡ a.fronts;
+  pops = λ a answer b. b.fronts ≡ a.fronts;
+  retells = λ a core c started worth found b. b.fronts ≡ a.fronts;
+  picks = λ a core answer b. b.fronts ≡ a.fronts;
+}
+
+-- more was seen, or as much
+abbrev pub SeesMore : {F : Type 0} → Standpoint F → Standpoint F → Type 0
+SeesMore a b = (k : ℕ) → (more : List Entry) × (front_in b.fronts k ≡ front_in a.fronts k ++ more)
+
+-- of what was seen of each shard nothing runs and nothing is queued
+abbrev pub SeesAllDrained : {F : Type 0} → Standpoint F → Type 0
+SeesAllDrained a = (k : ℕ) → k < (shape_of a.setup).shards → IsDrained (front_in a.fronts k)
+
+-- each take of the caller has its finish, but that of the colour that runs
+abbrev pub HasFinishedBut : {F : Type 0} → Standpoint F → Option Colour → Type 0
+HasFinishedBut a running = (c : Colour) (core count : ℕ) → last_change a.number c (front_for a.setup a.fronts c) ≡ Some (Take c core count) → running ≡ Some c
+
+-- each take of the worker's core has its finish, but that of the worker's turn
+abbrev pub HasFinished : {S P F : Type 0} → Standpoint F → WorkerView S P → Type 0
+HasFinished a w = HasFinishedBut a (colour_run_by w)
+
+-- what a caller does at work: it sees more, and each take has its finish still, but that of the worker's turn
+pub record WorksOn {S P F : Type 0} (a : Standpoint F) (w : WorkerView S P) (b : Standpoint F) (v : WorkerView S P) : Type 0 where
+  pub more : SeesMore a b
+  pub finished : HasFinished a w → HasFinished b v
+
+-- the worker may make a step with these passes
+abbrev pub MayWork : {S P F : Type 0} {g : _} → TrailWords S F → (F → Colour → Event → Option P → Type 0) → FleetOf (KeptContents S P) Entry (ShardFrame F) → PassesOf (KeptContents S P) Entry (ShardFrame F) g → WorkerView S P → Type 0
+MayWork t fits fleet passes w = MayStepAt t fits (words t fits) (standpoint (shard_frame t.frame_of) fleet passes) w
+
+-- what the worker does with these passes
+abbrev pub Works : {S P F : Type 0} {g : _} → (S → F) → FleetOf (KeptContents S P) Entry (ShardFrame F) → PassesOf (KeptContents S P) Entry (ShardFrame F) g → WorkerView S P → PassesOf (KeptContents S P) Entry (ShardFrame F) g → WorkerView S P → Type 0
+Works frame_of fleet before w after v = WorksOn (standpoint (shard_frame frame_of) fleet before) w (standpoint (shard_frame frame_of) fleet after) v

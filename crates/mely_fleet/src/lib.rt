@@ -1,0 +1,48 @@
+//! The shards and chains of a coloured-event runtime behind locks, for threads.
+//!
+//! A [`Fleet`] is what a weave ([`mely_weave`]) is, but shared: each shard stands behind a lock of its
+//! own, and so does each core's chain. A caller brings its [`Passes`], one for each lock. A call goes
+//! into the lock of one shard or of one chain, and no lock is held over a handler.
+//!
+//! What a call answers is what the shard's own call answers at one point of the shard's history: that
+//! point begins with all that the caller had seen, and only others' entries lie between. The call's own
+//! entry, where it has one, is next. So the calls that a caller makes stand in each shard's one legal
+//! history, each once, in the order in which it made them, whatever other threads do.
+//!
+//! ```text
+//! let (fleet, passes) = Fleet::new(alloc, &setup, states, 1)?;   // passes of each core, and of one other caller
+//! fleet.post(rt, &mut outside, colour, event, load)?;
+//! // in a thread for each core:
+//! fleet.work(rt, &mut worker, &mut own, &app, &gate);            // until nothing is left to do
+//! // once all are back:
+//! let weave = fleet.close(room, passes, workers);
+//! ```
+//!
+//! Where a mark lies in a running fleet isn't promised, nor that `work` returns, that two threads run
+//! at once, or any order between shards. The weave that [`close`](FleetOf::close) gives stands well
+//! again. How workers that find nothing to do wait is argued in `BELL.md` beside this crate.
+#![tactic(auto)]
+
+mod bell;
+mod chain_calls;
+mod close;
+mod closing;
+mod dealing;
+mod fleet;
+mod kept_chain;
+mod kept_shard;
+mod opening;
+mod passes;
+mod room;
+mod seat;
+mod shard_calls;
+mod side;
+mod working;
+
+pub use fleet::{Fleet, FleetOf};
+pub use kept_chain::{ChainFrame, KeptChain};
+pub use kept_shard::{KeptShard, ShardFrame};
+pub use passes::{Passes, PassesOf};
+pub use room::{Room, RoomOf};
+pub use seat::{Seat, SeatOf};
+pub use working::Worked;

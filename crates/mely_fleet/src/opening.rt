@@ -1,0 +1,143 @@
+//! How a fleet is made.
+ghost use Rattle.std.specs.Prelude.{◌≡◌, ◌<◌, ◌≤◌, ℕ, Some, IfOk, length, slice_get};
+ghost use Rattle.mely_shard.specs.Contents.{givens};
+ghost use Rattle.mely_weave.specs.Dealing.{AtEach};
+ghost use Rattle.mely_fleet.specs.Frames.{HaveFrame};
+
+use crate::bell::Bell;
+use crate::dealing::lock_all;
+use crate::fleet::{Fleet, FleetOf};
+use crate::kept_chain::KeptChain;
+use crate::kept_shard::KeptShard;
+use crate::passes::{Passes, PassesOf};
+use mely_core::CoreQueue;
+use mely_event::{Fits, Kept, Memory, Trail};
+use mely_history::Setup;
+use mely_lock::Pass;
+use mely_shard::Shard;
+use mely_weave::{chains_of, deal, shards_of};
+use std::alloc::Global;
+use std::snapshot::Snapshot;
+
+/// The shards as their locks keep them.
+fn keep_shards<S: Fits<P> + Drop, P: Drop>(
+    alloc: Global,
+    shards: Vec<Shard<S, P>>,
+    given: &Snapshot<S>,
+) -> Result<Vec<KeptShard<S, P>>, Memory>
+    requires { let frame = S.frame_of given.now.value in
+        AtEach (λ k has. HaveFrame S.frame_of frame (givens has)) shards.items }
+    ensures many { IfOk result (λ kept. length kept.items ≡ length shards.items) }
+    ensures each { IfOk result (λ kept. (k : ℕ) (has : _) (one : _) → slice_get shards.items k ≡ Some has
+        → slice_get kept.items k ≡ Some one → one ≡ record { has = has; sample = given.now.value }) }
+{
+    let mut kept = Vec::with_capacity(alloc, shards.len())?;
+    'shards: for shard in shards {
+        kept.push_reserved(KeptShard::new(shard, given));
+    }
+    Ok(kept)
+}
+
+/// The chains as their locks keep them.
+fn keep_chains(alloc: Global, chains: Vec<CoreQueue>) -> Result<Vec<KeptChain>, Memory>
+    ensures many { IfOk result (λ kept. length kept.items ≡ length chains.items) }
+    ensures each { IfOk result (λ kept. (k : ℕ) (queue : _) (one : _) → slice_get chains.items k ≡ Some queue
+        → slice_get kept.items k ≡ Some one → one ≡ queue) }
+{
+    let mut kept = Vec::with_capacity(alloc, chains.len())?;
+    'chains: for chain in chains {
+        kept.push_reserved(KeptChain::new(chain));
+    }
+    Ok(kept)
+}
+
+/// The passes of each number.
+fn pair_up<V: Kept + Drop>(
+    alloc: Global,
+    shard_rows: Vec<Vec<Pass<V>>>,
+    chain_rows: Vec<Vec<Pass<KeptChain>>>,
+) -> Result<Vec<PassesOf<V>>, Memory>
+    requires as_many { length chain_rows.items ≡ length shard_rows.items }
+    requires few { length shard_rows.items ≤ 65535 }
+    ensures many { IfOk result (λ all. length all.items ≡ length shard_rows.items) }
+    ensures numbers { IfOk result (λ all. AtEach (λ n passes. passes.number ≡ n) all.items) }
+    ensures shards { IfOk result (λ all. (n : ℕ) (row : _) (passes : _) → slice_get shard_rows.items n ≡ Some row
+        → slice_get all.items n ≡ Some passes → passes.shards ≡ row) }
+    ensures chains { IfOk result (λ all. (n : ℕ) (row : _) (passes : _) → slice_get chain_rows.items n ≡ Some row
+        → slice_get all.items n ≡ Some passes → passes.chains ≡ row) }
+{
+    let mut all = Vec::with_capacity(alloc, shard_rows.len())?;
+    let mut chains_left = chain_rows;
+    chains_left.reverse();
+    let mut number = 0u16;
+    'rows: for shards in shard_rows {
+        let Some(chains) = chains_left.pop() else {
+            unreachable!()
+        };
+        all.push_reserved(PassesOf {
+            number,
+            shards,
+            chains,
+        });
+        number = number.wrapping_add(1);
+    }
+    Ok(all)
+}
+
+/// The first state, for contracts alone.
+fn first_given<S>(states: &Vec<S>) -> Snapshot<S>
+    requires { 0 < length states.now.items }
+    ensures { (state : _) → slice_get states.now.items 0 ≡ Some state → result.value ≡ state }
+{
+    Snapshot::of(&states[0])
+}
+
+impl<S: Fits<P> + Drop, P: Drop> FleetOf<KeptShard<S, P>> {
+    ghost use Rattle.std.specs.Prelude.{◌≡◌, ◌≤◌, ◌+◌, IfOk};
+    ghost use Rattle.mely_history.specs.Setup.{shape_of};
+    ghost use Rattle.mely_weave.specs.Making.{AreFirst};
+    ghost use Rattle.mely_fleet.specs.Frames.{shard_frame};
+    ghost use Rattle.mely_fleet.specs.Opening.{IsOpened};
+
+    /// A fleet at first, and the passes of its callers by number: those of the cores, and of so many others.
+    ///
+    /// There is a state for each colour, in ascending order, each with an empty trail, all with one frame. Nothing was
+    /// registered and the chains are empty. The passes have seen nothing.
+    ///
+    /// # Errors
+    ///
+    /// There was no memory: the states are dropped.
+    pub fn new(
+        alloc: Global,
+        setup: &Setup,
+        states: Vec<S>,
+        outsiders: u16,
+    ) -> Result<(Fleet<S, P>, Vec<Passes<S, P>>), Memory>
+        requires first { AreFirst S.Trail setup.now states.items }
+        requires few { (shape_of setup.now).cores + outsiders ≤ 65535 }
+        ensures { let callers = (shape_of setup.now).cores + outsiders in
+            IfOk result (λ opened. IsOpened (shard_frame S.frame_of) S.frame_of setup.now states.items callers
+            opened.0 opened.1.items) }
+    {
+        let cores = setup.cores();
+        let count = cores + outsiders;
+        let bell = Bell::new(alloc, cores)?;
+        let given = first_given(&states);
+        let by_shard = deal(alloc, setup, states)?;
+        let made_shards = shards_of(alloc, setup, by_shard)?;
+        let kept_shards = keep_shards(alloc, made_shards, &given)?;
+        let made_chains = chains_of(alloc, setup)?;
+        let kept_chains = keep_chains(alloc, made_chains)?;
+        let (shards, shard_rows) = lock_all(alloc, kept_shards, count)?;
+        let (chains, chain_rows) = lock_all(alloc, kept_chains, count)?;
+        let passes = pair_up(alloc, shard_rows, chain_rows)?;
+        let fleet = FleetOf {
+            setup: *setup,
+            passes: count,
+            shards,
+            chains,
+            bell,
+        };
+        Ok((fleet, passes))
+    }
+}

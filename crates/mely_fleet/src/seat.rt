@@ -1,0 +1,195 @@
+//! The threads of a fleet's cores.
+ghost use Rattle.std.specs.Prelude.{◌≡◌, ◌≤◌, ◌+◌, ◌++◌, [], ℕ, Some, IfOk, IsSome, IsTrue, length, map, slice_get, vec_len, vec_capacity};
+ghost use Rattle.mely_history.specs.Setup.{shape_of};
+ghost use Rattle.mely_worker.specs.Conditions.{AppServes};
+ghost use Rattle.mely_weave.specs.Dealing.{AtEach};
+ghost use Rattle.mely_fleet.specs.Fleets.{ArePasses, frame_in};
+ghost use Rattle.mely_fleet.specs.Frames.{shard_frame};
+ghost use Rattle.mely_fleet.specs.Opening.{AreFirstPasses};
+ghost use Rattle.mely_fleet.specs.Seats.{MaySit, IsSeatOf, IsOutsider};
+ghost use Rattle.mely_fleet.specs.Closed.{IsClosedOver, IsLeftByOthers};
+ghost use Rattle.mely_weave.specs.Gathering.{AreChainedAnew};
+ghost use Rattle.mely_worker.specs.Rest.{woken};
+ghost use Rattle.mely_worker.specs.Phase.{is_free};
+ghost use Rattle.mely_fleet.specs.Work.{SeesAllDrained, SeesMore, standpoint};
+
+use crate::fleet::FleetOf;
+use crate::kept_shard::KeptShard;
+use crate::passes::{Passes, PassesOf};
+use crate::room::Room;
+use crate::working::Worked;
+use mely_event::{Fits, Kept, Memory, Trail};
+use mely_weave::{Weave, rested_of};
+use mely_worker::{App, Gate, Rested, Worker};
+use std::alloc::Global;
+use std::sync::Wait;
+
+/// What the thread of a core is given, and gives back: the passes of the core, and its worker. `V` is
+/// what the locks of the shards keep, `W` the worker at rest.
+#[derive(Drop)]
+pub struct SeatOf<V: Kept, W> {
+    pub passes: PassesOf<V>,
+    pub worker: W,
+}
+
+/// What the thread of a core is given, and gives back: the passes of the core, and its worker at rest,
+/// which is missing only while it works.
+pub type Seat<S, P> = SeatOf<KeptShard<S, P>, Option<Rested<P>>>;
+
+/// Passes and workers side by side.
+fn seat_all<V: Kept + Drop, P: Drop>(
+    alloc: Global,
+    passes: Vec<PassesOf<V>>,
+    rested: Vec<Rested<P>>,
+) -> Result<Vec<SeatOf<V, Option<Rested<P>>>>, Memory>
+    requires as_many { length rested.items ≡ length passes.items }
+    ensures many { IfOk result (λ seats. length seats.items ≡ length passes.items) }
+    ensures passes { IfOk result (λ seats. (n : ℕ) (own : _) (seat : _) → slice_get passes.items n ≡ Some own
+        → slice_get seats.items n ≡ Some seat → seat.passes ≡ own) }
+    ensures workers { IfOk result (λ seats. (n : ℕ) (rest : _) (seat : _) → slice_get rested.items n ≡ Some rest
+        → slice_get seats.items n ≡ Some seat → seat.worker ≡ Some rest) }
+{
+    let mut seats = Vec::with_capacity(alloc, passes.len())?;
+    let mut left = rested;
+    left.reverse();
+    'passes: for own in passes {
+        let Some(worker) = left.pop() else {
+            unreachable!()
+        };
+        seats.push_reserved(SeatOf {
+            passes: own,
+            worker: Some(worker),
+        });
+    }
+    Ok(seats)
+}
+
+impl<S: Fits<P> + Drop, P: Drop> FleetOf<KeptShard<S, P>> {
+    /// A seat for each core, of the cores' passes as they were made with the fleet.
+    ///
+    /// # Errors
+    ///
+    /// There was no memory: the passes are dropped.
+    pub fn seats(&self, alloc: Global, passes: Vec<Passes<S, P>>) -> Result<Vec<Seat<S, P>>, Memory>
+        requires many { length passes.items ≡ (shape_of self.now.setup).cores }
+        requires first { AtEach (λ n own. AreFirstPasses (shard_frame S.frame_of) self.now n own) passes.items }
+        ensures many { IfOk result (λ seats. length seats.items ≡ (shape_of self.now.setup).cores) }
+        ensures each { IfOk result (λ seats.
+            AtEach (λ n seat. IsSeatOf S.frame_of S.fits_under self.now n seat.passes seat.worker) seats.items) }
+    {
+        let rested = rested_of(alloc, &self.setup)?;
+        let seats = seat_all(alloc, passes, rested)?;
+        Ok(seats)
+    }
+
+    /// Lets the worker of a seat work until nothing is left to do, as [`work`](FleetOf::work) does. It
+    /// is at rest again afterwards.
+    pub fn work_at<R: Wait, A: App<State = S, Load = P>, G: Gate>(
+        &self,
+        rt: &R,
+        seat: &mut Seat<S, P>,
+        app: &A,
+        gate: &G,
+    ) -> Worked
+        requires seat { MaySit S.frame_of S.fits_under self.now seat.old.passes seat.old.worker }
+        requires served { let frame = frame_in (shard_frame S.frame_of) self.now in
+            AppServes A.App self.now.setup frame app.now }
+        ensures seat { MaySit S.frame_of S.fits_under self.now seat.new.passes seat.new.worker }
+        ensures number { seat.new.passes.number ≡ seat.old.passes.number }
+        ensures more { let at = standpoint (shard_frame S.frame_of) self.now in
+            SeesMore (at seat.old.passes) (at seat.new.passes) }
+        ensures quiet { let seen = standpoint (shard_frame S.frame_of) self.now seat.new.passes in
+            result ≡ Worked.Quiet → SeesAllDrained seen }
+    {
+        let Some(rested) = seat.worker.take() else {
+            unreachable!()
+        };
+        let mut worker = rested.wake();
+        let worked = self.work(rt, &mut worker, &mut seat.passes, app, gate);
+        seat.worker = Some(worker.rest());
+        worked
+    }
+}
+
+/// The passes of seats, behind those in a list that has room, and their workers.
+fn leave_all<V: Kept + Drop, P: Drop>(
+    seats: Vec<SeatOf<V, Option<Rested<P>>>>,
+    passes: Vec<PassesOf<V>>,
+    rested: Vec<Rested<P>>,
+) -> (Vec<PassesOf<V>>, Vec<Rested<P>>)
+    requires rest { AtEach (λ n seat. IsSome seat.worker) seats.items }
+    requires empty { rested.items ≡ [] }
+    requires room { vec_len passes + length seats.items ≤ vec_capacity passes }
+    requires rested_room { length seats.items ≤ vec_capacity rested }
+    ensures passes { result.0.items ≡ passes.items ++ map (λ seat. seat.passes) seats.items }
+    ensures rested { map (λ rest. Some rest) result.1.items ≡ map (λ seat. seat.worker) seats.items }
+{
+    let mut passes = passes;
+    let mut rested = rested;
+    'seats: for seat in seats {
+        let SeatOf {
+            passes: own,
+            worker,
+        } = seat;
+        let Some(worker) = worker else { unreachable!() };
+        passes.push_reserved(own);
+        rested.push_reserved(worker);
+    }
+    (passes, rested)
+}
+
+/// Workers that were at rest, into a list that has room for them.
+fn wake_all<S, P: Drop>(rested: Vec<Rested<P>>, workers: Vec<Worker<S, P>>) -> Vec<Worker<S, P>>
+    requires empty { workers.items ≡ [] }
+    requires room { length rested.items ≤ vec_capacity workers }
+    ensures { result.items ≡ map (λ rest. woken rest) rested.items }
+{
+    let mut workers = workers;
+    'rested: for rest in rested {
+        workers.push_reserved(rest.wake());
+    }
+    workers
+}
+
+impl<S: Fits<P> + Drop, P: Drop> FleetOf<KeptShard<S, P>> {
+    ghost use Rattle.mely_weave.specs.StandsWell.{StandsWell};
+
+    /// The weave of this fleet, once the threads of all cores are back: [`close`](FleetOf::close) with
+    /// the passes and the workers of their seats, and the passes of the other callers.
+    ///
+    /// # Errors
+    ///
+    /// There was no memory for the lists of passes and workers: all is dropped.
+    pub fn close_seats(
+        self,
+        alloc: Global,
+        room: Room<S, P>,
+        seats: Vec<Seat<S, P>>,
+        outsiders: Vec<Passes<S, P>>,
+    ) -> Result<Weave<S, P>, Memory>
+        requires of_setup { room.setup ≡ self.setup }
+        requires of_passes { room.passes ≡ self.passes }
+        requires cores { length seats.items ≡ (shape_of self.setup).cores }
+        requires all { length outsiders.items + length seats.items ≡ self.passes }
+        requires seats { AtEach (λ n seat. IsSeatOf S.frame_of S.fits_under self n seat.passes seat.worker) seats.items }
+        requires outsiders { AtEach (λ n own. IsOutsider (shard_frame S.frame_of) self own) outsiders.items }
+        ensures setup { IfOk result (λ weave. weave.setup ≡ self.setup) }
+        ensures histories { let callers = outsiders.items ++ map (λ seat. seat.passes) seats.items in
+            IfOk result (λ weave. AtEach
+            (λ k has. IsClosedOver self.passes k callers has.history) weave.shards) }
+        ensures left { let callers = outsiders.items ++ map (λ seat. seat.passes) seats.items in
+            IfOk result (λ weave. AtEach
+            (λ k has. IsLeftByOthers self.setup k callers has.history) weave.shards) }
+        ensures free { IfOk result (λ weave. AtEach (λ core w. IsTrue (is_free w.phase)) weave.workers) }
+        ensures chains { IfOk result (λ weave. AreChainedAnew weave.setup weave.shards weave.chains) }
+        ensures stands { IfOk result (λ weave. StandsWell S.Trail S.fits_under weave) }
+    {
+        let mut callers = outsiders;
+        callers.reserve(seats.len())?;
+        let rested = Vec::with_capacity(alloc, seats.len())?;
+        let workers = Vec::with_capacity(alloc, seats.len())?;
+        let (callers, rested) = leave_all(seats, callers, rested);
+        let workers = wake_all(rested, workers);
+        Ok(self.close(room, callers, workers))
+    }
+}

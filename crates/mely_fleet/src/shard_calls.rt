@@ -1,0 +1,147 @@
+//! One call on the shard behind a lock.
+ghost use Rattle.std.specs.Prelude.{◌≡◌, ◌<◌, ◌↔◌, [], IsTrue};
+ghost use Rattle.mely_history.specs.Legal.{MayRegister, IsDrained};
+ghost use Rattle.mely_history.specs.Owing.{IsOwed};
+ghost use Rattle.mely_history.specs.Setup.{shape_of};
+ghost use Rattle.mely_lock.specs.Words.{first_value, front, IsPassOf, IsOutside};
+ghost use Rattle.mely_fleet.specs.Frames.{shard_frame, IsColourOf};
+ghost use Rattle.mely_fleet.specs.Calls.{RegistersAt, TakesAt, FinishesAt, StealsAt, LooksAt, IsSeen};
+
+use crate::kept_shard::KeptShard;
+use mely_event::{Colour, Event, Fits, Kept, Memory, Unregistered};
+use mely_history::{After, NoSteal, NoTake, Registered, Stolen};
+use mely_lock::{Pass, Ticketed};
+use mely_queue::Turn;
+use std::sync::Wait;
+
+/// Registers an event behind the others of its colour.
+pub(crate) fn register_at<S: Fits<P>, P, R: Wait>(
+    rt: &R,
+    lock: &Ticketed<KeptShard<S, P>>,
+    pass: &mut Pass<KeptShard<S, P>>,
+    colour: Colour,
+    event: Event,
+    load: Option<P>,
+) -> Result<Registered, Unregistered<P>>
+    requires pass { IsPassOf (shard_frame S.frame_of) lock.now pass.old × IsOutside pass.old }
+    requires own { IsColourOf (shard_frame S.frame_of (first_value lock.now)) colour }
+    requires may { MayRegister (first_value lock.now).has.setup colour event }
+    requires fit { S.fits_under (S.frame_of (first_value lock.now).sample) colour event load }
+    ensures pass { IsPassOf (shard_frame S.frame_of) lock.now pass.new × IsOutside pass.new
+        × (pass.new.number ≡ pass.old.number) }
+    ensures seen { IsSeen (first_value lock.now).has.setup pass.old.number (front pass.old) (front pass.new)
+        (RegistersAt (first_value lock.now).has.setup pass.old.number colour event load result) }
+{
+    let mut held = lock.enter(rt, pass);
+    let by = pass.number();
+    let answer = held.value().register(colour, event, load, by);
+    held.leave(pass);
+    answer
+}
+
+/// Moves the state of a colour and its first events out.
+pub(crate) fn take_at<S: Fits<P>, P, R: Wait>(
+    rt: &R,
+    lock: &Ticketed<KeptShard<S, P>>,
+    pass: &mut Pass<KeptShard<S, P>>,
+    colour: Colour,
+) -> Result<Turn<S, P>, NoTake>
+    requires pass { IsPassOf (shard_frame S.frame_of) lock.now pass.old × IsOutside pass.old }
+    requires own { IsColourOf (shard_frame S.frame_of (first_value lock.now)) colour }
+    ensures pass { IsPassOf (shard_frame S.frame_of) lock.now pass.new × IsOutside pass.new
+        × (pass.new.number ≡ pass.old.number) }
+    ensures seen { IsSeen (first_value lock.now).has.setup pass.old.number (front pass.old) (front pass.new)
+        (TakesAt S.Trail S.fits_under (first_value lock.now).has.setup
+        (S.frame_of (first_value lock.now).sample) pass.old.number colour result) }
+{
+    let mut held = lock.enter(rt, pass);
+    let core = pass.number();
+    let answer = held.value().take(colour, core);
+    held.leave(pass);
+    answer
+}
+
+/// Takes the state of a turn home.
+pub(crate) fn finish_at<S: Fits<P> + Drop, P: Drop, R: Wait>(
+    rt: &R,
+    lock: &Ticketed<KeptShard<S, P>>,
+    pass: &mut Pass<KeptShard<S, P>>,
+    turn: Turn<S, P>,
+) -> After
+    requires pass { IsPassOf (shard_frame S.frame_of) lock.now pass.old × IsOutside pass.old }
+    requires own { IsColourOf (shard_frame S.frame_of (first_value lock.now)) turn.colour }
+    requires spent { turn.events ≡ [] }
+    requires owed { IsOwed pass.old.number (front pass.old)
+        turn.colour turn.core turn.count (S.trail_of turn.state) }
+    requires coloured { S.colour_of turn.state ≡ turn.colour }
+    requires framed { S.frame_of turn.state ≡ S.frame_of (first_value lock.now).sample }
+    ensures pass { IsPassOf (shard_frame S.frame_of) lock.now pass.new × IsOutside pass.new
+        × (pass.new.number ≡ pass.old.number) }
+    ensures seen { IsSeen (first_value lock.now).has.setup pass.old.number (front pass.old) (front pass.new)
+        (FinishesAt (first_value lock.now).has.setup pass.old.number turn.colour turn.count result) }
+{
+    let mut held = lock.enter(rt, pass);
+    let answer = held.value().finish(turn);
+    held.leave(pass);
+    answer
+}
+
+/// Moves a colour with all that is queued to the core of the pass.
+pub(crate) fn steal_at<S: Fits<P>, P, R: Wait>(
+    rt: &R,
+    lock: &Ticketed<KeptShard<S, P>>,
+    pass: &mut Pass<KeptShard<S, P>>,
+    colour: Colour,
+) -> Result<Stolen, NoSteal>
+    requires pass { IsPassOf (shard_frame S.frame_of) lock.now pass.old × IsOutside pass.old }
+    requires own { IsColourOf (shard_frame S.frame_of (first_value lock.now)) colour }
+    requires core { pass.old.number < (shape_of (first_value lock.now).has.setup).cores }
+    ensures pass { IsPassOf (shard_frame S.frame_of) lock.now pass.new × IsOutside pass.new
+        × (pass.new.number ≡ pass.old.number) }
+    ensures seen { IsSeen (first_value lock.now).has.setup pass.old.number (front pass.old) (front pass.new)
+        (StealsAt (first_value lock.now).has.setup pass.old.number colour result) }
+{
+    let mut held = lock.enter(rt, pass);
+    let to = pass.number();
+    let answer = held.value().steal(colour, to);
+    held.leave(pass);
+    answer
+}
+
+/// Makes room for this many entries.
+pub(crate) fn reserve_at<S: Fits<P>, P, R: Wait>(
+    rt: &R,
+    lock: &Ticketed<KeptShard<S, P>>,
+    pass: &mut Pass<KeptShard<S, P>>,
+    entries: usize,
+) -> Result<(), Memory>
+    requires pass { IsPassOf (shard_frame S.frame_of) lock.now pass.old × IsOutside pass.old }
+    ensures pass { IsPassOf (shard_frame S.frame_of) lock.now pass.new × IsOutside pass.new
+        × (pass.new.number ≡ pass.old.number) }
+    ensures seen { IsSeen (first_value lock.now).has.setup pass.old.number (front pass.old) (front pass.new)
+        LooksAt }
+{
+    let mut held = lock.enter(rt, pass);
+    let answer = held.value().reserve(entries);
+    held.leave(pass);
+    answer
+}
+
+/// Looks whether no colour of the shard runs and nothing is queued.
+pub(crate) fn look_at<S: Fits<P>, P, R: Wait>(
+    rt: &R,
+    lock: &Ticketed<KeptShard<S, P>>,
+    pass: &mut Pass<KeptShard<S, P>>,
+) -> bool
+    requires pass { IsPassOf (shard_frame S.frame_of) lock.now pass.old × IsOutside pass.old }
+    ensures pass { IsPassOf (shard_frame S.frame_of) lock.now pass.new × IsOutside pass.new
+        × (pass.new.number ≡ pass.old.number) }
+    ensures seen { IsSeen (first_value lock.now).has.setup pass.old.number (front pass.old) (front pass.new)
+        LooksAt }
+    ensures drained { IsTrue result ↔ IsDrained (front pass.new) }
+{
+    let mut held = lock.enter(rt, pass);
+    let answer = held.value().is_drained();
+    held.leave(pass);
+    answer
+}

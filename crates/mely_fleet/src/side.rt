@@ -1,0 +1,142 @@
+ghost use Rattle.std.specs.Prelude.{◌≡◌, ◌<◌, MatchResult};
+ghost use Rattle.mely_history.specs.Setup.{shape_of};
+ghost use Rattle.mely_worker.specs.Access.{Stays, FitsSetup, IsSpent, StillOwes, NamesCore, GivesBack};
+ghost use Rattle.mely_weave.specs.Scene.{shard_of};
+ghost use Rattle.mely_fleet.specs.Calls.{RegistersAt, TakesAt, FinishesAt, StealsAt};
+ghost use Rattle.mely_fleet.specs.Rows.{fronts};
+ghost use Rattle.mely_fleet.specs.Frames.{shard_frame};
+ghost use Rattle.mely_fleet.specs.Fleets.{ArePasses, frame_in, SeesOn, owed_by};
+
+use crate::fleet::Fleet;
+use crate::kept_shard::{KeptShard, ShardFrame};
+use crate::passes::Passes;
+use mely_event::{Colour, Event, Fits, Kept, Mark, There, Trail, Unregistered};
+use mely_history::{After, Entry, NoSteal, NoTake, Registered, Stolen};
+use mely_queue::Turn;
+use mely_worker::Access;
+use std::sync::Wait;
+
+/// A fleet with the passes of one core, as they are lent for a step of its worker.
+#[derive(Drop)]
+pub(crate) struct Side<'a, S: Fits<P>, P, R: Wait>
+where
+    KeptShard<S, P>: Kept<Note = Entry, Frame = ShardFrame<S::Frame>>,
+{
+    pub(crate) rt: &'a R,
+    pub(crate) fleet: &'a Fleet<S, P>,
+    pub(crate) passes: &'a mut Passes<S, P>,
+    ghost core: { passes.now.number < (shape_of fleet.now.setup).cores },
+    ghost are: { ArePasses ⟦<KeptShard<S, P> as Kept>⟧.frame_of fleet.now passes.now },
+}
+
+impl<'a, S: Fits<P> + Drop, P: Drop, R: Wait> Access<S, P> for Side<'a, S, P, R> {
+    ghost setup_of = { λ a. a.fleet.now.setup };
+
+    ghost core_of = { λ a. a.passes.now.number };
+
+    ghost frame_of = { λ a. frame_in (shard_frame S.frame_of) a.fleet.now };
+
+    ghost owes = { λ a c core count trail. owed_by a.fleet.now a.passes.now c core count trail };
+
+    ghost keeps = { λ a b. (b.passes.ghost_name ≡ a.passes.ghost_name) × (b.fleet.now ≡ a.fleet.now) };
+
+    ghost registers = { λ a c event load answer b.
+        SeesOn a.fleet.now (shard_of a.fleet.now.setup c) a.passes.now b.passes.now
+        (λ setup n. RegistersAt setup n c event load answer) };
+
+    ghost takes = { λ a c answer b.
+        SeesOn a.fleet.now (shard_of a.fleet.now.setup c) a.passes.now b.passes.now
+        (λ setup n. TakesAt S.Trail S.fits_under setup (frame_in (shard_frame S.frame_of) a.fleet.now) n c answer) };
+
+    ghost finishes = { λ a turn answer b.
+        SeesOn a.fleet.now (shard_of a.fleet.now.setup turn.colour) a.passes.now b.passes.now
+        (λ setup n. FinishesAt setup n turn.colour turn.count answer) };
+
+    ghost steals = { λ a c answer b.
+        SeesOn a.fleet.now (shard_of a.fleet.now.setup c) a.passes.now b.passes.now
+        (λ setup n. StealsAt setup n c answer) };
+
+    ghost pushes = { λ a core mark answer b.
+        fronts b.passes.now.shards.items ≡ fronts a.passes.now.shards.items };
+
+    ghost pops = { λ a answer b.
+        fronts b.passes.now.shards.items ≡ fronts a.passes.now.shards.items };
+
+    ghost retells = { λ a core c started worth found b.
+        fronts b.passes.now.shards.items ≡ fronts a.passes.now.shards.items };
+
+    ghost picks = { λ a core answer b.
+        fronts b.passes.now.shards.items ≡ fronts a.passes.now.shards.items };
+
+    fn core(&self) -> u16 {
+        self.passes.number()
+    }
+
+    fn register(
+        &mut self,
+        colour: Colour,
+        event: Event,
+        load: Option<P>,
+    ) -> Result<Registered, Unregistered<P>>
+        requires fits { let frame = frame_in (shard_frame S.frame_of) self.old.fleet.now in
+            FitsSetup S.fits_under self.old.fleet.now.setup frame (colour, event, load) }
+        ensures called { let before = self.old in
+            SeesOn before.fleet.now (shard_of before.fleet.now.setup colour) before.passes.now self.new.passes.now
+            (λ setup n. RegistersAt setup n colour event load result) }
+        ensures answer { MatchResult result (NamesCore self.old.fleet.now.setup) (GivesBack event load) }
+        ensures stays { Stays (λ a. a.fleet.now.setup) (λ a. a.passes.now.number)
+            (λ a. frame_in (shard_frame S.frame_of) a.fleet.now) self.old self.new }
+        ensures kept { (self.new.passes.ghost_name ≡ self.old.passes.ghost_name)
+            × (self.new.fleet.now ≡ self.old.fleet.now) }
+        ensures owed { StillOwes (λ a c core count trail. owed_by a.fleet.now a.passes.now c core count trail)
+            self.old self.new }
+    {
+        self.fleet
+            .register(self.rt, self.passes, colour, event, load)
+    }
+
+    fn take(&mut self, colour: Colour) -> Result<Turn<S, P>, NoTake> {
+        self.fleet.take(self.rt, self.passes, colour)
+    }
+
+    fn finish(&mut self, turn: Turn<S, P>) -> After
+        requires spent { IsSpent S.Trail (λ a. a.fleet.now.setup)
+            (λ a. frame_in (shard_frame S.frame_of) a.fleet.now)
+            (λ a c core count trail. owed_by a.fleet.now a.passes.now c core count trail) self.old turn }
+        ensures called { let before = self.old in
+            SeesOn before.fleet.now (shard_of before.fleet.now.setup turn.colour) before.passes.now self.new.passes.now
+            (λ setup n. FinishesAt setup n turn.colour turn.count result) }
+        ensures stays { Stays (λ a. a.fleet.now.setup) (λ a. a.passes.now.number)
+            (λ a. frame_in (shard_frame S.frame_of) a.fleet.now) self.old self.new }
+        ensures kept { (self.new.passes.ghost_name ≡ self.old.passes.ghost_name)
+            × (self.new.fleet.now ≡ self.old.fleet.now) }
+    {
+        self.fleet.finish(self.rt, self.passes, turn)
+    }
+
+    fn steal(&mut self, colour: Colour) -> Result<Stolen, NoSteal> {
+        self.fleet.steal(self.rt, self.passes, colour)
+    }
+
+    fn push(&mut self, core: u16, mark: Mark) -> Result<(), There> {
+        self.fleet.push(self.rt, self.passes, core, mark)
+    }
+
+    fn pop(&mut self) -> Option<Mark> {
+        let core = self.passes.number();
+        self.fleet.pop(self.rt, self.passes, core)
+    }
+
+    fn retell(&mut self, core: u16, colour: Colour, started: u64, worth: u128) -> bool {
+        self.fleet
+            .retell(self.rt, self.passes, core, colour, started, worth)
+    }
+
+    fn pick(&mut self, core: u16) -> Option<Mark> {
+        self.fleet.pick(self.rt, self.passes, core)
+    }
+
+    ghost use Rattle.std.proofs.Common.{refl};
+
+    ghost keeps_itself = { λ a. (refl, refl) };
+}

@@ -1,0 +1,152 @@
+ghost use Rattle.std.specs.Prelude.{◌≡◌, None, IsTrue, IfSome};
+ghost use Rattle.mely_worker.specs.Conditions.{AppServes};
+ghost use Rattle.mely_worker.specs.Phase.{is_free};
+ghost use Rattle.mely_worker.specs.WorkerView.{IsSameWorker};
+ghost use Rattle.mely_fleet.specs.Frames.{shard_frame};
+ghost use Rattle.mely_fleet.specs.Fleets.{ArePasses, frame_in};
+ghost use Rattle.mely_fleet.specs.Work.{standpoint, SeesMore, SeesAllDrained, HasFinishedBut, MayWork, Works};
+
+use crate::bell::Watch;
+use crate::fleet::FleetOf;
+use crate::kept_shard::KeptShard;
+use crate::passes::Passes;
+use crate::side::Side;
+use mely_event::{Fits, Kept, Trail};
+use mely_worker::{App, Gate, Made, Worker};
+use std::sync::Wait;
+
+/// How a worker's work ended. The worker is free.
+#[derive(Clone, Copy, Debug, PartialEq, Eq)]
+pub enum Worked {
+    /// Nothing runs and nothing is queued, by what the worker's passes have seen of each shard.
+    Quiet,
+
+    /// Some worker met want of memory.
+    Memory,
+}
+
+impl<S: Fits<P> + Drop, P: Drop> FleetOf<KeptShard<S, P>> {
+    /// Lets the worker of the core of these passes work until nothing is left to do.
+    ///
+    /// It makes one step after another, and waits while it finds nothing. Where a worker is halted all come to an end: each ends
+    /// its turn and puts back the mark in its hand. That it returns isn't promised.
+    pub fn work<R: Wait, A: App<State = S, Load = P>, G: Gate>(
+        &self,
+        rt: &R,
+        worker: &mut Worker<S, P>,
+        passes: &mut Passes<S, P>,
+        app: &A,
+        gate: &G,
+    ) -> Worked
+        requires passes { ArePasses (shard_frame S.frame_of) self.now passes.old }
+        requires may { MayWork S.Trail S.fits_under self.now passes.old worker.old }
+        requires served { let frame = frame_in (shard_frame S.frame_of) self.now in
+            AppServes A.App self.now.setup frame app.now }
+        ensures passes { ArePasses (shard_frame S.frame_of) self.now passes.new }
+        ensures number { passes.new.number ≡ passes.old.number }
+        ensures may { MayWork S.Trail S.fits_under self.now passes.new worker.new }
+        ensures worker { IsSameWorker worker.old worker.new }
+        ensures free { IsTrue (is_free worker.new.phase) }
+        ensures works { Works S.frame_of self.now passes.old worker.old passes.new worker.new }
+        ensures quiet { let seen = standpoint (shard_frame S.frame_of) self.now passes.new in
+            result ≡ Worked.Quiet → SeesAllDrained seen }
+    {
+        let mut watch = Watch::new();
+        'steps: for _ in rt.forever() {
+            if let Some(worked) = self.pause(rt, worker, passes, &mut watch) {
+                return worked;
+            }
+            let made = self.step(rt, worker, passes, app, gate);
+            self.bell.note(passes.number, &mut watch, made);
+        }
+        unreachable!()
+    }
+
+    /// What a worker does between two steps: nothing, unless it is free. Then it comes to an end where some worker is halted;
+    /// and where it found nothing in a whole hunt, it looks whether everything is finished, or waits. How its work ended, if it
+    /// did.
+    fn pause<R: Wait>(
+        &self,
+        rt: &R,
+        worker: &Worker<S, P>,
+        passes: &mut Passes<S, P>,
+        watch: &mut Watch,
+    ) -> Option<Worked>
+        requires passes { ArePasses (shard_frame S.frame_of) self.now passes.old }
+        requires may { MayWork S.Trail S.fits_under self.now passes.old worker.now }
+        ensures passes { ArePasses (shard_frame S.frame_of) self.now passes.new }
+        ensures number { passes.new.number ≡ passes.old.number }
+        ensures may { MayWork S.Trail S.fits_under self.now passes.new worker.now }
+        ensures free { IfSome result (λ _. IsTrue (is_free worker.now.phase)) }
+        ensures works { Works S.frame_of self.now passes.old worker.now passes.new worker.now }
+        ensures quiet { let seen = standpoint (shard_frame S.frame_of) self.now passes.new in
+            IfSome result (λ worked. worked ≡ Worked.Quiet → SeesAllDrained seen) }
+    {
+        if !worker.is_free() {
+            return None;
+        }
+        if worker.is_halted() || self.bell.is_stopped() {
+            self.bell.stop(rt, passes.number, watch);
+            return Some(Worked::Memory);
+        }
+        if !watch.is_hunted(self.setup.cores()) {
+            return None;
+        }
+        if self.bell.is_idle() {
+            if self.are_drained(rt, passes) {
+                self.bell.leave(rt, passes.number, watch);
+                return Some(Worked::Quiet);
+            }
+            return None;
+        }
+        self.bell.rest(rt, passes.number, watch);
+        None
+    }
+
+    /// Makes one step of the worker of the core of these passes.
+    fn step<R: Wait, A: App<State = S, Load = P>, G: Gate>(
+        &self,
+        rt: &R,
+        worker: &mut Worker<S, P>,
+        passes: &mut Passes<S, P>,
+        app: &A,
+        gate: &G,
+    ) -> Made
+        requires passes { ArePasses (shard_frame S.frame_of) self.now passes.old }
+        requires may { MayWork S.Trail S.fits_under self.now passes.old worker.old }
+        requires served { let frame = frame_in (shard_frame S.frame_of) self.now in
+            AppServes A.App self.now.setup frame app.now }
+        ensures passes { ArePasses (shard_frame S.frame_of) self.now passes.new }
+        ensures number { passes.new.number ≡ passes.old.number }
+        ensures may { MayWork S.Trail S.fits_under self.now passes.new worker.new }
+        ensures worker { IsSameWorker worker.old worker.new }
+        ensures works { Works S.frame_of self.now passes.old worker.old passes.new worker.new }
+    {
+        let mut side = Side {
+            rt,
+            fleet: self,
+            passes,
+        };
+        worker.step(&mut side, app, gate)
+    }
+
+    /// Looks at each shard, in ascending order, until one isn't drained. Whether all were.
+    fn are_drained<R: Wait>(&self, rt: &R, passes: &mut Passes<S, P>) -> bool
+        requires { ArePasses (shard_frame S.frame_of) self.now passes.old }
+        ensures passes { ArePasses (shard_frame S.frame_of) self.now passes.new }
+        ensures number { passes.new.number ≡ passes.old.number }
+        ensures more { let at = standpoint (shard_frame S.frame_of) self.now in
+            SeesMore (at passes.old) (at passes.new) }
+        ensures finished { let at = standpoint (shard_frame S.frame_of) self.now in
+            HasFinishedBut (at passes.old) None → HasFinishedBut (at passes.new) None }
+        ensures drained { let seen = standpoint (shard_frame S.frame_of) self.now passes.new in
+            IsTrue result → SeesAllDrained seen }
+    {
+        'shards: for shard in 0..self.setup.shards() {
+            if !self.look(rt, passes, shard) {
+                return false;
+            }
+        }
+        true
+    }
+}
