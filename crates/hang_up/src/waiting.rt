@@ -75,10 +75,11 @@ impl<L: Link + Drop> HangUp<L> {
         Ok(Next::Read)
     }
 
-    /// Does the pending step.
+    /// Does the pending step. An end that is known stays.
     pub fn step(&mut self) -> Next
         ensures steps { Steps L.Link self.old self.new }
         ensures told { result ≡ told_by (is_waiting_by self.new.standing.end self.new.standing.waits) self.new.standing.pending }
+        ensures ended { (end : End) → self.old.standing.end ≡ Some end → self.new.standing.end ≡ Some end }
     {
         step_over(&mut self.waiting, &mut self.link);
         told(&self.waiting)

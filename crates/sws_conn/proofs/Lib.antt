@@ -13,6 +13,7 @@ mod Since
 mod Served
 mod Exchanging
 mod Kept
+mod EndSteps
 pub mod PathLaws
 pub mod RunLaws
 mod TalkLaws

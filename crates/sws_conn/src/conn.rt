@@ -89,7 +89,7 @@ impl<'s, L: Link + Drop> Conn<'s, L> {
 
     /// Does the pending step, and answers the next one: `Wait` where the link was not ready and the same step is
     /// pending. Before `open` and after the close it does nothing. Where the link tells its answers to come, the step takes
-    /// its event off the rest of their path. Only the close shuts the link.
+    /// its event off the rest of their path. Only the close shuts the link. An end that is known stays.
     pub fn step(&mut self) -> Next
         ensures steps { Steps L.Link self.old self.new }
         ensures told { result ≡ told_next self.new.standing }
@@ -97,6 +97,7 @@ impl<'s, L: Link + Drop> Conn<'s, L> {
         ensures path { TakesEvent L.Link self.old self.new }
         ensures begins { BeginsResponses self.new.standing.site (told_by_link L.Link self.new.link) }
         ensures shut { IsShutAtEnd L.Link self.new.standing.pending self.new.link }
+        ensures ended { (end : End) → self.old.standing.end ≡ Some end → self.new.standing.end ≡ Some end }
         ensures sound { IsSound L.Link self.new }
     {
         step_over(&mut self.talking, &mut self.link);

@@ -69,11 +69,12 @@ pub trait Talk<L: Link>: Sized {
         ensures runs { IfOk result (λ _. has_run link (open_link ∷ []) self.new) };
 
     /// Does the pending step, and answers the next one: `Wait` where the link was not ready and the same step is
-    /// pending. Before `open` and after the close it does nothing.
+    /// pending. Before `open` and after the close it does nothing. An end that is known stays.
     fn step(&mut self) -> Next
         ensures told { result ≡ next_told (view_of self.new) }
         ensures nothing { HasNoStep (view_of self.old).pending → self.new ≡ self.old }
         ensures hall { hall_of self.new ≡ hall_of self.old }
+        ensures ended { (end : End) → (view_of self.old).end ≡ Some end → (view_of self.new).end ≡ Some end }
         ensures runs { (first : L) (trail : List Handler) (event : Handler)
             → has_run first trail self.old → due (view_of self.old) ≡ Some event
             → has_run first (trail ++ event ∷ []) self.new };
