@@ -1,12 +1,10 @@
 //! The workers of a fleet in threads.
 ghost use Rattle.std.specs.Prelude.{◌≡◌, IfOk, IfSome};
-ghost use Rattle.mely_weave.specs.Making.{AreBlank};
 ghost use Rattle.mely_fleet.specs.Fleets.{ArePasses};
 ghost use Rattle.mely_fleet.specs.Frames.{shard_frame};
 ghost use Rattle.fleet_loop.specs.Loops.{IsLoop, AreSeats, MayWorkHere};
 
-use crate::passing::Passing;
-use crate::tally::{Tally, blank};
+use counting_app::{Passing, Tally, blank_states};
 use mely_event::{Colour, Event, Handlers, Memory, Trail};
 use mely_fleet::{Fleet, Passes, Worked};
 use mely_history::{Setup, Shape};
@@ -47,18 +45,6 @@ fn setup_of(order: &Order) -> Option<Setup>
         Ok(setup) => Some(setup),
         Err(_) => None,
     }
-}
-
-/// A state for each colour.
-fn blank_states(alloc: Global, colours: u16) -> Result<Vec<Tally>, Memory>
-    ensures { IfOk result (λ states.
-        AreBlank (λ state. state.log.colour) (λ state. state.log.events) colours states.items) }
-{
-    let mut states = Vec::new(alloc);
-    'colours: for colour in 0..colours {
-        states.push(blank(alloc, colour))?;
-    }
-    Ok(states)
 }
 
 /// Registers an event on each colour; whether there was memory.

@@ -8,8 +8,6 @@
 #![tactic(auto)]
 
 mod crew;
-mod passing;
-mod tally;
 
 use crew::Order;
 use std::process::ExitCode;

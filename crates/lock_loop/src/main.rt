@@ -1,7 +1,7 @@
 //! `lock_loop KIND THREADS COUNT`: threads that go into one lock and out again, so many times each.
 //!
-//! KIND is `ticketed`, for the lock that is entered with a pass, or `mutex`, for std's. It is what the cost of a lock is
-//! measured by.
+//! KIND is `ticketed`, for the lock that is entered with a pass, `shard`, for that lock round a shard of a fleet, or `mutex`, for
+//! std's. It is what the cost of a lock is measured by.
 #![tactic(auto)]
 
 ghost use Rattle.std.specs.Prelude.{◌<◌, IfSome};
@@ -11,29 +11,46 @@ mod turns;
 use std::process::ExitCode;
 use std::{env, io};
 
+/// Which lock.
+#[derive(Clone, Copy)]
+enum Kind {
+    Ticketed,
+    Shard,
+    Mutex,
+}
+
 /// Which lock, how many threads, and how often each goes in.
-fn order(rt: &HostRuntime) -> Option<(bool, u16, u64)>
+fn order(rt: &HostRuntime) -> Option<(Kind, u16, u64)>
     ensures { IfSome result (λ order. 0 < order.1) }
 {
     let mut words = env::args(rt).ok()?.skip(1);
-    let is_ticketed = words.next()?.as_str() == "ticketed";
+    let word = words.next()?;
+    let kind = if word.as_str() == "ticketed" {
+        Kind::Ticketed
+    } else if word.as_str() == "shard" {
+        Kind::Shard
+    } else {
+        Kind::Mutex
+    };
     let threads = words.next()?.as_str().parse::<u16>().ok()?;
     let count = words.next()?.as_str().parse::<u64>().ok()?;
     if threads == 0 {
         return None;
     }
-    Some((is_ticketed, threads, count))
+    Some((kind, threads, count))
 }
 
 fn main(rt: HostRuntime) -> io::Result<ExitCode> {
-    let Some((is_ticketed, threads, count)) = order(&rt) else {
-        eprintln!(rt; "usage: lock_loop ticketed|mutex THREADS COUNT, with at least one thread")?;
+    let Some((kind, threads, count)) = order(&rt) else {
+        eprintln!(rt;
+            "usage: lock_loop ticketed|shard|mutex THREADS COUNT, with at least one thread"
+        )?;
         return Ok(ExitCode::from(2));
     };
-    let went = if is_ticketed {
-        turns::through_ticketed(&rt, threads, count)
-    } else {
-        turns::through_mutex(&rt, threads, count)
+    let went = match kind {
+        Kind::Ticketed => turns::through_ticketed(&rt, threads, count),
+        Kind::Shard => turns::through_shard(&rt, threads, count),
+        Kind::Mutex => turns::through_mutex(&rt, threads, count),
     };
     if went.is_err() {
         return Ok(ExitCode::from(7));

@@ -1,8 +1,15 @@
 //! Going in and out.
-ghost use Rattle.std.specs.Prelude.{◌≡◌, ◌<◌, length, All};
+ghost use Rattle.std.specs.Prelude.{◌≡◌, ◌<◌, ◌≤◌, IfSome, length, All};
+ghost use Rattle.mely_history.specs.Setup.{shape_of, colours_of};
 ghost use Rattle.mely_lock.specs.Words.{IsPassOf, IsOutside};
+ghost use Rattle.mely_fleet.specs.Fleets.{ArePasses};
+ghost use Rattle.mely_fleet.specs.Frames.{shard_frame};
+ghost use Rattle.lock_loop.specs.Callers.{AreAllPasses};
 
-use mely_event::{Kept, Memory};
+use counting_app::{Tally, blank_states};
+use mely_event::{Fits, Handlers, Kept, Memory, Trail};
+use mely_fleet::{Fleet, Passes};
+use mely_history::{Setup, Shape};
 use mely_lock::{Pass, Ticketed};
 use std::alloc::Global;
 use std::sync::{Mutex, Wait};
@@ -108,5 +115,78 @@ pub fn through_mutex<R: Threads + Wait + AllocGlobal + Sync>(
         threads as usize,
         &|_, _slot: &mut u16| { lock_often(rt, &lock, count) },
     );
+    Ok(())
+}
+
+/// One colour in one shard, for one core and so many other callers.
+fn setup_of() -> Option<Setup>
+    ensures one { IfSome result (λ setup. colours_of setup ≡ 1) }
+    ensures core { IfSome result (λ setup. (shape_of setup).cores ≡ 1) }
+{
+    let shape = Shape {
+        cores: 1,
+        shards: 1,
+        batch: 1,
+        steal_cost: 0,
+        group: 1,
+    };
+    let Ok(handlers) = Handlers::new(&[(1, 1)]) else {
+        return None;
+    };
+    match Setup::new(&shape, 1, handlers, 0) {
+        Ok(setup) => Some(setup),
+        Err(_) => None,
+    }
+}
+
+/// Goes into the lock of a shard and out so many times, by a call that makes no room.
+fn reserve_often<R: Wait>(rt: &R, fleet: &Fleet<Tally, u8>, own: &mut Passes<Tally, u8>, count: u64)
+    requires some { 0 < (shape_of fleet.now.setup).shards }
+    requires own { ArePasses (shard_frame ⟦<Tally as Trail>⟧.frame_of) fleet.now own.old }
+{
+    'turns: for _turn in 0..count {
+        let _ = fleet.reserve(rt, own, 0, 0);
+    }
+}
+
+/// Each caller goes into the lock of a shard so many times, from a thread of its own.
+fn reserve_from_threads<R: Threads + Wait + Sync>(
+    rt: &R,
+    fleet: &Fleet<Tally, u8>,
+    passes: &mut [Passes<Tally, u8>],
+    threads: usize,
+    count: u64,
+)
+    requires threads { 0 < threads }
+    requires some { 0 < (shape_of fleet.now.setup).shards }
+    requires passes { AreAllPasses (shard_frame ⟦<Tally as Trail>⟧.frame_of) fleet.now passes.old }
+{
+    thread::for_each_mut(
+        rt,
+        passes,
+        threads,
+        &|_, own: &mut Passes<Tally, u8>|
+            requires some { 0 < (shape_of fleet.now.setup).shards }
+            requires own { ArePasses (shard_frame (λ s. tt)) fleet.now own.now }
+        { reserve_often(rt, fleet, own, count) },
+    );
+}
+
+/// So many threads go into the lock of a shard of a fleet.
+pub fn through_shard<R: Threads + Wait + AllocGlobal + Sync>(
+    rt: &R,
+    threads: u16,
+    count: u64,
+) -> Result<(), Memory>
+    requires some { 0 < threads }
+    requires few { threads ≤ 65535 }
+{
+    let alloc = rt.alloc();
+    let Some(setup) = setup_of() else {
+        return Err(Memory);
+    };
+    let states = blank_states(alloc, 1)?;
+    let (fleet, mut passes) = Fleet::new(alloc, &setup, states, threads - 1)?;
+    reserve_from_threads(rt, &fleet, &mut passes, threads as usize, count);
     Ok(())
 }

@@ -25,7 +25,8 @@ use Rattle.mely_fleet.specs.Calls.{front_in, front_for}
 use Rattle.mely_fleet.specs.Closed.{IsClosed, IsTakenOut, IsColumn, AreColumns, AreAllPasses, IsClosedOver}
 use Rattle.mely_fleet.specs.Closing.{HasFinishedOf}
 use Rattle.mely_fleet.specs.Fleets.{frame_for, chain_frame_for}
-use Rattle.mely_fleet.specs.Frames.{KeptContents, shard_frame, chain_frame}
+use Rattle.mely_fleet.specs.declared.chain_note.ChainNote.{ChainNote}
+use Rattle.mely_fleet.specs.Frames.{KeptContents, KeptMarks, shard_frame, chain_frame, numbers_of}
 use Rattle.mely_fleet.specs.Rows.{ArePassesOf, HavePasses, fronts}
 use Rattle.mely_history.specs.declared.entry.Entry.TheVariants.{Take}
 use Rattle.mely_history.specs.Owing.{last_change}
@@ -72,9 +73,9 @@ module _ {S P F : Type 0} {g : _} (t : TrailWords S F) (setup : Setup) (frame : 
       }
 
 -- a chain that was closed
-pub chain_gathers : {g : _} (setup : Setup) (lock : Ticketed Chain Entry ChainFrame) (column : List (Pass Chain Entry ChainFrame g)) (kept queue : Chain) → IsClosed (λ _. []) pass_of chain_frame lock column kept → queue ≡ kept → chain_frame (first_value lock) ≡ chain_frame_for setup → MayGatherChain setup queue
+pub chain_gathers : {g : _} (setup : Setup) (lock : Ticketed KeptMarks (ℕ × ChainNote) ChainFrame) (column : List (Pass KeptMarks (ℕ × ChainNote) ChainFrame g)) (kept : KeptMarks) (queue : Chain) → IsClosed (λ k. k.changes) (λ change. change.0) chain_frame lock column kept → queue ≡ kept.has → chain_frame (first_value lock) ≡ chain_frame_for setup → MayGatherChain setup queue
 chain_gathers setup lock column kept queue closed is lock_frame =
-    let frame_is : chain_frame queue ≡ chain_frame_for setup = ap chain_frame is ∙ closed.framed ∙ lock_frame in
+    let frame_is : numbers_of queue ≡ chain_frame_for setup = ap numbers_of is ∙ closed.framed ∙ lock_frame in
     record { colours = ap (λ (f : ChainFrame). f.colours) frame_is; cost = ap (λ (f : ChainFrame). f.cost) frame_is; pinned = ap (λ (f : ChainFrame). f.pinned) frame_is }
 
 -- what stands at a place of a mapped list

@@ -6,4 +6,6 @@ pub mod OpeningLaws
 mod ClosingRows
 mod ClosingLaws
 mod GatherClosed
-mod Seating
+pub mod Seating
+mod Calling
+pub mod CrewLaws

@@ -25,7 +25,7 @@ use Rattle.mely_fleet.specs.Calls.{front_in}
 use Rattle.mely_fleet.specs.Fleets.{frame_for, chain_frame_for, first_of_some}
 use Rattle.mely_fleet.specs.Rows.{IsPassAt, AreFramed, fronts}
 use Rattle.mely_fleet.specs.Dealing.{IsFirstRow}
-use Rattle.mely_fleet.specs.Frames.{KeptContents, HaveFrame, shard_frame, chain_frame}
+use Rattle.mely_fleet.specs.Frames.{KeptContents, KeptMarks, HaveFrame, shard_frame, chain_frame, numbers_of}
 
 givens_first : {S : Type 0} (P : Type 0) (states : List S) → map (λ (lane : Lane S P). lane.given) (map (λ state. first_lane {S = S} {P = P} state) states) ≡ states
 givens_first P [] = refl
@@ -115,14 +115,21 @@ first_frame kept_frame setup f [] some framed = absurd (omega (arith, some))
 first_frame kept_frame setup f (lock ∷ locks) some framed = ap (λ frame. frame.states) (framed 0 lock refl)
 
 -- the same of chains
-pub chains_framed : (setup : Setup) (chains kept : List Chain) → length kept ≡ length chains → ((k : ℕ) (queue one : Chain) → slice_get chains k ≡ Some queue → slice_get kept k ≡ Some one → one ≡ queue) → ((k : ℕ) (queue : Chain) → slice_get chains k ≡ Some queue → queue ≡ empty_chain setup)
-    → {N : Type 0} (locks : List (Ticketed Chain N ChainFrame)) → length locks ≡ length kept → ((k : ℕ) (lock : _) (value : Chain) → slice_get locks k ≡ Some lock → slice_get kept k ≡ Some value → chain_frame (first_value lock) ≡ chain_frame value)
+pub chains_framed : (setup : Setup) (chains : List Chain) (kept : List KeptMarks) → length kept ≡ length chains → ((k : ℕ) (queue : Chain) (one : KeptMarks) → slice_get chains k ≡ Some queue → slice_get kept k ≡ Some one → one ≡ record { has = queue; changes = [] }) → ((k : ℕ) (queue : Chain) → slice_get chains k ≡ Some queue → queue ≡ empty_chain setup)
+    → {N : Type 0} (locks : List (Ticketed KeptMarks N ChainFrame)) → length locks ≡ length kept → ((k : ℕ) (lock : _) (value : KeptMarks) → slice_get locks k ≡ Some lock → slice_get kept k ≡ Some value → chain_frame (first_value lock) ≡ chain_frame value)
     → AreFramed chain_frame (λ _. chain_frame_for setup) locks
 chains_framed setup chains kept kept_many are empty locks many frames k lock at =
     let low = slice_get_within locks k lock at in
     let one = get_there kept k (omega (arith, low, many)) in
     let queue = get_there chains k (omega (arith, low, many, kept_many)) in
-    frames k lock one.0 at one.1 ∙ ap chain_frame (are k queue.0 one.0 queue.1 one.1 ∙ empty k queue.0 queue.1)
+    frames k lock one.0 at one.1 ∙ ap chain_frame (are k queue.0 one.0 queue.1 one.1) ∙ ap numbers_of (empty k queue.0 queue.1)
+
+-- whose histories are empty
+pub chains_untouched : (chains : List Chain) (kept : List KeptMarks) → length kept ≡ length chains → ((k : ℕ) (queue : Chain) (one : KeptMarks) → slice_get chains k ≡ Some queue → slice_get kept k ≡ Some one → one ≡ record { has = queue; changes = [] }) → (k : ℕ) (one : KeptMarks) → slice_get kept k ≡ Some one → one.changes ≡ []
+chains_untouched chains kept many are k one at =
+    let low = slice_get_within kept k one at in
+    let queue = get_there chains k (omega (arith, low, many)) in
+    ap (λ (kept : KeptMarks). kept.changes) (are k queue.0 one queue.1 at)
 
 -- what holds at each place holds of each element, one after another
 pub all_from_places : {X : Type 0} (P : X → Type 0) (xs : List X) → ((i : ℕ) (x : X) → slice_get xs i ≡ Some x → P x) → AllByRecursion P xs

@@ -133,3 +133,8 @@ module _ {S P F : Type 0} {g : _} (t : TrailWords S F) (fits : F → Colour → 
       subst (MayGatherWorker {S = S} fits fleet.setup (frame_in (shard_frame t.frame_of) fleet) n) from.2
       (subst (λ (r : Rest P). MayGatherWorker {S = S} fits fleet.setup (frame_in (shard_frame t.frame_of) fleet) n (woken r)) one
       (subst (λ k. MayGatherWorker {S = S} fits fleet.setup (frame_in (shard_frame t.frame_of) fleet) k (woken sits.sits.rest)) sits.numbered sits.sits.may))
+
+-- what is made of each rested worker, where each is there
+pub some_mapped : {A B : Type 0} (f : A → B) (xs : List A) → map (λ x. Some x) (map f xs) ≡ map (option_map f) (map (λ x. Some x) xs)
+some_mapped f [] = refl
+some_mapped f (x ∷ xs) = ap (λ rest. Some (f x) ∷ rest) (some_mapped f xs)

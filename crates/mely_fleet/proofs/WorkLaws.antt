@@ -41,6 +41,8 @@ use Rattle.mely_worker.specs.Step.{Steps, StepsFrom, StepsTurning, StepsPuts, St
 use Rattle.mely_weave.specs.Hands.{colour_in, colour_run_by}
 use Rattle.mely_weave.specs.Scene.{shard_of}
 use Rattle.mely_fleet.specs.Calls.{RegistersAt, TakesAt, FinishesAt, StealsAt, LooksAt, IsSeen, SeesAt, front_in, front_for}
+use Rattle.mely_fleet.specs.Chains.{ReachesChain, PushesAt, PopsAt, RetellsAt, PicksAt}
+use Rattle.mely_fleet.specs.Fleets.{chain_frame_for}
 use Rattle.mely_fleet.specs.Work.{Standpoint, words, SeesMore, HasFinishedBut, HasFinished, WorksOn}
 
 -- what is seen after a call is what was seen before, the entries of others, and at most one more
@@ -211,25 +213,25 @@ module _ {F : Type 0} (a b : Standpoint F) (same_setup : b.setup ≡ a.setup) (s
     puts_finished turn (put ∷ rest) before line = run_then (after_register w turn rest put line.answer) line.becomes (after_register_finished turn rest put line.answer (register_finished put.0 put.1 put.2 line.answer (Some turn.colour) line.called before))
 
     turning_finished : (turn : Taken S P) (hand : Delivery) (puts : List (Colour × Event × Option P)) → HasFinishedBut a (Some turn.colour) → StepsTurning (words t fits) y app a w step b v turn hand puts → HasFinishedBut b (colour_run_by v)
-    turning_finished turn (PushMark core mark) puts before line = subst (HasFinishedBut b) (ap (λ (x : WorkerView S P). colour_run_by x) (sym line.becomes)) (same_finished (Some turn.colour) line.called before)
-    turning_finished turn (Report core colour started worth) puts before line = subst (HasFinishedBut b) (ap (λ (x : WorkerView S P). colour_run_by x) (sym line.becomes)) (same_finished (Some turn.colour) line.called before)
+    turning_finished turn (PushMark core mark) puts before line = subst (HasFinishedBut b) (ap (λ (x : WorkerView S P). colour_run_by x) (sym line.becomes)) (same_finished (Some turn.colour) line.called.0 before)
+    turning_finished turn (Report core colour started worth) puts before line = subst (HasFinishedBut b) (ap (λ (x : WorkerView S P). colour_run_by x) (sym line.becomes)) (same_finished (Some turn.colour) line.called.0 before)
     turning_finished turn Nothing puts before line = puts_finished turn puts before line
 
     hunt_finished : (place : ℕ) (victim : Option ℕ) → HasFinishedBut a None → StepsHunt (words t fits) y app a w step b v place victim → HasFinishedBut b (colour_run_by v)
-    hunt_finished place (Some victim) before line = run_then (after_pick w place victim line.answer) line.becomes (after_pick_finished place victim line.answer (same_finished None line.called before))
+    hunt_finished place (Some victim) before line = run_then (after_pick w place victim line.answer) line.becomes (after_pick_finished place victim line.answer (same_finished None line.called.0 before))
     hunt_finished place None before line = absurd line
 
     free_finished : (halted : Bool) (place : ℕ) → HasFinishedBut a None → colour_run_by w ≡ None → StepsFree (words t fits) y app a w step b v halted place → HasFinishedBut b (colour_run_by v)
     free_finished true place before free line = subst (HasFinishedBut b) (sym free ∙ ap (λ (x : WorkerView S P). colour_run_by x) (sym line.1)) (same_finished None (ap (λ (s : Standpoint F). s.fronts) line.0) before)
-    free_finished false zero before free line = run_then (after_pop w line.answer) line.becomes (after_pop_finished line.answer (same_finished None line.called before))
+    free_finished false zero before free line = run_then (after_pop w line.answer) line.becomes (after_pop_finished line.answer (same_finished None line.called.0 before))
     free_finished false (suc n) before free line = hunt_finished (suc n) (slice_get w.victims n) before line
 
     from_finished : (phase : Phase S P) → w.phase ≡ phase → HasFinishedBut a (colour_in phase) → StepsFrom (words t fits) y app a w step b v phase → HasFinishedBut b (colour_run_by v)
     from_finished (Turning turn hand puts) is before line = turning_finished turn hand puts before line
-    from_finished (Pushing core mark) is before line = subst (HasFinishedBut b) (ap (λ (x : WorkerView S P). colour_run_by x) (sym line.becomes)) (same_finished None line.called before)
+    from_finished (Pushing core mark) is before line = subst (HasFinishedBut b) (ap (λ (x : WorkerView S P). colour_run_by x) (sym line.becomes)) (same_finished None line.called.0 before)
     from_finished (Popped mark) is before line = run_then (after_take w mark line.answer) line.becomes (after_take_finished mark line.answer line.called before)
     from_finished (Picked mark victim) is before line = run_then (after_steal w mark victim line.answer) line.becomes (after_steal_finished mark victim line.answer (steal_finished mark.colour line.answer line.called before))
-    from_finished (Landing mark) is before line = subst (HasFinishedBut b) (ap (λ (x : WorkerView S P). colour_run_by x) (sym line.becomes)) (same_finished None line.called before)
+    from_finished (Landing mark) is before line = subst (HasFinishedBut b) (ap (λ (x : WorkerView S P). colour_run_by x) (sym line.becomes)) (same_finished None line.called.0 before)
     from_finished (Free place) is before line = free_finished w.halted place before (ap (λ (p : Phase S P). colour_in p) is) line
 
     -- a step keeps that each take has its finish, but that of the worker's turn
@@ -246,25 +248,25 @@ module _ {F : Type 0} (a b : Standpoint F) (same_setup : b.setup ≡ a.setup) (s
     puts_more turn (put ∷ rest) line = sees_more a b (shard_of a.setup put.0) _ line.called (λ point does. register_adds a.setup a.number put.0 put.1 put.2 line.answer point _ does)
 
     turning_more : (turn : Taken S P) (hand : Delivery) (puts : List (Colour × Event × Option P)) → StepsTurning (words t fits) y app a w step b v turn hand puts → SeesMore a b
-    turning_more turn (PushMark core mark) puts line = sees_same a b line.called
-    turning_more turn (Report core colour started worth) puts line = sees_same a b line.called
+    turning_more turn (PushMark core mark) puts line = sees_same a b line.called.0
+    turning_more turn (Report core colour started worth) puts line = sees_same a b line.called.0
     turning_more turn Nothing puts line = puts_more turn puts line
 
     hunt_more : (place : ℕ) (victim : Option ℕ) → StepsHunt (words t fits) y app a w step b v place victim → SeesMore a b
-    hunt_more place (Some victim) line = sees_same a b line.called
+    hunt_more place (Some victim) line = sees_same a b line.called.0
     hunt_more place None line = absurd line
 
     free_more : (halted : Bool) (place : ℕ) → StepsFree (words t fits) y app a w step b v halted place → SeesMore a b
     free_more true place line = sees_same a b (ap (λ (s : Standpoint F). s.fronts) line.0)
-    free_more false zero line = sees_same a b line.called
+    free_more false zero line = sees_same a b line.called.0
     free_more false (suc n) line = hunt_more (suc n) (slice_get w.victims n) line
 
     from_more : (phase : Phase S P) → StepsFrom (words t fits) y app a w step b v phase → SeesMore a b
     from_more (Turning turn hand puts) line = turning_more turn hand puts line
-    from_more (Pushing core mark) line = sees_same a b line.called
+    from_more (Pushing core mark) line = sees_same a b line.called.0
     from_more (Popped mark) line = sees_more a b (shard_of a.setup mark.colour) _ line.called (λ point does. take_adds t fits a.setup a.frame a.number mark.colour line.answer point _ does)
     from_more (Picked mark victim) line = sees_more a b (shard_of a.setup mark.colour) _ line.called (λ point does. steal_adds a.setup a.number mark.colour line.answer point _ does)
-    from_more (Landing mark) line = sees_same a b line.called
+    from_more (Landing mark) line = sees_same a b line.called.0
     from_more (Free place) line = free_more w.halted place line
 
     pub step_more : Steps (words t fits) y app a w step b v → SeesMore a b
@@ -330,10 +332,10 @@ side_words t fits view keeps = record {
   takes = λ s c answer u. SeesAt (view s).setup (view s).number (shard_of (view s).setup c) (view s).fronts (view u).fronts (TakesAt t fits (view s).setup (view s).frame (view s).number c answer);
   finishes = λ s turn answer u. SeesAt (view s).setup (view s).number (shard_of (view s).setup turn.colour) (view s).fronts (view u).fronts (FinishesAt (view s).setup (view s).number turn.colour turn.count answer);
   steals = λ s c answer u. SeesAt (view s).setup (view s).number (shard_of (view s).setup c) (view s).fronts (view u).fronts (StealsAt (view s).setup (view s).number c answer);
-  pushes = λ s core mark answer u. (view u).fronts ≡ (view s).fronts;
-  pops = λ s answer u. (view u).fronts ≡ (view s).fronts;
-  retells = λ s core c started worth found u. (view u).fronts ≡ (view s).fronts;
-  picks = λ s core answer u. (view u).fronts ≡ (view s).fronts;
+  pushes = λ s core mark answer u. ((view u).fronts ≡ (view s).fronts) × ReachesChain (view s).number core (view s).chains (view u).chains (PushesAt (chain_frame_for (view s).setup) (view s).number mark answer);
+  pops = λ s answer u. ((view u).fronts ≡ (view s).fronts) × ReachesChain (view s).number (view s).number (view s).chains (view u).chains (PopsAt (chain_frame_for (view s).setup) (view s).number answer);
+  retells = λ s core c started worth found u. ((view u).fronts ≡ (view s).fronts) × ReachesChain (view s).number core (view s).chains (view u).chains (RetellsAt (chain_frame_for (view s).setup) (view s).number c started worth found);
+  picks = λ s core answer u. ((view u).fronts ≡ (view s).fronts) × ReachesChain (view s).number core (view s).chains (view u).chains (PicksAt (chain_frame_for (view s).setup) (view s).number answer);
 }
 
 module _ {B R S P F : Type 0} (t : TrailWords S F) (fits : F → Colour → Event → Option P → Type 0) (view : B → Standpoint F) (keeps : B → B → Type 0) (y : AppWords R P S F) (app : R) (s u : B) (w v : WorkerView S P) (step : Made) (steps : Steps (side_words t fits view keeps) y app s w step u v) where

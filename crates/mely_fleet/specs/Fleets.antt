@@ -15,6 +15,9 @@ use Rattle.mely_event.specs.declared.colour.Colour.{Colour}
 use Rattle.mely_event.specs.declared.event.Event.{Event}
 use Rattle.mely_history.specs.Owing.{IsOwed}
 use Rattle.mely_fleet.specs.Calls.{SeesAt, front_for}
+use Rattle.mely_fleet.specs.declared.chain_note.ChainNote.{ChainNote}
+use Rattle.mely_fleet.specs.Chains.{ReachesChain, DeliversAt}
+use Rattle.mely_worker.specs.declared.delivery.Delivery.{Delivery}
 
 -- the first of some things
 abbrev pub first_of_some : {A : Type 0} (xs : List A) → 0 < length xs → A
@@ -55,6 +58,14 @@ KeepShards before after = (after.number ≡ before.number) × (after.shards ≡ 
 -- a call with these passes on one shard of a fleet
 abbrev pub SeesOn : {V F : Type 0} {g : _} → FleetOf V Entry (ShardFrame F) → ℕ → PassesOf V Entry (ShardFrame F) g → PassesOf V Entry (ShardFrame F) g → (Setup → ℕ → List Entry → List Entry → Type 0) → Type 0
 SeesOn fleet shard before after Does = SeesAt fleet.setup before.number shard (fronts before.shards.items) (fronts after.shards.items) (Does fleet.setup before.number)
+
+-- a call with these passes on the chain of a core of a fleet
+abbrev pub ReachesOn : {V F : Type 0} {g : _} → FleetOf V Entry (ShardFrame F) → ℕ → PassesOf V Entry (ShardFrame F) g → PassesOf V Entry (ShardFrame F) g → (ChainFrame → ℕ → List (ℕ × ChainNote) → List (ℕ × ChainNote) → Type 0) → Type 0
+ReachesOn fleet core before after Does = ReachesChain before.number core (fronts before.chains.items) (fronts after.chains.items) (Does (chain_frame_for fleet.setup) before.number)
+
+-- a delivery with these passes
+abbrev pub DeliversOn : {V F : Type 0} {g : _} → FleetOf V Entry (ShardFrame F) → Delivery → PassesOf V Entry (ShardFrame F) g → PassesOf V Entry (ShardFrame F) g → Type 0
+DeliversOn fleet delivery before after = DeliversAt (chain_frame_for fleet.setup) before.number delivery (fronts before.chains.items) (fronts after.chains.items)
 
 -- by what these passes have seen, a finish is owed of a turn of this colour, core and count, whose state is to have this trail
 abbrev pub owed_by : {V F : Type 0} {g : _} → FleetOf V Entry (ShardFrame F) → PassesOf V Entry (ShardFrame F) g → Colour → ℕ → ℕ → List Event → Type 0

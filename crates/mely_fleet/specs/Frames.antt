@@ -1,9 +1,14 @@
 -- A shard and a chain as their locks keep them.
-use Rattle.std.specs.Prelude.{◌≡◌, ◌<◌, ◌%◌, ℕ, List, Some, slice_get}
+use Rattle.std.specs.Prelude.{◌≡◌, ◌<◌, ◌%◌, ℕ, List, [], ◌∷◌, ◌++◌, Option, None, Some, drop, fold, slice_get}
+use Rattle.mely_event.specs.declared.mark.Mark.{Mark}
+use Rattle.mely_steal.specs.Marks.{without, replaced}
+use Rattle.mely_steal.specs.Stealing.{entered, changed}
 use Rattle.mely_event.specs.declared.colour.Colour.{Colour}
 use Rattle.mely_history.specs.Setup.{shape_of, colours_of}
 use Rattle.mely_shard.specs.Contents.{Contents}
-use Rattle.mely_core.specs.Chains.{Chain}
+use Rattle.mely_core.specs.Chains.{Chain, empty_core, told_of}
+use Rattle.mely_fleet.specs.declared.chain_note.ChainNote.{ChainNote}
+use Rattle.mely_fleet.specs.declared.chain_note.ChainNote.TheVariants.{Pushed, Popped, Retold, Picked}
 use Rattle.mely_fleet.specs.declared.kept_shard.ShardFrame.{ShardFrame}
 use Rattle.mely_fleet.specs.declared.kept_chain.ChainFrame.{ChainFrame}
 
@@ -20,9 +25,34 @@ HaveFrame frame f states = (i : ℕ) (state : _) → slice_get states i ≡ Some
 abbrev pub shard_frame : {S P F : Type 0} → (S → F) → KeptContents S P → ShardFrame F
 shard_frame frame kept = record { setup = kept.has.setup; shard = kept.has.shard; states = frame kept.sample }
 
+-- what a chain behind its lock has, and the changes that were made of it, each with the number of the pass that made it
+pub record KeptMarks : Type 0 where
+  pub has : Chain
+  pub changes : List (ℕ × ChainNote)
+
+-- the numbers with which a chain was made
+abbrev pub numbers_of : Chain → ChainFrame
+numbers_of queue = record { colours = queue.colours; cost = queue.cost; pinned = queue.pinned }
+
 -- what stays the same of a chain behind its lock
-abbrev pub chain_frame : Chain → ChainFrame
-chain_frame queue = record { colours = queue.colours; cost = queue.cost; pinned = queue.pinned }
+abbrev pub chain_frame : KeptMarks → ChainFrame
+chain_frame kept = numbers_of kept.has
+
+-- a chain after a report, where that found its mark
+abbrev pub after_report : Chain → Option Mark → Chain
+after_report queue None = queue
+after_report queue (Some told) = record queue { chain = replaced told queue.chain; worthy = changed queue.cost queue.pinned told queue.worthy }
+
+-- what a change makes of a chain
+abbrev pub after_change : Chain → ChainNote → Chain
+after_change queue (Pushed mark) = record queue { chain = queue.chain ++ mark ∷ []; worthy = entered queue.cost queue.pinned mark queue.worthy }
+after_change queue (Popped mark) = record queue { chain = drop 1 queue.chain; worthy = without mark.colour queue.worthy }
+after_change queue (Retold c started worth) = after_report queue (told_of c started worth queue.chain)
+after_change queue (Picked mark) = record queue { chain = without mark.colour queue.chain; worthy = without mark.colour queue.worthy }
+
+-- the chain of these numbers after these changes, by which it is what it is
+abbrev pub chain_after : ChainFrame → List (ℕ × ChainNote) → Chain
+chain_after of changes = fold (λ queue change. after_change queue change.1) (empty_core of.colours of.cost of.pinned) changes
 
 -- the colour is one of the shard with this frame
 pub record IsColourOf {F : Type 0} (of : ShardFrame F) (c : Colour) : Type 0 where

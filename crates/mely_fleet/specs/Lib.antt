@@ -1,5 +1,6 @@
 pub mod Frames
 pub mod Calls
+pub mod Chains
 pub mod Rows
 pub mod Fleets
 pub mod Work

@@ -18,22 +18,25 @@ use Rattle.mely_fleet.specs.declared.passes.PassesOf.{PassesOf}
 use Rattle.mely_fleet.specs.declared.kept_shard.ShardFrame.{ShardFrame}
 use Rattle.mely_fleet.specs.Calls.{RegistersAt, TakesAt, FinishesAt, StealsAt, SeesAt, front_in, front_for}
 use Rattle.mely_fleet.specs.Rows.{fronts}
-use Rattle.mely_fleet.specs.Fleets.{frame_in}
+use Rattle.mely_fleet.specs.declared.chain_note.ChainNote.{ChainNote}
+use Rattle.mely_fleet.specs.Chains.{ReachesChain, PushesAt, PopsAt, RetellsAt, PicksAt}
+use Rattle.mely_fleet.specs.Fleets.{chain_frame_for, frame_in}
 use Rattle.mely_fleet.specs.Frames.{KeptContents, shard_frame}
 use Rattle.mely_worker.specs.Conditions.{MayStepAt}
 
--- where a caller stands: the setup, its number, the frame of the states, and what it has seen, shard by shard
+-- where a caller stands: the setup, its number, the frame of the states, and what it has seen, shard by shard and chain by chain
 pub record Standpoint (F : Type 0) : Type 0 where
   pub setup : Setup
   pub number : ℕ
   pub frame : F
   pub fronts : List (List Entry)
+  pub chains : List (List (ℕ × ChainNote))
 
 -- where the caller with these passes stands
 abbrev pub standpoint : {V F : Type 0} {g : _} → (V → ShardFrame F) → FleetOf V Entry (ShardFrame F) → PassesOf V Entry (ShardFrame F) g → Standpoint F
-standpoint kept_frame fleet passes = record { setup = fleet.setup; number = passes.number; frame = frame_in kept_frame fleet; fronts = fronts passes.shards.items }
+standpoint kept_frame fleet passes = record { setup = fleet.setup; number = passes.number; frame = frame_in kept_frame fleet; fronts = fronts passes.shards.items; chains = fronts passes.chains.items }
 
--- what the worker of a core may call, by what it has seen: each call on a shard stands at its point, and what a call on a chain does isn't said
+-- what the worker of a core may call, by what it has seen: each call on a shard stands at its point in the shard's history, and each call on a chain at its point in the chain's
 abbrev pub words : {S P F : Type 0} → TrailWords S F → (F → Colour → Event → Option P → Type 0) → AccessWords (Standpoint F) S P F
 words t fits = record {
   setup_of = λ a. a.setup;
@@ -45,10 +48,10 @@ words t fits = record {
   takes = λ a c answer b. SeesAt a.setup a.number (shard_of a.setup c) a.fronts b.fronts (TakesAt t fits a.setup a.frame a.number c answer);
   finishes = λ a turn answer b. SeesAt a.setup a.number (shard_of a.setup turn.colour) a.fronts b.fronts (FinishesAt a.setup a.number turn.colour turn.count answer);
   steals = λ a c answer b. SeesAt a.setup a.number (shard_of a.setup c) a.fronts b.fronts (StealsAt a.setup a.number c answer);
-  pushes = λ a core mark answer b. b.fronts ≡ a.fronts;
-  pops = λ a answer b. b.fronts ≡ a.fronts;
-  retells = λ a core c started worth found b. b.fronts ≡ a.fronts;
-  picks = λ a core answer b. b.fronts ≡ a.fronts;
+  pushes = λ a core mark answer b. (b.fronts ≡ a.fronts) × ReachesChain a.number core a.chains b.chains (PushesAt (chain_frame_for a.setup) a.number mark answer);
+  pops = λ a answer b. (b.fronts ≡ a.fronts) × ReachesChain a.number a.number a.chains b.chains (PopsAt (chain_frame_for a.setup) a.number answer);
+  retells = λ a core c started worth found b. (b.fronts ≡ a.fronts) × ReachesChain a.number core a.chains b.chains (RetellsAt (chain_frame_for a.setup) a.number c started worth found);
+  picks = λ a core answer b. (b.fronts ≡ a.fronts) × ReachesChain a.number core a.chains b.chains (PicksAt (chain_frame_for a.setup) a.number answer);
 }
 
 -- more was seen, or as much

@@ -1,13 +1,35 @@
 //! One call on the chain behind a lock.
-ghost use Rattle.std.specs.Prelude.{◌≡◌, ◌<◌, IfSome};
-ghost use Rattle.mely_lock.specs.Words.{first_value};
+ghost use Rattle.std.specs.Prelude.{◌≡◌, ◌<◌, ◌+◌, ◌^◌, IfSome, length};
+ghost use Rattle.mely_lock.specs.Words.{first_value, front, IsInside, IsPassOf};
+ghost use Rattle.mely_lock.specs.Seen.{OthersSince};
+ghost use Rattle.mely_fleet.specs.Chains.{IsOnChain, PushesAt, PopsAt, RetellsAt, PicksAt};
 ghost use Rattle.mely_fleet.specs.Rows.{MayEnter, HasLeft};
 ghost use Rattle.mely_fleet.specs.Frames.{chain_frame};
 
 use crate::kept_chain::KeptChain;
 use mely_event::{Colour, Kept, Mark, There};
-use mely_lock::{Pass, Ticketed};
+use mely_lock::{Held, Pass, Ticketed};
 use std::sync::Wait;
+
+/// Goes in. Where the history is as long as one can be counted, which no machine lives to see, it waits for ever.
+fn enter_with_room<'a, R: Wait>(
+    rt: &R,
+    lock: &'a Ticketed<KeptChain>,
+    pass: &mut Pass<KeptChain>,
+) -> Held<'a, KeptChain>
+    requires { MayEnter chain_frame lock.now pass.old }
+    ensures pass { IsPassOf chain_frame lock.now pass.new × IsInside pass.new × (pass.new.number ≡ pass.old.number) }
+    ensures point { OthersSince (λ change. change.0) pass.old.number (front pass.old) (front pass.new) }
+    ensures seen { front pass.new ≡ result.value.changes }
+    ensures held { (result.lock.now ≡ lock.now) × (chain_frame result.value ≡ chain_frame (first_value lock.now)) }
+    ensures room { length result.value.changes + 1 < 2 ^ 64 }
+{
+    let mut held = lock.enter(rt, pass);
+    if held.value().is_full() {
+        'full: for _ in rt.forever() {}
+    }
+    held
+}
 
 /// Puts a mark at the back. Whether the chain has other marks is told beside the answer.
 pub(crate) fn push_at<R: Wait>(
@@ -17,12 +39,15 @@ pub(crate) fn push_at<R: Wait>(
     mark: Mark,
 ) -> (Result<(), There>, bool)
     requires pass { MayEnter chain_frame lock.now pass.old }
-    requires colour { mark.colour.0 < (first_value lock.now).colours }
-    ensures { HasLeft chain_frame lock.now pass.old pass.new }
+    requires colour { mark.colour.0 < (first_value lock.now).has.colours }
+    ensures pass { HasLeft chain_frame lock.now pass.old pass.new }
+    ensures does { IsOnChain pass.old.number (front pass.old) (front pass.new)
+        (PushesAt (chain_frame (first_value lock.now)) pass.old.number mark result.0) }
 {
-    let mut held = lock.enter(rt, pass);
+    let by = pass.number();
+    let mut held = enter_with_room(rt, lock, pass);
     let chain = held.value();
-    let answer = chain.push(mark);
+    let answer = chain.push(mark, by);
     let is_crowded = chain.is_crowded();
     held.leave(pass);
     (answer, is_crowded)
@@ -36,10 +61,13 @@ pub(crate) fn pop_at<R: Wait>(
 ) -> Option<Mark>
     requires { MayEnter chain_frame lock.now pass.old }
     ensures pass { HasLeft chain_frame lock.now pass.old pass.new }
-    ensures mark { IfSome result (λ mark. mark.colour.0 < (first_value lock.now).colours) }
+    ensures mark { IfSome result (λ mark. mark.colour.0 < (first_value lock.now).has.colours) }
+    ensures does { IsOnChain pass.old.number (front pass.old) (front pass.new)
+        (PopsAt (chain_frame (first_value lock.now)) pass.old.number result) }
 {
-    let mut held = lock.enter(rt, pass);
-    let answer = held.value().pop();
+    let by = pass.number();
+    let mut held = enter_with_room(rt, lock, pass);
+    let answer = held.value().pop(by);
     held.leave(pass);
     answer
 }
@@ -54,11 +82,14 @@ pub(crate) fn retell_at<R: Wait>(
     worth: u128,
 ) -> bool
     requires pass { MayEnter chain_frame lock.now pass.old }
-    requires colour { colour.0 < (first_value lock.now).colours }
-    ensures { HasLeft chain_frame lock.now pass.old pass.new }
+    requires colour { colour.0 < (first_value lock.now).has.colours }
+    ensures pass { HasLeft chain_frame lock.now pass.old pass.new }
+    ensures does { IsOnChain pass.old.number (front pass.old) (front pass.new)
+        (RetellsAt (chain_frame (first_value lock.now)) pass.old.number colour started worth result) }
 {
-    let mut held = lock.enter(rt, pass);
-    let answer = held.value().retell(colour, started, worth);
+    let by = pass.number();
+    let mut held = enter_with_room(rt, lock, pass);
+    let answer = held.value().retell(colour, started, worth, by);
     held.leave(pass);
     answer
 }
@@ -71,10 +102,13 @@ pub(crate) fn pick_at<R: Wait>(
 ) -> Option<Mark>
     requires { MayEnter chain_frame lock.now pass.old }
     ensures pass { HasLeft chain_frame lock.now pass.old pass.new }
-    ensures mark { IfSome result (λ mark. mark.colour.0 < (first_value lock.now).colours) }
+    ensures mark { IfSome result (λ mark. mark.colour.0 < (first_value lock.now).has.colours) }
+    ensures does { IsOnChain pass.old.number (front pass.old) (front pass.new)
+        (PicksAt (chain_frame (first_value lock.now)) pass.old.number result) }
 {
-    let mut held = lock.enter(rt, pass);
-    let answer = held.value().pick();
+    let by = pass.number();
+    let mut held = enter_with_room(rt, lock, pass);
+    let answer = held.value().pick(by);
     held.leave(pass);
     answer
 }

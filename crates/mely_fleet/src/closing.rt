@@ -117,7 +117,7 @@ pub(crate) fn chains_out(kept: Vec<KeptChain>, chains: Vec<CoreQueue>) -> Vec<Co
     requires room { length kept.items ≤ vec_capacity chains }
     ensures many { length result.items ≡ length kept.items }
     ensures each { (k : ℕ) (one : _) (queue : _) → slice_get kept.items k ≡ Some one
-        → slice_get result.items k ≡ Some queue → queue ≡ one }
+        → slice_get result.items k ≡ Some queue → queue ≡ one.has }
 {
     let mut chains = chains;
     'kept: for one in kept {

@@ -1,4 +1,4 @@
-ghost use Rattle.std.specs.Prelude.{◌≡◌, ◌<◌, ◌≤◌, [], length, IsTrue, OnErr, IfSome, vec_capacity};
+ghost use Rattle.std.specs.Prelude.{◌≡◌, ◌<◌, ◌≤◌, [], length, IsTrue, IfOk, OnErr, IfSome, vec_capacity};
 ghost use Rattle.mely_history.specs.Setup.{shape_of};
 ghost use Rattle.mely_fleet.specs.Rows.{HavePasses};
 
@@ -47,12 +47,13 @@ fn is_woken<P>(answer: &Result<Registered, Unregistered<P>>) -> bool {
 impl<S: Fits<P>, P> FleetOf<KeptShard<S, P>> {
     ghost use Rattle.mely_history.specs.Legal.{IsDrained};
     ghost use Rattle.mely_worker.specs.Access.{IsColour, IsCore, FitsSetup};
-    ghost use Rattle.mely_worker.specs.Delivery.{MayDeliver};
+    ghost use Rattle.mely_worker.specs.Delivery.{MayDeliver, delivery_after};
     ghost use Rattle.mely_weave.specs.Scene.{shard_of};
     ghost use Rattle.mely_fleet.specs.Calls.{RegistersAt, TakesAt, FinishesAt, StealsAt, LooksAt, front_in};
+    ghost use Rattle.mely_fleet.specs.Chains.{PushesAt, PopsAt, RetellsAt, PicksAt};
     ghost use Rattle.mely_fleet.specs.Frames.{shard_frame};
     ghost use Rattle.mely_fleet.specs.Rows.{fronts};
-    ghost use Rattle.mely_fleet.specs.Fleets.{ArePasses, frame_in, KeepChains, KeepShards, SeesOn, owed_by};
+    ghost use Rattle.mely_fleet.specs.Fleets.{ArePasses, DeliversOn, frame_in, KeepChains, KeepShards, ReachesOn, SeesOn, owed_by};
 
     /// The place of the shard of a colour.
     fn place(&self, colour: Colour) -> usize
@@ -189,7 +190,9 @@ impl<S: Fits<P>, P> FleetOf<KeptShard<S, P>> {
         reserve_at(rt, &self.shards[place], &mut passes.shards[place], entries)
     }
 
-    /// Registers an event, and gives the owner of its colour the mark or the report.
+    /// Registers an event, and gives the owner of its colour, as the reply names it, the mark or the report: the one call on the
+    /// chain of that core, at a point of the chain's history that begins with all that these passes had seen of it. A mark of the
+    /// colour may be there already, and a report may be late.
     ///
     /// # Errors
     ///
@@ -208,6 +211,8 @@ impl<S: Fits<P>, P> FleetOf<KeptShard<S, P>> {
         ensures passes { ArePasses (shard_frame S.frame_of) self.now passes.new }
         ensures same { passes.new.number ≡ passes.old.number }
         ensures undelivered { OnErr result (passes.new.chains ≡ passes.old.chains) }
+        ensures delivered { let before = passes.old in let after = passes.new in
+            IfOk result (λ reply. DeliversOn self.now (delivery_after colour reply) before after) }
         ensures sees { SeesOn self.now (shard_of self.now.setup colour) passes.old passes.new
             (λ setup n. RegistersAt setup n colour event load result) }
     {
@@ -222,11 +227,13 @@ impl<S: Fits<P>, P> FleetOf<KeptShard<S, P>> {
         requires may { MayDeliver self.now.setup delivery }
         ensures passes { ArePasses (shard_frame S.frame_of) self.now passes.new }
         ensures same { KeepShards passes.old passes.new }
+        ensures delivered { DeliversOn self.now delivery passes.old passes.new }
     {
         match delivery {
             Delivery::Nothing => {}
             Delivery::PushMark { core, mark } => {
                 let _ = self.push(rt, passes, core, mark);
+                return;
             }
             Delivery::Report {
                 core,
@@ -235,6 +242,7 @@ impl<S: Fits<P>, P> FleetOf<KeptShard<S, P>> {
                 worth,
             } => {
                 let _ = self.retell(rt, passes, core, colour, started, worth);
+                return;
             }
         }
     }
@@ -270,6 +278,7 @@ impl<S: Fits<P>, P> FleetOf<KeptShard<S, P>> {
         requires colour { IsColour self.now.setup mark.colour }
         ensures passes { ArePasses (shard_frame S.frame_of) self.now passes.new }
         ensures same { KeepShards passes.old passes.new }
+        ensures reaches { ReachesOn self.now core passes.old passes.new (λ of n. PushesAt of n mark result) }
     {
         let place = core as usize;
         let is_worthy = self.is_worthy(mark.colour, mark.worth);
@@ -290,6 +299,7 @@ impl<S: Fits<P>, P> FleetOf<KeptShard<S, P>> {
         requires core { IsCore self.now.setup core }
         ensures passes { ArePasses (shard_frame S.frame_of) self.now passes.new }
         ensures same { KeepShards passes.old passes.new }
+        ensures reaches { ReachesOn self.now core passes.old passes.new (λ of n. PopsAt of n result) }
         ensures mark { IfSome result (λ mark. IsColour self.now.setup mark.colour) }
     {
         let place = core as usize;
@@ -311,6 +321,8 @@ impl<S: Fits<P>, P> FleetOf<KeptShard<S, P>> {
         requires colour { IsColour self.now.setup colour }
         ensures passes { ArePasses (shard_frame S.frame_of) self.now passes.new }
         ensures same { KeepShards passes.old passes.new }
+        ensures reaches { ReachesOn self.now core passes.old passes.new
+            (λ of n. RetellsAt of n colour started worth result) }
     {
         let place = core as usize;
         let is_found = retell_at(
@@ -332,6 +344,7 @@ impl<S: Fits<P>, P> FleetOf<KeptShard<S, P>> {
         requires core { IsCore self.now.setup core }
         ensures passes { ArePasses (shard_frame S.frame_of) self.now passes.new }
         ensures same { KeepShards passes.old passes.new }
+        ensures reaches { ReachesOn self.now core passes.old passes.new (λ of n. PicksAt of n result) }
         ensures mark { IfSome result (λ mark. IsColour self.now.setup mark.colour) }
     {
         let place = core as usize;

@@ -1,8 +1,10 @@
 ghost use Rattle.std.specs.Prelude.{◌≡◌, ◌<◌, IfSome};
 
+use crate::chain_note::ChainNote;
+use http_server::Log;
 use mely_core::CoreQueue;
-use mely_event::{Colour, Kept, Mark, There};
-use mely_history::Entry;
+use mely_event::{Colour, Kept, Mark, Memory, There};
+use std::alloc::Global;
 use std::marker::Model;
 
 /// What stays the same of a chain behind its lock. It is for contracts alone: no value of it is made.
@@ -12,106 +14,150 @@ pub struct ChainFrame {
     pub pinned: u32,
 }
 
-/// A chain as its lock keeps it. It has no history.
+/// A chain as its lock keeps it, in a box. Its history is the list of its changes, by which it is what it is.
 #[derive(Drop)]
 pub struct KeptChain {
-    queue: CoreQueue,
+    queue: Box<CoreQueue>,
+
+    /// How many changes were made.
+    count: u64,
+
+    /// The changes, each with the number of the pass that made it. It is for contracts alone and holds no bytes.
+    log: Log<u16, ChainNote>,
 }
 
 impl Model for KeptChain {
-    ghost use Rattle.mely_core.specs.Chains.{Chain};
+    ghost use Rattle.std.specs.Prelude.{◌≡◌, length};
+    ghost use Rattle.mely_fleet.specs.Frames.{KeptMarks, chain_after, numbers_of};
 
-    ghost Value = { Chain };
+    ghost Value = { KeptMarks };
 
-    ghost view = { λ k. k.queue };
+    ghost view = { λ k. record { has = k.queue.value; changes = k.log.items } };
+
+    ghost invariant = { λ k. (length k.log.items ≡ k.count)
+        × (k.queue.value ≡ chain_after (numbers_of k.queue.value) k.log.items) };
 }
 
 impl Kept for KeptChain {
-    ghost use Rattle.std.specs.Prelude.{[]};
-    ghost use Rattle.mely_history.specs.Entries.{pass_of};
     ghost use Rattle.mely_fleet.specs.Frames.{chain_frame};
 
-    type Note = Entry;
+    type Note = (u16, ChainNote);
 
     type Frame = ChainFrame;
 
-    ghost history_of = { λ k. [] };
+    ghost history_of = { λ k. k.changes };
 
-    ghost pass_of = { pass_of };
+    ghost pass_of = { λ change. change.0 };
 
     ghost frame_of = { chain_frame };
 
     fn notes(&self) -> u64 {
-        0
+        self.count
     }
 }
 
 impl KeptChain {
-    ghost use Rattle.std.specs.Prelude.{◌++◌, ◌∷◌, ◌↔◌, [], OnOk, OnErr, IsErr, IsSome, MatchOption, is_some, slice_get};
-    ghost use Rattle.mely_steal.specs.Marks.{mark_of, replaced};
-    ghost use Rattle.mely_steal.specs.Stealing.{pick_of};
-    ghost use Rattle.mely_core.specs.Chains.{told_of};
+    ghost use Rattle.std.specs.Prelude.{◌+◌, ◌^◌, ◌↔◌, [], IfOk, IsTrue, is_some, length, slice_get};
+    ghost use Rattle.mely_core.specs.Chains.{empty_core};
+    ghost use Rattle.mely_fleet.specs.Chains.{PushesAt, PopsAt, RetellsAt, PicksAt};
     ghost use Rattle.mely_fleet.specs.Frames.{chain_frame};
 
-    /// A chain for its lock.
-    pub(crate) fn new(queue: CoreQueue) -> KeptChain
-        ensures { result ≡ queue }
+    /// An empty chain for its lock.
+    ///
+    /// # Errors
+    ///
+    /// There was no memory: the chain is dropped.
+    pub(crate) fn new(alloc: Global, queue: CoreQueue) -> Result<KeptChain, Memory>
+        requires { queue ≡ empty_core queue.colours queue.cost queue.pinned }
+        ensures { IfOk result (λ kept. kept ≡ record { has = queue; changes = [] }) }
     {
-        KeptChain { queue }
+        Ok(KeptChain {
+            queue: Box::new(alloc, queue)?,
+            count: 0,
+            log: Log::new(),
+        })
     }
 
     /// The chain.
     pub(crate) fn into_queue(self) -> CoreQueue
-        ensures { result ≡ self }
+        ensures { result ≡ self.has }
     {
-        let KeptChain { queue } = self;
-        queue
+        let KeptChain {
+            queue,
+            count: _,
+            log: _,
+        } = self;
+        Box::into_inner(queue)
+    }
+
+    /// Whether its history is as long as one can be counted.
+    pub(crate) fn is_full(&self) -> bool
+        ensures { IsTrue result ↔ (length self.now.changes + 1 ≡ 2 ^ 64) }
+    {
+        self.count == u64::MAX
     }
 
     /// Puts a mark at the back.
-    pub(crate) fn push(&mut self, mark: Mark) -> Result<(), There>
-        requires { mark.colour.0 < self.old.colours }
+    pub(crate) fn push(&mut self, mark: Mark, by: u16) -> Result<(), There>
+        requires colour { mark.colour.0 < self.old.has.colours }
+        requires room { length self.old.changes + 1 < 2 ^ 64 }
         ensures frame { chain_frame self.new ≡ chain_frame self.old }
-        ensures ok { OnOk result (self.new.chain ≡ self.old.chain ++ mark ∷ []) }
-        ensures err { OnErr result (self.new ≡ self.old) }
-        ensures there { IsErr result ↔ IsSome (mark_of mark.colour self.old.chain) }
+        ensures does { PushesAt (chain_frame self.old) by mark result self.old.changes self.new.changes }
     {
-        self.queue.push(mark)
+        self.queue.push(mark)?;
+        self.log = self.log.and(&by, &ChainNote::Pushed(mark));
+        self.count += 1;
+        Ok(())
     }
 
     /// Whether there is more than one mark.
     pub(crate) fn is_crowded(&self) -> bool
-        ensures { result ≡ is_some (slice_get self.now.chain 1) }
+        ensures { result ≡ is_some (slice_get self.now.has.chain 1) }
     {
         self.queue.at(1).is_some()
     }
 
     /// Takes the front.
-    pub(crate) fn pop(&mut self) -> Option<Mark>
+    pub(crate) fn pop(&mut self, by: u16) -> Option<Mark>
+        requires room { length self.old.changes + 1 < 2 ^ 64 }
         ensures frame { chain_frame self.new ≡ chain_frame self.old }
-        ensures mark { IfSome result (λ mark. mark.colour.0 < self.old.colours) }
-        ensures front { MatchOption result (self.old.chain ≡ []) (λ mark. self.old.chain ≡ mark ∷ self.new.chain) }
+        ensures mark { IfSome result (λ mark. mark.colour.0 < self.old.has.colours) }
+        ensures does { PopsAt (chain_frame self.old) by result self.old.changes self.new.changes }
     {
-        self.queue.pop()
+        let mark = self.queue.pop()?;
+        self.log = self.log.and(&by, &ChainNote::Popped(mark));
+        self.count += 1;
+        Some(mark)
     }
 
     /// Reports what a colour is worth. Whether its mark was found.
-    pub(crate) fn retell(&mut self, colour: Colour, started: u64, worth: u128) -> bool
-        requires { colour.0 < self.old.colours }
+    pub(crate) fn retell(&mut self, colour: Colour, started: u64, worth: u128, by: u16) -> bool
+        requires colour { colour.0 < self.old.has.colours }
+        requires room { length self.old.changes + 1 < 2 ^ 64 }
         ensures frame { chain_frame self.new ≡ chain_frame self.old }
-        ensures answer { result ≡ is_some (told_of colour started worth self.old.chain) }
-        ensures told { MatchOption (told_of colour started worth self.old.chain) (self.new ≡ self.old)
-            (λ told. self.new.chain ≡ replaced told self.old.chain) }
+        ensures does { RetellsAt (chain_frame self.old) by colour started worth result
+            self.old.changes self.new.changes }
     {
-        self.queue.retell(colour, started, worth)
+        if !self.queue.retell(colour, started, worth) {
+            return false;
+        }
+        self.log = self
+            .log
+            .and(&by, &ChainNote::Retold(colour, started, worth));
+        self.count += 1;
+        true
     }
 
     /// Takes the mark that is worth most.
-    pub(crate) fn pick(&mut self) -> Option<Mark>
+    pub(crate) fn pick(&mut self, by: u16) -> Option<Mark>
+        requires room { length self.old.changes + 1 < 2 ^ 64 }
         ensures frame { chain_frame self.new ≡ chain_frame self.old }
-        ensures mark { IfSome result (λ mark. mark.colour.0 < self.old.colours) }
-        ensures best { result ≡ pick_of self.old.cost self.old.worthy }
+        ensures mark { IfSome result (λ mark. mark.colour.0 < self.old.has.colours) }
+        ensures does { PicksAt (chain_frame self.old) by result self.old.changes self.new.changes }
     {
-        self.queue.pick()
+        let mark = self.queue.pick()?;
+        self.log = self.log.and(&by, &ChainNote::Picked(mark));
+        self.count += 1;
+        Some(mark)
     }
 }

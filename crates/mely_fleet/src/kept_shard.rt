@@ -1,9 +1,10 @@
-ghost use Rattle.std.specs.Prelude.{◌≡◌, ◌<◌, ◌≤◌, ◌↔◌, [], List, IsTrue, OnOk, slice_get};
+ghost use Rattle.std.specs.Prelude.{◌≡◌, ◌<◌, ◌≤◌, ◌↔◌, [], List, IfOk, IsTrue, OnOk, slice_get};
 
 use mely_event::{Colour, Event, Fits, Kept, Memory, Trail, Unregistered};
 use mely_history::{After, Entry, NoSteal, NoTake, Registered, Setup, Stolen};
 use mely_queue::Turn;
 use mely_shard::Shard;
+use std::alloc::Global;
 use std::marker::Model;
 use std::snapshot::Snapshot;
 
@@ -15,9 +16,11 @@ pub struct ShardFrame<F> {
 }
 
 /// A shard as its lock keeps it. All its states have the frame of the sample.
+///
+/// The shard lies in a box, so that going into the lock and out again moves a pointer.
 #[derive(Drop)]
 pub struct KeptShard<S: Fits<P>, P> {
-    shard: Shard<S, P>,
+    shard: Box<Shard<S, P>>,
 
     /// A state as it was given, for its frame: a shard without colours has none of its own. It is for contracts alone, and
     /// a snapshot of a snapshot, which each shard of a fleet can be given.
@@ -30,9 +33,9 @@ impl<S: Fits<P>, P> Model for KeptShard<S, P> {
 
     ghost Value = { KeptContents S P };
 
-    ghost view = { λ k. record { has = k.shard; sample = k.sample.value.value } };
+    ghost view = { λ k. record { has = k.shard.value; sample = k.sample.value.value } };
 
-    ghost invariant = { λ k. HaveFrame S.frame_of (S.frame_of k.sample.value.value) (givens k.shard) };
+    ghost invariant = { λ k. HaveFrame S.frame_of (S.frame_of k.sample.value.value) (givens k.shard.value) };
 }
 
 impl<S: Fits<P>, P> Kept for KeptShard<S, P> {
@@ -66,14 +69,25 @@ impl<S: Fits<P>, P> KeptShard<S, P> {
     ghost use Rattle.mely_fleet.specs.Calls.{RegistersAt, TakesAt, FinishesAt, StealsAt};
 
     /// A shard whose states have the frame of the sample.
-    pub(crate) fn new(shard: Shard<S, P>, sample: &Snapshot<S>) -> KeptShard<S, P>
+    ///
+    /// # Errors
+    ///
+    /// There was no memory: the shard is dropped.
+    pub(crate) fn new(
+        alloc: Global,
+        shard: Shard<S, P>,
+        sample: &Snapshot<S>,
+    ) -> Result<KeptShard<S, P>, Memory>
+    where
+        S: Drop,
+        P: Drop,
         requires { HaveFrame S.frame_of (S.frame_of sample.now.value) (givens shard) }
-        ensures { result ≡ record { has = shard; sample = sample.now.value } }
+        ensures { IfOk result (λ kept. kept ≡ record { has = shard; sample = sample.now.value }) }
     {
-        KeptShard {
-            shard,
+        Ok(KeptShard {
+            shard: Box::new(alloc, shard)?,
             sample: Snapshot::of(sample),
-        }
+        })
     }
 
     /// The shard.
@@ -84,7 +98,7 @@ impl<S: Fits<P>, P> KeptShard<S, P> {
     {
         let KeptShard { shard, sample: _ } = self;
         let _entries = shard.history();
-        shard
+        Box::into_inner(shard)
     }
 
     /// Registers an event behind the others of its colour.

@@ -25,8 +25,10 @@
 
 mod bell;
 mod chain_calls;
+mod chain_note;
 mod close;
 mod closing;
+mod crew;
 mod dealing;
 mod fleet;
 mod kept_chain;
@@ -39,6 +41,8 @@ mod shard_calls;
 mod side;
 mod working;
 
+pub use chain_note::ChainNote;
+pub use crew::run_crew;
 pub use fleet::{Fleet, FleetOf};
 pub use kept_chain::{ChainFrame, KeptChain};
 pub use kept_shard::{KeptShard, ShardFrame};

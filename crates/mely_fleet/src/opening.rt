@@ -1,5 +1,6 @@
 //! How a fleet is made.
-ghost use Rattle.std.specs.Prelude.{◌≡◌, ◌<◌, ◌≤◌, ℕ, Some, IfOk, length, slice_get};
+ghost use Rattle.std.specs.Prelude.{◌≡◌, ◌<◌, ◌≤◌, ℕ, [], Some, IfOk, length, slice_get};
+ghost use Rattle.mely_core.specs.Chains.{empty_core};
 ghost use Rattle.mely_shard.specs.Contents.{givens};
 ghost use Rattle.mely_weave.specs.Dealing.{AtEach};
 ghost use Rattle.mely_fleet.specs.Frames.{HaveFrame};
@@ -33,20 +34,23 @@ fn keep_shards<S: Fits<P> + Drop, P: Drop>(
 {
     let mut kept = Vec::with_capacity(alloc, shards.len())?;
     'shards: for shard in shards {
-        kept.push_reserved(KeptShard::new(shard, given));
+        let one = KeptShard::new(alloc, shard, given)?;
+        kept.push_reserved(one);
     }
     Ok(kept)
 }
 
 /// The chains as their locks keep them.
 fn keep_chains(alloc: Global, chains: Vec<CoreQueue>) -> Result<Vec<KeptChain>, Memory>
+    requires { AtEach (λ k queue. queue ≡ empty_core queue.colours queue.cost queue.pinned) chains.items }
     ensures many { IfOk result (λ kept. length kept.items ≡ length chains.items) }
     ensures each { IfOk result (λ kept. (k : ℕ) (queue : _) (one : _) → slice_get chains.items k ≡ Some queue
-        → slice_get kept.items k ≡ Some one → one ≡ queue) }
+        → slice_get kept.items k ≡ Some one → one ≡ record { has = queue; changes = [] }) }
 {
     let mut kept = Vec::with_capacity(alloc, chains.len())?;
     'chains: for chain in chains {
-        kept.push_reserved(KeptChain::new(chain));
+        let one = KeptChain::new(alloc, chain)?;
+        kept.push_reserved(one);
     }
     Ok(kept)
 }

@@ -3,9 +3,10 @@ ghost use Rattle.mely_history.specs.Setup.{shape_of};
 ghost use Rattle.mely_worker.specs.Access.{Stays, FitsSetup, IsSpent, StillOwes, NamesCore, GivesBack};
 ghost use Rattle.mely_weave.specs.Scene.{shard_of};
 ghost use Rattle.mely_fleet.specs.Calls.{RegistersAt, TakesAt, FinishesAt, StealsAt};
+ghost use Rattle.mely_fleet.specs.Chains.{PushesAt, PopsAt, RetellsAt, PicksAt};
 ghost use Rattle.mely_fleet.specs.Rows.{fronts};
 ghost use Rattle.mely_fleet.specs.Frames.{shard_frame};
-ghost use Rattle.mely_fleet.specs.Fleets.{ArePasses, frame_in, SeesOn, owed_by};
+ghost use Rattle.mely_fleet.specs.Fleets.{ArePasses, frame_in, ReachesOn, SeesOn, owed_by};
 
 use crate::fleet::Fleet;
 use crate::kept_shard::{KeptShard, ShardFrame};
@@ -57,16 +58,20 @@ impl<'a, S: Fits<P> + Drop, P: Drop, R: Wait> Access<S, P> for Side<'a, S, P, R>
         (λ setup n. StealsAt setup n c answer) };
 
     ghost pushes = { λ a core mark answer b.
-        fronts b.passes.now.shards.items ≡ fronts a.passes.now.shards.items };
+        (fronts b.passes.now.shards.items ≡ fronts a.passes.now.shards.items)
+        × ReachesOn a.fleet.now core a.passes.now b.passes.now (λ of n. PushesAt of n mark answer) };
 
     ghost pops = { λ a answer b.
-        fronts b.passes.now.shards.items ≡ fronts a.passes.now.shards.items };
+        (fronts b.passes.now.shards.items ≡ fronts a.passes.now.shards.items)
+        × ReachesOn a.fleet.now a.passes.now.number a.passes.now b.passes.now (λ of n. PopsAt of n answer) };
 
     ghost retells = { λ a core c started worth found b.
-        fronts b.passes.now.shards.items ≡ fronts a.passes.now.shards.items };
+        (fronts b.passes.now.shards.items ≡ fronts a.passes.now.shards.items)
+        × ReachesOn a.fleet.now core a.passes.now b.passes.now (λ of n. RetellsAt of n c started worth found) };
 
     ghost picks = { λ a core answer b.
-        fronts b.passes.now.shards.items ≡ fronts a.passes.now.shards.items };
+        (fronts b.passes.now.shards.items ≡ fronts a.passes.now.shards.items)
+        × ReachesOn a.fleet.now core a.passes.now b.passes.now (λ of n. PicksAt of n answer) };
 
     fn core(&self) -> u16 {
         self.passes.number()

@@ -5,9 +5,7 @@
 //! were. It is the smallest program that uses a weave, and what a weave is measured by.
 #![tactic(auto)]
 
-mod passing;
 mod steps;
-mod tally;
 
 use std::process::ExitCode;
 use std::{env, io};

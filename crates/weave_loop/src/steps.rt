@@ -1,16 +1,15 @@
 //! The steps.
 ghost use Rattle.std.specs.Prelude.{◌≡◌, ◌<◌, ◌≤◌, ℕ, IfOk, IfSome};
-ghost use Rattle.mely_weave.specs.Making.{AreBlank};
 ghost use Rattle.weave_loop.specs.Loops.{IsLoop};
 
-use crate::passing::Passing;
-use crate::tally::{Tally, blank};
+use counting_app::{Passing, Tally, blank_states};
 use mely_event::{Colour, Event, Handlers, Memory, Trail};
 use mely_history::{Setup, Shape};
 use mely_weave::Weave;
 use mely_worker::Made;
 use std::alloc::Global;
 use std::sync::Wait;
+use std::sync::atomic::AtomicU64;
 
 /// Four cores in one group, four shards, batches of 10; a colour is worth a steal where three events wait.
 fn setup_of(colours: u16) -> Option<Setup>
@@ -30,17 +29,6 @@ fn setup_of(colours: u16) -> Option<Setup>
         Ok(setup) => Some(setup),
         Err(_) => None,
     }
-}
-
-/// A state for each colour.
-fn blank_states(alloc: Global, colours: u16) -> Result<Vec<Tally>, Memory>
-    ensures { IfOk result (λ states. AreBlank (λ state. state.log.colour) (λ state. state.log.events) colours states.items) }
-{
-    let mut states = Vec::new(alloc);
-    'colours: for colour in 0..colours {
-        states.push(blank(alloc, colour))?;
-    }
-    Ok(states)
 }
 
 /// The weave at first.
@@ -94,7 +82,11 @@ fn make_steps(weave: &mut Weave<Tally, u8>, app: &Passing, events: u32) -> (u32,
 /// nothing for want of memory, or where there is no colour.
 pub fn run<R: Wait>(rt: &R, alloc: Global, colours: u16, passes: u16) -> Option<(u32, u32)> {
     let mut weave = make_weave(alloc, colours)?;
-    let app = Passing { colours };
+    let app = Passing {
+        colours,
+        rounds: 0,
+        ran: AtomicU64::new(0),
+    };
     let is_posted = post_all(&mut weave, colours, passes);
     let events = u32::from(colours) * (u32::from(passes) + 1);
     let went = make_steps(&mut weave, &app, events);

@@ -1,8 +1,8 @@
-use Rattle.std.proofs.Common.{◌≡◌, ◌∙◌, sym, ap, refl, inl, ◌↔◌, IsTrue, subst}
+use Rattle.std.proofs.Common.{◌≡◌, ◌∙◌, sym, ap, refl, ◌↔◌, IsTrue, subst}
 use Rattle.mely_lock.specs.Words.{first_value, front}
 use Rattle.mely_fleet.specs.Frames.{shard_frame}
-use Rattle.mely_fleet.specs.Calls.{RegistersAt, TakesAt, StealsAt, LooksAt}
-use Rattle.mely_fleet.proofs.Keeping.{call_seen, adds_seen, registers_own, takes_own, steals_own}
+use Rattle.mely_fleet.specs.Calls.{LooksAt}
+use Rattle.mely_fleet.proofs.Keeping.{call_seen}
 use Rattle.mely_history.specs.Legal.{IsDrained}
 use Rattle.mely_fleet.proofs.shard_calls.look_at.Goals as goal
 

@@ -4,11 +4,13 @@ use Rattle.mely_history.specs.Setup.{colours_of}
 use Rattle.mely_shard.specs.Contents.{givens}
 use Rattle.mely_weave.proofs.GatherLaws.{get_there}
 use Rattle.mely_weave.proofs.MakeLaws.{first_piles}
-use Rattle.mely_fleet.specs.Frames.{HaveFrame, shard_frame, chain_frame}
+use Rattle.mely_core.specs.Chains.{empty_core}
+use Rattle.mely_fleet.specs.declared.kept_chain.ChainFrame.{ChainFrame}
+use Rattle.mely_fleet.specs.Frames.{HaveFrame, shard_frame, chain_frame, numbers_of}
 use Rattle.mely_fleet.specs.Rows.{ArePassesOf, AreFramed}
 use Rattle.mely_fleet.specs.Fleets.{frame_for}
 use Rattle.mely_fleet.specs.Dealing.{IsFirstRow}
-use Rattle.mely_fleet.proofs.OpeningLaws.{shard_framed, shard_is_first, shards_framed, first_frame, chains_framed, kept_empty, all_here, all_unseen}
+use Rattle.mely_fleet.proofs.OpeningLaws.{shard_framed, shard_is_first, shards_framed, first_frame, chains_framed, kept_empty, chains_untouched, all_here, all_unseen}
 use Rattle.mely_fleet.proofs.opening.FleetOf+KeptShard+S+P.new.Goals as goal
 
 pub shards_of-requires-clause-first : goal.shards_of-requires-clause-first
@@ -29,6 +31,17 @@ lock_all-requires-clause-empty g c =
     all_here (λ v. v.has.history ≡ []) kept.kept_shards.items
     (kept_empty g.S.Trail.frame_of c.args.setup.now c.first_given-given.result.value made.made_shards.items kept.kept_shards.items kept.ensures.many kept.ensures.each
     (λ k has at. (shard_is_first g.S.Trail c.args.setup.now c.args.states.items c.requires.first (λ pile. pile.items) c.in_ok-by_shard.by_shard.items c.in_ok-by_shard.ensures made.made_shards.items made.ensures.many made.ensures.first k has at).1))
+
+pub keep_chains-requires : goal.keep_chains-requires
+keep_chains-requires g c = λ k queue at.
+    let is = c.in_ok-made_chains.ensures.empty k queue at in
+    is ∙ ap (λ (of : ChainFrame). empty_core of.colours of.cost of.pinned) (ap numbers_of (sym is))
+
+pub lock_all-requires-2-clause-empty : goal.lock_all-requires-2-clause-empty
+lock_all-requires-2-clause-empty g c =
+    let made = c.in_ok-made_chains in
+    let kept = c.in_ok-kept_chains in
+    all_here (λ v. v.changes ≡ []) kept.kept_chains.items (chains_untouched made.made_chains.items kept.kept_chains.items kept.ensures.many kept.ensures.each)
 
 pub returns : goal.returns
 returns g c =

@@ -1,4 +1,4 @@
-use Rattle.std.proofs.Common.{◌∙◌, refl, sym, ap}
+use Rattle.std.proofs.Common.{◌∙◌, sym}
 use Rattle.mely_fleet.proofs.Seating.{seat_may, seat_back}
 use Rattle.mely_fleet.proofs.seat.FleetOf+KeptShard+S+P.work_at.Goals as goal
 

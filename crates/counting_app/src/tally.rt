@@ -1,5 +1,6 @@
 //! The state of one colour.
-ghost use Rattle.std.specs.Prelude.{◌≡◌, ◌≤◌, ◌-◌, ◌++◌, ◌∷◌, []};
+ghost use Rattle.std.specs.Prelude.{◌≡◌, ◌≤◌, ◌-◌, ◌++◌, ◌∷◌, [], IfOk};
+ghost use Rattle.mely_weave.specs.Making.{AreBlank};
 
 use mely_event::{Colour, Event, Fits, Memory, Trail, TrailLog};
 use std::alloc::Global;
@@ -59,6 +60,22 @@ pub fn blank(alloc: Global, colour: u16) -> Tally
         log: TrailLog::new(alloc, Colour(colour)),
         seed: u32::from(colour),
     }
+}
+
+/// A state for each of so many colours, in ascending order.
+///
+/// # Errors
+///
+/// There was no memory.
+pub fn blank_states(alloc: Global, colours: u16) -> Result<Vec<Tally>, Memory>
+    ensures { IfOk result (λ states.
+        AreBlank (λ state. state.log.colour) (λ state. state.log.events) colours states.items) }
+{
+    let mut states = Vec::new(alloc);
+    'colours: for colour in 0..colours {
+        states.push(blank(alloc, colour))?;
+    }
+    Ok(states)
 }
 
 impl Tally {

@@ -1,6 +1,6 @@
 use Rattle.mely_weave.specs.Making.{AreBlank}
-use Rattle.weave_loop.specs.declared.tally.Tally.{Tally}
-use Rattle.weave_loop.proofs.steps.blank_states.Given as goal
+use Rattle.counting_app.specs.declared.tally.Tally.{Tally}
+use Rattle.counting_app.proofs.tally.blank_states.Given as goal
 
 abbrev pub invariant-colours : goal.invariant-colours
 invariant-colours l = AreBlank (λ (s : Tally). s.log.colour) (λ (s : Tally). s.log.events) l.colour l.states.items

@@ -1,0 +1,24 @@
+use Rattle.std.proofs.Common.{◌≡◌, ◌+◌, ◌++◌, ◌∷◌, [], Some, length, ap, ◌∙◌, sym, arith, length-append}
+use Rattle.std.specs.Prelude.{slice_get}
+use Rattle.mely_history.specs.declared.setup.Setup.{Setup}
+use Rattle.mely_history.specs.Setup.{shape_of}
+use Rattle.mely_weave.proofs.DealLaws.{push_at}
+use Rattle.mely_fleet.proofs.crew.make_crew.Goals as goal
+
+pub returns-clause-framed : goal.returns-clause-framed
+returns-clause-framed g c = λ state at. c.in_ok-fleet.ensures.framed 0 state at
+
+pub returns-clause-outside : goal.returns-clause-outside
+returns-clause-outside g c =
+    let rest = c.pop.new.self.items in
+    let outside = c.in-Some.outside in
+    let own = c.in_ok-fleet.ensures.each (length rest) outside (ap (λ l. slice_get l (length rest)) c.in-Some.ensures.items ∙ push_at rest outside) in
+    let many = ap length c.in-Some.ensures.items in
+    let all = c.in_ok-fleet.ensures.many in
+    let numbered = own.numbered in
+    let setup = c.in_ok-fleet.ensures.of_setup in
+    let cores = ap (λ (k : Setup). (shape_of k).cores) setup in
+    record { passes = own.are; outside = omega (arith, many, all, numbered, cores, length-append rest (outside ∷ [])) }
+
+pub returns-clause-room : goal.returns-clause-room
+returns-clause-room g c = (c.in_ok-room.ensures.setup, c.in_ok-room.ensures.passes)
