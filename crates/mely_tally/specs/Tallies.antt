@@ -1,0 +1,67 @@
+-- All states and all events under way of a weave, wherever they are.
+use Rattle.std.specs.Prelude.{List, [], ◌∷◌, ◌++◌, Option, map, flat_map}
+use Rattle.mely_event.specs.declared.colour.Colour.{Colour}
+use Rattle.mely_event.specs.declared.event.Event.{Event}
+use Rattle.mely_shard.specs.Contents.{Contents}
+use Rattle.mely_worker.specs.declared.phase.Phase.{Phase}
+use Rattle.mely_worker.specs.declared.phase.Phase.TheVariants.{Free, Popped, Picked, Landing, Pushing, Turning}
+use Rattle.mely_worker.specs.Outs.{in_place}
+use Rattle.mely_worker.specs.WorkerView.{WorkerView}
+use Rattle.mely_weave.specs.StandsWell.{Loom}
+
+-- an event with its load
+abbrev pub Carried : Type 0 → Type 0
+Carried P = Event × Option P
+
+-- the states that a shard has at home
+abbrev pub homes_in : {S P : Type 0} → Contents S P → List S
+homes_in has = flat_map (λ lane. in_place lane.state) has.lanes
+
+-- the events that wait in a shard
+abbrev pub waiting_in : {S P : Type 0} → Contents S P → List (Carried P)
+waiting_in has = flat_map (λ lane. lane.events) has.lanes
+
+-- registrations without their colours
+abbrev pub carried_by : {P : Type 0} → List (Colour × Event × Option P) → List (Carried P)
+carried_by puts = map (λ put. (put.1, put.2)) puts
+
+-- the state that a worker turns on
+abbrev pub turned_in : {S P : Type 0} → Phase S P → List S
+turned_in (Free place) = []
+turned_in (Popped mark) = []
+turned_in (Picked mark victim) = []
+turned_in (Landing mark) = []
+turned_in (Pushing core mark) = []
+turned_in (Turning turn hand puts) = turn.state ∷ []
+
+-- the events of its turn that are left, and what its last handler put and that is left to register
+abbrev pub on_hand : {S P : Type 0} → Phase S P → List (Carried P)
+on_hand (Free place) = []
+on_hand (Popped mark) = []
+on_hand (Picked mark victim) = []
+on_hand (Landing mark) = []
+on_hand (Pushing core mark) = []
+on_hand (Turning turn hand puts) = turn.events ++ carried_by puts
+
+abbrev pub turned_by : {S P : Type 0} → WorkerView S P → List S
+turned_by w = turned_in w.phase
+
+-- what a worker was refused for memory
+abbrev pub refused_to : {S P : Type 0} → WorkerView S P → List (Carried P)
+refused_to w = carried_by w.lost
+
+-- the events that a worker has, run or not: those of its turn, and what it was refused
+abbrev pub hold_of : {S P : Type 0} → WorkerView S P → List (Carried P)
+hold_of w = on_hand w.phase ++ refused_to w
+
+-- the states of all colours: at home, or out in turns
+abbrev pub states_of : {S P : Type 0} → Loom S P → List S
+states_of loom = flat_map homes_in loom.shards ++ flat_map turned_by loom.workers
+
+-- all events that were put or posted and not yet run: they wait, are left of turns, are left to register, or were refused for memory
+abbrev pub under_way : {S P : Type 0} → Loom S P → List (Carried P)
+under_way loom = flat_map waiting_in loom.shards ++ flat_map hold_of loom.workers
+
+-- the events that were refused for memory, by core
+abbrev pub refused_in : {S P : Type 0} → Loom S P → List (Carried P)
+refused_in loom = flat_map refused_to loom.workers

@@ -1,0 +1,97 @@
+//! Coins that go round are as many at the end as at the beginning.
+ghost use Rattle.std.specs.Prelude.{◌≡◌, ◌<◌, ◌≤◌, ◌+◌, ◌^◌, ◌++◌, All, IfOk, map, flat_map, sum_by, unwrap_or, length};
+ghost use Rattle.mely_weave.specs.Making.{AreBlank};
+ghost use Rattle.mely_event.specs.HandlerTable.{rows_of};
+ghost use Rattle.mely_history.specs.Setup.{shape_of, colours_of, handlers_of};
+ghost use Rattle.mely_tally.specs.Tallies.{carried_by};
+ghost use Rattle.mely_tally.specs.Tells.{total_of};
+
+mod paying;
+
+use crate::{the_parts_are_what_the_weave_had, what_each_handler_keeps_a_run_keeps};
+use mely_event::{Colour, Event, Fits, Handlers, Memory, Trail};
+use mely_history::{Setup, Shape};
+use mely_weave::{Weave, WeaveParts};
+use paying::{Paying, Purse, purse_of};
+use std::alloc::Global;
+use std::sync::Wait;
+use std::test::Fail;
+
+/// Runs a schedule and drains the weave. Its parts have as many coins as it had.
+fn play<R: Wait>(
+    rt: &R,
+    mut weave: Weave<Purse, u64>,
+    app: &Paying,
+    schedule: &[(u16, u32)],
+) -> WeaveParts<Purse, u64>
+    requires cores { All (λ part. part.0 < (shape_of weave.setup).cores) schedule.now }
+    requires count { sum_by (λ part. part.1) schedule.now < 2 ^ 64 }
+    requires some { 0 < app.now.colours }
+    requires colours { app.now.colours ≤ colours_of weave.setup }
+    requires handlers { 1 ≤ length (rows_of (handlers_of weave.setup)) }
+    ensures { sum_by (λ purse. purse.coins) result.states.items
+        + sum_by (λ way. unwrap_or way.1 0) (flat_map (λ events. events) (map (λ queue. queue.items) result.queued.items) ++ carried_by result.lost.items)
+        ≡ total_of (λ purse. purse.coins) (λ way. unwrap_or way.1 0) weave }
+{
+    what_each_handler_keeps_a_run_keeps::<Purse, u64, Paying>();
+    the_parts_are_what_the_weave_had::<Purse, u64>();
+    weave.stands_well();
+    weave.run(schedule, app);
+    weave.drain(rt, app);
+    weave.stands_well();
+    weave.into_parts()
+}
+
+/// Two cores, two shards, three colours and one handler.
+fn small_setup() -> Result<Setup, Fail>
+    ensures cores { IfOk result (λ setup. (shape_of setup).cores ≡ 2) }
+    ensures colours { IfOk result (λ setup. colours_of setup ≡ 3) }
+    ensures handlers { IfOk result (λ setup. length (rows_of (handlers_of setup)) ≡ 1) }
+{
+    let shape = Shape {
+        cores: 2,
+        shards: 2,
+        batch: 2,
+        steal_cost: 5,
+        group: 2,
+    };
+    let Ok(handlers) = Handlers::new(&[(10, 1)]) else {
+        return Err(Fail::from("no table"));
+    };
+    match Setup::new(&shape, 3, handlers, 0) {
+        Ok(setup) => Ok(setup),
+        Err(_) => Err(Fail::from("no setup")),
+    }
+}
+
+/// A purse with a hundred coins for each colour.
+fn purses(alloc: Global, colours: u16) -> Result<Vec<Purse>, Memory>
+    ensures { IfOk result (λ states. AreBlank (λ state. state.log.colour) (λ state. state.log.events) colours states.items) }
+{
+    let mut states = Vec::new(alloc);
+    'colours: for colour in 0..colours {
+        states.push(purse_of(alloc, colour, 100))?;
+    }
+    Ok(states)
+}
+
+#[test]
+fn coins_that_go_round_are_as_many_at_the_end(rt: HostRuntime) -> Result<(), Fail> {
+    let setup = small_setup()?;
+    let states = purses(rt.alloc(), 3)?;
+    let Ok(mut weave) = Weave::new(rt.alloc(), &setup, states) else {
+        return Err(Fail::from("no weave"));
+    };
+    let many = Event { handler: 0, arg: 5 };
+    let few = Event { handler: 0, arg: 2 };
+    assert!(rt; weave.post(Colour(0), many, Some(1000)).is_ok());
+    assert!(rt; weave.post(Colour(2), few, None).is_ok());
+    let parts = play(&rt, weave, &Paying { colours: 3 }, &[(0, 7), (1, 9)]);
+    let mut coins = 0u64;
+    for purse in &parts.states {
+        coins = coins.wrapping_add(purse.coins);
+    }
+    assert_eq!(rt; coins, 1300);
+    assert!(rt; parts.lost.is_empty());
+    Ok(())
+}
