@@ -1,0 +1,4 @@
+pub mod Lists
+pub mod Lines
+pub mod Pieces
+pub mod Runs

@@ -1,0 +1,4 @@
+pub mod Elements
+pub mod Pushes
+pub mod Picks
+pub mod Reports

@@ -1,0 +1,3 @@
+pub mod Corresponds
+pub mod Pieces
+pub mod WholeRuns

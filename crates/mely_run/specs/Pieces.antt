@@ -1,0 +1,73 @@
+-- What an app has in a weave: the states of the colours, and the registrations that are still to be run, with their loads.
+use Rattle.std.specs.Prelude.{◌≡◌, ◌+◌, ◌⊎◌, ℕ, Bool, true, false, List, [], ◌∷◌, ◌++◌, Option, None, Some, map, flat_map, IsPermutation}
+use Rattle.std.proofs.Common.{inl, inr}
+use Rattle.mely_event.specs.declared.colour.Colour.{Colour}
+use Rattle.mely_event.specs.declared.event.Event.{Event}
+use Rattle.mely_event.specs.declared.trail.Trail.{Ghosts as TrailWords}
+use Rattle.mely_history.specs.declared.setup.Setup.{Setup}
+use Rattle.mely_shard.specs.Contents.{Contents, Lane, colour_at}
+use Rattle.mely_worker.specs.declared.app.App.{Ghosts as AppWords}
+use Rattle.mely_worker.specs.declared.phase.Phase.{Phase}
+use Rattle.mely_worker.specs.declared.phase.Phase.TheVariants as at
+use Rattle.mely_worker.specs.WorkerView.{WorkerView}
+use Rattle.mely_weave.specs.StandsWell.{Loom}
+use Rattle.mely_machine.specs.Machine.{Acts}
+use Rattle.mely_run.specs.Corresponds.{without_loads}
+
+-- the state of a colour, or an event of it that comes, with its load
+abbrev pub Piece : Type 0 → Type 0 → Type 0
+Piece S P = Colour × (S ⊎ (Event × Option P))
+
+abbrev pub kept : {S P : Type 0} → Colour → S → Piece S P
+kept c state = (c, inl state)
+
+abbrev pub coming : {S P : Type 0} → Colour → Event → Option P → Piece S P
+coming c event load = (c, inr (event, load))
+
+-- what a lane has: its state where that is at home, and the events that wait
+abbrev pub of_state : {S P : Type 0} → Colour → Option S → List (Piece S P)
+of_state c None = []
+of_state c (Some state) = kept c state ∷ []
+
+abbrev pub of_lane : {S P : Type 0} → Colour → Lane S P → List (Piece S P)
+of_lane c lane = of_state c lane.state ++ map (λ e. coming c e.0 e.1) lane.events
+
+abbrev pub of_lanes : {S P : Type 0} → Setup → ℕ → ℕ → List (Lane S P) → List (Piece S P)
+of_lanes setup shard place [] = []
+of_lanes setup shard place (lane ∷ lanes) = of_lane (colour_at setup shard place) lane ++ of_lanes setup shard (place + 1) lanes
+
+abbrev pub of_shard : {S P : Type 0} → Contents S P → List (Piece S P)
+of_shard has = of_lanes has.setup has.shard 0 has.lanes
+
+-- what a turning worker has: the state of its turn, the events that are left, and what is left to register
+abbrev pub of_put : {S P : Type 0} → Colour × Event × Option P → Piece S P
+of_put put = coming put.0 put.1 put.2
+
+abbrev pub of_phase : {S P : Type 0} → Phase S P → List (Piece S P)
+of_phase (at.Free place) = []
+of_phase (at.Popped mark) = []
+of_phase (at.Picked mark victim) = []
+of_phase (at.Landing mark) = []
+of_phase (at.Pushing to mark) = []
+of_phase (at.Turning turn hand puts) = kept turn.colour turn.state ∷ (map (λ e. coming turn.colour e.0 e.1) turn.events ++ map of_put puts)
+
+abbrev pub of_worker : {S P : Type 0} → WorkerView S P → List (Piece S P)
+of_worker w = of_phase w.phase
+
+abbrev pub pieces : {S P : Type 0} → Loom S P → List (Piece S P)
+pieces loom = flat_map of_shard loom.shards ++ flat_map of_worker loom.workers
+
+-- the given states, each on its colour, of which the first has this number
+abbrev pub kept_from : {S P : Type 0} → ℕ → List S → List (Piece S P)
+kept_from n [] = []
+kept_from n (state ∷ states) = kept (record { 0 = n }) state ∷ kept_from (n + 1) states
+
+-- An app is told by a function: where what it has agrees with what it is by the function, a handler registers what the function says, and what the app has then agrees again, unless the handler left its state spoilt, as by want of memory. Nothing of it depends on where a piece is, or on the room of a state, and a spoilt state stays so.
+pub record IsTold {S P F R X : Type 0} (t : TrailWords S F) (fits : F → Colour → Event → Option P → Type 0) (y : AppWords R P S F) (app : R) (frame : F) (act : Acts X) (Agrees : X → List (Piece S P) → Type 0) (spoilt : S → Bool) : Type 0 where
+  pub moved : (x : X) (some others : List (Piece S P)) → IsPermutation some others → Agrees x some → Agrees x others
+  pub roomier : (x : X) (c : Colour) (state roomy : S) (rest : List (Piece S P)) → t.alike state roomy → Agrees x (kept c state ∷ rest) → Agrees x (kept c roomy ∷ rest)
+  pub runs : (x : X) (c : Colour) (event : Event) (load : Option P) (state after : S) (puts : List (Colour × Event × Option P)) (rest : List (Piece S P)) → t.colour_of state ≡ c → t.frame_of state ≡ frame → fits frame c event load
+      → Agrees x (kept c state ∷ coming c event load ∷ rest) → y.runs app state event load after puts → spoilt after ≡ false
+      → (without_loads puts ≡ (act x c event).puts) × Agrees (act x c event).becomes (kept c after ∷ (map of_put puts ++ rest))
+  pub spoilt_roomier : (state roomy : S) → t.alike state roomy → spoilt state ≡ true → spoilt roomy ≡ true
+  pub spoilt_after : (state after : S) (event : Event) (load : Option P) (puts : List (Colour × Event × Option P)) → y.runs app state event load after puts → spoilt state ≡ true → spoilt after ≡ true
