@@ -1,0 +1,98 @@
+//! The links, and the run that serves them.
+ghost use Rattle.std.specs.Prelude.{◌≡◌, ◌≤◌, IfSome, length};
+ghost use Rattle.std.specs.List.{AllByRecursion};
+ghost use Rattle.sws_link.specs.MemWorlds.{IsFreshMemLink};
+
+use mely_event::Handlers;
+use mely_history::{Setup, Shape};
+use std::alloc::Global;
+use std::sync::Wait;
+use sws_engine::{Verdict, serve_steps};
+use sws_link::{Link, LinkItem, MemLink, MemWorld, SureFolder, World};
+use sws_site::Site;
+
+/// How many connections there are, how many requests each sends, and how many workers serve them.
+#[derive(Drop)]
+pub struct Order {
+    pub connections: u16,
+    pub requests: u16,
+    pub workers: u16,
+}
+
+/// What a browser asks for the page of a folder.
+const HEAD: &[u8] = b"GET / HTTP/1.1\r\nHost: localhost:8080\r\n\
+User-Agent: Mozilla/5.0 (X11; Linux x86_64; rv:128.0) Gecko/20100101 Firefox/128.0\r\n\
+Accept: text/html,application/xhtml+xml,application/xml;q=0.9,*/*;q=0.8\r\n\
+Accept-Language: en-US,en;q=0.5\r\nAccept-Encoding: gzip, deflate, br\r\n\
+Connection: keep-alive\r\nUpgrade-Insecure-Requests: 1\r\n\
+Sec-Fetch-Dest: document\r\nSec-Fetch-Mode: navigate\r\n\r\n";
+
+/// A site of one small page.
+fn small_site(alloc: Global) -> Option<Site> {
+    let mut files = Vec::new(alloc);
+    let name = Vec::from_slice(alloc, b"index.html").ok()?;
+    let page = Vec::from_slice(alloc, b"hi\n").ok()?;
+    files.push((name, page)).ok()?;
+    let mut folder = SureFolder::new(alloc, files);
+    Site::load(alloc, &mut folder, None).ok()
+}
+
+/// A link that gives so many heads, one after another, in one piece.
+fn link_of(alloc: Global, requests: u16) -> Option<MemLink>
+    ensures { IfSome result IsFreshMemLink }
+{
+    let mut bytes = Vec::new(alloc);
+    for _ in 0..requests {
+        bytes.extend_from_slice(HEAD).ok()?;
+    }
+    let mut items = Vec::new(alloc);
+    items.push(LinkItem::Bytes(bytes)).ok()?;
+    Some(MemLink::new(alloc, items, None, None, Vec::new(alloc)))
+}
+
+/// So many such links.
+fn links_of(alloc: Global, connections: u16, requests: u16) -> Option<Vec<MemLink>>
+    ensures many { IfSome result (λ links. length links.items ≡ connections) }
+    ensures fresh { IfSome result (λ links. AllByRecursion IsFreshMemLink links.items) }
+{
+    let mut links = Vec::new(alloc);
+    'links: for _number in 0..connections {
+        links.push(link_of(alloc, requests)?).ok()?;
+    }
+    Some(links)
+}
+
+/// Serves all of them, and answers how many bytes were written in all; nothing for want of memory, or where a number is out of
+/// its range.
+pub fn run<R: Wait>(rt: &R, alloc: Global, order: &Order) -> Option<u64> {
+    if order.connections > 1024 {
+        return None;
+    }
+    let site = small_site(alloc)?;
+    let world = MemWorld::new(
+        links_of(alloc, order.connections, order.requests)?,
+        Vec::new(alloc),
+    );
+    let shape = Shape {
+        cores: order.workers,
+        shards: 1,
+        batch: 10,
+        steal_cost: 20,
+        group: 4,
+    };
+    let handlers = Handlers::new(&[]).ok()?;
+    let Ok(_) = Setup::new(&shape, u32::from(world.total()) + 2, handlers, 1) else {
+        return None;
+    };
+    let ended = serve_steps(rt, alloc, &site, &shape, world, &[]);
+    if ended.verdict != Verdict::Ok {
+        return None;
+    }
+    let mut written = 0u64;
+    for served in &ended.served {
+        if let Some(link) = &served.link {
+            written = written.saturating_add(link.written().len() as u64);
+        }
+    }
+    Some(written)
+}

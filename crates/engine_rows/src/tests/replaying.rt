@@ -1,0 +1,140 @@
+//! A run of links in memory, with what it leaves as a text.
+ghost use Rattle.std.specs.Prelude.{◌≤◌, ◌<◌, ◌^◌, All, IfSome, sum_by, length};
+ghost use Rattle.std.specs.List.{AllByRecursion};
+ghost use Rattle.sws_link.specs.MemWorlds.{IsFreshMemLink};
+
+use mely_event::Handlers;
+use mely_history::{Setup, Shape};
+use std::process::Abort;
+use std::sync::Wait;
+use sws_conn::End;
+use sws_engine::{Ended, serve_steps};
+use sws_link::{Link, LinkItem, MemLink, MemWorld, Put, SureFolder, SureSink, World};
+use sws_report::{write_conn, write_journal};
+use sws_site::Site;
+
+/// One thing that a client does.
+#[derive(Clone, Copy)]
+pub(super) enum Part<'a> {
+    /// It sends these bytes in one piece.
+    Send(&'a [u8]),
+
+    /// It sends these bytes, each in a piece of its own.
+    Drops(&'a [u8]),
+
+    /// It sends so many bytes `a` in one piece.
+    Fill(u32),
+
+    /// It is not ready so often.
+    Pause(u16),
+
+    /// It fails from here on.
+    Fault,
+}
+
+/// These bytes in one piece.
+fn piece(rt: &(impl AllocGlobal + Abort), bytes: &[u8]) -> LinkItem {
+    LinkItem::Bytes(Vec::from_slice(rt.alloc(), bytes).expect(rt, "memory"))
+}
+
+/// A link that gives these parts, takes at most `step` bytes a write, and fails where `cut` bytes were written.
+pub(super) fn link(
+    rt: &(impl AllocGlobal + Abort),
+    parts: &[Part],
+    step: Option<u32>,
+    cut: Option<u64>,
+) -> MemLink
+    ensures { IsFreshMemLink result }
+{
+    let mut items = Vec::new(rt.alloc());
+    for part in parts {
+        match *part {
+            Part::Send(bytes) => items.push(piece(rt, bytes)).expect(rt, "memory"),
+            Part::Drops(bytes) => {
+                for byte in bytes {
+                    items.push(piece(rt, &[*byte])).expect(rt, "memory");
+                }
+            }
+            Part::Fill(count) => items.push(LinkItem::Fill(count)).expect(rt, "memory"),
+            Part::Pause(count) => items.push(LinkItem::Wait(count)).expect(rt, "memory"),
+            Part::Fault => items.push(LinkItem::Fail).expect(rt, "memory"),
+        }
+    }
+    MemLink::new(rt.alloc(), items, step, cut, Vec::new(rt.alloc()))
+}
+
+/// The site of the rows.
+pub(super) fn site(rt: &(impl AllocGlobal + Abort), date: Option<u64>) -> Site
+    requires { IfSome date (λ secs. secs ≤ 253402300799) }
+{
+    let mut files = Vec::new(rt.alloc());
+    let contents: [(&[u8], &[u8]); 3] = [
+        (b"index.html", b"hi\n"),
+        (b"a/b.txt", b"0123456789"),
+        (b"empty.css", b""),
+    ];
+    for (name, bytes) in contents {
+        let name = Vec::from_slice(rt.alloc(), name).expect(rt, "memory");
+        let bytes = Vec::from_slice(rt.alloc(), bytes).expect(rt, "memory");
+        files.push((name, bytes)).expect(rt, "memory");
+    }
+    let mut folder = SureFolder::new(rt.alloc(), files);
+    match Site::load(rt.alloc(), &mut folder, date) {
+        Ok(site) => site,
+        Err(_) => panic!(rt; "the site is not loaded"),
+    }
+}
+
+/// Runs these links by a schedule, and then until nothing is left.
+pub(super) fn run<R: AllocGlobal + Abort + Wait>(
+    rt: &R,
+    site: &Site,
+    shape: &Shape,
+    links: Vec<MemLink>,
+    schedule: &[(u16, u32)],
+) -> Ended<MemWorld>
+    requires few { length links.items ≤ 1024 }
+    requires fresh { AllByRecursion IsFreshMemLink links.items }
+    requires cores { All (λ part. part.0 < shape.now.cores) schedule.now }
+    requires count { sum_by (λ part. part.1) schedule.now < 2 ^ 64 }
+{
+    let world = MemWorld::new(links, Vec::new(rt.alloc()));
+    let Ok(handlers) = Handlers::new(&[]) else {
+        panic!(rt; "no table");
+    };
+    let Ok(_) = Setup::new(shape, u32::from(world.total()) + 2, handlers, 1) else {
+        panic!(rt; "a number of the shape is out of its range");
+    };
+    serve_steps(rt, rt.alloc(), site, shape, world, schedule)
+}
+
+/// What a run left, as a replay prints it: each connection, and the histories where they are asked for.
+pub(super) fn printed(
+    rt: &(impl AllocGlobal + Abort),
+    ended: &Ended<MemWorld>,
+    is_journal: bool,
+) -> SureSink {
+    let mut sink = SureSink::new(rt.alloc());
+    for number in 0..1024u16 {
+        let Some(served) = ended.served.get(usize::from(number)) else {
+            break;
+        };
+        let end = match served.end {
+            Some(End::Done) => End::Done,
+            Some(End::Idle) => End::Idle,
+            Some(End::Fault) => End::Fault,
+            Some(End::Memory) => panic!(rt; "a link met want of memory"),
+            None => panic!(rt; "a connection has no end"),
+        };
+        let Some(link) = &served.link else {
+            panic!(rt; "a connection has no link");
+        };
+        let put = write_conn(rt.alloc(), &mut sink, number, end, link.written());
+        assert!(rt; put == Put::Done);
+    }
+    if is_journal {
+        let put = write_journal(rt.alloc(), &mut sink, &ended.histories);
+        assert!(rt; put == Put::Done);
+    }
+    sink
+}

@@ -1,0 +1,5 @@
+use Rattle.sws_engine.proofs.Model.Scripted.{schedules}
+use Rattle.sws_engine.proofs.laws.worked_schedules_hold.Goals as goal
+
+pub returns : goal.returns
+returns c = λ site limits. schedules site limits

@@ -1,0 +1,23 @@
+use Rattle.std.proofs.Common.{ap, ◌∙◌, subst, inr, arith}
+use Rattle.mely_event.specs.HandlerTable.{rows_of}
+use Rattle.sws_engine.specs.Conclusion.{IsConcluded}
+use Rattle.sws_engine.proofs.ThreadLaws.{has_run_threads}
+use Rattle.sws_engine.proofs.ConcludedLaws.{rules_are}
+use Rattle.sws_engine.proofs.SeatsOfRun.{seats_stand}
+use Rattle.sws_engine.proofs.threads.talk_all.Goals as goal
+
+pub conclude-requires-clause-seats : goal.conclude-requires-clause-seats
+conclude-requires-clause-seats g c =
+    let kept = c.in-Ok-run_threads.ensures.kept in
+    let seats = (seats_stand _ c.in-Ok-run_threads.parts.states.items kept.many kept.placed).many in
+    let same = c.total-total.ensures in
+    omega (arith, seats, same)
+
+pub returns-in-Ok-run_threads : goal.returns-in-Ok-run_threads
+returns-in-Ok-run_threads g c =
+    let same = c.total-total.ensures in
+    let setup = c.in-Ok-new.ensures in
+    let from = c.from.ensures in
+    let count = setup.colours in
+    inr (has_run_threads g.W.World g.W.Link.Link g.T.Talk c.args.shape.now c.in-Ok-new.setup _ c.args.world c.in-Ok-run_threads.drained c.in-Ok-run_threads.parts c.conclude.result (rules_are c.in-Ok-new.setup c.args.shape.now setup.shape (ap (λ handlers. rows_of handlers) setup.handlers ∙ c.handler_table.ensures.rows) setup.pinned) (omega (arith, count, from, same)) c.in-Ok-run_threads.ensures.kept c.in-Ok-run_threads.ensures.fits
+    (subst (λ n. IsConcluded g.T.Talk n c.in-Ok-run_threads.drained c.in-Ok-run_threads.parts c.conclude.result) same c.conclude.ensures.concluded) c.conclude.ensures.tell)

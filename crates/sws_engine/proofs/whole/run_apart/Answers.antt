@@ -1,0 +1,24 @@
+use Rattle.std.proofs.Common.{refl}
+use Rattle.sws_engine.proofs.Parted.{run_parts, run_fits}
+use Rattle.sws_engine.proofs.Model.Engine.{engine_run}
+use Rattle.sws_engine.proofs.whole.run_apart.Goals as goal
+
+pub returns-clause-ran : goal.returns-clause-ran
+returns-clause-ran g c =
+    let parts = c.into_parts.ensures in
+    let stands = c.stands_well.ensures in
+    let apart = c.the_parts_are_what_the_weave_had.ensures c.in_ok-weave.weave _ _ _ _ stands.keeps stands.parts c.in_ok-weave.ensures.free parts.histories parts.states parts.queued parts.lost in
+    run_parts g.W.World g.T.Talk _ c.args.setup.now c.args.world _ c.in_ok-weave.weave _ _ _ _ apart c.in_ok-weave.ensures.stands c.in_ok-weave.ensures.of_setup c.requires.colours c.in_ok-weave.ensures.drained (λ s. refl) (λ s. refl) (λ s. refl)
+
+pub returns-clause-fits : goal.returns-clause-fits
+returns-clause-fits g c =
+    let parts = c.into_parts.ensures in
+    let stands = c.stands_well.ensures in
+    let apart = c.the_parts_are_what_the_weave_had.ensures c.in_ok-weave.weave _ _ _ _ stands.keeps stands.parts c.in_ok-weave.ensures.free parts.histories parts.states parts.queued parts.lost in
+    let fit = c.what_is_left_in_the_parts_fits.ensures c.in_ok-weave.weave _ _ stands.parts parts.queued parts.lost in
+    run_fits g.W.World g.W.Link.Link _ _ c.args.world _ c.in_ok-weave.weave _ _ _ _ apart fit c.in_ok-weave.ensures.stands.framed c.in_ok-weave.ensures.of_hall (λ s. refl) (λ frame k event carried is. is)
+
+pub returns-clause-model : goal.returns-clause-model
+returns-clause-model g c = λ shape paths ruled tells opened empty fine.
+    engine_run g.W.World g.W.Link.Link g.T.Talk _ c.args.world paths _ _ _ _ (λ p q alike. alike) (λ s. refl) (λ s. refl) (λ frame k event carried fit. fit) (λ app s event carried after puts ran. ran)
+    c.args.setup.now c.args.schedule.now c.in_ok-weave.weave _ _ c.a_run_serves.ensures.path c.a_run_serves.ensures.due (c.in_ok-weave.ensures.out empty) c.into_parts.ensures.histories c.into_parts.ensures.states tells opened fine shape ruled

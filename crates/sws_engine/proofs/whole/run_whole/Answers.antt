@@ -1,0 +1,19 @@
+use Rattle.std.proofs.Common.{arith, ap, ◌∙◌}
+use Rattle.mely_history.specs.declared.setup.Setup.{Setup}
+use Rattle.mely_history.specs.Setup.{shape_of}
+use Rattle.sws_engine.proofs.Model.Engine.{has_run_out}
+use Rattle.sws_engine.proofs.whole.run_whole.Goals as goal
+
+pub run_through-drained-requires-clause-cores : goal.run_through-drained-requires-clause-cores
+run_through-drained-requires-clause-cores g c k d low =
+    let low_core = c.requires.cores k d low in
+    let same = ap (λ (s : Setup). (shape_of s).cores) c.in_ok-weave.ensures.of_setup in
+    omega (arith, low_core, same)
+
+pub returns-clause-of_hall : goal.returns-clause-of_hall
+returns-clause-of_hall g c = ap (λ s. s.hall) c.run_through-drained.ensures.same.given ∙ c.in_ok-weave.ensures.of_hall (g.T.Talk.contents_of c.args.hall) c.in-Ok.ensures
+
+pub returns-clause-out : goal.returns-clause-out
+returns-clause-out g c = λ empty.
+    has_run_out g.W.World g.T.Talk _ _ _ _ c.args.setup.now c.args.world _ _ c.new-app.result c.total-total.result c.in-Ok.states.items c.in_ok-weave.weave _ c.total-total.ensures c.new-app.ensures c.in-Ok.ensures
+    c.in_ok-weave.ensures.begun (c.run_through-drained.ensures.out empty)

@@ -1,0 +1,80 @@
+-- The server in a weave agrees with the server as a function.
+use Rattle.std.specs.Prelude.{◌≡◌, ◌≢◌, ◌<◌, ◌≤◌, ℕ, zero, suc, ◌-◌, ◌==◌, Bool, false, List, ◌∷◌, Option, None, Some, All, length, drop, sum_by, count_by, slice_get, is_some}
+use Rattle.std.proofs.Common.{inl, inr}
+use Rattle.std.specs.List.{AllByRecursion}
+use Rattle.mely_event.specs.declared.colour.Colour.{Colour}
+use Rattle.sws_conn.specs.Path.{Handler, open_link}
+use Rattle.mely_run.specs.Pieces.{Piece}
+use Rattle.sws_engine.specs.Handling.{number_of}
+use Rattle.sws_engine.specs.Server.{Server}
+use Rattle.sws_engine.specs.PathPlaces.{World, Load, world, link, Desk, Place, polling, accepting, talking}
+use Rattle.sws_engine.specs.PathStates.{AreLoads}
+
+-- no opening
+abbrev pub HasNoOpening : List Handler → Type 0
+HasNoOpening path = AllByRecursion (λ h. number_of h ≢ 3) path
+
+module _ (whole : List (List Handler)) where
+  -- each path begins with the opening, and has no other
+  abbrev pub AreOpened : Type 0
+  AreOpened = (i : ℕ) (path : List Handler) → slice_get whole i ≡ Some path → (later : List Handler) × (path ≡ open_link ∷ later) × HasNoOpening later
+
+  -- the world has accepted so many links, and has the others to come
+  pub record WorldStands (s : Server) (w : World) : Type 0 where
+    pub accepted : w.accepted ≡ s.accepted
+    pub coming : w.coming ≡ drop w.accepted whole
+
+  abbrev pub RestStands : Server → Option World → Type 0
+  RestStands s None = Unit {0}
+  RestStands s (Some w) = WorldStands s w
+
+  pub record DeskStands (s : Server) (desk : Desk) : Type 0 where
+    pub waiting : desk.waiting ≡ s.waiting
+    pub last : desk.last ≡ s.last
+    pub rests : is_some desk.resting ≡ s.rests
+    pub world : RestStands s desk.resting
+
+  -- a connection has the rest of its path, and the whole of it before it is open
+  abbrev pub SeatStands : Server → ℕ → Option (List Handler) → Type 0
+  SeatStands s i None = slice_get s.paths i ≡ slice_get whole i
+  SeatStands s i (Some path) = (slice_get s.paths i ≡ Some path) × HasNoOpening path
+
+  abbrev pub PlaceStands : Server → Colour → Place → Type 0
+  PlaceStands s c (polling desk) = (c.0 ≡ 0) × DeskStands s desk
+  PlaceStands s c accepting = c.0 ≡ 1
+  PlaceStands s c (talking seat) = (2 ≤ c.0) × SeatStands s (c.0 - 2) seat
+
+  -- an event is on its colour with its load, by the handler
+  abbrev pub ComingStands : Server → Colour → ℕ → ℕ → Option Load → Type 0
+  ComingStands s c zero arg (Some (world w)) = (c.0 ≡ 0) × WorldStands s w × (arg ≡ 0 → w.accepted < length whole)
+  ComingStands s c (suc zero) arg None = c.0 ≡ 0
+  ComingStands s c (suc (suc zero)) arg (Some (world w)) = (c.0 ≡ 1) × WorldStands s w × (w.accepted < length whole)
+  ComingStands s c (suc (suc (suc zero))) arg (Some (link path)) = (2 ≤ c.0) × (slice_get whole (c.0 - 2) ≡ Some path)
+  ComingStands s c (suc (suc (suc (suc more)))) arg None = 2 ≤ c.0
+  ComingStands s c handler arg load = ⊥
+
+-- the state of a colour
+abbrev pub is_state_of : {S P : Type 0} → ℕ → Piece S P → Bool
+is_state_of c (d, inl state) = d.0 == c
+is_state_of c (d, inr coming) = false
+
+-- so many worlds are in a state, or in a load where there is one
+abbrev pub carried : {P : Type 0} → (P → ℕ) → Option P → ℕ
+carried carries None = 0
+carried carries (Some load) = carries load
+
+abbrev pub worlds_of : {S P : Type 0} → (S → ℕ) → (P → ℕ) → Piece S P → ℕ
+worlds_of holds carries (c, inl state) = holds state
+worlds_of holds carries (c, inr (event, load)) = carried carries load
+
+module _ {S P : Type 0} (IsPlace : S → Place → Type 0) (IsLoad : P → Load → Type 0) (holds : S → ℕ) (carries : P → ℕ) (whole : List (List Handler)) where
+  abbrev pub PieceStands : Server → Piece S P → Type 0
+  PieceStands s (c, inl state) = (place : Place) × IsPlace state place × PlaceStands whole s c place
+  PieceStands s (c, inr (event, load)) = (l : Option Load) × AreLoads IsLoad load l × ComingStands whole s c event.handler event.arg l
+
+  -- each piece has what the function has, there is one world, and a colour has one state
+  pub record Agrees (s : Server) (pieces : List (Piece S P)) : Type 0 where
+    pub many : length s.paths ≡ length whole
+    pub each : All (PieceStands s) pieces
+    pub one_world : sum_by (worlds_of holds carries) pieces ≤ 1
+    pub one_state : (c : ℕ) → count_by (is_state_of c) pieces ≤ 1

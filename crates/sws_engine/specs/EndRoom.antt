@@ -1,0 +1,10 @@
+-- The room for what a run leaves.
+use Rattle.std.specs.Prelude.{◌≡◌, ◌≤◌, ◌+◌, ℕ, [], vec_capacity}
+use Rattle.sws_engine.specs.declared.ended.EndRoom.{EndRoom}
+
+-- empty lists with room for so many connections, and for the trails of all colours
+pub record HasEndRoom {L : Type 0} (total : ℕ) (room : EndRoom L) : Type 0 where
+  pub none_served : room.served.items ≡ []
+  pub no_trail : room.trails.items ≡ []
+  pub served : total ≤ vec_capacity room.served
+  pub trails : total + 2 ≤ vec_capacity room.trails

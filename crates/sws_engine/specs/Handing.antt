@@ -1,0 +1,46 @@
+-- What is still under way at the end of a run is handed out: the world, and links that never came to their connections.
+use Rattle.std.specs.Prelude.{◌≡◌, ℕ, zero, suc, List, [], ◌∷◌, Option, None, Some}
+use Rattle.mely_event.specs.declared.event.Event.{Event}
+use Rattle.sws_engine.specs.declared.ended.Served.{Served}
+use Rattle.sws_engine.specs.declared.left.Left.{Left}
+use Rattle.sws_engine.specs.declared.load.WorldLoad.{WorldLoad}
+use Rattle.sws_engine.specs.declared.load.Load.{Load}
+use Rattle.sws_engine.specs.declared.load.Load.TheVariants as load
+use Rattle.sws_engine.specs.RunLeaves.{or_else}
+
+module _ {L : Type 0} where
+  -- a connection without a link gets this one
+  abbrev pub give_link : L → Served L → Served L
+  give_link link s = record s { link = or_else s.link (Some link) }
+
+  -- the connection of this number does, if there is one
+  abbrev pub place_link : L → ℕ → List (Served L) → List (Served L)
+  place_link link i [] = []
+  place_link link zero (s ∷ served) = give_link link s ∷ served
+  place_link link (suc i) (s ∷ served) = s ∷ place_link link i served
+
+module _ {W L : Type 0} where
+  abbrev pub served_with_load : ℕ → Option (Load W L) → List (Served L) → List (Served L)
+  served_with_load i None served = served
+  served_with_load i (Some (load.World held)) served = served
+  served_with_load i (Some (load.Link link)) served = place_link link i served
+
+  abbrev pub world_with_load : Option (Load W L) → Option (WorldLoad W) → Option (WorldLoad W)
+  world_with_load None world = world
+  world_with_load (Some (load.World held)) world = Some held
+  world_with_load (Some (load.Link link)) world = world
+
+  -- the connections, with the links of all these events
+  abbrev pub served_with : List (Event × Option (Load W L)) → List (Served L) → List (Served L)
+  served_with [] served = served
+  served_with (e ∷ events) served = served_with events (served_with_load e.0.arg e.1 served)
+
+  -- the world, where it is in one of them, or as it was found before
+  abbrev pub world_with : List (Event × Option (Load W L)) → Option (WorldLoad W) → Option (WorldLoad W)
+  world_with [] world = world
+  world_with (e ∷ events) world = world_with events (world_with_load e.1 world)
+
+  pub record HandsOut (events : List (Event × Option (Load W L))) (before after : Left W L) : Type 0 where
+    pub served : after.served.items ≡ served_with events before.served.items
+    pub world : after.world ≡ world_with events before.world
+    pub trails : after.trails ≡ before.trails

@@ -1,0 +1,216 @@
+-- What each handler does, and what it puts.
+use Rattle.std.specs.Prelude.{◌≡◌, ℕ, ◌+◌, ◌-◌, ◌==◌, ◌||◌, ◌&&◌, not, Bool, true, false, if◌then◌else◌, List, [], ◌∷◌, ◌++◌, map, Option, Some, None}
+use Rattle.mely_event.specs.declared.colour.Colour.{Colour}
+use Rattle.mely_event.specs.declared.event.Event.{Event}
+use Rattle.sws_link.specs.declared.Link.{Ghosts as LinkWords}
+use Rattle.sws_link.specs.declared.world.World.{Ghosts as WorldWords}
+use Rattle.sws_link.specs.declared.Polled.{Polled}
+use Rattle.sws_link.specs.declared.Polled.TheVariants as polled
+use Rattle.sws_link.specs.declared.Accepted.{Accepted}
+use Rattle.sws_link.specs.declared.Accepted.TheVariants as accepted
+use Rattle.sws_link.specs.Worlds.{Polls, Accepts}
+use Rattle.sws_conn.specs.declared.End.{End}
+use Rattle.sws_conn.specs.declared.talk.Talk.{Ghosts as TalkWords}
+use Rattle.sws_conn.specs.Path.{Handler}
+use Rattle.sws_conn.specs.Path.{open_link, read_piece, parse, look, write_part, resume, close}
+use Rattle.sws_conn.specs.Talks.{opened_view, due}
+use Rattle.sws_engine.specs.declared.load.WorldLoad.{WorldLoad}
+use Rattle.sws_engine.specs.declared.load.Load.{Load}
+use Rattle.sws_engine.specs.declared.load.Load.TheVariants as load
+use Rattle.sws_engine.specs.declared.place.Desk.{Desk}
+use Rattle.sws_engine.specs.declared.place.Seat.{Seat}
+use Rattle.sws_engine.specs.declared.place.Role.{Role}
+use Rattle.sws_engine.specs.declared.place.Role.TheVariants.{Polling, Accepting, Talking}
+use Rattle.sws_engine.specs.declared.task.Task.{Task}
+use Rattle.sws_engine.specs.declared.task.Task.TheVariants as task
+use Rattle.sws_engine.specs.Tasks.{task_of}
+use Rattle.sws_engine.specs.Places.{PlaceView}
+use Rattle.sws_engine.specs.WaitingList.{TakenOff, waiting_with}
+
+abbrev pub Put : Type 0 → Type 0 → Type 0
+Put W L = Colour × Event × Option (Load W L)
+
+-- ---- what may be put
+
+abbrev pub poll_put : {W L : Type 0} → ℕ → WorldLoad W → Put W L
+poll_put arg held = (record { 0 = 0 }, record { handler = 0; arg = arg }, Some (load.World held))
+
+abbrev pub accept_put : {W L : Type 0} → WorldLoad W → Put W L
+accept_put held = (record { 0 = 1 }, record { handler = 2; arg = 0 }, Some (load.World held))
+
+abbrev pub wait_put : {W L : Type 0} → ℕ → Put W L
+wait_put i = (record { 0 = 0 }, record { handler = 1; arg = i }, None)
+
+abbrev pub open_put : {W L : Type 0} → ℕ → L → Put W L
+open_put i link = (record { 0 = i + 2 }, record { handler = 3; arg = i }, Some (load.Link link))
+
+-- the number of the handler of a step
+abbrev pub number_of : Handler → ℕ
+number_of open_link = 3
+number_of read_piece = 4
+number_of parse = 5
+number_of look = 6
+number_of write_part = 7
+number_of close = 8
+number_of resume = 9
+
+abbrev pub step_put : {W L : Type 0} → ℕ → Handler → Put W L
+step_put i step = (record { 0 = i + 2 }, record { handler = number_of step; arg = i }, None)
+
+-- the next step is put on the connection's colour; where the link was not ready, colour 0 is asked to wait for it
+abbrev pub next_put : {W L : Type 0} → ℕ → Handler → Put W L
+next_put i open_link = step_put i open_link
+next_put i read_piece = step_put i read_piece
+next_put i parse = step_put i parse
+next_put i look = step_put i look
+next_put i write_part = step_put i write_part
+next_put i close = step_put i close
+next_put i resume = wait_put i
+
+-- ---- polling
+
+-- what is known in a poll: who waits, whether no more links come, whether the world failed, and who is resumed
+pub record Asked : Type 0 where
+  pub waiting : List ℕ
+  pub last : Bool
+  pub failed : Bool
+  pub resumed : List ℕ
+
+-- what the answer tells
+abbrev pub Answered : List ℕ → Bool → Polled → Asked → Type 0
+Answered waiting last (polled.Ready conn) asked = TakenOff conn waiting asked.waiting × (asked.last ≡ last) × (asked.failed ≡ false) × (asked.resumed ≡ conn ∷ [])
+Answered waiting last polled.Quiet asked = asked ≡ record { waiting = waiting; last = last; failed = false; resumed = [] }
+Answered waiting last polled.Failed asked = asked ≡ record { waiting = waiting; last = true; failed = true; resumed = [] }
+
+abbrev pub is_some : List ℕ → Bool
+is_some [] = false
+is_some (w ∷ ws) = true
+
+-- the world is asked where it hasn't failed, and more links are to come or somebody waits
+abbrev pub is_to_ask : List ℕ → Bool → Bool → Bool
+is_to_ask waiting last failed = not failed && (not last || is_some waiting)
+
+-- where the world has failed, the first of those that wait is resumed
+abbrev pub resuming : Bool → List ℕ → Asked → Asked
+resuming true (first ∷ rest) asked = record asked { waiting = rest; resumed = asked.resumed ++ first ∷ [] }
+resuming true [] asked = asked
+resuming false waiting asked = asked
+
+abbrev pub resumed_one : Asked → Asked
+resumed_one asked = resuming asked.failed asked.waiting asked
+
+-- how the world goes on: to the next accept, to another poll for those that wait, or to rest
+abbrev pub onward : {W L : Type 0} → Bool → List ℕ → WorldLoad W → List (Put W L)
+onward false waiting held = accept_put held ∷ []
+onward true (w ∷ ws) held = poll_put 1 held ∷ []
+onward true [] held = []
+
+abbrev pub rest_of : {W : Type 0} → Bool → List ℕ → WorldLoad W → Option (WorldLoad W) → Option (WorldLoad W)
+rest_of false waiting held resting = resting
+rest_of true (w ∷ ws) held resting = resting
+rest_of true [] held resting = Some held
+
+-- a world that rests is woken by it
+abbrev pub woken_by : {W L : Type 0} → Option (WorldLoad W) → List (Put W L)
+woken_by None = []
+woken_by (Some held) = poll_put 1 held ∷ []
+
+-- the next poll: 1 after the last link
+abbrev pub poll_after : Bool → ℕ
+poll_after last = if last then 1 else 0
+
+abbrev pub accept_puts : {W L : Type 0} → ℕ → WorldLoad W → W → Accepted L → List (Put W L)
+accept_puts total held now (accepted.Link link) =
+    poll_put (poll_after (held.accepted + 1 == total)) (record { world = now; accepted = held.accepted + 1; failed = held.failed }) ∷ open_put held.accepted link ∷ []
+accept_puts total held now accepted.NotYet = poll_put 0 (record { world = now; accepted = held.accepted; failed = held.failed }) ∷ []
+accept_puts total held now accepted.Failed = poll_put 2 (record { world = now; accepted = held.accepted; failed = held.failed }) ∷ []
+
+-- what is put after a step
+abbrev pub next_puts : {W L : Type 0} → ℕ → Option Handler → List (Put W L)
+next_puts i None = []
+next_puts i (Some step) = next_put i step ∷ []
+
+-- the event is the due one: its handler and its argument are
+abbrev pub is_due : ℕ → Option Handler → Event → Bool
+is_due i None event = false
+is_due i (Some step) event = (event.handler == number_of step) && (event.arg == i)
+
+abbrev pub stray_of : Option Event → Event → Option Event
+stray_of None event = Some event
+stray_of (Some first) event = Some first
+
+-- the number of a connection's colour
+abbrev pub conn_of : Colour → ℕ
+conn_of c = c.0 - 2
+
+pub record RunsWait {W L : Type 0} (desk : Desk W) (i : ℕ) (after : Desk W) (puts : List (Put W L)) : Type 0 where
+  pub waiting : after.waiting.items ≡ waiting_with i desk.waiting.items
+  pub last : after.last ≡ desk.last
+  pub resting : after.resting ≡ None
+  pub puts_are : puts ≡ woken_by desk.resting
+
+module _ {W L : Type 0} (x : WorldWords W L) where
+  -- the world is asked, or not
+  abbrev pub Asks : Bool → W → List ℕ → Bool → Bool → W → Asked → Type 0
+  Asks true world waiting last failed now asked = (answer : Polled) × Polls x.tells x.faults x.waits world waiting answer now × Answered waiting last answer asked
+  Asks false world waiting last failed now asked = (now ≡ world) × (asked ≡ record { waiting = waiting; last = last; failed = failed; resumed = [] })
+
+  pub record RunsPoll (desk : Desk W) (arg : ℕ) (held : WorldLoad W) (after : Desk W) (puts : List (Put W L)) : Type 0 where
+    pub now : W
+    pub asked : Asked
+    pub asks : let last = desk.last || not (arg == 0) in let failed = held.failed || (arg == 2) in
+        Asks (is_to_ask desk.waiting.items last failed) held.world desk.waiting.items last failed now asked
+    pub waiting : after.waiting.items ≡ (resumed_one asked).waiting
+    pub last : after.last ≡ asked.last
+    pub resting : after.resting ≡ rest_of asked.last (resumed_one asked).waiting (record { world = now; accepted = held.accepted; failed = asked.failed }) desk.resting
+    pub puts_are : puts ≡ map (λ i. step_put i resume) (resumed_one asked).resumed ++ onward asked.last (resumed_one asked).waiting (record { world = now; accepted = held.accepted; failed = asked.failed })
+
+  abbrev pub RunsDesk : Desk W → Option Task → ℕ → Option (Load W L) → Desk W → List (Put W L) → Type 0
+  RunsDesk desk (Some task.Poll) arg (Some (load.World held)) after puts = RunsPoll desk arg held after puts
+  RunsDesk desk (Some task.Wait) arg None after puts = RunsWait desk arg after puts
+  RunsDesk desk other arg carried after puts = (after ≡ desk) × (puts ≡ [])
+
+module _ {W L : Type 0} (x : WorldWords W L) (l : LinkWords L) where
+  pub record RunsAccept (total : ℕ) (held : WorldLoad W) (puts : List (Put W L)) : Type 0 where
+    pub answer : Accepted L
+    pub now : W
+    pub accepts : Accepts x.tells x.faults x.waits l.tells l.is_shut l.faults l.waits held.world answer now
+    pub puts_are : puts ≡ accept_puts total held now answer
+
+  abbrev pub RunsAccepting : ℕ → Option Task → Option (Load W L) → List (Put W L) → Type 0
+  RunsAccepting total (Some task.Accept) (Some (load.World held)) puts = RunsAccept total held puts
+  RunsAccepting total other carried puts = puts ≡ []
+
+-- an end that is known stays
+abbrev pub KeepsEnd : {T L G H : Type 0} → TalkWords T L G H → T → T → Type 0
+KeepsEnd y before after = (end : End) → (y.view_of before).end ≡ Some end → (y.view_of after).end ≡ Some end
+
+module _ {W L T G H : Type 0} (y : TalkWords T L G H) where
+  -- the step: the opening takes the link of the load, every other step is one more of the run
+  abbrev pub Stepped : T → Option Handler → Option (Load W L) → T → Type 0
+  Stepped before None carried after = ⊥
+  Stepped before (Some open_link) carried after = (link : L) × (carried ≡ Some (load.Link link)) × y.has_run link (open_link ∷ []) after × (y.view_of after ≡ opened_view)
+  Stepped before (Some step) carried after = (first : L) (ran : List Handler) → y.has_run first ran before → y.has_run first (ran ++ step ∷ []) after
+
+  -- the due event does its step, and the next one is put; any other event is stray, of which the first is kept
+  abbrev pub RunsSeat : Bool → ℕ → Seat T → Event → Option (Load W L) → Seat T → List (Put W L) → Type 0
+  RunsSeat true i seat event carried after puts =
+      Stepped seat.talk (due (y.view_of seat.talk)) carried after.talk × (after.stray ≡ seat.stray) × (y.hall_of after.talk ≡ y.hall_of seat.talk)
+      × (is_due i (due (y.view_of after.talk)) (record { handler = 3; arg = i }) ≡ false) × (puts ≡ next_puts i (due (y.view_of after.talk)))
+      × KeepsEnd y seat.talk after.talk
+  RunsSeat false i seat event carried after puts = (after.talk ≡ seat.talk) × (after.stray ≡ stray_of seat.stray event) × (puts ≡ [])
+
+module _ {W L T G H : Type 0} (x : WorldWords W L) (l : LinkWords L) (y : TalkWords T L G H) where
+  abbrev pub RunsRole : Colour → Role W T → Event → Option (Load W L) → Role W T → List (Put W L) → ℕ → Type 0
+  RunsRole c (Polling desk) event carried (Polling after) puts total = RunsDesk x desk (task_of event.handler) event.arg carried after puts
+  RunsRole c Accepting event carried Accepting puts total = RunsAccepting x l total (task_of event.handler) carried puts
+  RunsRole c (Talking seat) event carried (Talking after) puts total = RunsSeat y (is_due (conn_of c) (due (y.view_of seat.talk)) event) (conn_of c) seat event carried after puts
+  RunsRole c role event carried after puts total = ⊥
+
+  -- what the handler of an event does: the event joins the trail, and all but the role stays
+  pub record Runs (total : ℕ) (before : PlaceView H W T) (event : Event) (carried : Option (Load W L)) (after : PlaceView H W T) (puts : List (Put W L)) : Type 0 where
+    pub colour : after.colour ≡ before.colour
+    pub hall : after.hall ≡ before.hall
+    pub first : after.first ≡ before.first
+    pub trail : after.trail ≡ before.trail ++ event ∷ []
+    pub does : RunsRole before.colour before.role event carried after.role puts total

@@ -1,0 +1,94 @@
+-- What an event may carry, and which event and load fit each other.
+use Rattle.std.specs.Prelude.{◌≡◌, ℕ, ◌+◌, ◌≤◌, ◌<◌, false, IsTrue, List, drop, Option, Some, None, slice_get, option_map}
+use Rattle.mely_event.specs.declared.colour.Colour.{Colour}
+use Rattle.mely_event.specs.declared.event.Event.{Event}
+use Rattle.sws_link.specs.declared.Link.{Ghosts as LinkWords}
+use Rattle.sws_link.specs.declared.world.World.{Ghosts as WorldWords}
+use Rattle.sws_link.specs.Counts.{Rose, IsLater, no_faults}
+use Rattle.sws_link.specs.Links.{LinkTells, IsFresh}
+use Rattle.sws_link.specs.Worlds.{WorldTells, Coming, untouched}
+use Rattle.sws_engine.specs.declared.load.WorldLoad.{WorldLoad}
+use Rattle.sws_engine.specs.declared.load.Load.{Load}
+use Rattle.sws_engine.specs.declared.load.Load.TheVariants as load
+use Rattle.sws_engine.specs.declared.task.Task.{Task}
+use Rattle.sws_engine.specs.declared.task.Task.TheVariants as task
+use Rattle.sws_engine.specs.Tasks.{task_of}
+
+-- the world of a load, if it has it
+abbrev pub world_of : {W L : Type 0} → Option (Load W L) → Option (WorldLoad W)
+world_of None = None
+world_of (Some (load.World held)) = Some held
+world_of (Some (load.Link link)) = None
+
+-- the link is the i-th of those to come, where these are known: nothing was taken or written
+abbrev pub IsComing : Option (List Coming) → ℕ → Option LinkTells → Type 0
+IsComing None i told = IsFresh told
+IsComing (Some coming) i told = (first : Coming) × (slice_get coming i ≡ Some first) × (told ≡ Some (untouched first))
+
+module _ {W L : Type 0} (x : WorldWords W L) (l : LinkWords L) (first : W) where
+  -- what the world told at first
+  abbrev pub at_first : WorldTells
+  at_first = x.tells first
+
+  -- the world that was given at first, of which so many links were accepted
+  pub record WorldStands (held : WorldLoad W) : Type 0 where
+    pub total : (x.tells held.world).total ≡ at_first.total
+    pub port : (x.tells held.world).port ≡ at_first.port
+    pub scripted : (x.tells held.world).scripted ≡ at_first.scripted
+    pub accepted : (x.tells held.world).accepted ≡ held.accepted
+    pub within : held.accepted ≤ at_first.total
+    pub coming : (x.tells held.world).coming ≡ option_map (λ c. drop held.accepted c) at_first.coming
+    pub faults : IsLater (x.faults first) (x.faults held.world)
+    pub failed : IsTrue held.failed → Rose (x.faults first) (x.faults held.world)
+    pub sure : IsTrue at_first.scripted → held.failed ≡ false
+
+  -- the link of the i-th connection, to which nothing was done
+  pub record LinkStands (i : ℕ) (link : L) : Type 0 where
+    pub coming : IsComing at_first.coming i (l.tells link)
+    pub not_shut : l.is_shut link ≡ false
+    pub no_faults_yet : l.faults link ≡ no_faults
+    pub no_waits_yet : l.waits link ≡ no_faults
+
+  -- a poll: 0 where more links are to come, 1 where none is, 2 where the world failed
+  pub record PollFits (c : Colour) (arg : ℕ) (held : WorldLoad W) : Type 0 where
+    pub colour : c.0 ≡ 0
+    pub known : arg ≤ 2
+    pub stands : WorldStands held
+    pub more : arg ≡ 0 → held.accepted < at_first.total
+    pub failing : arg ≡ 2 → Rose (x.faults first) (x.faults held.world)
+    pub sure : IsTrue at_first.scripted → arg ≤ 1
+
+  pub record AcceptFits (c : Colour) (arg : ℕ) (held : WorldLoad W) : Type 0 where
+    pub colour : c.0 ≡ 1
+    pub none : arg ≡ 0
+    pub stands : WorldStands held
+    pub more : held.accepted < at_first.total
+
+  pub record WaitFits (c : Colour) (i : ℕ) : Type 0 where
+    pub colour : c.0 ≡ 0
+    pub conn : i < at_first.total
+
+  pub record StepFits (c : Colour) (i : ℕ) : Type 0 where
+    pub colour : c.0 ≡ i + 2
+    pub conn : i < at_first.total
+
+  pub record OpenFits (c : Colour) (i : ℕ) (link : L) : Type 0 where
+    pub step : StepFits c i
+    pub fresh : LinkStands i link
+
+  abbrev pub TaskFits : Colour → ℕ → Option Task → Option (Load W L) → Type 0
+  TaskFits c arg (Some task.Poll) (Some (load.World held)) = PollFits c arg held
+  TaskFits c arg (Some task.Accept) (Some (load.World held)) = AcceptFits c arg held
+  TaskFits c arg (Some task.Open) (Some (load.Link link)) = OpenFits c arg link
+  TaskFits c arg (Some task.Wait) None = WaitFits c arg
+  TaskFits c arg (Some task.Read) None = StepFits c arg
+  TaskFits c arg (Some task.Parse) None = StepFits c arg
+  TaskFits c arg (Some task.Look) None = StepFits c arg
+  TaskFits c arg (Some task.Write) None = StepFits c arg
+  TaskFits c arg (Some task.Close) None = StepFits c arg
+  TaskFits c arg (Some task.Resume) None = StepFits c arg
+  TaskFits c arg other carried = ⊥
+
+  -- the event and the load fit each other on the colour
+  abbrev pub Fit : Colour → Event → Option (Load W L) → Type 0
+  Fit c event carried = TaskFits c event.arg (task_of event.handler) carried

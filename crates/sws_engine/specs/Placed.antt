@@ -1,0 +1,33 @@
+-- What an app must be that is the server on a scripted world, in a weave.
+use Rattle.std.specs.Prelude.{◌≡◌, ◌≤◌, ◌+◌, ℕ, zero, suc, Bool, true, false, List, [], Option, None, Some, length, slice_get}
+use Rattle.mely_event.specs.declared.colour.Colour.{Colour}
+use Rattle.mely_event.specs.declared.event.Event.{Event}
+use Rattle.mely_event.specs.declared.trail.Trail.{Ghosts as TrailWords}
+use Rattle.mely_worker.specs.declared.app.App.{Ghosts as AppWords}
+use Rattle.sws_conn.specs.Path.{Handler}
+use Rattle.sws_engine.specs.Server.{Server}
+use Rattle.sws_engine.specs.PathPlaces.{Load, Place, polling, accepting, talking, runs_place, worlds_of_place, worlds_of_load}
+use Rattle.sws_engine.specs.Agrees.{PlaceStands, ComingStands}
+use Rattle.sws_engine.specs.PathStates.{AreLoads, ArePuts}
+
+-- over a scripted world a handler makes of what a colour has and of its load what the place says, unless it leaves the state spoilt, as where the link met want of memory; a state or a load that is as a place or a load has as many worlds
+pub record IsPlaced {S P F R : Type 0} (t : TrailWords S F) (fits : F → Colour → Event → Option P → Type 0) (y : AppWords R P S F) (app : R) (frame : F) (IsPlace : S → Place → Type 0) (IsLoad : P → Load → Type 0) (holds : S → ℕ) (carries : P → ℕ) (spoilt : S → Bool) (whole : List (List Handler)) : Type 0 where
+  pub held : (state : S) (place : Place) → IsPlace state place → holds state ≡ worlds_of_place place
+  pub carriage : (load : P) (l : Load) → IsLoad load l → carries load ≡ worlds_of_load (Some l)
+  pub roomy : (state roomy : S) (place : Place) → t.alike state roomy → IsPlace state place → IsPlace roomy place
+  pub runs : (s : Server) (state after : S) (event : Event) (load : Option P) (puts : List (Colour × Event × Option P)) (place : Place) (l : Option Load) → t.frame_of state ≡ frame → fits frame (t.colour_of state) event load
+      → IsPlace state place → PlaceStands whole s (t.colour_of state) place → AreLoads IsLoad load l → ComingStands whole s (t.colour_of state) event.handler event.arg l → worlds_of_place place + worlds_of_load l ≤ 1
+      → y.runs app state event load after puts → spoilt after ≡ false
+      → IsPlace after (runs_place (length whole) (t.colour_of state) place event l).place × ArePuts IsLoad puts (runs_place (length whole) (t.colour_of state) place event l).puts
+  pub spoilt_roomier : (state roomy : S) → t.alike state roomy → spoilt state ≡ true → spoilt roomy ≡ true
+  pub spoilt_after : (state after : S) (event : Event) (load : Option P) (puts : List (Colour × Event × Option P)) → y.runs app state event load after puts → spoilt state ≡ true → spoilt after ≡ true
+
+-- the places at first: the desk, the accepting, and connections that aren't open yet
+abbrev pub first_place : ℕ → Place
+first_place zero = polling (record { waiting = []; last = false; resting = None })
+first_place (suc zero) = accepting
+first_place (suc (suc i)) = talking None
+
+-- the states, of which the first is of this colour, are as the places at first
+abbrev pub AreFirstPlaces : {S : Type 0} → (S → Place → Type 0) → ℕ → List S → Type 0
+AreFirstPlaces {S} IsPlace n states = (i : ℕ) (state : S) → slice_get states i ≡ Some state → IsPlace state (first_place (n + i))

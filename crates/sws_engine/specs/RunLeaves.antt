@@ -1,0 +1,133 @@
+-- What a run leaves of its states, of what is still under way, and how it is judged.
+use Rattle.std.specs.Prelude.{◌≡◌, ◌≤◌, ◌<◌, ◌^◌, ◌↔◌, ◌⊎◌, ◌||◌, ℕ, Bool, true, false, if◌then◌else◌, List, [], ◌∷◌, length, flat_map, slice_get, Option, Some, None, is_some, is_none, IsSome, IfSome}
+use Rattle.sws_link.specs.declared.Link.{Ghosts as LinkWords}
+use Rattle.sws_link.specs.declared.world.World.{Ghosts as WorldWords}
+use Rattle.sws_conn.specs.declared.End.{End}
+use Rattle.sws_conn.specs.declared.End.TheVariants as ending
+use Rattle.sws_conn.specs.declared.Next.TheVariants as next
+use Rattle.sws_conn.specs.declared.talk.Talk.{Ghosts as TalkWords}
+use Rattle.sws_conn.specs.Talks.{end_told}
+use Rattle.sws_engine.specs.declared.ended.Served.{Served}
+use Rattle.sws_engine.specs.declared.ended.Verdict.{Verdict}
+use Rattle.sws_engine.specs.declared.ended.Verdict.TheVariants as verdict
+use Rattle.sws_engine.specs.declared.load.WorldLoad.{WorldLoad}
+use Rattle.sws_engine.specs.declared.place.Seat.{Seat}
+use Rattle.sws_engine.specs.declared.place.Role.{Role}
+use Rattle.sws_engine.specs.declared.place.Role.TheVariants.{Polling, Accepting, Talking}
+use Rattle.sws_engine.specs.Loads.{WorldStands}
+use Rattle.sws_engine.specs.Places.{PlaceView}
+use Rattle.sws_engine.specs.Served.{SeatServes}
+
+-- ---- of the states
+
+-- a state that talks
+pub record Talker (H W T : Type 0) : Type 0 where
+  pub place : PlaceView H W T
+  pub seat : Seat T
+
+abbrev pub talker_by : {H W T : Type 0} → PlaceView H W T → Role W T → List (Talker H W T)
+talker_by place (Polling desk) = []
+talker_by place Accepting = []
+talker_by place (Talking seat) = record { place = place; seat = seat } ∷ []
+
+-- the states that talk, in the order of the colours
+abbrev pub talkers : {H W T : Type 0} → List (PlaceView H W T) → List (Talker H W T)
+talkers states = flat_map (λ place. talker_by place place.role) states
+
+abbrev pub or_else : {A : Type 0} → Option A → Option A → Option A
+or_else None before = before
+or_else (Some now) before = Some now
+
+-- a world that rests in a state
+abbrev pub resting_by : {W T : Type 0} → Role W T → Option (WorldLoad W)
+resting_by (Polling desk) = desk.resting
+resting_by Accepting = None
+resting_by (Talking seat) = None
+
+-- the world that rests in one of the states
+abbrev pub resting_in : {H W T : Type 0} → Option (WorldLoad W) → List (PlaceView H W T) → Option (WorldLoad W)
+resting_in before [] = before
+resting_in before (place ∷ states) = resting_in (or_else (resting_by place.role) before) states
+
+-- what a connection shows once its talk was given up
+pub record ShowsSeat {T L G H : Type 0} (y : TalkWords T L G H) (seat : Seat T) (s : Served L) : Type 0 where
+  pub link : s.link ≡ y.link_of seat.talk
+  pub linked : (s.link ≡ None) ↔ ((y.view_of seat.talk).pending ≡ next.Open)
+  pub end : s.end ≡ end_told (y.view_of seat.talk)
+  pub closed : IsSome s.end ↔ ((y.view_of seat.talk).pending ≡ next.Nothing)
+  pub read : s.read ≡ (y.view_of seat.talk).read
+  pub few_read : s.read ≤ 65536
+  pub written : s.written ≡ (y.view_of seat.talk).written
+  pub few_written : s.written < 2 ^ 40
+  pub stray : s.stray ≡ seat.stray
+
+-- each connection shows how its talk stands
+pub record ShowAll {W T L G H : Type 0} (y : TalkWords T L G H) (all : List (Talker H W T)) (served : List (Served L)) : Type 0 where
+  pub many : length served ≡ length all
+  pub each : (i : ℕ) (talker : Talker H W T) (s : Served L) → slice_get all i ≡ Some talker → slice_get served i ≡ Some s → ShowsSeat y talker.seat s
+
+-- ---- what the type of a state keeps
+
+module _ {W L T G H : Type 0} (x : WorldWords W L) (l : LinkWords L) (y : TalkWords T L G H) where
+  -- a world that rests is the one of the run, and a connection was served as its trail says
+  abbrev pub RoleTells : PlaceView H W T → Role W T → Type 0
+  RoleTells place (Polling desk) = IfSome desk.resting (WorldStands x l place.first)
+  RoleTells place Accepting = Unit {0}
+  RoleTells place (Talking seat) = SeatServes x l y place seat
+
+  abbrev pub StateTells : PlaceView H W T → Type 0
+  StateTells place = RoleTells place place.role
+
+-- ---- the verdict
+
+-- a connection that was to be served lacks its link or its end, or met an event that wasn't due
+abbrev pub is_lacking : {L : Type 0} → Served L → Bool
+is_lacking s = (is_none s.link || is_none s.end) || is_some s.stray
+
+-- memory was refused to its link
+abbrev pub is_out_of_memory : Option End → Bool
+is_out_of_memory None = false
+is_out_of_memory (Some ending.Done) = false
+is_out_of_memory (Some ending.Idle) = false
+is_out_of_memory (Some ending.Fault) = false
+is_out_of_memory (Some ending.Memory) = true
+
+-- so many links were to be served
+abbrev pub owed : Bool → ℕ → ℕ → ℕ
+owed failed accepted total = if failed then accepted else total
+
+module _ {L : Type 0} (served : List (Served L)) where
+  -- of so many connections each has what it is to have
+  abbrev pub AreWhole : ℕ → Type 0
+  AreWhole count = (i : ℕ) (s : Served L) → i < count → slice_get served i ≡ Some s → is_lacking s ≡ false
+
+  -- no link met want of memory
+  abbrev pub NoneOutOfMemory : Type 0
+  NoneOutOfMemory = (i : ℕ) (s : Served L) → slice_get served i ≡ Some s → is_out_of_memory s.end ≡ false
+
+  pub record SomeOutOfMemory : Type 0 where
+    pub i : ℕ
+    pub s : Served L
+    pub there : slice_get served i ≡ Some s
+    pub ran_out : is_out_of_memory s.end ≡ true
+
+  -- the first of so many that lacks something
+  pub record IsFirstLacking (count conn : ℕ) : Type 0 where
+    pub below : conn < count
+    pub s : Served L
+    pub there : slice_get served conn ≡ Some s
+    pub lacks : is_lacking s ≡ true
+    pub before : AreWhole conn
+
+  -- all was run, and no link met want of memory
+  pub record IsJudged (whole : Bool) : Type 0 where
+    pub ran : whole ≡ true
+    pub enough : NoneOutOfMemory
+
+  -- the verdict over what is shown: whether all was run, how many links there are, whether the world is there, how many links it gave and whether it failed
+  abbrev pub VerdictIs : Bool → ℕ → Bool → ℕ → Bool → Verdict → Type 0
+  VerdictIs whole total there accepted failed verdict.Ok = IsJudged whole × (there ≡ true) × (failed ≡ false) × AreWhole (owed failed accepted total)
+  VerdictIs whole total there accepted failed verdict.World = IsJudged whole × (there ≡ true) × (failed ≡ true) × AreWhole (owed failed accepted total)
+  VerdictIs whole total there accepted failed (verdict.Apart conn) =
+      IsJudged whole × (IsFirstLacking (owed failed accepted total) conn ⊎ ((there ≡ false) × AreWhole (owed failed accepted total) × (conn ≡ total)))
+  VerdictIs whole total there accepted failed verdict.Memory = (whole ≡ false) ⊎ SomeOutOfMemory

@@ -1,0 +1,153 @@
+-- What holds of a run across its colours, as sums over all states and all events under way.
+use Rattle.std.specs.Prelude.{◌≡◌, ℕ, ◌+◌, ◌≤◌, ◌<◌, ◌==◌, ◌&&◌, not, nat_lt, Bool, true, List, Option, Some, None, sum_by}
+use Rattle.mely_event.specs.declared.event.Event.{Event}
+use Rattle.sws_conn.specs.declared.talk.Talk.{Ghosts as TalkWords}
+use Rattle.sws_conn.specs.Path.{Handler}
+use Rattle.sws_conn.specs.Talks.{due}
+use Rattle.sws_engine.specs.declared.load.WorldLoad.{WorldLoad}
+use Rattle.sws_engine.specs.declared.load.Load.{Load}
+use Rattle.sws_engine.specs.declared.place.Desk.{Desk}
+use Rattle.sws_engine.specs.declared.place.Seat.{Seat}
+use Rattle.sws_engine.specs.declared.place.Role.{Role}
+use Rattle.sws_engine.specs.declared.place.Role.TheVariants.{Polling, Accepting, Talking}
+use Rattle.sws_engine.specs.Handling.{number_of, is_some}
+use Rattle.sws_engine.specs.Counting.{bit, times}
+use Rattle.sws_engine.specs.Loads.{world_of}
+use Rattle.sws_engine.specs.Places.{PlaceView}
+
+abbrev pub Way : Type 0 → Type 0 → Type 0
+Way W L = Event × Option (Load W L)
+
+-- ---- of the events under way
+
+-- one where it is there and passes the test
+abbrev pub if_held : {W : Type 0} → (WorldLoad W → Bool) → Option (WorldLoad W) → ℕ
+if_held test None = 0
+if_held test (Some held) = bit (test held)
+
+abbrev pub is_any : {W : Type 0} → WorldLoad W → Bool
+is_any held = true
+
+-- more links than i were accepted
+abbrev pub is_beyond : {W : Type 0} → ℕ → WorldLoad W → Bool
+is_beyond i held = nat_lt i held.accepted
+
+-- links are still to be accepted, and the world hasn't failed
+abbrev pub is_unended : {W : Type 0} → ℕ → WorldLoad W → Bool
+is_unended total held = not held.failed && nat_lt held.accepted total
+
+abbrev pub worlds : {W L : Type 0} → Way W L → ℕ
+worlds e = if_held is_any (world_of e.1)
+
+abbrev pub beyond : {W L : Type 0} → ℕ → Way W L → ℕ
+beyond i e = if_held (is_beyond i) (world_of e.1)
+
+-- the poll after the last link
+abbrev pub is_late : Event → Bool
+is_late event = (event.handler == 0) && (event.arg == 1)
+
+-- a world that isn't in the poll after the last link
+abbrev pub early : {W L : Type 0} → Way W L → ℕ
+early e = if_held (λ held. not (is_late e.0)) (world_of e.1)
+
+-- a world that is, though links are still to be accepted
+abbrev pub unended : {W L : Type 0} → ℕ → Way W L → ℕ
+unended total e = if_held (λ held. is_late e.0 && is_unended total held) (world_of e.1)
+
+-- an event of this handler for this connection
+abbrev pub asks_for : {W L : Type 0} → ℕ → ℕ → Way W L → ℕ
+asks_for handler i e = bit ((e.0.handler == handler) && (e.0.arg == i))
+
+-- ---- of the states
+
+module _ {W T : Type 0} where
+  abbrev pub at_desk : (Desk W → ℕ) → Role W T → ℕ
+  at_desk of (Polling desk) = of desk
+  at_desk of Accepting = 0
+  at_desk of (Talking seat) = 0
+
+  abbrev pub at_seat : (Seat T → ℕ) → Role W T → ℕ
+  at_seat of (Polling desk) = 0
+  at_seat of Accepting = 0
+  at_seat of (Talking seat) = of seat
+
+  -- the role isn't that of the colour
+  abbrev pub misplaced_at : ℕ → Role W T → ℕ
+  misplaced_at c (Polling desk) = bit (not (c == 0))
+  misplaced_at c Accepting = bit (not (c == 1))
+  misplaced_at c (Talking seat) = bit (nat_lt c 2)
+
+-- the number of the handler that is due, and 0 where none is
+abbrev pub first_number : Option Handler → ℕ
+first_number None = 0
+first_number (Some step) = number_of step
+
+abbrev pub is_stray : Option Event → ℕ
+is_stray None = 0
+is_stray (Some event) = 1
+
+module _ {H W T : Type 0} where
+  abbrev pub misplaced : PlaceView H W T → ℕ
+  misplaced s = misplaced_at s.colour.0 s.role
+
+  abbrev pub desks : PlaceView H W T → ℕ
+  desks s = at_desk (λ desk. 1) s.role
+
+  -- the seat of the connection
+  abbrev pub seats : ℕ → PlaceView H W T → ℕ
+  seats i s = at_seat (λ seat. bit (s.colour.0 == i + 2)) s.role
+
+  abbrev pub rests : PlaceView H W T → ℕ
+  rests s = at_desk (λ desk. if_held is_any desk.resting) s.role
+
+  abbrev pub rests_beyond : ℕ → PlaceView H W T → ℕ
+  rests_beyond i s = at_desk (λ desk. if_held (is_beyond i) desk.resting) s.role
+
+  abbrev pub rests_unended : ℕ → PlaceView H W T → ℕ
+  rests_unended total s = at_desk (λ desk. if_held (is_unended total) desk.resting) s.role
+
+  -- the world rests though somebody waits
+  abbrev pub rests_in_vain : PlaceView H W T → ℕ
+  rests_in_vain s = at_desk (λ desk. if_held (λ held. is_some desk.waiting.items) desk.resting) s.role
+
+  abbrev pub is_last : PlaceView H W T → ℕ
+  is_last s = at_desk (λ desk. bit desk.last) s.role
+
+  -- how often the connection stands in the list of those that wait
+  abbrev pub waits_for : ℕ → PlaceView H W T → ℕ
+  waits_for i s = at_desk (λ desk. times i desk.waiting.items) s.role
+
+  abbrev pub strays : PlaceView H W T → ℕ
+  strays s = at_seat (λ seat. is_stray seat.stray) s.role
+
+abbrev pub due_number : {T L G H : Type 0} → TalkWords T L G H → Seat T → ℕ
+due_number y seat = first_number (due (y.view_of seat.talk))
+
+module _ {W L T G H : Type 0} (y : TalkWords T L G H) where
+  -- the connection's due handler has this number
+  abbrev pub is_at : ℕ → ℕ → PlaceView H W T → ℕ
+  is_at i number s = at_seat (λ seat. bit ((s.colour.0 == i + 2) && (due_number y seat == number))) s.role
+
+  -- the connection was opened
+  abbrev pub is_opened : ℕ → PlaceView H W T → ℕ
+  is_opened i s = at_seat (λ seat. bit ((s.colour.0 == i + 2) && not (due_number y seat == 3))) s.role
+
+  -- Of all states and all events under way in a run with so many links
+  pub record RunStands (total : ℕ) (states : List (PlaceView H W T)) (ways : List (Way W L)) : Type 0 where
+    -- each colour has the role that is its own, there is one state that polls, and one for each connection
+    pub placed : sum_by misplaced states ≡ 0
+    pub one_desk : sum_by desks states ≡ 1
+    pub one_seat : (i : ℕ) → i < total → sum_by (seats i) states ≡ 1
+    -- there is one world: in an event, or at rest in the state that polls
+    pub one_world : sum_by worlds ways + sum_by rests states ≡ 1
+    -- a link that was accepted is in the opening of its connection, or that was opened
+    pub opens : (i : ℕ) → i < total → sum_by (asks_for 3 i) ways + sum_by (is_opened i) states ≡ sum_by (beyond i) ways + sum_by (rests_beyond i) states
+    -- a connection that is to do a step has one event under way, of the due handler
+    pub steps : (i number : ℕ) → i < total → 4 ≤ number → number ≤ 8 → sum_by (asks_for number i) ways ≡ sum_by (is_at i number) states
+    -- one that waits is in an event Wait, in the list, or in an event Resume
+    pub waits : (i : ℕ) → i < total → sum_by (asks_for 9 i) ways + sum_by (asks_for 1 i) ways + sum_by (waits_for i) states ≡ sum_by (is_at i 9) states
+    pub no_stray : sum_by strays states ≡ 0
+    -- the poll after the last link comes after the last link or a fault, and so does the rest of the world
+    pub ended : sum_by (unended total) ways + sum_by (rests_unended total) states ≡ 0
+    pub late : sum_by early ways + sum_by is_last states ≤ 1
+    pub not_in_vain : sum_by rests_in_vain states ≡ 0

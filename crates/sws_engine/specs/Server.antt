@@ -1,0 +1,73 @@
+-- The server on a scripted world as a function: what each handler does, on what the world and its connections are. Nothing is known of a connection but the rest of its path.
+use Rattle.std.specs.Prelude.{ℕ, zero, suc, ◌+◌, ◌-◌, ◌==◌, ◌&&◌, ◌||◌, Bool, true, false, not, List, [], ◌∷◌, Option, None, Some, length, slice_get, slice_set, if◌then◌else◌}
+use Rattle.mely_event.specs.declared.colour.Colour.{Colour}
+use Rattle.mely_event.specs.declared.event.Event.{Event}
+use Rattle.sws_conn.specs.Path.{Handler, open_link, resume}
+use Rattle.mely_machine.specs.Machine.{Acted}
+use Rattle.sws_engine.specs.Handling.{number_of}
+use Rattle.sws_engine.specs.WaitingList.{waiting_with}
+use Rattle.sws_engine.specs.PathPlaces.{poll, accept, talk, follows}
+
+-- who waits, whether no more links are to come, whether the world rests, how many links were accepted, and of each connection the rest of its path
+pub record Server : Type 0 where
+  pub waiting : List ℕ
+  pub last : Bool
+  pub rests : Bool
+  pub accepted : ℕ
+  pub paths : List (List Handler)
+
+-- nothing was accepted, and no connection is open
+abbrev pub first_server : List (List Handler) → Server
+first_server paths = record { waiting = []; last = false; rests = false; accepted = 0; paths = paths }
+
+-- the world goes on, by whether no more links are to come: the next is accepted; or where somebody waits it is polled again; or it rests
+abbrev pub world_goes : Bool → List ℕ → List (Colour × Event)
+world_goes false waiting = accept ∷ []
+world_goes true [] = []
+world_goes true (i ∷ waiting) = poll 1 ∷ []
+
+abbrev pub is_nobody : List ℕ → Bool
+is_nobody [] = true
+is_nobody (i ∷ waiting) = false
+
+-- Poll: the first that waits, where somebody does, is ready and resumes; and the world goes on
+abbrev pub after_poll : Server → List ℕ → Acted Server
+after_poll s [] = record { puts = world_goes s.last []; becomes = record s { rests = s.last } }
+after_poll s (i ∷ waiting) = record { puts = talk i resume ∷ world_goes s.last waiting; becomes = record s { waiting = waiting; rests = s.last && is_nobody waiting } }
+
+-- Wait: a connection waits, and a world that rests is polled
+abbrev pub after_wait : Server → Bool → ℕ → Acted Server
+after_wait s rests i = record { puts = if rests then poll 1 ∷ [] else []; becomes = record s { waiting = waiting_with i s.waiting; rests = false } }
+
+-- Accept: the next link is that of the next connection, which opens
+abbrev pub after_accept : Server → ℕ → Acted Server
+after_accept s i = record {
+  puts = poll (if i + 1 == length s.paths then 1 else 0) ∷ talk i open_link ∷ [];
+  becomes = record s { accepted = i + 1 };
+}
+
+-- a connection's event: where it is the next of the path, it is taken off the path, and what follows is registered; any other does nothing
+abbrev pub after_talk : Server → ℕ → Bool → List Handler → Acted Server
+after_talk s i false later = record { puts = []; becomes = s }
+after_talk s i true later = record { puts = follows i later; becomes = record s { paths = slice_set s.paths i later } }
+
+abbrev pub after_event : Server → ℕ → ℕ → Option (List Handler) → Acted Server
+after_event s i handler None = record { puts = []; becomes = s }
+after_event s i handler (Some []) = record { puts = []; becomes = s }
+after_event s i handler (Some (next ∷ later)) = after_talk s i (number_of next == handler) later
+
+-- by the number of the handler
+abbrev pub after_handler : Server → ℕ → ℕ → ℕ → Acted Server
+after_handler s colour zero arg = after_poll (record s { last = s.last || not (arg == 0) }) s.waiting
+after_handler s colour (suc zero) arg = after_wait s s.rests arg
+after_handler s colour (suc (suc zero)) arg = after_accept s s.accepted
+after_handler s colour (suc (suc (suc more))) arg = after_event s (colour - 2) (suc (suc (suc more))) (slice_get s.paths (colour - 2))
+
+-- what the server does with an event of a colour
+unfoldable pub serve : Server → Colour → Event → Acted Server
+serve s c event = after_handler s c.0 event.handler event.arg
+
+-- the first event: the world is polled
+abbrev pub first_event : ℕ → Colour × Event
+first_event zero = poll 1
+first_event (suc more) = poll 0

@@ -1,0 +1,41 @@
+-- Worked schedules of the server on two cores.
+use Rattle.std.specs.Prelude.{ℕ, List, [], ◌∷◌, None}
+use Rattle.mely_event.specs.declared.colour.Colour.{Colour}
+use Rattle.mely_event.specs.declared.event.Event.{Event}
+use Rattle.mely_history.specs.declared.shape.Shape.{Shape}
+use Rattle.mely_history.specs.declared.entry.Entry.{Entry}
+use Rattle.mely_history.specs.declared.entry.Entry.TheVariants.{Reg, Take, Fin, Steal}
+use Rattle.sws_link.specs.Scripts.{Script}
+use Rattle.sws_site.specs.Sites.{SiteFiles}
+use Rattle.sws_engine.specs.ServerRun.{IsServerRun}
+
+abbrev pub col : ℕ → Colour
+col n = record { 0 = n }
+
+abbrev pub event : ℕ → ℕ → Event
+event h a = record { handler = h; arg = a }
+
+-- two cores and one shard, batches of ten, a steal costs 5
+abbrev pub two_cores : Shape
+two_cores = record { cores = 2; shards = 1; batch = 10; steal_cost = 5; group = 4 }
+
+-- a connection that sends nothing
+abbrev pub no_input : Script
+no_input = record { items = []; step = None; cut = None }
+
+-- the histories of one such connection, six steps of core 0 and twelve of core 1
+abbrev pub worked_histories : List (List Entry)
+worked_histories = ((
+    Reg (col 0) (event 0 0) 2 ∷ Take (col 0) 0 1 ∷ Reg (col 1) (event 2 0) 0 ∷ Fin (col 0) 0 1 ∷ Take (col 1) 1 1
+    ∷ Reg (col 0) (event 0 1) 1 ∷ Reg (col 2) (event 3 0) 1 ∷ Fin (col 1) 1 1 ∷ Steal (col 2) 0 1 ∷ Take (col 0) 0 1
+    ∷ Take (col 2) 1 1 ∷ Fin (col 0) 0 1 ∷ Reg (col 2) (event 4 0) 1 ∷ Fin (col 2) 1 1 ∷ Take (col 2) 1 1
+    ∷ Reg (col 2) (event 5 0) 1 ∷ Fin (col 2) 1 1 ∷ Take (col 2) 1 1 ∷ Reg (col 2) (event 8 0) 1 ∷ Fin (col 2) 1 1 ∷ Take (col 2) 1 1 ∷ Fin (col 2) 1 1 ∷ []) ∷ [])
+
+-- the histories of no connection, two steps of core 1: the poll stays on its core
+abbrev pub polled_histories : List (List Entry)
+polled_histories = (Reg (col 0) (event 0 1) 2 ∷ Take (col 0) 0 1 ∷ Fin (col 0) 0 1 ∷ []) ∷ []
+
+-- whatever the site is
+pub record WorkedSchedules (site : SiteFiles) : Type 0 where
+  pub worked : IsServerRun two_cores site (no_input ∷ []) ((0, 6) ∷ (1, 12) ∷ []) worked_histories
+  pub polled : IsServerRun two_cores site [] ((1, 2) ∷ []) polled_histories

@@ -1,0 +1,85 @@
+//! The server as an app of coloured events.
+ghost use Rattle.std.specs.Prelude.{◌≡◌, ◌<◌, ◌≤◌, ◌+◌, ◌-◌, ◌++◌, ◌∷◌, [], ℕ, List, Option, length};
+ghost use Rattle.std.specs.List.{AllByRecursion};
+ghost use Rattle.mely_worker.specs.Access.{FitsIn};
+ghost use Rattle.sws_engine.specs.Loads.{Fit};
+
+use crate::accepting::run_accepting;
+use crate::desk::run_desk;
+use crate::load::Load;
+use crate::place::{Place, Role};
+use crate::seating::serve;
+use mely_event::{Colour, Event, Fits, Trail};
+use mely_worker::{App, Outs};
+use std::marker::PhantomData;
+use std::sync::Mutex;
+use sws_conn::Talk;
+use sws_link::{Link, World};
+
+/// The web server, over so many links: colour 0 asks which of the waiting connections is ready, colour 1 accepts, and colour
+/// `2 + i` is connection `i`.
+#[derive(Drop)]
+pub struct Sws<W, T> {
+    pub(crate) total: u16,
+    of: PhantomData<Mutex<(W, T)>>,
+}
+
+impl<W, T> Sws<W, T> {
+    /// The server over so many links.
+    pub fn new(total: u16) -> Sws<W, T>
+        ensures { result.total ≡ total }
+    {
+        Sws {
+            total,
+            of: PhantomData,
+        }
+    }
+}
+
+impl<W: World + Drop, T: Talk<W::Link> + Drop> App for Sws<W, T> {
+    type Load = Load<W, W::Link>;
+
+    type State = Place<W, T>;
+
+    ghost use Rattle.std.specs.Prelude.{◌≡◌, ◌≤◌, ◌+◌};
+    ghost use Rattle.sws_engine.specs.Handling.{Runs};
+    ghost use Rattle.sws_engine.specs.PlaceShown.{frame_in};
+
+    ghost colours_of = { λ app. app.total + 2 };
+
+    ghost handlers_of = { λ app. 10 };
+
+    ghost serves = { λ app frame. ((W.tells frame.first).total ≡ app.total) × (app.total ≤ 1024) };
+
+    ghost runs = { λ app before event load after puts. Runs W.World W.Link.Link T.Talk app.total before event load after puts };
+
+    fn run(
+        &self,
+        state: &mut Place<W, T>,
+        event: Event,
+        load: Option<Load<W, W::Link>>,
+        outs: &mut Outs<Load<W, W::Link>>,
+    )
+        requires serves { ((W.tells state.old.first).total ≡ self.now.total) × (self.now.total ≤ 1024) }
+        requires room { 1 ≤ state.old.spare }
+        requires empty { outs.old ≡ [] }
+        requires fits { Fit W.World W.Link.Link state.old.first state.old.colour event load }
+        ensures ran { Runs W.World W.Link.Link T.Talk self.now.total state.old event load state.new outs.new }
+        ensures colour { state.new.colour ≡ state.old.colour }
+        ensures frame { frame_in state.new ≡ frame_in state.old }
+        ensures trail { state.new.trail ≡ state.old.trail ++ event ∷ [] }
+        ensures spare { state.old.spare ≡ state.new.spare + 1 }
+        ensures puts { AllByRecursion (FitsIn (self.now.total + 2) 10 (Fit W.World W.Link.Link state.old.first)) outs.new }
+        ensures few { length outs.new ≤ 2 }
+    {
+        // What holds of a run: a connection that has run isn't to be opened again.
+        T::a_run_serves();
+        let total = self.total;
+        state.trail.push_reserved(event);
+        match &mut state.role {
+            Role::Polling(desk) => run_desk(desk, event, load, outs),
+            Role::Accepting => run_accepting(total, event, load, outs),
+            Role::Talking(seat) => serve(seat, state.colour.0 - 2, event, load, outs),
+        }
+    }
+}

@@ -1,0 +1,96 @@
+//! What a run leaves.
+ghost use Rattle.std.specs.Prelude.{◌≡◌, ◌≤◌, ◌+◌, [], IfOk, vec_capacity};
+ghost use Rattle.sws_engine.specs.EndRoom.{HasEndRoom};
+
+use mely_event::Event;
+use mely_history::Entry;
+use std::alloc::Global;
+use sws_conn::End;
+use sws_link::{Link, Memory, World};
+
+/// How a run is judged.
+#[derive(Clone, Copy, Debug, PartialEq, Eq)]
+pub enum Verdict {
+    /// All was run, and each link was served.
+    Ok,
+
+    /// The world failed; all was run, and each link that was accepted was served.
+    World,
+
+    /// All was run, but something is amiss: with the link of this number, or with the world where this is the number
+    /// of all links.
+    Apart { conn: u16 },
+
+    /// Memory was refused.
+    Memory,
+}
+
+/// What has become of a connection.
+#[derive(Drop)]
+pub struct Served<L> {
+    /// The link, where it was accepted.
+    pub link: Option<L>,
+
+    /// How it ended, where it did.
+    pub end: Option<End>,
+
+    /// How many bytes were taken, 65,536 at most.
+    pub read: u64,
+
+    /// How many bytes were written.
+    pub written: u64,
+
+    /// The first event of the connection that wasn't due.
+    pub stray: Option<Event>,
+}
+
+/// What a run leaves.
+#[derive(Drop)]
+pub struct Ended<W: World> {
+    pub verdict: Verdict,
+
+    /// The world, where it is still there.
+    pub world: Option<W>,
+
+    /// How many links it gave, and whether it failed; 0 and false where it isn't there.
+    pub accepted: u16,
+    pub failed: bool,
+
+    /// What has become of each connection, by number.
+    pub served: Vec<Served<W::Link>>,
+
+    /// The entries of each shard, the oldest first.
+    pub histories: Vec<Vec<Entry>>,
+
+    /// The events that were run of each colour, in order.
+    pub trails: Vec<Vec<Event>>,
+}
+
+/// Room for what a run leaves, made before it begins.
+#[derive(Drop)]
+pub struct EndRoom<L> {
+    pub(crate) served: Vec<Served<L>>,
+    pub(crate) trails: Vec<Vec<Event>>,
+}
+
+impl<L> EndRoom<L> {
+    /// Room for so many connections.
+    ///
+    /// # Errors
+    ///
+    /// There was no memory.
+    pub fn new(alloc: Global, total: u16) -> Result<EndRoom<L>, Memory>
+    where
+        L: Drop,
+        requires { total ≤ 1024 }
+        ensures { IfOk result (HasEndRoom total) }
+    {
+        let Ok(served) = Vec::with_capacity(alloc, usize::from(total)) else {
+            return Err(Memory);
+        };
+        let Ok(trails) = Vec::with_capacity(alloc, usize::from(total) + 2) else {
+            return Err(Memory);
+        };
+        Ok(EndRoom { served, trails })
+    }
+}

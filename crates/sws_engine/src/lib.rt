@@ -1,0 +1,46 @@
+//! The web server as an app of coloured events.
+//!
+//! Colour 0 asks the world which of the waiting connections is ready, colour 1 accepts links, and colour `2 + i` is the connection
+//! of the `i`-th link. There is one world; it lies in an event of colour 0 or 1, or rests in the state of colour 0.
+#![tactic(auto)]
+
+mod accepting;
+mod app;
+mod concluding;
+mod desk;
+mod ended;
+mod handing;
+mod judging;
+mod laws;
+mod left;
+mod load;
+mod place;
+mod running;
+mod seating;
+mod serving;
+mod starting;
+mod steps;
+mod task;
+#[cfg(test)]
+mod tests;
+mod threads;
+mod waiting;
+mod whole;
+
+pub use app::Sws;
+pub use concluding::conclude;
+pub use ended::{EndRoom, Ended, Served, Verdict};
+pub use laws::{
+    a_state_tells_what_was_served, each_path_opens_once, the_handlers_follow_the_paths,
+    worked_schedules_hold,
+};
+pub use load::{Load, WorldLoad};
+pub use place::{Desk, Frame, Place, Role, Seat};
+pub use running::run_through;
+pub use serving::serve_steps;
+pub use starting::{fresh_places, start};
+pub use steps::talk_steps;
+pub use task::Task;
+pub use threads::{serve_all, talk_all};
+pub use waiting::Waiting;
+pub use whole::{run_apart, run_whole};

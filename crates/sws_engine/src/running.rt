@@ -1,0 +1,51 @@
+//! A run of the server on a weave.
+ghost use Rattle.std.specs.Prelude.{◌≡◌, ◌≤◌, ◌<◌, ◌+◌, ◌^◌, All, sum_by, length};
+ghost use Rattle.mely_event.specs.HandlerTable.{rows_of};
+ghost use Rattle.mely_history.specs.Setup.{shape_of, colours_of, handlers_of};
+ghost use Rattle.mely_weave.specs.Drains.{AllFree, HistoriesAreDrained};
+ghost use Rattle.mely_weave.specs.Runs.{KeepsSetup};
+ghost use Rattle.mely_run.specs.WholeRuns.{IsRunOut};
+ghost use Rattle.sws_engine.specs.RunFact.{RunFact};
+
+use crate::app::Sws;
+use crate::load::Load;
+use crate::place::Place;
+use mely_event::{Fits, Trail};
+use mely_weave::{Drained, Weave, Went};
+use mely_worker::App;
+use std::sync::Wait;
+use sws_conn::Talk;
+use sws_link::{Link, World};
+
+/// Runs the schedule, and then rounds until nothing is left. What stands of the run stands afterwards too.
+pub fn run_through<R: Wait, W: World + Drop, T: Talk<W::Link> + Drop>(
+    rt: &R,
+    weave: &mut Weave<Place<W, T>, Load<W, W::Link>>,
+    app: &Sws<W, T>,
+    schedule: &[(u16, u32)],
+) -> Drained
+    requires cores { All (λ part. part.0 < (shape_of weave.old.setup).cores) schedule.now }
+    requires count { sum_by (λ part. part.1) schedule.now < 2 ^ 64 }
+    requires colours { app.now.total + 2 ≤ colours_of weave.old.setup }
+    requires handlers { 10 ≤ length (rows_of (handlers_of weave.old.setup)) }
+    requires total { (W.tells weave.old.given.first).total ≡ app.now.total }
+    requires few { app.now.total ≤ 1024 }
+    requires stands { RunFact W.World T.Talk weave.old.given.first weave.old }
+    ensures stands { RunFact W.World T.Talk weave.old.given.first weave.new }
+    ensures free { AllFree weave.new }
+    ensures drained { result ≡ Drained.Empty → HistoriesAreDrained weave.new }
+    ensures out { result ≡ Drained.Empty → IsRunOut ⟦<Place<W, T> as Trail>⟧
+        ⟦<Place<W, T> as Fits<Load<W, W::Link>>>⟧.fits_under ⟦<Sws<W, T> as App>⟧ app.now
+        weave.old schedule.now weave.new }
+    ensures same { KeepsSetup weave.old weave.new }
+{
+    weave.stands_well();
+    match weave.run(schedule, app) {
+        Went::All => weave.drain(rt, app),
+        Went::Memory { steps: _ } => {
+            // The drain only ends what was begun: a worker is halted.
+            weave.drain(rt, app);
+            Drained::Memory
+        }
+    }
+}

@@ -1,0 +1,156 @@
+//! What is done on the colour of a connection: its steps.
+ghost use Rattle.std.specs.Prelude.{false, ◌≡◌, ◌<◌, ◌≤◌, ◌≢◌, IsSome, ◌∷◌, ◌++◌, [], ◌↔◌, ◌+◌, ◌==◌, ◌&&◌, List, Option, Some, None, IsTrue, ℕ};
+ghost use Rattle.sws_conn.specs.Path.{Handler, open_link, read_piece};
+ghost use Rattle.sws_link.specs.Links.{IsFresh};
+ghost use Rattle.sws_engine.specs.Seating.{LoadSuits, IsUnopened, HasRunSome, IsFreshOrRan};
+ghost use Rattle.sws_conn.specs.Talks.{due, due_after, next_told, opened_view};
+ghost use Rattle.sws_engine.specs.Tasks.{number_of_task};
+ghost use Rattle.sws_engine.specs.Kept.{RanBy};
+ghost use Rattle.sws_engine.specs.Handling.{is_due, next_puts, KeepsEnd, RunsSeat};
+
+use crate::desk::event_of;
+use crate::load::Load;
+use crate::place::Seat;
+use crate::task::Task;
+use mely_event::{Colour, Event};
+use mely_worker::Outs;
+use sws_conn::{Next, Talk};
+use sws_link::Link;
+
+/// Whether the event asks for the task on the connection.
+fn asks_for(event: Event, task: Task, conn: u16) -> bool
+    ensures { result ≡ ((event.handler == number_of_task task) && (event.arg == conn)) }
+{
+    event.handler == task as u8 && event.arg == conn
+}
+
+/// Whether the event is the one that is due on the connection after a step that answered this.
+pub(crate) fn is_due_on(next: Next, conn: u16, event: Event) -> bool
+    ensures { result ≡ is_due conn (due_after next) event }
+{
+    match next {
+        Next::Open => asks_for(event, Task::Open, conn),
+        Next::Read => asks_for(event, Task::Read, conn),
+        Next::Parse => asks_for(event, Task::Parse, conn),
+        Next::Look => asks_for(event, Task::Look, conn),
+        Next::Write => asks_for(event, Task::Write, conn),
+        Next::Wait => asks_for(event, Task::Resume, conn),
+        Next::Close => asks_for(event, Task::Close, conn),
+        Next::Nothing => false,
+    }
+}
+
+/// Puts a step of the connection on its colour.
+fn put_step<W: Drop, L: Drop>(task: Task, conn: u16, outs: &mut Outs<Load<W, L>>)
+    requires empty { outs.old ≡ [] }
+    requires small { conn < 65534 }
+    ensures { outs.new ≡ (record { 0 = conn + 2 }, record { handler = number_of_task task; arg = conn }, None) ∷ [] }
+{
+    outs.put(Colour(conn + 2), event_of(task, conn), None);
+}
+
+/// Puts what comes after a step that answered this: the next step on the connection's colour, or where the link was not
+/// ready that it waits.
+pub(crate) fn put_next<W: Drop, L: Drop>(next: Next, conn: u16, outs: &mut Outs<Load<W, L>>)
+    requires empty { outs.old ≡ [] }
+    requires small { conn < 65534 }
+    ensures { outs.new ≡ next_puts conn (due_after next) }
+{
+    match next {
+        Next::Open => put_step(Task::Open, conn, outs),
+        Next::Read => put_step(Task::Read, conn, outs),
+        Next::Parse => put_step(Task::Parse, conn, outs),
+        Next::Look => put_step(Task::Look, conn, outs),
+        Next::Write => put_step(Task::Write, conn, outs),
+        Next::Wait => outs.put(Colour(0), event_of(Task::Wait, conn), None),
+        Next::Close => put_step(Task::Close, conn, outs),
+        Next::Nothing => {}
+    }
+}
+
+/// Gives a fresh connection its link.
+fn open_seat<W: Drop, L: Link + Drop, T: Talk<L>>(
+    seat: &mut Seat<T>,
+    conn: u16,
+    link: L,
+    outs: &mut Outs<Load<W, L>>,
+)
+    requires empty { outs.old ≡ [] }
+    requires small { conn < 65534 }
+    requires fresh { IsFresh (L.tells link) }
+    requires not_shut { L.is_shut link ≡ false }
+    requires unopened { IsUnopened T.Talk seat.old.talk }
+    ensures ran { T.has_run link (open_link ∷ []) seat.new.talk }
+    ensures view { T.view_of seat.new.talk ≡ opened_view }
+    ensures hall { T.hall_of seat.new.talk ≡ T.hall_of seat.old.talk }
+    ensures next { seat.new.next ≡ Next.Read }
+    ensures ended { KeepsEnd T.Talk seat.old.talk seat.new.talk }
+    ensures stray { seat.new.stray ≡ seat.old.stray }
+    ensures puts { outs.new ≡ next_puts conn (Some read_piece) }
+{
+    match seat.talk.open(link) {
+        Ok(next) => {
+            seat.next = next;
+            put_next(next, conn, outs);
+        }
+        Err(_) => unreachable!(),
+    }
+}
+
+/// Does the pending step of a connection that has run some.
+fn step_seat<W: Drop, L: Link + Drop, T: Talk<L>>(
+    seat: &mut Seat<T>,
+    conn: u16,
+    outs: &mut Outs<Load<W, L>>,
+)
+    requires empty { outs.old ≡ [] }
+    requires small { conn < 65534 }
+    requires ran { HasRunSome T.Talk seat.old.talk }
+    requires pending { IsSome (due (T.view_of seat.old.talk)) }
+    ensures moved { due (T.view_of seat.new.talk) ≢ Some open_link }
+    ensures runs { (first : L) (ran : List Handler) (step : Handler) → T.has_run first ran seat.old.talk → due (T.view_of seat.old.talk) ≡ Some step → T.has_run first (ran ++ step ∷ []) seat.new.talk }
+    ensures hall { T.hall_of seat.new.talk ≡ T.hall_of seat.old.talk }
+    ensures next { seat.new.next ≡ next_told (T.view_of seat.new.talk) }
+    ensures ended { KeepsEnd T.Talk seat.old.talk seat.new.talk }
+    ensures stray { seat.new.stray ≡ seat.old.stray }
+    ensures puts { outs.new ≡ next_puts conn (due (T.view_of seat.new.talk)) }
+{
+    let next = seat.talk.step();
+    // What holds of a run: its link is there, so the connection isn't to be opened again.
+    T::a_run_serves();
+    let _pending = seat.talk.pending();
+    seat.next = next;
+    put_next(next, conn, outs);
+}
+
+/// What a connection does with an event: the due one does its step, and the next one is put; any other one is stray, of
+/// which the first is kept.
+pub(crate) fn serve<W: Drop, L: Link + Drop, T: Talk<L>>(
+    seat: &mut Seat<T>,
+    conn: u16,
+    event: Event,
+    load: Option<Load<W, L>>,
+    outs: &mut Outs<Load<W, L>>,
+)
+    requires empty { outs.old ≡ [] }
+    requires small { conn < 65534 }
+    requires next { seat.old.next ≡ next_told (T.view_of seat.old.talk) }
+    requires ran { IsFreshOrRan T.Talk seat.old.talk }
+    requires suits { LoadSuits L.Link (event.handler == 3) load }
+    ensures runs { RunsSeat T.Talk (is_due conn (due (T.view_of seat.old.talk)) event) conn seat.old event load seat.new outs.new }
+    ensures next { seat.new.next ≡ next_told (T.view_of seat.new.talk) }
+    ensures once { HasRunSome T.Talk seat.old.talk → due (T.view_of seat.old.talk) ≢ Some open_link }
+{
+    // What holds of a run: its link is there, so the connection isn't to be opened again.
+    T::a_run_serves();
+    let _pending = seat.talk.pending();
+    if is_due_on(seat.next, conn, event) {
+        match load {
+            Some(Load::Link(link)) => open_seat(seat, conn, link, outs),
+            Some(Load::World(_)) => step_seat(seat, conn, outs),
+            None => step_seat(seat, conn, outs),
+        }
+    } else if seat.stray.is_none() {
+        seat.stray = Some(event);
+    }
+}

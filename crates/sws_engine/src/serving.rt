@@ -1,0 +1,41 @@
+//! The server over a weave, by its own connections.
+ghost use Rattle.std.specs.Prelude.{◌≡◌, ◌≤◌, ◌<◌, ◌+◌, ◌^◌, All, None, sum_by};
+ghost use Rattle.mely_history.specs.Setup.{first_out_of_range};
+ghost use Rattle.sws_engine.specs.Scripted.{IsScheduled};
+ghost use Rattle.sws_engine.specs.StepsLeave.{StepsLeave};
+
+use crate::ended::Ended;
+use crate::laws::each_path_opens_once;
+use crate::steps::talk_steps;
+use mely_history::Shape;
+use std::alloc::Global;
+use std::sync::Wait;
+use sws_conn::{Conn, Talk};
+use sws_link::{Link, World};
+use sws_site::Site;
+
+/// Serves all links of a world out of a site, over a weave: the schedule's steps of each core, and then rounds of one step a core
+/// until nothing is left.
+///
+/// Where the world's links answer by scripts, the histories at [`Verdict::Ok`](crate::Verdict::Ok) are those of the definition of a
+/// run, and no others.
+pub fn serve_steps<'s, R: Wait, W: World + Drop>(
+    rt: &R,
+    alloc: Global,
+    site: &'s Site,
+    shape: &Shape,
+    world: W,
+    schedule: &[(u16, u32)],
+) -> Ended<W>
+    requires shape { first_out_of_range shape.now ((W.tells world).total + 2) 1 ≡ None }
+    requires few { (W.tells world).total ≤ 1024 }
+    requires none { (W.tells world).accepted ≡ 0 }
+    requires cores { All (λ part. part.0 < shape.now.cores) schedule.now }
+    requires count { sum_by (λ part. part.1) schedule.now < 2 ^ 64 }
+    ensures leaves { StepsLeave W.World W.Link.Link ⟦<Conn<'s, W::Link> as Talk<W::Link>>⟧ shape.now site.now world result }
+    ensures scheduled { IsScheduled W.World site.now shape.now world schedule.now result }
+{
+    site.limits();
+    each_path_opens_once();
+    talk_steps::<R, W, Conn<'s, W::Link>>(rt, alloc, site, shape, world, schedule)
+}

@@ -1,0 +1,151 @@
+//! How a run starts: the states of all colours, and the first event.
+ghost use Rattle.std.specs.Prelude.{◌≡◌, ◌≤◌, ◌<◌, ◌+◌, IfOk, IfErr, List, Option, length};
+ghost use Rattle.mely_event.specs.HandlerTable.{rows_of};
+ghost use Rattle.mely_history.specs.Setup.{colours_of, handlers_of};
+ghost use Rattle.mely_run.specs.WholeRuns.{IsBegun};
+ghost use Rattle.sws_engine.specs.Fresh.{IsFirstPlace, AreFirstPlaces, first_poll, first_load};
+ghost use Rattle.sws_engine.specs.RunFact.{RunFact};
+
+use crate::desk::event_of;
+use crate::load::{Load, WorldLoad};
+use crate::place::{Desk, Place, Role, Seat};
+use crate::task::Task;
+use crate::waiting::Waiting;
+use mely_event::{Colour, Event, Fits, Trail};
+use mely_history::Setup;
+use mely_tally::{a_first_weave_has_what_it_was_given, a_post_brings_its_event};
+use mely_weave::Weave;
+use std::alloc::Global;
+use std::snapshot::Snapshot;
+use sws_conn::{Next, Talk};
+use sws_link::{Link, Memory, World};
+
+/// The state of a colour at first.
+fn fresh_place<W: World + Drop, T: Talk<W::Link> + Drop>(
+    alloc: Global,
+    hall: T::Hall,
+    world: &W,
+    number: u16,
+    total: u16,
+) -> Result<Place<W, T>, Memory>
+    requires { (W.tells world.now).total ≡ total }
+    ensures { IfOk result (λ place. IsFirstPlace T.Talk world.now (T.contents_of hall) number place) }
+{
+    let trail = Vec::new(alloc);
+    let first = Snapshot::of(world);
+    match number {
+        0 => {
+            let waiting = Waiting::new(alloc, total)?;
+            Ok(Place {
+                colour: Colour(number),
+                trail,
+                hall,
+                first,
+                role: Role::Polling(Desk {
+                    waiting,
+                    last: false,
+                    resting: None,
+                }),
+            })
+        }
+        1 => Ok(Place {
+            colour: Colour(number),
+            trail,
+            hall,
+            first,
+            role: Role::Accepting,
+        }),
+        _ => {
+            let talk = T::make(alloc, hall)?;
+            Ok(Place {
+                colour: Colour(number),
+                trail,
+                hall,
+                first,
+                role: Role::Talking(Seat {
+                    talk,
+                    next: Next::Open,
+                    stray: None,
+                }),
+            })
+        }
+    }
+}
+
+/// The states of all colours at first, in ascending order: colours 0 and 1, and one for each connection.
+pub fn fresh_places<W: World + Drop, T: Talk<W::Link> + Drop>(
+    alloc: Global,
+    hall: T::Hall,
+    world: &W,
+    total: u16,
+) -> Result<Vec<Place<W, T>>, Memory>
+    requires few { total ≤ 1024 }
+    requires total { (W.tells world.now).total ≡ total }
+    ensures { IfOk result (λ places. AreFirstPlaces T.Talk world.now (T.contents_of hall) (total + 2) places.items) }
+{
+    let Ok(mut places) = Vec::with_capacity(alloc, total as usize + 2) else {
+        return Err(Memory);
+    };
+    for number in 0..total + 2 {
+        places.push_reserved(fresh_place(alloc, hall, world, number, total)?);
+    }
+    Ok(places)
+}
+
+/// The event that begins a run: a poll, which is told whether links are to come.
+pub(crate) fn first_event(total: u16) -> Event
+    ensures { result ≡ first_poll total }
+{
+    event_of(Task::Poll, if total == 0 { 1 } else { 0 })
+}
+
+/// The weave of the fresh states, with the first event posted: a poll of the world, which is told whether links are to come.
+/// What stands of a run stands then, and a whole run has begun.
+///
+/// # Errors
+///
+/// There was no memory: the world comes back.
+pub fn start<W: World + Drop, T: Talk<W::Link> + Drop>(
+    alloc: Global,
+    setup: &Setup,
+    states: Vec<Place<W, T>>,
+    world: W,
+    total: u16,
+) -> Result<Weave<Place<W, T>, Load<W, W::Link>>, W>
+    requires colours { colours_of setup.now ≡ total + 2 }
+    requires handlers { 10 ≤ length (rows_of (handlers_of setup.now)) }
+    requires total { (W.tells world).total ≡ total }
+    requires none { (W.tells world).accepted ≡ 0 }
+    requires first { (hall : _) × AreFirstPlaces T.Talk world hall (total + 2) states.items }
+    ensures stands { IfOk result (λ weave. RunFact W.World T.Talk world weave) }
+    ensures begun { IfOk result (λ weave. IsBegun ⟦<Place<W, T> as Trail>⟧
+        ⟦<Place<W, T> as Fits<Load<W, W::Link>>>⟧.fits_under setup.now states.items
+        (record { 0 = 0 }) (first_poll total) (Some (Load.World (first_load world))) weave) }
+    ensures of_setup { IfOk result (λ weave. weave.setup ≡ setup.now) }
+    ensures of_hall { (hall : _) → AreFirstPlaces T.Talk world hall (total + 2) states.items
+        → IfOk result (λ weave. weave.given.hall ≡ hall) }
+    ensures back { IfErr result (λ back. back ≡ world) }
+{
+    let Ok(mut weave) = Weave::new(alloc, setup, states) else {
+        return Err(world);
+    };
+    weave.stands_well();
+    a_first_weave_has_what_it_was_given::<Place<W, T>, Load<W, W::Link>>();
+    a_post_brings_its_event::<Place<W, T>, Load<W, W::Link>>();
+    let load = Load::World(WorldLoad {
+        world,
+        accepted: 0,
+        failed: false,
+    });
+    match weave.post(Colour(0), first_event(total), Some(load)) {
+        Ok(_answer) => Ok(weave),
+        Err(refused) => {
+            let _parts = weave.into_parts();
+            match refused.load {
+                Some(Load::World(held)) => Err(held.world),
+                Some(Load::Link(_)) => unreachable!(),
+                None => unreachable!(),
+            }
+        }
+    }
+}

@@ -1,0 +1,91 @@
+//! The server over a weave, from the world and the hall to what the run leaves.
+ghost use Rattle.std.specs.Prelude.{◌≡◌, ◌≤◌, ◌<◌, ◌+◌, ◌^◌, All, None, sum_by, length};
+ghost use Rattle.mely_event.specs.HandlerTable.{rows_of};
+ghost use Rattle.mely_history.specs.Setup.{first_out_of_range};
+ghost use Rattle.sws_engine.specs.StepsLeave.{HasNotBegun, StepsLeave};
+ghost use Rattle.sws_engine.specs.ServerRun.{handler_rows};
+ghost use Rattle.sws_engine.specs.Modelled.{IsModelled};
+
+use crate::concluding::conclude;
+use crate::ended::{EndRoom, Ended, Verdict};
+use crate::whole::run_apart;
+use mely_event::Handlers;
+use mely_history::{Setup, Shape};
+use std::alloc::Global;
+use std::sync::Wait;
+use sws_conn::Talk;
+use sws_link::{Link, World};
+
+/// The time and the penalty of each handler, in the order of their numbers: Poll, Wait, Accept, Open, Read, Parse, Look, Write,
+/// Close, Resume.
+const HANDLERS: [(u32, u32); 10] = [
+    (40, 4),
+    (10, 1),
+    (40, 4),
+    (20, 1),
+    (60, 2),
+    (80, 1),
+    (50, 1),
+    (100, 2),
+    (30, 1),
+    (60, 2),
+];
+
+/// The handlers of the server.
+pub(crate) fn handler_table() -> Handlers
+    ensures rows { rows_of result ≡ handler_rows }
+    ensures ten { length (rows_of result) ≡ 10 }
+{
+    match Handlers::new(&HANDLERS) {
+        Ok(handlers) => handlers,
+        Err(_) => unreachable!(),
+    }
+}
+
+/// What is left where there was no memory to begin: the world, and empty lists.
+pub(crate) fn unbegun<W: World>(alloc: Global, world: W) -> Ended<W>
+    ensures { HasNotBegun world result }
+{
+    Ended {
+        verdict: Verdict::Memory,
+        world: Some(world),
+        accepted: 0,
+        failed: false,
+        served: Vec::new(alloc),
+        histories: Vec::new(alloc),
+        trails: Vec::new(alloc),
+    }
+}
+
+/// Serves all links of a world by talks of one hall: the schedule's steps of each core, and then rounds of one step a core
+/// until nothing is left. All room for what the run leaves is made before its first event.
+///
+/// Where the world is scripted, the histories at [`Verdict::Ok`] are those of the definition of a run, and no others.
+pub fn talk_steps<R: Wait, W: World + Drop, T: Talk<W::Link> + Drop>(
+    rt: &R,
+    alloc: Global,
+    hall: T::Hall,
+    shape: &Shape,
+    world: W,
+    schedule: &[(u16, u32)],
+) -> Ended<W>
+    requires shape { first_out_of_range shape.now ((W.tells world).total + 2) 1 ≡ None }
+    requires few { (W.tells world).total ≤ 1024 }
+    requires none { (W.tells world).accepted ≡ 0 }
+    requires cores { All (λ part. part.0 < shape.now.cores) schedule.now }
+    requires count { sum_by (λ part. part.1) schedule.now < 2 ^ 64 }
+    ensures leaves { StepsLeave W.World W.Link.Link T.Talk shape.now (T.contents_of hall) world result }
+    ensures model { IsModelled W.World W.Link.Link T.Talk (T.contents_of hall) shape.now world schedule.now result }
+{
+    let total = world.total();
+    let Ok(room) = EndRoom::new(alloc, total) else {
+        return unbegun(alloc, world);
+    };
+    let Ok(setup) = Setup::new(shape, u32::from(total) + 2, handler_table(), 1) else {
+        unreachable!()
+    };
+    match run_apart::<R, W, T>(rt, alloc, &setup, hall, world, schedule) {
+        Ok((parts, drained)) => conclude(room, total, parts, drained),
+        Err(world) => unbegun(alloc, world),
+    }
+}

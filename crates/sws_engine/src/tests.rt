@@ -1,0 +1,5 @@
+//! Single handlers by hand.
+
+mod polling;
+mod seats;
+mod waits;

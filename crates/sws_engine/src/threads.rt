@@ -1,0 +1,250 @@
+//! The server on threads, from the world and the hall to what the run leaves.
+ghost use Rattle.std.specs.Prelude.{◌≡◌, ◌≤◌, ◌+◌, None, Some, IfOk, IfErr, length, map, slice_get};
+ghost use Rattle.mely_event.specs.HandlerTable.{rows_of};
+ghost use Rattle.mely_history.specs.Setup.{colours_of, handlers_of};
+ghost use Rattle.mely_weave.specs.Dealing.{AtEach};
+ghost use Rattle.mely_weave.specs.Drains.{AllFree, HistoriesAreDrained};
+ghost use Rattle.mely_weave.specs.Making.{AreFirst};
+ghost use Rattle.mely_worker.specs.Access.{FitsSetup};
+ghost use Rattle.mely_worker.specs.Conditions.{AppServes};
+ghost use Rattle.sws_engine.specs.Fresh.{AreFirstPlaces};
+ghost use Rattle.mely_history.specs.Setup.{first_out_of_range};
+ghost use Rattle.sws_engine.specs.Kept.{IsKept};
+ghost use Rattle.sws_engine.specs.RunFits.{RunFits};
+ghost use Rattle.sws_engine.specs.ThreadsLeave.{IsUnkept, PartsKept, ThreadsLeave};
+
+use crate::app::Sws;
+use crate::concluding::conclude;
+use crate::ended::{EndRoom, Ended};
+use crate::load::{Load, WorldLoad};
+use crate::place::Place;
+use crate::starting::{first_event, fresh_places};
+use crate::steps::{handler_table, unbegun};
+use mely_event::{Colour, Event, Fits, Trail, Unregistered};
+use mely_fleet::run_crew;
+use mely_history::{Setup, Shape};
+use mely_tally::{the_parts_are_what_the_weave_had, what_is_left_in_the_parts_fits};
+use mely_weave::{Drained, Weave, WeaveParts};
+use mely_worker::{App, Gate};
+use std::alloc::Global;
+use std::sync::Wait;
+use std::thread::Threads;
+use sws_conn::{Conn, Talk};
+use sws_link::{Link, World};
+use sws_site::Site;
+
+/// What the type of a state keeps, for contracts alone. A call does nothing.
+fn is_kept<W: World, T: Talk<W::Link>>(place: &Place<W, T>)
+    ensures { IsKept W.World W.Link.Link T.Talk place.now }
+{
+    let _role = &place.role;
+}
+
+/// What the type of each state keeps, for contracts alone: states are read and stay.
+fn are_kept<W: World, T: Talk<W::Link>>(places: &[Place<W, T>])
+    ensures { AtEach (λ number place. IsKept W.World W.Link.Link T.Talk place) places.now }
+{
+    for place in places {
+        is_kept(place);
+    }
+}
+
+/// Runs a crew of the states of a list, which are taken out of it. Who is generic in a part of the states lends their list.
+///
+/// # Errors
+///
+/// There was no memory to begin: event and load are handed back.
+fn run_lent<
+    R: Threads + Wait + Sync,
+    S: Fits<P> + Drop + Send,
+    P: Drop + Send,
+    A: App<State = S, Load = P> + Sync,
+    G: Gate + Sync,
+>(
+    rt: &R,
+    alloc: Global,
+    setup: &Setup,
+    states: &mut Vec<S>,
+    begin: (Colour, Event, Option<P>),
+    app: &A,
+    gate: &G,
+) -> Result<(Weave<S, P>, Drained), Unregistered<P>>
+    requires first { AreFirst S.Trail setup.now states.old.items }
+    requires fits { (state : _) → slice_get states.old.items 0 ≡ Some state
+        → FitsSetup S.fits_under setup.now (S.frame_of state) begin }
+    requires served { (state : _) → slice_get states.old.items 0 ≡ Some state
+        → AppServes A.App setup.now (S.frame_of state) app.now }
+    ensures of_setup { IfOk result (λ ran. ran.0.setup ≡ setup.now) }
+    ensures framed { IfOk result (λ ran. (state : _) → slice_get states.old.items 0 ≡ Some state
+        → S.frame_of ran.0.given ≡ S.frame_of state) }
+    ensures free { IfOk result (λ ran. AllFree ran.0) }
+    ensures drained { IfOk result (λ ran. ran.1 ≡ Drained.Empty → HistoriesAreDrained ran.0) }
+    ensures back { IfErr result (λ refused. refused ≡ record { event = begin.1; load = begin.2 }) }
+{
+    let given = std::mem::replace(states, Vec::new(alloc));
+    run_crew(rt, alloc, setup, given, begin, app, gate)
+}
+
+/// Serves all links of a world over a fleet of these fresh states, with a thread for each core.
+///
+/// # Errors
+///
+/// There was no memory to begin: the world comes back.
+fn run_places<
+    R: Threads + Wait + Sync,
+    W: World + Drop + Send,
+    T: Talk<W::Link> + Drop + Send,
+    G: Gate + Sync,
+>(
+    rt: &R,
+    alloc: Global,
+    setup: &Setup,
+    states: &mut Vec<Place<W, T>>,
+    world: W,
+    total: u16,
+    gate: &G,
+) -> Result<(Weave<Place<W, T>, Load<W, W::Link>>, Drained), W>
+where
+    W::Link: Send,
+    T::Hall: Send,
+    requires colours { colours_of setup.now ≡ total + 2 }
+    requires handlers { 10 ≤ length (rows_of (handlers_of setup.now)) }
+    requires total { (W.tells world).total ≡ total }
+    requires few { total ≤ 1024 }
+    requires none { (W.tells world).accepted ≡ 0 }
+    requires first { (hall : _) × AreFirstPlaces T.Talk world hall (total + 2) states.old.items }
+    ensures of_setup { IfOk result (λ ran. ran.0.setup ≡ setup.now) }
+    ensures of_world { IfOk result (λ ran. ran.0.given.first ≡ world) }
+    ensures of_hall { (hall : _) → AreFirstPlaces T.Talk world hall (total + 2) states.old.items
+        → IfOk result (λ ran. ran.0.given.hall ≡ hall) }
+    ensures free { IfOk result (λ ran. AllFree ran.0) }
+    ensures drained { IfOk result (λ ran. ran.1 ≡ Drained.Empty → HistoriesAreDrained ran.0) }
+    ensures back { IfErr result (λ back. back ≡ world) }
+{
+    let app = Sws::new(total);
+    let load = Load::World(WorldLoad {
+        world,
+        accepted: 0,
+        failed: false,
+    });
+    let begin = (Colour(0), first_event(total), Some(load));
+    match run_lent(rt, alloc, setup, states, begin, &app, gate) {
+        Ok(ran) => Ok(ran),
+        Err(refused) => match refused.load {
+            Some(Load::World(held)) => Err(held.world),
+            Some(Load::Link(_)) => unreachable!(),
+            None => unreachable!(),
+        },
+    }
+}
+
+/// Serves all links of a world over a fleet, with a thread for each core, and the weave that it leaves is taken apart.
+///
+/// # Errors
+///
+/// There was no memory to begin: the world comes back.
+fn run_threads<
+    R: Threads + Wait + Sync,
+    W: World + Drop + Send,
+    T: Talk<W::Link> + Drop + Send,
+    G: Gate + Sync,
+>(
+    rt: &R,
+    alloc: Global,
+    setup: &Setup,
+    hall: T::Hall,
+    world: W,
+    gate: &G,
+) -> Result<(WeaveParts<Place<W, T>, Load<W, W::Link>>, Drained), W>
+where
+    W::Link: Send,
+    T::Hall: Send,
+    requires colours { colours_of setup.now ≡ (W.tells world).total + 2 }
+    requires handlers { 10 ≤ length (rows_of (handlers_of setup.now)) }
+    requires few { (W.tells world).total ≤ 1024 }
+    requires none { (W.tells world).accepted ≡ 0 }
+    ensures kept { IfOk result (λ ran. PartsKept W.World T.Talk setup.now world ran.1
+        (map (λ history. history.items) ran.0.histories.items) ran.0.states.items
+        (map (λ queue. queue.items) ran.0.queued.items)) }
+    ensures fits { IfOk result (λ ran. RunFits W.World W.Link.Link world (T.contents_of hall)
+        ran.0.states.items (map (λ queue. queue.items) ran.0.queued.items) ran.0.lost.items) }
+    ensures back { IfErr result (λ back. back ≡ world) }
+{
+    let total = world.total();
+    let Ok(mut states) = fresh_places(alloc, hall, &world, total) else {
+        return Err(world);
+    };
+    let (weave, drained) = run_places::<R, W, T, G>(
+        rt,
+        alloc,
+        setup,
+        &mut states,
+        world,
+        total,
+        gate,
+    )?;
+    weave.stands_well();
+    the_parts_are_what_the_weave_had::<Place<W, T>, Load<W, W::Link>>();
+    what_is_left_in_the_parts_fits::<Place<W, T>, Load<W, W::Link>>();
+    let parts = weave.into_parts();
+    are_kept(&parts.states);
+    Ok((parts, drained))
+}
+
+/// Serves all links of a world by talks of one hall, with a thread for each worker; the gate is passed before each handler. All room
+/// for what the run leaves is made before its first event. It need not return.
+///
+/// What is left over where the fleet is closed, because memory was refused to a worker, is run by one core after another then, and
+/// passes no gate.
+pub fn talk_all<
+    R: Threads + Wait + Sync,
+    W: World + Drop + Send,
+    T: Talk<W::Link> + Drop + Send,
+    G: Gate + Sync,
+>(rt: &R, alloc: Global, hall: T::Hall, shape: &Shape, world: W, gate: &G) -> Ended<W>
+where
+    W::Link: Send,
+    T::Hall: Send,
+    requires shape { first_out_of_range shape.now ((W.tells world).total + 2) 1 ≡ None }
+    requires few { (W.tells world).total ≤ 1024 }
+    requires none { (W.tells world).accepted ≡ 0 }
+    ensures { ThreadsLeave W.World W.Link.Link T.Talk shape.now (T.contents_of hall)
+        world result }
+{
+    let total = world.total();
+    let Ok(room) = EndRoom::new(alloc, total) else {
+        return unbegun(alloc, world);
+    };
+    let Ok(setup) = Setup::new(shape, u32::from(total) + 2, handler_table(), 1) else {
+        unreachable!()
+    };
+    match run_threads::<R, W, T, G>(rt, alloc, &setup, hall, world, gate) {
+        Ok((parts, drained)) => conclude(room, total, parts, drained),
+        Err(world) => unbegun(alloc, world),
+    }
+}
+
+/// Serves all links of a world out of a site, with a thread for each worker; the gate is passed before each handler. It need not
+/// return.
+///
+/// The verdict is exactly what the run shows: [`Verdict::Apart`](crate::Verdict::Apart) tells the first connection that lacks what it
+/// is owed, and where none does that the world is gone.
+pub fn serve_all<'s, R: Threads + Wait + Sync, W: World + Drop + Send, G: Gate + Sync>(
+    rt: &R,
+    alloc: Global,
+    site: &'s Site,
+    shape: &Shape,
+    world: W,
+    gate: &G,
+) -> Ended<W>
+where
+    W::Link: Send,
+    requires shape { first_out_of_range shape.now ((W.tells world).total + 2) 1 ≡ None }
+    requires few { (W.tells world).total ≤ 1024 }
+    requires none { (W.tells world).accepted ≡ 0 }
+    ensures leaves { ThreadsLeave W.World W.Link.Link ⟦<Conn<'s, W::Link> as Talk<W::Link>>⟧
+        shape.now site.now world result }
+    ensures unkept { IsUnkept ⟦<Conn<'s, W::Link> as Talk<W::Link>>⟧ }
+{
+    talk_all::<R, W, Conn<'s, W::Link>, G>(rt, alloc, site, shape, world, gate)
+}
