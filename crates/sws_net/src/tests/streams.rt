@@ -1,8 +1,6 @@
 //! The adapters over readers and writers that do as the machine may.
 
-use crate::output::Output;
-use crate::std_sink::StdSink;
-use crate::std_source::StdSource;
+use crate::{Output, StdSink, StdSource};
 use std::cell::RefCell;
 use std::io::{self, ErrorKind, Read, Write};
 use std::test::Fail;

@@ -2,9 +2,10 @@
 ghost use Rattle.std.specs.Prelude.{◌≡◌, None, is_some};
 ghost use Rattle.sws_link.specs.Counts.{kept_count};
 
+use crate::errors::is_want_of_memory;
 use crate::file_walk::FileWalk;
 use std::fs::File;
-use std::io::{self, ErrorKind, Read};
+use std::io::{self, Read};
 use sws_link::{Folder, Got, NextFile, Opened};
 
 /// Gives the regular files below a folder, of which nothing is known, and counts the machine's errors.
@@ -27,11 +28,6 @@ impl<'r> FileFolder<'r> {
             faults: 0,
         }
     }
-}
-
-/// Whether an allocation of this program was refused; every other error is one of the machine.
-fn is_want_of_memory(error: &io::Error) -> bool {
-    error.kind() == ErrorKind::OutOfMemory && error.raw_os_error().is_none()
 }
 
 /// Opens the next file, copies its name as far as there is room, and gives it with the length of its name.

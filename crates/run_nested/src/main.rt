@@ -1,0 +1,9 @@
+//! `sws answer` on folders within folders: their pages by the folder's name, a name with a space, a name that begins with a dot.
+#![tactic(auto)]
+
+use std::process::ExitCode;
+use sws_command::command;
+
+fn main(rt: HostRuntime) -> ExitCode {
+    command(&rt)
+}

@@ -1,0 +1,45 @@
+//! The machine as the outside of the server: files, standard input and output, and TCP.
+//!
+//! Each type meets a trait of `sws_link` over an object of the machine. It tells nothing of contents, and counts
+//! the machine's errors. What a file, a terminal or a socket carries is believed, and no contract speaks of it.
+//!
+//! | Type | Is | Over |
+//! |---|---|---|
+//! | [`FileFolder`] | a folder | the regular files below a folder of the machine, by descriptors |
+//! | [`StdSource`] | a source | a reader, such as standard input |
+//! | [`StdSink`] | a sink | a writer, such as standard output, by an [`Output`] that collects small pieces |
+//! | [`TcpWorld`] | a world | a socket that listens, and epoll |
+//! | [`TcpLink`] | a link | a socket |
+//!
+//! ```text
+//! let mut world = TcpWorld::new(&rt);
+//! world.open(8080, 2);                         // listens on 0.0.0.0:8080 for two connections
+//! match world.accept() {                       // none yet, or the next
+//!     Accepted::Link(link) => ..               // its reads and writes don't block
+//!     ..
+//! }
+//! world.poll(&[0]);                            // which of those that wait may be ready
+//! ```
+#![tactic(auto)]
+
+mod errors;
+mod file_folder;
+mod file_walk;
+mod kept;
+mod lobby;
+mod output;
+mod server;
+mod signs;
+mod std_sink;
+mod std_source;
+mod tcp_link;
+mod tcp_world;
+#[cfg(test)]
+mod tests;
+
+pub use file_folder::FileFolder;
+pub use output::Output;
+pub use std_sink::StdSink;
+pub use std_source::StdSource;
+pub use tcp_link::TcpLink;
+pub use tcp_world::TcpWorld;

@@ -1,0 +1,196 @@
+//! The socket that listens, and all that waits.
+ghost use Rattle.std.specs.Prelude.{IfOk, IfSome, Contains};
+ghost use Rattle.sws_net.specs.Fresh.{IsUntouched, IsNew};
+
+use crate::errors::{has_no_room, is_of_one_connection};
+use crate::lobby::Lobby;
+use crate::signs::Signs;
+use crate::tcp_link::TcpLink;
+use mio::net::{TcpListener, TcpStream};
+use mio::{Events, Interest, Poll, Token};
+use std::io::{self, ErrorKind};
+use std::net::{IpAddr, Ipv4Addr, SocketAddr};
+use std::time::{Clock, Duration};
+
+/// How many milliseconds a call waits at most.
+const TICK: u64 = 250;
+
+/// How many events one wait brings at most.
+const EVENTS: usize = 256;
+
+/// The place of the listener among the events; link `i` has place `i + 1`.
+const LISTENER: Token = Token(0);
+
+/// What became of a call that was to give a connection.
+pub enum Came {
+    /// This one.
+    Link(TcpLink),
+
+    /// None now.
+    NotYet,
+
+    /// The machine failed.
+    Failed,
+}
+
+/// The listener, the links' signs of life, and what waits for both.
+///
+/// All sockets are registered once, for both directions and edge-triggered, so no event costs a further call of the
+/// system.
+#[derive(Drop)]
+pub struct Server {
+    poll: Poll,
+    listener: TcpListener,
+    events: Events,
+    lobby: Lobby,
+    signs: Signs,
+
+    /// Whether a connection may be waiting to be accepted.
+    may_accept: bool,
+
+    /// Whether the machine had no room for a connection, which is still waiting.
+    is_to_retry: bool,
+
+    /// The time of the last wait, in milliseconds.
+    now: u64,
+
+    /// When it was last looked which links have shown nothing for long.
+    swept: u64,
+}
+
+/// The time in milliseconds.
+fn time_of(clock: &impl Clock) -> io::Result<u64> {
+    let time = clock.monotonic()?;
+    Ok(u64::try_from(time.as_millis()).unwrap_or(u64::MAX))
+}
+
+impl Server {
+    /// Listens at the port, on all of the machine's addresses, for so many links.
+    pub fn new(rt: &HostRuntime, port: u16, total: u16) -> io::Result<Server> {
+        let alloc = rt.alloc();
+        let now = time_of(rt)?;
+        let address = SocketAddr::new(IpAddr::V4(Ipv4Addr::new(0, 0, 0, 0)), port);
+        let events = Events::with_capacity(alloc, EVENTS)?;
+        let lobby = Lobby::new(alloc, total)?;
+        let signs = Signs::new(alloc, total, now)?;
+        let poll = Poll::new(rt)?;
+        let mut listener = TcpListener::bind(rt, address)?;
+        poll.registry()
+            .register(&mut listener, LISTENER, Interest::READABLE)?;
+        Ok(Server {
+            poll,
+            listener,
+            events,
+            lobby,
+            signs,
+            may_accept: true,
+            is_to_retry: false,
+            now,
+            swept: now,
+        })
+    }
+
+    /// Which of those that wait may be ready. Where none showed it, the machine is asked; that waits for a moment where each
+    /// link that is there waits and no connection may be waiting to be accepted, and else not at all.
+    pub fn look(
+        &mut self,
+        rt: &HostRuntime,
+        waiting: &[u16],
+        accepted: u16,
+        is_last: bool,
+    ) -> io::Result<Option<u16>>
+        ensures { IfOk result (λ named. IfSome named (λ conn. Contains waiting.now conn)) }
+    {
+        if let Some(conn) = self.signs.take_ready(waiting) {
+            return Ok(Some(conn));
+        }
+        if self.may_accept && !is_last {
+            return Ok(None);
+        }
+        let there = u64::from(accepted).saturating_sub(self.lobby.gone());
+        self.wait(rt, waiting, waiting.len() as u64 >= there)?;
+        Ok(self.signs.take_ready(waiting))
+    }
+
+    /// Asks the machine what has happened, and waits for it where all wait.
+    fn wait(&mut self, rt: &HostRuntime, waiting: &[u16], all_wait: bool) -> io::Result<()> {
+        let patience = Duration::from_millis(if all_wait { TICK } else { 0 });
+        self.poll.poll(&mut self.events, Some(patience))?;
+        self.now = time_of(rt)?;
+        let is_nothing = self.note();
+        if is_nothing && all_wait || self.now.saturating_sub(self.swept) >= TICK {
+            self.swept = self.now;
+            self.signs.sweep(waiting, self.now);
+        }
+        if self.is_to_retry {
+            self.is_to_retry = false;
+            self.may_accept = true;
+        }
+        Ok(())
+    }
+
+    /// Notes what the last wait brought, and answers whether that was nothing.
+    fn note(&mut self) -> bool {
+        let mut is_nothing = true;
+        for event in &self.events {
+            is_nothing = false;
+            let Token(place) = event.token();
+            if place == 0 {
+                self.may_accept = true;
+            } else {
+                self.signs.note(place - 1, self.now);
+                if event.is_read_closed() || event.is_error() {
+                    self.lobby.hang_up(place - 1);
+                }
+            }
+        }
+        is_nothing
+    }
+
+    /// The next connection, as the link of this number. One that can't be set up is closed and isn't counted.
+    pub fn next(&mut self, number: u16) -> Came
+        ensures { IsNew result }
+    {
+        if !self.may_accept {
+            return Came::NotYet;
+        }
+        match self.listener.accept() {
+            Ok((stream, _)) => match self.admit(stream, number) {
+                Ok(link) => Came::Link(link),
+                Err(_) => Came::NotYet,
+            },
+            Err(error) => self.none_came(&error),
+        }
+    }
+
+    /// What it means that no connection was accepted.
+    fn none_came(&mut self, error: &io::Error) -> Came
+        ensures { IsNew result }
+    {
+        if error.kind() == ErrorKind::WouldBlock {
+            self.may_accept = false;
+            return Came::NotYet;
+        }
+        if has_no_room(error) {
+            self.may_accept = false;
+            self.is_to_retry = true;
+            return Came::NotYet;
+        }
+        if is_of_one_connection(error) {
+            return Came::NotYet;
+        }
+        Came::Failed
+    }
+
+    /// A connection that was accepted, as a link of this number.
+    fn admit(&mut self, mut stream: TcpStream, number: u16) -> io::Result<TcpLink>
+        ensures { IfOk result (λ link. IsUntouched link) }
+    {
+        stream.set_nodelay(true)?;
+        let presence = self.lobby.enter(number)?;
+        let place = Token(number as usize + 1);
+        self.poll.registry().register(&mut stream, place, Interest::READABLE | Interest::WRITABLE)?;
+        self.signs.begin(number as usize, self.now);
+        Ok(TcpLink::new(stream, presence))
+    }
+}
