@@ -1,0 +1,149 @@
+-- The orders that words give.
+use Rattle.std.specs.Prelude.{ℕ, ◌==◌, ◌&&◌, Bool, not, nat_le, if◌then◌else◌, List, [], ◌∷◌, length, codes, Option, Some, None, option_map, option_and_then}
+use Rattle.std.specs.Str.{bytes_eq, all_ascii_digits}
+use Rattle.std.specs.Str.Parse.{digits_value, without_leading_plus}
+use Rattle.sws_words.specs.Grammar.{Text, Known, Given, given_of, places, value_of, has_flag}
+
+-- ---- numbers
+
+-- an optional plus sign and decimal digits, of which the first ones may be 0
+abbrev pub number_in : Text → Option ℕ
+number_in word =
+    let digits = without_leading_plus word in
+    if all_ascii_digits digits && not (length digits == 0) then Some (digits_value 10 digits) else None
+
+-- a number of a range
+unfoldable pub within : ℕ → ℕ → Text → Option ℕ
+within least most word = option_and_then (λ number. if nat_le least number && nat_le number most then Some number else None) (number_in word)
+
+-- the value of an option: none where it isn't given, and nothing where it is given and out of form
+abbrev pub optional : (Text → Option ℕ) → Option Text → Option (Option ℕ)
+optional read None = Some None
+optional read (Some word) = option_map Some (read word)
+
+abbrev pub or_default : (Text → Option ℕ) → ℕ → Option Text → Option ℕ
+or_default read default None = Some default
+or_default read default (Some word) = read word
+
+-- ---- orders
+
+pub record Shape : Type 0 where
+  pub cores : ℕ
+  pub shards : ℕ
+  pub batch : ℕ
+  pub group : ℕ
+  pub steal_cost : ℕ
+
+pub data Order : Type 0 where
+  answer : (folder : Text) → (date : Option ℕ) → Order
+  replay : (folder : Text) → (shape : Shape) → (date : Option ℕ) → (journal schedule : Bool) → Order
+  serve : (folder : Text) → (port connections : ℕ) → (shape : Shape) → (date : Option ℕ) → Order
+  bench : (connections number : ℕ) → (shape : Shape) → Order
+
+-- the options that shape a run
+abbrev pub shape_options : List Text
+shape_options = codes "workers" ∷ codes "shards" ∷ codes "batch" ∷ codes "group" ∷ codes "cost" ∷ []
+
+-- their ranges, and what they are where they are not given
+abbrev pub shape_in : (workers shards batch group cost : Option Text) → Option Shape
+shape_in workers shards batch group cost =
+    option_and_then (λ cores.
+    option_and_then (λ parts.
+    option_and_then (λ most.
+    option_and_then (λ near.
+    option_map (λ steal. record { cores = cores; shards = parts; batch = most; group = near; steal_cost = steal })
+    (or_default (within 0 1000000) 20 cost))
+    (or_default (within 1 64) 4 group))
+    (or_default (within 1 1000) 10 batch))
+    (or_default (within 1 64) 1 shards))
+    (or_default (within 1 64) 1 workers)
+
+abbrev pub shape_of : List Given → Option Shape
+shape_of given = shape_in (value_of (codes "workers") given) (value_of (codes "shards") given) (value_of (codes "batch") given)
+    (value_of (codes "group") given) (value_of (codes "cost") given)
+
+-- a number of seconds, up to the last one of the year 9999
+abbrev pub date_in : Option Text → Option (Option ℕ)
+date_in date = optional (within 0 253402300799) date
+
+abbrev pub date_of : List Given → Option (Option ℕ)
+date_of given = date_in (value_of (codes "date") given)
+
+abbrev pub only_place : List Text → Option Text
+only_place [] = None
+only_place (word ∷ []) = Some word
+only_place (word ∷ other ∷ words) = None
+
+abbrev pub two_places : List Text → Option (Text × Text)
+two_places [] = None
+two_places (word ∷ []) = None
+two_places (word ∷ other ∷ []) = Some (word, other)
+two_places (word ∷ other ∷ another ∷ words) = None
+
+-- answer FOLDER [--date D]
+abbrev pub answer_known : Known
+answer_known = record { options = codes "date" ∷ []; flags = [] }
+
+abbrev pub answer_by : List Given → Option Order
+answer_by given =
+    option_and_then (λ folder.
+    option_map (λ date. answer folder date) (date_of given))
+    (only_place (places given))
+
+-- replay FOLDER [--workers K] [--shards G] [--batch B] [--group N] [--cost S] [--date D] [--journal] [--schedule]
+abbrev pub replay_known : Known
+replay_known = record {
+  options = codes "date" ∷ shape_options;
+  flags = codes "journal" ∷ codes "schedule" ∷ [];
+}
+
+abbrev pub replay_by : List Given → Option Order
+replay_by given =
+    option_and_then (λ folder.
+    option_and_then (λ shape.
+    option_map (λ date. replay folder shape date (has_flag (codes "journal") given) (has_flag (codes "schedule") given)) (date_of given))
+    (shape_of given))
+    (only_place (places given))
+
+-- serve FOLDER --port P --connections N, with the options of the shape and --date
+abbrev pub serve_known : Known
+serve_known = record {
+  options = codes "port" ∷ codes "connections" ∷ codes "date" ∷ shape_options;
+  flags = [];
+}
+
+abbrev pub serve_by : List Given → Option Order
+serve_by given =
+    option_and_then (λ folder.
+    option_and_then (λ port.
+    option_and_then (λ connections.
+    option_and_then (λ shape.
+    option_map (λ date. serve folder port connections shape date) (date_of given))
+    (shape_of given))
+    (option_and_then (within 1 1024) (value_of (codes "connections") given)))
+    (option_and_then (within 1 65535) (value_of (codes "port") given)))
+    (only_place (places given))
+
+-- bench N NUMBER, with the options of the shape
+abbrev pub bench_known : Known
+bench_known = record { options = shape_options; flags = [] }
+
+abbrev pub bench_by : List Given → Option Order
+bench_by given =
+    option_and_then (λ words.
+    option_and_then (λ connections.
+    option_and_then (λ number.
+    option_map (λ shape. bench connections number shape) (shape_of given))
+    (within 0 4294967295 words.1))
+    (within 1 1024 words.0))
+    (two_places (places given))
+
+-- the words of a command line: the command, and what is behind it
+abbrev pub order_of : List Text → Option Order
+order_of [] = None
+order_of (command ∷ words) =
+    if bytes_eq command (codes "answer") then option_and_then answer_by (given_of answer_known words)
+    else if bytes_eq command (codes "replay") then option_and_then replay_by (given_of replay_known words)
+    else if bytes_eq command (codes "serve") then option_and_then serve_by (given_of serve_known words)
+    else if bytes_eq command (codes "bench") then option_and_then bench_by (given_of bench_known words)
+    else None

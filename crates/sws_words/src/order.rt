@@ -1,0 +1,64 @@
+//! What the words of a command line order.
+ghost use Rattle.std.specs.Prelude.{◌≡◌};
+
+use mely_history::Shape;
+use std::alloc::AllocError;
+
+/// Why words give no order.
+#[derive(Clone, Copy, Debug, PartialEq, Eq)]
+pub enum WordFault {
+    /// They are no command line.
+    Usage,
+    /// There was no memory.
+    Memory,
+}
+
+impl From<AllocError> for WordFault {
+    ghost use Rattle.sws_words.specs.declared.order.WordFault.{WordFault};
+
+    ghost from_gives = { λ _ fault. fault ≡ WordFault.Memory };
+
+    fn from(_: AllocError) -> WordFault {
+        WordFault::Memory
+    }
+}
+
+/// What a command line orders.
+#[derive(Debug, Drop)]
+pub enum Order {
+    /// The responses to one connection's input.
+    Answer {
+        /// The folder of the site.
+        folder: String,
+        /// When its files were last modified, in seconds after the beginning of 1970, up to the end of the year 9999.
+        date: Option<u64>,
+    },
+    /// A script, run in memory.
+    Replay {
+        folder: String,
+        shape: Shape,
+        date: Option<u64>,
+        /// Whether the run's histories are written too.
+        journal: bool,
+        /// Whether a schedule stands before the script.
+        schedule: bool,
+    },
+    /// Connections from outside.
+    Serve {
+        folder: String,
+        /// The port of the listener, 1 to 65,535.
+        port: u16,
+        /// How many connections are served, 1 to 1,024.
+        connections: u16,
+        shape: Shape,
+        date: Option<u64>,
+    },
+    /// A generated site and script.
+    Bench {
+        /// How many connections the script has, 1 to 1,024.
+        connections: u16,
+        /// What site and script are generated from.
+        number: u32,
+        shape: Shape,
+    },
+}

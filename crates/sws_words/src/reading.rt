@@ -1,0 +1,241 @@
+//! The words behind each command.
+ghost use Rattle.std.specs.Prelude.{◌≡◌, ◌≤◌, ◌<◌, ℕ, IfOk, IfErr, Some, None, map, string_bytes, codes, true, false};
+ghost use Rattle.std.specs.Prelude.{option_and_then, is_some};
+ghost use Rattle.clap.specs.Words.{found_of, first_of, first_value, one_of, rows_of};
+ghost use Rattle.sws_words.specs.Grammar.{given_of, has_bundle as have_bundle};
+ghost use Rattle.sws_words.specs.Orders.{within, or_default, shape_in, date_in, order_of, answer_by, answer_known, replay_by, replay_known};
+ghost use Rattle.sws_words.specs.Orders.{serve_by, serve_known, bench_by, bench_known};
+ghost use Rattle.sws_words.specs.Told.{told, told_shape};
+
+use crate::commands::{answer_command, bench_command, replay_command, serve_command};
+use crate::numbers::number_within;
+use crate::parsing::{has_bundle, parsed};
+use crate::{Order, WordFault};
+use clap::ArgMatches;
+use mely_history::Shape;
+use std::alloc::Global;
+
+/// The last second of the year 9999.
+const LAST_SECOND: u64 = 253_402_300_799;
+
+/// The number that an option gives, or one that stands for it.
+fn number_or(
+    matches: &ArgMatches<'_>,
+    name: &str,
+    least: u64,
+    most: u64,
+    default: u64,
+) -> Result<u64, WordFault>
+    requires { default ≤ most }
+    ensures read { IfOk result (λ number. or_default (within least most) default (first_value (found_of matches.now) name.now)
+        ≡ Some number) }
+    ensures range { IfOk result (λ number. number ≤ most) }
+    ensures refused { IfErr result (λ _. or_default (within least most) default (first_value (found_of matches.now) name.now)
+        ≡ None) }
+    ensures usage { IfErr result (λ fault. fault ≡ WordFault.Usage) }
+{
+    let Some(word) = matches.get_str(name) else {
+        return Ok(default);
+    };
+    match number_within(word, least, most) {
+        Some(number) => Ok(number),
+        None => Err(WordFault::Usage),
+    }
+}
+
+/// The number that an argument gives, which must be there.
+fn number_of(matches: &ArgMatches<'_>, name: &str, least: u64, most: u64) -> Result<u64, WordFault>
+    ensures read { IfOk result (λ number. option_and_then (within least most) (first_value (found_of matches.now) name.now)
+        ≡ Some number) }
+    ensures range { IfOk result (λ number. number ≤ most) }
+    ensures refused { IfErr result (λ _. option_and_then (within least most) (first_value (found_of matches.now) name.now)
+        ≡ None) }
+{
+    let Some(word) = matches.get_str(name) else {
+        return Err(WordFault::Usage);
+    };
+    match number_within(word, least, most) {
+        Some(number) => Ok(number),
+        None => Err(WordFault::Usage),
+    }
+}
+
+/// The same, of a range that 16 bits hold.
+fn small_of(matches: &ArgMatches<'_>, name: &str, least: u64, most: u64) -> Result<u16, WordFault>
+    requires { most < 65536 }
+    ensures read { IfOk result (λ number. option_and_then (within least most) (first_value (found_of matches.now) name.now)
+        ≡ Some number) }
+    ensures refused { IfErr result (λ _. option_and_then (within least most) (first_value (found_of matches.now) name.now)
+        ≡ None) }
+{
+    let number = number_of(matches, name, least, most)?;
+    Ok(number as u16)
+}
+
+/// The number of a generated site and script.
+fn seed_of(matches: &ArgMatches<'_>) -> Result<u32, WordFault>
+    ensures read { IfOk result (λ number. option_and_then (within 0 4294967295) (first_value (found_of matches.now) (codes "number"))
+        ≡ Some number) }
+    ensures refused { IfErr result (λ _. option_and_then (within 0 4294967295) (first_value (found_of matches.now) (codes "number"))
+        ≡ None) }
+{
+    let number = number_of(matches, "number", 0, 4_294_967_295)?;
+    Ok(number as u32)
+}
+
+/// The date, where it is given.
+fn date_of(matches: &ArgMatches<'_>) -> Result<Option<u64>, WordFault>
+    ensures read { IfOk result (λ date. date_in (first_value (found_of matches.now) (codes "date")) ≡ Some date) }
+    ensures refused { IfErr result (λ _. date_in (first_value (found_of matches.now) (codes "date")) ≡ None) }
+{
+    let Some(word) = matches.get_str("date") else {
+        return Ok(None);
+    };
+    match number_within(word, 0, LAST_SECOND) {
+        Some(secs) => Ok(Some(secs)),
+        None => Err(WordFault::Usage),
+    }
+}
+
+/// The shape of a run, whose options have defaults.
+fn shape_of(matches: &ArgMatches<'_>) -> Result<Shape, WordFault>
+    ensures read { IfOk result (λ shape. shape_in (first_value (found_of matches.now) (codes "workers"))
+        (first_value (found_of matches.now) (codes "shards")) (first_value (found_of matches.now) (codes "batch"))
+        (first_value (found_of matches.now) (codes "group")) (first_value (found_of matches.now) (codes "cost"))
+        ≡ Some (told_shape shape)) }
+    ensures refused { IfErr result (λ _. shape_in (first_value (found_of matches.now) (codes "workers"))
+        (first_value (found_of matches.now) (codes "shards")) (first_value (found_of matches.now) (codes "batch"))
+        (first_value (found_of matches.now) (codes "group")) (first_value (found_of matches.now) (codes "cost"))
+        ≡ None) }
+{
+    let cores = number_or(matches, "workers", 1, 64, 1)?;
+    let shards = number_or(matches, "shards", 1, 64, 1)?;
+    let batch = number_or(matches, "batch", 1, 1000, 10)?;
+    let group = number_or(matches, "group", 1, 64, 4)?;
+    let steal_cost = number_or(matches, "cost", 0, 1_000_000, 20)?;
+    Ok(Shape {
+        cores: cores as u16,
+        shards: shards as u16,
+        batch: batch as u16,
+        group: group as u16,
+        steal_cost: steal_cost as u32,
+    })
+}
+
+/// The folder's name.
+fn folder_of(alloc: Global, matches: &ArgMatches<'_>) -> Result<String, WordFault>
+    ensures read { IfOk result (λ folder. first_value (found_of matches.now) (codes "folder") ≡ Some (string_bytes folder)) }
+    ensures refused { IfErr result (λ fault. fault ≡ WordFault.Usage
+        → first_value (found_of matches.now) (codes "folder") ≡ None) }
+{
+    match matches.get_str("folder") {
+        Some(folder) => Ok(String::from_str(alloc, folder)?),
+        None => Err(WordFault::Usage),
+    }
+}
+
+/// The order of the words behind `answer`.
+fn read_answer(alloc: Global, words: &[String]) -> Result<Order, WordFault>
+    requires { have_bundle (map string_bytes words.now) ≡ false }
+    ensures read { IfOk result (λ order. option_and_then answer_by (given_of answer_known (map string_bytes words.now))
+        ≡ Some (told order)) }
+    ensures refused { IfErr result (λ fault. fault ≡ WordFault.Usage
+        → option_and_then answer_by (given_of answer_known (map string_bytes words.now)) ≡ None) }
+{
+    let command = answer_command(alloc)?;
+    let matches = parsed(command, words)?;
+    let date = date_of(&matches)?;
+    let folder = folder_of(alloc, &matches)?;
+    Ok(Order::Answer { folder, date })
+}
+
+/// The order of the words behind `replay`.
+fn read_replay(alloc: Global, words: &[String]) -> Result<Order, WordFault>
+    requires { have_bundle (map string_bytes words.now) ≡ false }
+    ensures read { IfOk result (λ order. option_and_then replay_by (given_of replay_known (map string_bytes words.now))
+        ≡ Some (told order)) }
+    ensures refused { IfErr result (λ fault. fault ≡ WordFault.Usage
+        → option_and_then replay_by (given_of replay_known (map string_bytes words.now)) ≡ None) }
+{
+    let command = replay_command(alloc)?;
+    let matches = parsed(command, words)?;
+    let shape = shape_of(&matches)?;
+    let date = date_of(&matches)?;
+    let folder = folder_of(alloc, &matches)?;
+    let journal = matches.get_flag("journal");
+    let schedule = matches.get_flag("schedule");
+    Ok(Order::Replay {
+        folder,
+        shape,
+        date,
+        journal,
+        schedule,
+    })
+}
+
+/// The order of the words behind `serve`.
+fn read_serve(alloc: Global, words: &[String]) -> Result<Order, WordFault>
+    requires { have_bundle (map string_bytes words.now) ≡ false }
+    ensures read { IfOk result (λ order. option_and_then serve_by (given_of serve_known (map string_bytes words.now))
+        ≡ Some (told order)) }
+    ensures refused { IfErr result (λ fault. fault ≡ WordFault.Usage
+        → option_and_then serve_by (given_of serve_known (map string_bytes words.now)) ≡ None) }
+{
+    let command = serve_command(alloc)?;
+    let matches = parsed(command, words)?;
+    let port = small_of(&matches, "port", 1, 65_535)?;
+    let connections = small_of(&matches, "connections", 1, 1024)?;
+    let shape = shape_of(&matches)?;
+    let date = date_of(&matches)?;
+    let folder = folder_of(alloc, &matches)?;
+    Ok(Order::Serve {
+        folder,
+        port,
+        connections,
+        shape,
+        date,
+    })
+}
+
+/// The order of the words behind `bench`.
+fn read_bench(alloc: Global, words: &[String]) -> Result<Order, WordFault>
+    requires { have_bundle (map string_bytes words.now) ≡ false }
+    ensures read { IfOk result (λ order. option_and_then bench_by (given_of bench_known (map string_bytes words.now))
+        ≡ Some (told order)) }
+    ensures refused { IfErr result (λ fault. fault ≡ WordFault.Usage
+        → option_and_then bench_by (given_of bench_known (map string_bytes words.now)) ≡ None) }
+{
+    let command = bench_command(alloc)?;
+    let matches = parsed(command, words)?;
+    let connections = small_of(&matches, "connections", 1, 1024)?;
+    let number = seed_of(&matches)?;
+    let shape = shape_of(&matches)?;
+    Ok(Order::Bench {
+        connections,
+        number,
+        shape,
+    })
+}
+
+/// The order that the words behind the program's name give.
+///
+/// `Err(WordFault::Usage)` comes exactly where the words are no command line, `Err(WordFault::Memory)` where there was no
+/// memory.
+pub fn read_words(alloc: Global, words: &[String]) -> Result<Order, WordFault>
+    ensures read { IfOk result (λ order. order_of (map string_bytes words.now) ≡ Some (told order)) }
+    ensures refused { IfErr result (λ fault. fault ≡ WordFault.Usage → order_of (map string_bytes words.now) ≡ None) }
+{
+    let [command, rest @ ..] = words else {
+        return Err(WordFault::Usage);
+    };
+    if has_bundle(rest) {
+        return Err(WordFault::Usage);
+    }
+    match command.as_str() {
+        "answer" => read_answer(alloc, rest),
+        "replay" => read_replay(alloc, rest),
+        "serve" => read_serve(alloc, rest),
+        "bench" => read_bench(alloc, rest),
+        _ => Err(WordFault::Usage),
+    }
+}
