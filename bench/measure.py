@@ -1,14 +1,16 @@
 #!/usr/bin/env python3
-"""Measures `sws answer`, a shard, a lock and a chain beside their peers, and a weave and a connection, in one run, and prints a table.
+"""Measures `sws answer`, a shard, a lock, a chain, a fleet, scripts and transcripts beside their peers, and a weave and a connection,
+in one run, and prints a table.
 
     bench/measure.py [--runs N]
 
-It wants the six programs built (`./sws` builds the server, `rt run` in crates/shard_loop, crates/lock_loop,
-crates/chain_loop, crates/weave_loop and crates/conn_loop the others) and cargo with Debian's librust-httparse-dev, librust-httpdate-dev,
+It wants the eight programs built (`./sws` builds the server, `rt run` in crates/shard_loop, crates/lock_loop,
+crates/chain_loop, crates/weave_loop, crates/fleet_loop, crates/conn_loop and crates/text_loop the others) and cargo with Debian's librust-httparse-dev, librust-httpdate-dev,
 librust-memchr-dev and librust-percent-encoding-dev. All that it makes stands in a new folder below the system's
 temporary one, about 400 MB, and is removed at the end. No traffic leaves the machine: both programs read a file and
 write to a file or to nothing. Times are seconds on a processor (user and system), the least of all runs, so that they say
-little of what else the machine does.
+little of what else the machine does; but how much faster several workers are is by the clock, so it wants a machine
+that does nothing else, and the calls of the system that wake and sleep are counted where strace is there.
 """
 import argparse
 import os
@@ -17,6 +19,7 @@ import shutil
 import subprocess
 import sys
 import tempfile
+import time
 
 TOP = os.path.dirname(os.path.dirname(os.path.abspath(__file__)))
 SWS = os.path.join(TOP, "crates", "sws_main", "out", "sws_main")
@@ -24,7 +27,9 @@ LOOP = os.path.join(TOP, "crates", "shard_loop", "out", "shard_loop")
 LOCK = os.path.join(TOP, "crates", "lock_loop", "out", "lock_loop")
 CHAIN = os.path.join(TOP, "crates", "chain_loop", "out", "chain_loop")
 WEAVE = os.path.join(TOP, "crates", "weave_loop", "out", "weave_loop")
+FLEET = os.path.join(TOP, "crates", "fleet_loop", "out", "fleet_loop")
 CONN = os.path.join(TOP, "crates", "conn_loop", "out", "conn_loop")
+TEXT = os.path.join(TOP, "crates", "text_loop", "out", "text_loop")
 PEER = os.path.join(TOP, "bench", "peer")
 
 BROWSER_HEAD = "\r\n".join([
@@ -121,16 +126,16 @@ def shard(folder, peer, floor):
 
 
 def lock(folder, peer):
-    """Nanoseconds a pair of going in and out of one lock, by how many threads do."""
+    """Nanoseconds a pair of going in and out of one lock, by how many threads do; `shard` is the lock of a fleet's shard."""
     none = put(os.path.join(folder, "none"), b"")
     pairs = 320_000
     for threads in (1, 2, 4, 64):
         programs = {}
-        for name, words in (("ticketed", [LOCK, "ticketed"]), ("mutex", [LOCK, "mutex"]), ("peer", [peer])):
+        for name, words in (("ticketed", [LOCK, "ticketed"]), ("shard", [LOCK, "shard"]), ("mutex", [LOCK, "mutex"]), ("peer", [peer])):
             for count in (0, pairs // threads):
                 programs[name, count > 0] = (words + [str(threads), str(count)], none)
         seen = alternate(programs, 9)
-        for name in ("ticketed", "mutex", "peer"):
+        for name in ("ticketed", "shard", "mutex", "peer"):
             nanos = (seen[name, True][0] - seen[name, False][0]) / pairs * 1e9
             print(f"| in and out of a lock, {threads} threads | {name} | {nanos:.0f} ns |")
 
@@ -178,11 +183,86 @@ def connections(folder):
         print(f"| a browser's head on a connection, 64 in {pieces} | serve_one | {micros:.2f} us a request |")
 
 
+def texts(folder, peers):
+    """Seconds of reading a script of 16 MB, and of printing the transcript of a connection with 100 MB of responses."""
+    send = b"send " + BROWSER_HEAD.replace(b"\r\n", b"~") + b"\n"
+    front = b"sws-script 1\nconn\n"
+    script = put(os.path.join(folder, "script"), front + send * ((16_777_216 - len(front)) // len(send)))
+    line = bytes(random.Random(1).choices(b"abcdefghijklmnopqrstuvwxyz <>/=\"", k=75)) + b"\n"
+    head = b"HTTP/1.1 200 OK\r\nServer: sws\r\nContent-Type: text/html\r\nContent-Length: 3040\r\n\r\n"
+    response = head + line * 40
+    responses = put(os.path.join(folder, "responses"), response * (100_000_000 // len(response)))
+    for what, given in (("script", script), ("transcript", responses)):
+        seen = alternate({"text_loop": ([TEXT, what], given), "peer": ([os.path.join(peers, what)], given)}, 7)
+        for name in ("text_loop", "peer"):
+            size = os.path.getsize(given) / 1e6
+            print(f"| a {what} of {size:.0f} MB | {name} | {seen[name][0] * 1000:.0f} ms |")
+
+
+def clocked(words):
+    """Seconds by the clock that a run of a program takes."""
+    start = time.monotonic()
+    subprocess.run(words, stdout=subprocess.DEVNULL, check=True)
+    return time.monotonic() - start
+
+
+def events(folder, programs):
+    """Nanoseconds an event that is passed on, by one worker, in batches of 1 and of 10, over 1, 8 and 64 shards."""
+    none = put(os.path.join(folder, "none"), b"")
+    colours, passes = 64, 8000
+    for batch, shards in ((1, 8), (10, 1), (10, 8), (10, 64)):
+        runs = {}
+        for name, program in programs.items():
+            for count in (0, passes):
+                runs[name, count] = ([program, "1", str(shards), str(colours), str(count), "0", str(batch)], none)
+        seen = alternate(runs, 7)
+        for name in programs:
+            nanos = (seen[name, passes][0] - seen[name, 0][0]) / (colours * passes) * 1e9
+            print(f"| an event passed on by one worker, batches of {batch}, {shards} shards | {name} | {nanos:.0f} ns |")
+
+
+def wakes(folder, programs):
+    """Calls of the system that wake or sleep, an event, while one worker works and nobody sleeps."""
+    if shutil.which("strace") is None:
+        return
+    for name, program in programs.items():
+        calls = {}
+        for passes in (0, 1000):
+            counted = os.path.join(folder, "calls")
+            words = ["strace", "-f", "-c", "-e", "trace=futex", "-o", counted, program, "1", "8", "64", str(passes), "0", "10"]
+            subprocess.run(words, stdout=subprocess.DEVNULL, check=True)
+            lines = [line.split() for line in open(counted) if line.rstrip().endswith("futex")]
+            calls[passes] = int(lines[0][3]) if lines else 0
+        print(f"| futex calls of 64,000 events, one worker | {name} | {calls[1000] - calls[0]} |")
+
+
+def speedup(programs):
+    """How much faster 2, 3 and 4 workers are than one, by the clock, with handlers of about 10 us and 1 us, over 1, 8 and 64 shards."""
+    for rounds, passes in ((50_000, 500), (5_000, 2000)):
+        for shards in (1, 8, 64):
+            for name, program in programs.items():
+                least = {}
+                for workers in (1, 2, 3, 4):
+                    words = [program, str(workers), str(shards), "64", str(passes), str(rounds), "10"]
+                    least[workers] = min(clocked(words) for _ in range(3))
+                micros = least[1] / (64 * (passes + 1)) * 1e6
+                times = ", ".join(f"{least[1] / least[workers]:.2f}" for workers in (2, 3, 4))
+                print(f"| 2, 3 and 4 workers, events of {micros:.1f} us, {shards} shards | {name} | {times} times as fast |")
+
+
+def fleet(folder, peer):
+    """A fleet with a thread for each worker beside the same in plain Rust, which keeps no history and no trail."""
+    programs = {"fleet": FLEET, "peer": peer}
+    events(folder, programs)
+    wakes(folder, programs)
+    speedup(programs)
+
+
 def main():
     words = argparse.ArgumentParser(description="Measures the answer command beside its peers.")
     words.add_argument("--runs", type=int, default=400, help="runs of each program over heads (default 400)")
     runs = words.parse_args().runs
-    for program in (SWS, LOOP, LOCK, CHAIN, WEAVE, CONN):
+    for program in (SWS, LOOP, LOCK, CHAIN, WEAVE, FLEET, CONN, TEXT):
         if not os.access(program, os.X_OK):
             sys.exit(f"measure: {program} isn't built")
     subprocess.run(["cargo", "build", "--release", "--offline", "--quiet"], cwd=PEER, check=True)
@@ -198,7 +278,9 @@ def main():
         lock(folder, os.path.join(peers, "lock"))
         chain(folder, os.path.join(peers, "chain"))
         weave(folder)
+        fleet(folder, os.path.join(peers, "fleet"))
         connections(folder)
+        texts(folder, peers)
     finally:
         shutil.rmtree(folder)
 
