@@ -12,7 +12,9 @@ use mely_worker::{Gate, OpenGate};
 use std::process::Abort;
 use std::sync::Wait;
 use std::sync::atomic::{AtomicU64, Ordering};
+use std::thread;
 use std::thread::Threads;
+use std::time::Duration;
 use sws_conn::End;
 use sws_engine::{Ended, Verdict, serve_all};
 use sws_link::{Link, MemLink, MemWorld, World};
@@ -40,6 +42,42 @@ struct Counting {
 impl Gate for Counting {
     fn pass(&self, _core: u16, _colour: Colour, _event: Event) {
         self.passed.fetch_add(1, Ordering::SeqCst);
+    }
+}
+
+/// The number of the handler that answers a head.
+const LOOK: u8 = 6;
+
+/// How often a handler that is held looks again.
+const TURNS: u32 = 100_000;
+
+/// A gate that holds the answer of the first connection until that of the second has come to it, and counts as well. One thread
+/// alone never gets through.
+#[derive(Drop)]
+struct Meeting<'r> {
+    clock: &'r HostRuntime,
+    passed: AtomicU64,
+    has_come: AtomicU64,
+    is_missed: AtomicU64,
+}
+
+impl Gate for Meeting<'_> {
+    fn pass(&self, _core: u16, colour: Colour, event: Event) {
+        self.passed.fetch_add(1, Ordering::SeqCst);
+        if event.handler != LOOK {
+            return;
+        }
+        if colour.0 != 2 {
+            self.has_come.store(1, Ordering::SeqCst);
+            return;
+        }
+        for _ in 0..TURNS {
+            if self.has_come.load(Ordering::SeqCst) == 1 {
+                return;
+            }
+            thread::sleep(self.clock, Duration::from_micros(10));
+        }
+        self.is_missed.store(1, Ordering::SeqCst);
     }
 }
 
@@ -144,6 +182,36 @@ fn the_gate_is_passed_before_each_handler(rt: HostRuntime) {
         }
         assert_eq!(rt; gate.passed.load(Ordering::SeqCst), events);
     }
+}
+
+#[test]
+fn two_handlers_are_under_way_at_once(rt: HostRuntime) {
+    let site = site(&rt, None);
+    let mut links = Vec::new(rt.alloc());
+    links
+        .push(link(&rt, &[Part::Send(G)], None, None))
+        .expect(&rt, "memory");
+    links
+        .push(link(&rt, &[Part::Send(G)], None, None))
+        .expect(&rt, "memory");
+    let gate = Meeting {
+        clock: &rt,
+        passed: AtomicU64::new(0),
+        has_come: AtomicU64::new(0),
+        is_missed: AtomicU64::new(0),
+    };
+    let free = Shape {
+        steal_cost: 0,
+        ..shape(2, 1)
+    };
+    let ended = serve(&rt, &site, &free, links, &gate);
+    assert_eq!(rt; ended.verdict, Verdict::Ok);
+    assert_eq!(rt; gate.is_missed.load(Ordering::SeqCst), 0);
+    let mut events: u64 = 0;
+    for trail in &ended.trails {
+        events = events.wrapping_add(trail.len() as u64);
+    }
+    assert_eq!(rt; gate.passed.load(Ordering::SeqCst), events);
 }
 
 #[test]
