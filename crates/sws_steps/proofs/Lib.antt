@@ -4,7 +4,7 @@ mod AnswerSteps
 pub mod ReadySteps
 pub mod SoundSteps
 pub mod HallSteps
-mod Measure
+pub mod Measure
 mod Since
 pub mod Served
 mod Exchanging
