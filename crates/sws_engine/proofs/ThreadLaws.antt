@@ -25,7 +25,7 @@ use Rattle.mely_tally.specs.Tallies.{carried_by}
 use Rattle.mely_tally.specs.Tells.{IsTakenApart}
 use Rattle.sws_link.specs.declared.Link.{Ghosts as LinkWords}
 use Rattle.sws_link.specs.declared.world.World.{Ghosts as WorldWords}
-use Rattle.sws_conn.specs.declared.Next.{Next}
+use Rattle.sws_steps.specs.declared.Next.{Next}
 use Rattle.sws_conn.specs.declared.talk.Talk.{Ghosts as TalkWords}
 use Rattle.sws_conn.specs.Standing.{told_by}
 use Rattle.sws_conn.specs.Talks.{due_after}

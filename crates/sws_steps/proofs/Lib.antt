@@ -14,3 +14,4 @@ pub mod PathLaws
 pub mod HeadingSteps
 pub mod RunLaws
 pub mod TalkLaws
+mod SilentRows
