@@ -72,6 +72,10 @@ head-answered left site bytes more len some e =
     ∙ ap (λ d. followed (answer_of site (asked_by head) (left == 1)) (answers (left - 1) site (d ++ more)))
     (drop_all len head (omega (arith, length-take len bytes)))
 
+none-left : (site : SiteFiles) (bytes : List ℕ) → answers 0 site bytes ≡ []
+unfolding answers
+none-left site bytes = refl
+
 all-counted : (site : SiteFiles) (bytes : List ℕ) → answers_to site bytes ≡ answers answer_limit site (take input_limit bytes)
 unfolding answers_to
 all-counted site bytes = refl
@@ -82,16 +86,17 @@ all-texts site bytes = refl
 
 pub http-orderly : IsOrderly http
 http-orderly = record {
+  none_left = none-left;
   none_yet = λ left site bytes e. answers-not_yet left site bytes (not-yet (cut_of bytes) e);
   one_more = λ left site bytes more len some e. head-answered left site bytes more len some (whole-head (cut_of bytes) len e);
   refused = λ left site bytes more some e. answers-too_long left site bytes more some (too-long (cut_of bytes) e);
   refusal_closes = closes-too_long;
   last_closes = λ site asked. closes-last site (asked_for asked);
-  has_bytes = λ site asked last.
+  empty_is = λ site asked last.
       let some = head-some site (asked_for asked) last in
       let answer = answer_of site (asked_for asked) last in
       sym (ne_eqb (length (answer.head ++ answer.body)) 0 (λ none. omega (arith, length-append answer.head answer.body)));
-  goes_on = λ site asked last e. refl;
+  has_bytes = λ site asked last e. refl;
   short = λ site asked last limits. answer_of-short site (asked_for asked) last limits;
   all = all-counted;
   texts = all-texts;

@@ -290,7 +290,7 @@ module _ {Hall Answer : Type 0} (p : Protocol Hall Answer) (orderly : IsOrderly 
           by_bytes true false e f = goes_on next.Parse refl
           by_bytes true true e f =
               sym (ahead-sent (sending p c (p.answer c.hall asked (is_last p c)) rest) script.cut input
-              (sym (e ∙ orderly.has_bytes c.hall asked (is_last p c))) (sym f))
+              (sym (e ∙ orderly.empty_is c.hall asked (is_last p c))) (sym f))
               ∙ same
 
       by_cut : (cut : Cut) → cut ≡ p.cut c.buffer → heading p (after_look p c cut) script ≡ heading p c script

@@ -14,4 +14,5 @@ pub mod PathLaws
 pub mod HeadingSteps
 pub mod RunLaws
 pub mod TalkLaws
+pub mod FrontLaws
 mod SilentRows

@@ -86,17 +86,17 @@ module _ {Hall Answer : Type 0} (p : Protocol Hall Answer) (orderly : IsOrderly 
       by_bytes : (empty closes : Bool) → empty ≡ p.is_empty (p.answer c.hall asked (is_last p c)) → closes ≡ p.closes (p.answer c.hall asked (is_last p c))
           → Ready p (after_part empty closes (sending p c (p.answer c.hall asked (is_last p c)) rest))
       by_bytes false closes e f = record {
-        something = sym (e ∙ orderly.has_bytes c.hall asked (is_last p c));
+        something = sym (e ∙ orderly.empty_is c.hall asked (is_last p c));
         more = λ goes_on. more-answers c asked (is_last p c) refl between goes_on;
         no_end = between.no_end;
         patient = between.patient;
       }
       by_bytes true true e f = record {
         ended = λ g. cc;
-        done = λ g. record { nothing = sym (e ∙ orderly.has_bytes c.hall asked (is_last p c)); last = inl (sym f) };
+        done = λ g. record { nothing = sym (e ∙ orderly.empty_is c.hall asked (is_last p c)); last = inl (sym f) };
         idle = λ g. cc;
       }
-      by_bytes true false e f = absurd (let g : true ≡ false = e ∙ orderly.goes_on c.hall asked (is_last p c) (sym f) in cc)
+      by_bytes true false e f = absurd (let g : true ≡ false = e ∙ orderly.has_bytes c.hall asked (is_last p c) (sym f) in cc)
 
   pub look-ready : (c : Standing Hall) → IsToLook p c → Ready p (after_look p c (p.cut c.buffer))
   look-ready c look = by_cut (p.cut c.buffer) refl

@@ -38,6 +38,10 @@ silent = record {
   text_limit = 0;
 }
 
+no_more : (bytes : List ℕ) → one_answer 0 bytes ≡ []
+no_more [] = refl
+no_more (byte ∷ bytes) = refl
+
 none_yet : (left : ℕ) (bytes : List ℕ) → first_byte bytes ≡ NotYet → one_answer left bytes ≡ []
 none_yet left [] e = refl
 none_yet left (byte ∷ bytes) e = cc
@@ -60,13 +64,14 @@ no_texts (answer ∷ given) = no_texts given
 -- it is a protocol as any other
 silent-orderly : IsOrderly silent
 silent-orderly = record {
+  none_left = λ hall bytes. no_more bytes;
   none_yet = λ left hall bytes e. none_yet left bytes e;
   one_more = λ left hall bytes more len some e. one_more left bytes more len some e;
   refused = λ left hall bytes more some e. absurd (none_long bytes e);
   refusal_closes = λ hall last. refl;
   last_closes = λ hall asked. refl;
-  has_bytes = λ hall asked last. refl;
-  goes_on = λ hall asked last e. let no : true ≡ false = e in absurd (cc);
+  empty_is = λ hall asked last. refl;
+  has_bytes = λ hall asked last e. let no : true ≡ false = e in absurd (cc);
   short = λ hall asked last is. omega arith;
   all = λ hall bytes. refl;
   texts = λ hall bytes. no_texts (one_answer 1 (take 8 bytes));
