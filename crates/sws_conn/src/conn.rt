@@ -11,7 +11,7 @@ ghost use Rattle.sws_conn.specs.Shown.{shown};
 ghost use Rattle.std.specs.Option.{option_copied};
 
 use crate::buffer::Buffer;
-use crate::talking::{Talking, close_step, look_step, parse_step, read_step, told, write_step};
+use crate::http::Http;
 use crate::{End, Next};
 use std::alloc::Global;
 use std::marker::Model;
@@ -19,11 +19,12 @@ use sws_answer::PathRoom;
 use sws_link::{Link, Memory};
 use sws_parts::Parts;
 use sws_site::Site;
+use sws_steps::{Talking, close_step, look_step, parse_step, read_step, told, write_step};
 
 /// A connection over a link, which does one step at a time.
 #[derive(Drop)]
 pub struct Conn<'s, L: Link> {
-    talking: Talking<'s>,
+    talking: Talking<Http<'s>>,
     link: Option<L>,
 }
 
@@ -52,18 +53,20 @@ impl<'s, L: Link + Drop> Conn<'s, L> {
         site.limits();
         Ok(Conn {
             talking: Talking {
-                site,
+                speech: Http {
+                    site,
+                    buffer,
+                    parts: Parts::new(b"", b""),
+                    room,
+                },
                 pending: Next::Open,
-                buffer,
                 input_ended: false,
                 waits: 0,
-                parts: Parts::new(b"", b""),
                 closes: false,
                 answered: 0,
                 end: None,
                 read: 0,
                 written: 0,
-                room,
             },
             link: None,
         })
@@ -159,7 +162,7 @@ impl<'s, L: Link + Drop> Conn<'s, L> {
 }
 
 /// Does the pending step.
-fn step_over<L: Link>(talking: &mut Talking<'_>, link: &mut Option<L>)
+fn step_over<L: Link>(talking: &mut Talking<Http<'_>>, link: &mut Option<L>)
     requires { IsSound L.Link (record { standing = shown talking.old; link = link.old }) }
     ensures { StepsFrom L.Link (shown talking.old) (shown talking.new) talking.old.pending link.old link.new }
 {

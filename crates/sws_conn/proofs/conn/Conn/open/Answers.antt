@@ -7,7 +7,7 @@ use Rattle.sws_conn.specs.Shown.{shown}
 use Rattle.sws_conn.specs.Path.{open_link, rest_told, path_told, TakesOff}
 use Rattle.sws_conn.specs.Run.{HasRun}
 use Rattle.sws_conn.specs.Http.{http}
-use Rattle.sws_conn.proofs.HttpLaws.{http-orderly}
+use Rattle.sws_conn.specs.HttpLaws.{http-orderly}
 use Rattle.sws_steps.proofs.PathLaws.{opens-path, not_opened}
 use Rattle.sws_steps.proofs.RunLaws.{opens-sound, run-start}
 use Rattle.sws_conn.proofs.conn.Conn.open.Goals as goal
