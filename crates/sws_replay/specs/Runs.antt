@@ -1,5 +1,5 @@
 -- What a run of scripted connections leaves, where it ends well.
-use Rattle.std.specs.Prelude.{◌≡◌, ◌≢◌, ◌++◌, ℕ, List, Some, length, map, slice_get}
+use Rattle.std.specs.Prelude.{◌≡◌, ◌≢◌, ◌≤◌, ◌<◌, ◌^◌, ◌++◌, ℕ, List, Some, length, map, slice_get}
 use Rattle.mely_history.specs.declared.entry.Entry.{Entry}
 use Rattle.mely_history.specs.declared.shape.Shape.{Shape}
 use Rattle.sws_conn.specs.declared.End.TheVariants.{Memory}
@@ -25,7 +25,9 @@ pub record IsServedAlone (site : SiteFiles) (conn : ScriptConn) (s : Served MemL
   pub bytes : link.wire.written ≡ (alone site conn).bytes
   -- the counts are those of what was written and taken, and what was taken and is left is all that its lines give
   pub written : s.written ≡ length link.wire.written
+  pub few_written : s.written < 2 ^ 40
   pub read : s.read ≡ length link.wire.input.taken
+  pub few_read : s.read ≤ 65536
   pub input : link.wire.input.taken ++ all_bytes link.wire.input.items ≡ all_bytes (script_of conn).items
 
 -- the run went well: each connection was served as if it were alone

@@ -21,6 +21,8 @@
 mod fault;
 mod replaying;
 mod running;
+#[cfg(test)]
+mod tests;
 mod writing;
 
 pub use fault::RunFault;

@@ -48,12 +48,7 @@ pub fn write_transcript<O: Sink>(alloc: Global, out: &mut O, served: &[Served<Me
 }
 
 /// Writes the transcript of a connection.
-fn write_served<O: Sink>(
-    alloc: Global,
-    out: &mut O,
-    number: u16,
-    served: &Served<MemLink>,
-) -> Put
+fn write_served<O: Sink>(alloc: Global, out: &mut O, number: u16, served: &Served<MemLink>) -> Put
     requires { IsShowable served.now }
     ensures text { Puts (O.written out.old) (O.written out.new) result
         (conn_text number (shown_of served.now).0 (shown_of served.now).1) }
