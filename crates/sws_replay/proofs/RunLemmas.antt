@@ -51,7 +51,7 @@ map_at : {A B : Type 0} (f : A → B) (xs : List A) (k : ℕ) (a : A) → slice_
 map_at f xs k a at = slice_get-map f xs k ∙ ap (λ o. option_map f o) at
 
 some_of : {A : Type 0} (o : Option A) → IsSome o → (a : A) × (o ≡ Some a)
-some_of None some = absurd some
+some_of None some = cc
 some_of (Some a) some = (a, refl)
 
 -- ---- one connection
@@ -92,7 +92,7 @@ module _ {T G : Type 0} (x : WorldWords MemWorldState MemLinkState) (l : LinkWor
         end = end_is;
         fine = not_memory (alone site conn).end (ap (λ (e : Option End). is_out_of_memory e) (sym end_is) ∙ enough);
         bytes = ap (λ (t : LinkTells). t.written) (sym (tells_is link follows.tells follows.told)) ∙ follows.bytes ∙ ap (λ (o : Outcome). o.bytes) (outcome_is (script_of conn));
-        written = left.written ∙ serves.written (inr tt);
+        written = left.written ∙ serves.written (inr refl);
         few_written = left.few_written;
         read = left.read ∙ serves.read;
         few_read = left.few_read;
@@ -144,61 +144,72 @@ module _ {T G : Type 0} (x : WorldWords MemWorldState MemLinkState) (l : LinkWor
 
 -- ---- whole runs
 
-module _ {T G : Type 0} (x : WorldWords MemWorldState MemLinkState) (l : LinkWords MemLinkState) (y : TalkWords T MemLinkState G SiteFiles) (site : SiteFiles) (shape : Shape) (first : MemWorldState) (conns : List ScriptConn) (ended : Ended MemWorldState MemLinkState)
-    (told : x.tells first ≡ told_of conns) where
-  ok≢memory : verdict.Ok ≢ verdict.Memory
-  ok≢memory same = cc
+ok≢memory : verdict.Ok ≢ verdict.Memory
+ok≢memory same = cc
 
-  module _ (link_told : (link : MemLinkState) → l.tells link ≡ mem_link_tells link) (outcome_is : (script : Script) → y.outcome site script ≡ outcome_of site script) (path_is : (script : Script) → y.path site script ≡ path_of site script) (well : ended.verdict ≡ verdict.Ok) where
-    pub threads_run_well : IsUnkept y → ThreadsLeave x l y shape site first ended → RunsWell site shape conns ended
-    threads_run_well unkept (inl refused) = absurd (ok≢memory (sym well ∙ refused.refused))
-    threads_run_well unkept (inr run) =
-        let enough = (run.ok well).3 in
-        record {
-          serves = serves_all x l y site shape first conns ended told link_told outcome_is path_is well run.many_served run.many_trails enough run.conn (run.follows unkept well);
-          served = record {
-            setup = run.setup;
-            rules = run.rules;
-            colours = run.colours ∙ ap (λ (t : WorldTells). t.total + 2) told;
-            shards = run.shards;
-            legal = run.legal;
-            drained = run.drained (λ same. ok≢memory (sym well ∙ same));
-            paths = path_ran x l y site shape first conns ended told link_told outcome_is path_is well run.many_served run.many_trails enough run.conn (run.follows unkept well) run.setup run.trailed;
-          };
-        }
+pub threads_run_well : {T G : Type 0} (x : WorldWords MemWorldState MemLinkState) (l : LinkWords MemLinkState) (y : TalkWords T MemLinkState G SiteFiles) (site : SiteFiles) (shape : Shape) (first : MemWorldState) (conns : List ScriptConn) (ended : Ended MemWorldState MemLinkState)
+    → ThreadsLeave x l y shape site first ended → IsUnkept y → x.tells first ≡ told_of conns → ((link : MemLinkState) → l.tells link ≡ mem_link_tells link) → ((script : Script) → y.outcome site script ≡ outcome_of site script)
+    → ((script : Script) → y.path site script ≡ path_of site script) → ended.verdict ≡ verdict.Ok → RunsWell site shape conns ended
+threads_run_well x l y site shape first conns ended (inl refused) unkept told link_told outcome_is path_is well = absurd (ok≢memory (sym well ∙ refused.refused))
+threads_run_well x l y site shape first conns ended (inr run) unkept told link_told outcome_is path_is well =
+    let enough = (run.ok well).3 in
+    record {
+      serves = serves_all x l y site shape first conns ended told link_told outcome_is path_is well run.many_served run.many_trails enough run.conn (run.follows unkept well);
+      served = record {
+        setup = run.setup;
+        rules = run.rules;
+        colours = run.colours ∙ ap (λ (t : WorldTells). t.total + 2) told;
+        shards = run.shards;
+        legal = run.legal;
+        drained = run.drained (λ same. ok≢memory (sym well ∙ same));
+        paths = path_ran x l y site shape first conns ended told link_told outcome_is path_is well run.many_served run.many_trails enough run.conn (run.follows unkept well) run.setup run.trailed;
+      };
+    }
 
-    pub steps_run_well : StepsLeave x l y shape site first ended → RunsWell site shape conns ended
-    steps_run_well (inl refused) = absurd (ok≢memory (sym well ∙ refused.refused))
-    steps_run_well (inr run) =
-        let enough = (run.ok well).3 in
-        record {
-          serves = serves_all x l y site shape first conns ended told link_told outcome_is path_is well run.many_served run.many_trails enough run.conn (run.follows well);
-          served = record {
-            setup = run.setup;
-            rules = run.rules;
-            colours = run.colours ∙ ap (λ (t : WorldTells). t.total + 2) told;
-            shards = run.shards;
-            legal = run.legal;
-            drained = run.drained (λ same. ok≢memory (sym well ∙ same));
-            paths = path_ran x l y site shape first conns ended told link_told outcome_is path_is well run.many_served run.many_trails enough run.conn (run.follows well) run.setup run.trailed;
-          };
-        }
+pub steps_run_well : {T G : Type 0} (x : WorldWords MemWorldState MemLinkState) (l : LinkWords MemLinkState) (y : TalkWords T MemLinkState G SiteFiles) (site : SiteFiles) (shape : Shape) (first : MemWorldState) (conns : List ScriptConn) (ended : Ended MemWorldState MemLinkState)
+    → StepsLeave x l y shape site first ended → x.tells first ≡ told_of conns → ((link : MemLinkState) → l.tells link ≡ mem_link_tells link) → ((script : Script) → y.outcome site script ≡ outcome_of site script)
+    → ((script : Script) → y.path site script ≡ path_of site script) → ended.verdict ≡ verdict.Ok → RunsWell site shape conns ended
+steps_run_well x l y site shape first conns ended (inl refused) told link_told outcome_is path_is well = absurd (ok≢memory (sym well ∙ refused.refused))
+steps_run_well x l y site shape first conns ended (inr run) told link_told outcome_is path_is well =
+    let enough = (run.ok well).3 in
+    record {
+      serves = serves_all x l y site shape first conns ended told link_told outcome_is path_is well run.many_served run.many_trails enough run.conn (run.follows well);
+      served = record {
+        setup = run.setup;
+        rules = run.rules;
+        colours = run.colours ∙ ap (λ (t : WorldTells). t.total + 2) told;
+        shards = run.shards;
+        legal = run.legal;
+        drained = run.drained (λ same. ok≢memory (sym well ∙ same));
+        paths = path_ran x l y site shape first conns ended told link_told outcome_is path_is well run.many_served run.many_trails enough run.conn (run.follows well) run.setup run.trailed;
+      };
+    }
 
-  -- a scripted world doesn't fail
-  no_world : IsSome ended.world → ended.failed ≡ true
-      → ((world : MemWorldState) → ended.world ≡ Some world → WorldStands x l first (record { world = world; accepted = ended.accepted; failed = ended.failed })) → ⊥
-  no_world some failed stands =
-      let world = some_of ended.world some in
-      true≢false (sym failed ∙ (stands world.0 world.1).sure (subst (λ (t : WorldTells). IsTrue t.scripted) (sym told) tt))
+-- a scripted world doesn't fail
+no_fault : (x : WorldWords MemWorldState MemLinkState) (l : LinkWords MemLinkState) (first : MemWorldState) (conns : List ScriptConn) (ended : Ended MemWorldState MemLinkState) → x.tells first ≡ told_of conns → IsSome ended.world → ended.failed ≡ true
+    → ((world : MemWorldState) → ended.world ≡ Some world → WorldStands x l first (record { world = world; accepted = ended.accepted; failed = ended.failed })) → ⊥
+no_fault x l first conns ended told some failed stands =
+    let world = some_of ended.world some in
+    true≢false (sym failed ∙ (stands world.0 world.1).sure (subst (λ (t : WorldTells). IsTrue t.scripted) (sym told) refl))
 
-  pub threads_keep_the_world : ended.verdict ≡ verdict.World → ThreadsLeave x l y shape site first ended → ⊥
-  threads_keep_the_world gone (inl refused) = let same : verdict.World ≡ verdict.Memory = sym gone ∙ refused.refused in cc
-  threads_keep_the_world gone (inr run) = no_world (run.world gone).0 (run.world gone).1 run.stands
+world≢memory : verdict.World ≢ verdict.Memory
+world≢memory same = cc
 
-  pub steps_keep_the_world : ended.verdict ≡ verdict.World → StepsLeave x l y shape site first ended → ⊥
-  steps_keep_the_world gone (inl refused) = let same : verdict.World ≡ verdict.Memory = sym gone ∙ refused.refused in cc
-  steps_keep_the_world gone (inr run) = no_world (run.world gone).0 (run.world gone).1 run.stands
+apart≢memory : (conn : ℕ) → verdict.Apart conn ≢ verdict.Memory
+apart≢memory conn same = cc
 
-  pub steps_miss_nothing : (conn : ℕ) → ended.verdict ≡ verdict.Apart conn → StepsLeave x l y shape site first ended → ⊥
-  steps_miss_nothing conn apart (inl refused) = let same : verdict.Apart conn ≡ verdict.Memory = sym apart ∙ refused.refused in cc
-  steps_miss_nothing conn apart (inr run) = run.never_apart conn apart
+pub threads_keep_the_world : {T G : Type 0} (x : WorldWords MemWorldState MemLinkState) (l : LinkWords MemLinkState) (y : TalkWords T MemLinkState G SiteFiles) (site : SiteFiles) (shape : Shape) (first : MemWorldState) (conns : List ScriptConn) (ended : Ended MemWorldState MemLinkState)
+    → ThreadsLeave x l y shape site first ended → x.tells first ≡ told_of conns → ended.verdict ≡ verdict.World → ⊥
+threads_keep_the_world x l y site shape first conns ended (inl refused) told gone = world≢memory (sym gone ∙ refused.refused)
+threads_keep_the_world x l y site shape first conns ended (inr run) told gone = no_fault x l first conns ended told (run.world gone).0 (run.world gone).1 run.stands
+
+pub steps_keep_the_world : {T G : Type 0} (x : WorldWords MemWorldState MemLinkState) (l : LinkWords MemLinkState) (y : TalkWords T MemLinkState G SiteFiles) (site : SiteFiles) (shape : Shape) (first : MemWorldState) (conns : List ScriptConn) (ended : Ended MemWorldState MemLinkState)
+    → StepsLeave x l y shape site first ended → x.tells first ≡ told_of conns → ended.verdict ≡ verdict.World → ⊥
+steps_keep_the_world x l y site shape first conns ended (inl refused) told gone = world≢memory (sym gone ∙ refused.refused)
+steps_keep_the_world x l y site shape first conns ended (inr run) told gone = no_fault x l first conns ended told (run.world gone).0 (run.world gone).1 run.stands
+
+-- a weave misses nothing
+pub steps_miss_nothing : {T G : Type 0} (x : WorldWords MemWorldState MemLinkState) (l : LinkWords MemLinkState) (y : TalkWords T MemLinkState G SiteFiles) (site : SiteFiles) (shape : Shape) (first : MemWorldState) (ended : Ended MemWorldState MemLinkState)
+    → StepsLeave x l y shape site first ended → (conn : ℕ) → ended.verdict ≡ verdict.Apart conn → ⊥
+steps_miss_nothing x l y site shape first ended (inl refused) conn apart = apart≢memory conn (sym apart ∙ refused.refused)
+steps_miss_nothing x l y site shape first ended (inr run) conn apart = run.never_apart conn apart

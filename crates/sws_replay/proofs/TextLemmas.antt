@@ -1,10 +1,11 @@
 -- What is written of a run.
-use Rattle.std.proofs.Common.{◌≡◌, ◌≢◌, ℕ, zero, suc, ◌+◌, ◌<◌, ◌≤◌, List, [], ◌∷◌, ◌++◌, Option, None, Some, Result, Ok, Err, length, map, drop, refl, sym, ap, ◌∙◌, subst, arith, inl, inr, append-nil}
+use Rattle.std.proofs.Common.{◌≡◌, ◌≢◌, ℕ, zero, suc, ◌+◌, ◌<◌, Bool, true, false, true≢false, List, [], ◌∷◌, ◌++◌, Option, None, Some, Result, Ok, Err, length, map, drop, get_or, drop-cons, refl, sym, ap, ◌∙◌, subst, arith, inl, inr, append-nil}
 use Rattle.std.specs.Prelude.{slice_get}
 use Rattle.std.specs.List.{AllByRecursion}
 use Rattle.mely_history.specs.declared.entry.Entry.{Entry}
 use Rattle.mely_history.specs.declared.shape.Shape.{Shape}
 use Rattle.sws_conn.specs.declared.End.{End}
+use Rattle.sws_engine.specs.ServerRun.{IsServerRun}
 use Rattle.sws_engine.specs.declared.ended.Ended.{Ended}
 use Rattle.sws_engine.specs.declared.ended.Served.{Served}
 use Rattle.sws_link.specs.Contents.{IsPrefix, Puts}
@@ -18,12 +19,14 @@ use Rattle.sws_link.specs.declared.Put.TheVariants as put
 use Rattle.sws_report.specs.Journal.{journal}
 use Rattle.sws_report.specs.Transcript.{transcript, transcript_from, conn_text}
 use Rattle.sws_report.proofs.PieceLaws.{Going, Going-none, Going-moved, Going-written, Going-stopped, Going-ended, Going-cause}
+use Rattle.sws_script.specs.Scripted.{script_of}
+use Rattle.sws_script.specs.declared.input.Input.{Input}
 use Rattle.sws_script.specs.declared.input.ScriptConn.{ScriptConn}
 use Rattle.sws_site.specs.Sites.{SiteFiles}
 use Rattle.sws_replay.specs.declared.fault.RunFault.{RunFault}
 use Rattle.sws_replay.specs.declared.fault.RunFault.TheVariants.{Write, Memory}
-use Rattle.sws_replay.specs.Replays.{Begins, WritesOne, result_of}
-use Rattle.sws_replay.specs.Runs.{IsServedAlone, ServesAll}
+use Rattle.sws_replay.specs.Replays.{IsReplay, IsScheduledReplay, WritesOne, result_of}
+use Rattle.sws_replay.specs.Runs.{IsServedAlone, ServesAll, histories_of, RunsWell}
 use Rattle.sws_replay.specs.Showing.{IsShowable, shown_end, shown_bytes, shown_of}
 use Rattle.sws_replay.specs.Transcripts.{ended_alone, transcript_of}
 
@@ -69,7 +72,7 @@ writes_one IsText text (Some before) after put.Failed is puts = (before ++ puts.
 writes_one IsText text (Some before) after put.Memory is puts = (before ++ puts.0, puts.2, (puts.0, inr (text, is, puts.1), refl))
 
 -- by want of memory, before anything was written
-pub writes_nothing : {T : Type 0} (IsText : List ℕ → Type 0) (now : Option (List ℕ)) → WritesOne {T = T} IsText now now (Err Memory)
+pub writes_nothing : (IsText : List ℕ → Type 0) (now : Option (List ℕ)) → WritesOne {T = Unit {0}} IsText now now (Err Memory)
 writes_nothing IsText None = refl
 writes_nothing IsText (Some bytes) = (bytes, refl, ([], inl refl, sym (append-nil bytes)))
 
@@ -120,6 +123,12 @@ module _ (a b c : Option (List ℕ)) (m n k : Count) (number index : ℕ) (serve
   pub Shown-cause : (F : Type 0) → HasCause n k F → HasCause m k F
   Shown-cause F cause = Going-cause a b m n k text left (transcript (map shown_of served)) F next cause
 
+-- the connection at a place comes next
+pub next_shown : (served : List (Served MemLinkState)) (index : ℕ) (s : Served MemLinkState) → index < length served → s ≡ get_or served index s → drop index served ≡ s ∷ drop (index + 1) served
+next_shown served index s low is =
+    let one : suc index ≡ index + 1 = omega arith in
+    drop-cons served index s low ∙ ap (λ (x : Served MemLinkState). x ∷ drop (suc index) served) (sym is) ∙ ap (λ (n : ℕ). s ∷ drop n served) one
+
 -- all is written
 pub Shown-all : (a b : Option (List ℕ)) (m n : Count) (number index : ℕ) (served : List (Served MemLinkState)) → Shown a b m n number index served → drop index served ≡ [] → Puts a b put.Done (transcript (map shown_of served))
 Shown-all a b m n number index served shown none =
@@ -135,3 +144,33 @@ Shown-sound a b m n number index served shown = HasCause-none m n (put.Done ≡ 
 -- a write behind one that was done is the cause of what fails with it
 pub then_cause : (m n k : Count) (F : Type 0) → HasCause m n (put.Done ≡ put.Failed) → HasCause n k F → HasCause m k F
 then_cause m n k F first second = HasCause-as m n k F F (first.stays done≢failed) second (λ f. f) (λ f. f)
+
+-- ---- the texts of a replay
+
+module _ (site : SiteFiles) (shape : Shape) (conns : List ScriptConn) (ended : Ended MemWorldState MemLinkState) (ran : RunsWell site shape conns ended) (before after : Option (List ℕ)) (answer : Put) (result : Result (Unit {0}) RunFault) (is : result ≡ result_of answer) where
+  abbrev shown : List ℕ
+  shown = transcript (map shown_of ended.served.items)
+
+  abbrev behind : List ℕ
+  behind = journal (histories_of ended)
+
+  same : shown ≡ transcript_of site conns
+  same = transcript_alone site conns ended ran.serves
+
+  pub without_journal : (asked : Bool) → asked ≡ false → Puts before after answer shown → WritesOne (IsReplay site shape conns asked) before after result
+  without_journal true asked puts = absurd (true≢false asked)
+  without_journal false asked puts = subst (WritesOne (IsReplay site shape conns false) before after) (sym is) (writes_one (IsReplay site shape conns false) shown before after answer same puts)
+
+  whole : shown ++ behind ≡ transcript_of site conns ++ behind
+  whole = ap (λ (t : List ℕ). t ++ behind) same
+
+  pub with_journal : (asked : Bool) → asked ≡ true → Puts before after answer (shown ++ behind) → WritesOne (IsReplay site shape conns asked) before after result
+  with_journal false asked puts = absurd (true≢false (sym asked))
+  with_journal true asked puts =
+      subst (WritesOne (IsReplay site shape conns true) before after) (sym is) (writes_one (IsReplay site shape conns true) (shown ++ behind) before after answer (histories_of ended, ran.served, whole) puts)
+
+  pub by_schedule : (input : Input) → input.conns ≡ conns → IsServerRun shape site (map script_of conns) input.steps (histories_of ended) → Puts before after answer (shown ++ behind) → WritesOne (IsScheduledReplay site shape input) before after result
+  by_schedule input conns_are run puts =
+      let text_is : shown ++ behind ≡ transcript_of site input.conns ++ behind = whole ∙ ap (λ (c : List ScriptConn). transcript_of site c ++ behind) (sym conns_are) in
+      let run_is = subst (λ (c : List ScriptConn). IsServerRun shape site (map script_of c) input.steps (histories_of ended)) (sym conns_are) run in
+      subst (WritesOne (IsScheduledReplay site shape input) before after) (sym is) (writes_one (IsScheduledReplay site shape input) (shown ++ behind) before after answer (histories_of ended, run_is, text_is) puts)

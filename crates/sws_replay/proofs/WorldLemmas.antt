@@ -18,7 +18,7 @@ answers_are (conn ∷ conns) (suc i) link script there at = answers_are conns i 
 -- a world that tells what the world of connections does tells the scripts of these
 pub scripts_told : {W L : Type 0} (x : WorldWords W L) (first : W) (conns : List ScriptConn) → x.tells first ≡ told_of conns → TellsScripts x first (map script_of conns)
 scripts_told x first conns told = record {
-  scripted = subst (λ (t : WorldTells). IsTrue t.scripted) (sym told) tt;
+  scripted = subst (λ (t : WorldTells). IsTrue t.scripted) (sym told) refl;
   many = ap (λ (t : WorldTells). t.total) told ∙ sym (length-map conns script_of);
   coming = map coming_of conns;
   told = ap (λ (t : WorldTells). t.coming) told;

@@ -1,5 +1,5 @@
 //! A script run over a site, by threads or by a schedule.
-ghost use Rattle.std.specs.Prelude.{◌≡◌, ◌≤◌, ◌<◌, ◌+◌, ◌^◌, ◌×◌, All, None, IfOk, IfErr, length, map, sum_by};
+ghost use Rattle.std.specs.Prelude.{◌≡◌, ◌≤◌, ◌<◌, ◌+◌, ◌^◌, All, None, IfOk, IfErr, length, map, sum_by};
 ghost use Rattle.mely_history.specs.Setup.{first_out_of_range};
 ghost use Rattle.sws_engine.specs.ServerRun.{IsServerRun};
 ghost use Rattle.sws_link.specs.MemWorlds.{mem_world_tells};

@@ -54,8 +54,11 @@ fn write_served<O: Sink>(alloc: Global, out: &mut O, number: u16, served: &Serve
         (conn_text number (shown_of served.now).0 (shown_of served.now).1) }
     ensures cause { HasCause (O.faults out.old) (O.faults out.new) (result ≡ put.Failed) }
 {
-    match (&served.link, served.end) {
-        (Some(link), Some(end)) => write_conn(alloc, out, number, end, link.written()),
-        _ => unreachable!(),
-    }
+    let Some(link) = &served.link else {
+        unreachable!()
+    };
+    let Some(end) = served.end else {
+        unreachable!()
+    };
+    write_conn(alloc, out, number, end, link.written())
 }
