@@ -21,10 +21,11 @@ use sws_parts::Parts;
 use sws_site::Site;
 use sws_steps::{Talking, close_step, look_step, parse_step, read_step, told, write_step};
 
-/// A connection over a link, which does one step at a time.
+/// A connection over a link, which does one step at a time. All of it but the link lies in a box, so that little is
+/// moved where the connection is.
 #[derive(Drop)]
 pub struct Conn<'s, L: Link> {
-    talking: Talking<Http<'s>>,
+    talking: Box<Talking<Http<'s>>>,
     link: Option<L>,
 }
 
@@ -36,9 +37,9 @@ impl<'s, L: Link> Model for Conn<'s, L> {
     ghost use Rattle.sws_conn.specs.Shown.{shown};
     ghost use Rattle.sws_conn.specs.Sound.{IsSound};
 
-    ghost view = { λ conn. record { standing = shown conn.talking; link = conn.link } };
+    ghost view = { λ conn. record { standing = shown conn.talking.value; link = conn.link } };
 
-    ghost invariant = { λ conn. IsSound L.Link (record { standing = shown conn.talking; link = conn.link }) };
+    ghost invariant = { λ conn. IsSound L.Link (record { standing = shown conn.talking.value; link = conn.link }) };
 }
 
 impl<'s, L: Link + Drop> Conn<'s, L> {
@@ -51,25 +52,29 @@ impl<'s, L: Link + Drop> Conn<'s, L> {
         let buffer = Buffer::new(alloc)?;
         let room = PathRoom::new(alloc)?;
         site.limits();
-        Ok(Conn {
-            talking: Talking {
-                speech: Http {
-                    site,
-                    buffer,
-                    parts: Parts::new(b"", b""),
-                    room,
-                },
-                pending: Next::Open,
-                input_ended: false,
-                waits: 0,
-                closes: false,
-                answered: 0,
-                end: None,
-                read: 0,
-                written: 0,
+        let talking = Talking {
+            speech: Http {
+                site,
+                buffer,
+                parts: Parts::new(b"", b""),
+                room,
             },
-            link: None,
-        })
+            pending: Next::Open,
+            input_ended: false,
+            waits: 0,
+            closes: false,
+            answered: 0,
+            end: None,
+            read: 0,
+            written: 0,
+        };
+        match Box::new(alloc, talking) {
+            Ok(talking) => Ok(Conn {
+                talking,
+                link: None,
+            }),
+            Err(_) => Err(Memory),
+        }
     }
 
     /// Gives the connection its link, which isn't shut and of which nothing was taken or written; hands it back where

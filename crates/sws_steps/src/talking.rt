@@ -19,14 +19,23 @@ const MAX_WAITS: u8 = 30;
 /// A connection without its link.
 #[derive(Drop)]
 pub struct Talking<S> {
+    /// What it says, with the bytes that were taken and the answer that is written.
     pub speech: S,
+    /// The step that comes next, which is never `Wait`.
     pub pending: Next,
+    /// Whether the input has ended.
     pub input_ended: bool,
+    /// How often in succession the link was not ready, 30 times at most.
     pub waits: u8,
+    /// Whether the connection ends with the answer that is written.
     pub closes: bool,
+    /// How many requests were answered.
     pub answered: u8,
+    /// The end, as soon as it is known.
     pub end: Option<End>,
+    /// How many bytes were taken.
     pub read: u64,
+    /// How many bytes were written.
     pub written: u64,
 }
 
