@@ -1,0 +1,6 @@
+pub mod ListLaws
+pub mod FileLaws
+pub mod PieceLaws
+pub mod ConnLaws
+pub mod InputLaws
+pub mod OutcomeLaws
