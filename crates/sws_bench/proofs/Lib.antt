@@ -4,3 +4,4 @@ pub mod PieceLaws
 pub mod ConnLaws
 pub mod InputLaws
 pub mod OutcomeLaws
+pub mod SummaryLaws

@@ -1,7 +1,8 @@
 -- What becomes of a connection of the bench.
-use Rattle.std.proofs.Common.{◌≡◌, ℕ, ◌+◌, ◌<◌, ◌≤◌, Bool, true, false, List, [], ◌∷◌, ◌++◌, length, take, refl, ap, ◌∙◌, arith, cond}
-use Rattle.std.specs.List.{flat_map}
+use Rattle.std.proofs.Common.{◌≡◌, ℕ, ◌+◌, ◌<◌, ◌≤◌, Bool, true, false, List, [], ◌∷◌, ◌++◌, length, map, take, refl, ap, ◌∙◌, arith, cond}
+use Rattle.std.specs.List.{flat_map, range_with_len, sum}
 use Rattle.std.proofs.lemmas.Bool.{lt-leb}
+use Rattle.std.proofs.lemmas.Simd.{map-map}
 use Rattle.sws_link.specs.LinkItems.{all_bytes}
 use Rattle.sws_link.specs.Scripts.{Script}
 use Rattle.sws_site.specs.Sites.{SiteFiles}
@@ -10,7 +11,7 @@ use Rattle.sws_script.specs.Scripted.{script_of, link_items}
 use Rattle.sws_script.specs.declared.input.ScriptConn.{ScriptConn}
 use Rattle.sws_conn.specs.declared.End.TheVariants.{Done}
 use Rattle.sws_conn.specs.Outcome.{Input, at_end, at_limit, preceded, input_from, limited, end_of, scripted_input, outcome_of}
-use Rattle.sws_bench.specs.BenchScript.{bytes_from, piece_size, pieces, sends, conn_from}
+use Rattle.sws_bench.specs.BenchScript.{bytes_from, piece_size, pieces, sends, conn_from, conn_state, bench_conns, bench_bytes}
 use Rattle.sws_bench.proofs.PieceLaws.{joined}
 use Rattle.sws_bench.proofs.ConnLaws.{length-bytes_from}
 
@@ -23,6 +24,13 @@ sent_bytes (part ∷ parts) = ap (λ rest. part ++ rest) (sent_bytes parts)
 pub all_bytes-conn_from : (state : ℕ) → all_bytes (script_of (conn_from state)).items ≡ bytes_from state
 unfolding conn_from
 all_bytes-conn_from state = sent_bytes (pieces (piece_size state) (bytes_from state)) ∙ joined (piece_size state) (bytes_from state) (omega arith)
+
+-- the bytes of all connections, by their draws
+pub bench_bytes-sum : (number count : ℕ) → bench_bytes number count ≡ sum (map (λ conn. length (bytes_from (conn_state number conn))) (range_with_len 0 count))
+unfolding bench_bytes bench_conns
+bench_bytes-sum number count =
+    ap sum (map-map (λ (conn : ScriptConn). length (all_bytes (script_of conn).items)) (λ (i : ℕ). conn_from (conn_state number i)) (range_with_len 0 count))
+    ∙ (λ i. sum (map (λ (conn : ℕ). length (all_bytes-conn_from (conn_state number conn) i)) (range_with_len 0 count)))
 
 -- an input of pieces alone ends with them
 abbrev whole : List ℕ → Input

@@ -5,10 +5,12 @@ use Rattle.std.specs.List.{flat_map, range_with_len}
 use Rattle.std.specs.Int.{div_ceil}
 use Rattle.std.specs.Fmt.{decimal}
 use Rattle.std.specs.Fork.{slice_chunk}
+use Rattle.sws_link.specs.LinkItems.{all_bytes}
 use Rattle.sws_site.specs.ResponseHeads.{line_end}
 use Rattle.sws_script.specs.declared.input.Item.{Item}
 use Rattle.sws_script.specs.declared.input.Item.TheVariants.{Send}
 use Rattle.sws_script.specs.declared.input.ScriptConn.{ScriptConn}
+use Rattle.sws_script.specs.Scripted.{script_of}
 use Rattle.sws_bench.specs.Draws.{stepped, behind, draw, draws_from}
 
 -- the request of a draw: for one of twenty files, of which the site has sixteen
@@ -61,4 +63,4 @@ bench_conns number count = map (λ conn. conn_from (conn_state number conn)) (ra
 
 -- how many bytes they send in all
 unfoldable pub bench_bytes : ℕ → ℕ → ℕ
-bench_bytes number count = sum (map (λ conn. length (bytes_from (conn_state number conn))) (range_with_len 0 count))
+bench_bytes number count = sum (map (λ conn. length (all_bytes (script_of conn).items)) (bench_conns number count))

@@ -9,6 +9,7 @@
 //! ```
 #![tactic(auto)]
 
+mod benching;
 mod draws;
 pub mod laws;
 mod script;
@@ -16,5 +17,6 @@ mod site;
 #[cfg(test)]
 mod tests;
 
+pub use benching::bench;
 pub use script::bench_script;
 pub use site::bench_site;

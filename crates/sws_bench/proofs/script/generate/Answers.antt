@@ -2,9 +2,10 @@ use Rattle.std.proofs.Common.{◌≡◌, ◌+◌, ◌++◌, ℕ, List, [], ◌�
 use Rattle.std.specs.Prelude.{sum}
 use Rattle.std.specs.List.{range_with_len}
 use Rattle.sws_script.specs.declared.input.ScriptConn.{ScriptConn}
-use Rattle.sws_bench.specs.BenchScript.{bytes_from, behind_conn, conn_from, conn_state, bench_conns, bench_bytes}
+use Rattle.sws_bench.specs.BenchScript.{bytes_from, behind_conn, conn_from, conn_state, bench_conns}
 use Rattle.sws_bench.proofs.ListLaws.{map_more, sum_more}
 use Rattle.sws_bench.proofs.ConnLaws.{length-bytes_from}
+use Rattle.sws_bench.proofs.OutcomeLaws.{bench_bytes-sum}
 use Rattle.sws_bench.proofs.script.generate.Goals as goal
 
 pub overflow_add-bytes : goal.overflow_add-bytes
@@ -34,7 +35,8 @@ returns-clause-conns c =
     c.connections.invariant.conns ∙ ap (λ (n : ℕ). map (λ (conn : ℕ). conn_from (conn_state c.args.number conn)) (range_with_len 0 n)) all
 
 pub returns-clause-bytes : goal.returns-clause-bytes
-unfolding bench_bytes
 returns-clause-bytes c =
     let all : c.connections.counter ≡ c.args.connections = omega arith in
-    c.connections.invariant.bytes ∙ ap (λ (n : ℕ). sum (map (λ (conn : ℕ). length (bytes_from (conn_state c.args.number conn))) (range_with_len 0 n))) all
+    c.connections.invariant.bytes
+    ∙ ap (λ (n : ℕ). sum (map (λ (conn : ℕ). length (bytes_from (conn_state c.args.number conn))) (range_with_len 0 n))) all
+    ∙ sym (bench_bytes-sum c.args.number c.args.connections)
