@@ -14,9 +14,9 @@ use Rattle.sws_site.specs.Sites.{SiteFiles}
 use Rattle.sws_site.specs.Limits.{IsWithinLimits}
 use Rattle.sws_parts.specs.Unsent.{front_of, after_sending}
 use Rattle.sws_conn.specs.Standing.{Standing, is_sent, is_waiting}
-use Rattle.sws_conn.specs.declared.End.TheVariants as ending
-use Rattle.sws_conn.specs.declared.Next.{Next}
-use Rattle.sws_conn.specs.declared.Next.TheVariants as next
+use Rattle.sws_steps.specs.declared.End.TheVariants as ending
+use Rattle.sws_steps.specs.declared.Next.{Next}
+use Rattle.sws_steps.specs.declared.Next.TheVariants as next
 use Rattle.sws_conn.specs.Step.{going_to, ending_as, still_waiting, has_all_input, room_of, after_read, after_parse, after_look, after_part, after_write, wait_limit}
 use Rattle.sws_conn.specs.Sound.{unopened}
 use Rattle.sws_conn.specs.Path.{Handler, open_link, read_piece, parse, look, write_part, resume, close, handler_of, Scripted, scripted_at, scripted_step, IsPathFrom, path_of}

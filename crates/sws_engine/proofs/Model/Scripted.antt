@@ -8,7 +8,7 @@ use Rattle.sws_request.proofs.CutLaws.{cut_of-is}
 use Rattle.sws_site.specs.Sites.{SiteFiles}
 use Rattle.sws_site.specs.Limits.{IsWithinLimits}
 use Rattle.sws_conn.specs.Standing.{Standing}
-use Rattle.sws_conn.specs.declared.Next.TheVariants as next
+use Rattle.sws_steps.specs.declared.Next.TheVariants as next
 use Rattle.sws_conn.specs.Step.{after_parse}
 use Rattle.sws_conn.specs.Sound.{unopened}
 use Rattle.sws_conn.specs.Path.{Handler, close, IsPathFrom, path_of}
