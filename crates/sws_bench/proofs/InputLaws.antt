@@ -1,6 +1,5 @@
 -- The connections are those of an input.
-use Rattle.std.proofs.Common.{◌≡◌, ℕ, zero, suc, ◌+◌, ◌*◌, ◌/◌, ◌%◌, ◌^◌, ◌<◌, ◌≤◌, min, Bool, false, List, [], ◌∷◌, ◌++◌, length, get_or, map, take, drop, codes, refl, sym, ap, subst, ◌∙◌, arith, lit<, add-one}
-use Rattle.std.specs.Prelude.{⊤}
+use Rattle.std.proofs.Common.{ℕ, zero, suc, ◌+◌, ◌*◌, ◌%◌, ◌<◌, ◌≤◌, false, List, [], ◌∷◌, ◌++◌, length, map, take, drop, codes, refl, arith}
 use Rattle.std.specs.List.{range_with_len, flat_map, AllByRecursion}
 use Rattle.std.specs.Int.{div_ceil}
 use Rattle.std.specs.Str.{IsAscii}
@@ -14,12 +13,11 @@ use Rattle.sws_site.specs.ResponseHeads.{line_end}
 use Rattle.sws_script.specs.declared.input.Item.{Item}
 use Rattle.sws_script.specs.declared.input.Item.TheVariants.{Send}
 use Rattle.sws_script.specs.declared.input.ScriptConn.{ScriptConn}
-use Rattle.sws_script.specs.declared.line.Line.{Line}
 use Rattle.sws_script.specs.declared.line.Line.TheVariants as line
 use Rattle.sws_script.specs.Lines.{IsWithin, IsItem, IsLine}
 use Rattle.sws_script.specs.Inputs.{IsInOrder, IsInput, conn_lines}
-use Rattle.sws_bench.specs.Draws.{stepped, draw, draws_from}
-use Rattle.sws_bench.specs.BenchScript.{request, request_count, bytes_from, behind_requests, piece_size, pieces, sends, conn_from, conn_state, bench_conns}
+use Rattle.sws_bench.specs.Draws.{stepped, draws_from}
+use Rattle.sws_bench.specs.BenchScript.{request, request_count, bytes_from, piece_size, pieces, sends, conn_from, conn_state, bench_conns}
 
 -- ---- of each member
 
@@ -61,7 +59,7 @@ AreBytes-request drawn =
     let digits = AreBytes-ascii (decimal (drawn % 20)) (IsAscii-decimal (drawn % 20) (omega arith)) in
     let rest : List ℕ = codes ".txt HTTP/1.1" ++ (line_end ++ (codes "Host: b" ++ (line_end ++ line_end))) in
     all_append (λ (byte : ℕ). byte < 256) (codes "GET /f") (decimal (drawn % 20) ++ rest) (search arith)
-        (all_append (λ (byte : ℕ). byte < 256) (decimal (drawn % 20)) rest digits (search arith))
+    (all_append (λ (byte : ℕ). byte < 256) (decimal (drawn % 20)) rest digits (search arith))
 
 AreBytes-requests : (drawn : List ℕ) → AreBytes (flat_map request drawn)
 AreBytes-requests [] = tt
@@ -93,8 +91,8 @@ items_fit size bytes some few all =
     all_sends (map (slice_chunk bytes size) (range_with_len 0 (div_ceil (length bytes) size)))
     (all_map (λ (part : List ℕ). IsItem (Send part)) (slice_chunk bytes size) 0 (div_ceil (length bytes) size)
     (λ k below.
-        let long = length-piece bytes size k some (omega arith) in
-        ((omega arith, omega arith), all_take (λ (byte : ℕ). byte < 256) size (drop (k * size) bytes) (all_drop (λ (byte : ℕ). byte < 256) (k * size) bytes all))))
+    let long = length-piece bytes size k some (omega arith) in
+    ((omega arith, omega arith), all_take (λ (byte : ℕ). byte < 256) size (drop (k * size) bytes) (all_drop (λ (byte : ℕ). byte < 256) (k * size) bytes all))))
 
 in_order : (parts : List (List ℕ)) → IsInOrder (sends parts)
 in_order [] = tt

@@ -5,3 +5,4 @@ pub mod ConnLaws
 pub mod InputLaws
 pub mod OutcomeLaws
 pub mod SummaryLaws
+pub mod WriteLaws

@@ -1,15 +1,14 @@
 -- What becomes of a connection of the bench.
-use Rattle.std.proofs.Common.{◌≡◌, ℕ, ◌+◌, ◌<◌, ◌≤◌, Bool, true, false, List, [], ◌∷◌, ◌++◌, length, map, take, refl, ap, ◌∙◌, arith, cond}
+use Rattle.std.proofs.Common.{◌≡◌, ℕ, ◌<◌, Bool, true, false, List, [], ◌∷◌, ◌++◌, length, map, take, refl, ap, ◌∙◌, arith, cond}
 use Rattle.std.specs.List.{flat_map, range_with_len, sum}
 use Rattle.std.proofs.lemmas.Bool.{lt-leb}
 use Rattle.std.proofs.lemmas.Simd.{map-map}
 use Rattle.sws_link.specs.LinkItems.{all_bytes}
-use Rattle.sws_link.specs.Scripts.{Script}
 use Rattle.sws_site.specs.Sites.{SiteFiles}
 use Rattle.sws_answer.specs.Responses.{answers_to, is_closed}
 use Rattle.sws_script.specs.Scripted.{script_of, link_items}
 use Rattle.sws_script.specs.declared.input.ScriptConn.{ScriptConn}
-use Rattle.sws_conn.specs.declared.End.TheVariants.{Done}
+use Rattle.sws_steps.specs.declared.End.TheVariants.{Done}
 use Rattle.sws_conn.specs.Outcome.{Input, at_end, at_limit, preceded, input_from, limited, end_of, scripted_input, outcome_of}
 use Rattle.sws_bench.specs.BenchScript.{bytes_from, piece_size, pieces, sends, conn_from, conn_state, bench_conns, bench_bytes}
 use Rattle.sws_bench.proofs.PieceLaws.{joined}

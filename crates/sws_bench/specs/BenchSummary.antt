@@ -1,6 +1,6 @@
 -- What a bench writes. No worker, event or order occurs in it.
 use Rattle.std.specs.Prelude.{ℕ, List, length, map, sum}
-use Rattle.sws_conn.specs.declared.End.{End}
+use Rattle.sws_steps.specs.declared.End.{End}
 use Rattle.sws_report.specs.Summary.{summary}
 use Rattle.sws_replay.specs.Transcripts.{alone}
 use Rattle.sws_bench.specs.BenchSite.{bench_site}

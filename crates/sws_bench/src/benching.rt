@@ -80,17 +80,30 @@ fn run_bench<R: Threads + Wait + Sync>(
     let Ok(made) = generate(alloc, connections, number) else {
         return Err(Memory);
     };
-    let Ok(ended) = run_script(rt, alloc, &site, shape, &made.conns) else {
-        return Err(Memory);
-    };
-    let Ok(ends) = ends_of(alloc, &ended.served) else {
-        return Err(Memory);
-    };
-    Ok(Tally {
-        ends,
-        read: made.bytes,
-        written: written_of(&ended.served),
-    })
+    match run_script(rt, alloc, &site, shape, &made.conns) {
+        Ok(ended) => tally_of(alloc, &ended.served, made.bytes),
+        Err(_) => Err(Memory),
+    }
+}
+
+/// What has become of connections that sent so many bytes, each of which has ended.
+fn tally_of(alloc: Global, served: &[Served<MemLink>], read: u64) -> Result<Tally, Memory>
+    requires ended { All (λ conn. IsSome conn.end) served.now }
+    requires few { sum_by (λ conn. conn.written) served.now < 2 ^ 64 }
+    ensures ends { IfOk result (λ tally. map (λ end. Some end) tally.ends.items
+        ≡ map (λ conn. conn.end) served.now) }
+    ensures read { IfOk result (λ tally. tally.read ≡ read) }
+    ensures written { IfOk result (λ tally.
+        tally.written ≡ sum_by (λ conn. conn.written) served.now) }
+{
+    match ends_of(alloc, served) {
+        Ok(ends) => Ok(Tally {
+            ends,
+            read,
+            written: written_of(served),
+        }),
+        Err(_) => Err(Memory),
+    }
 }
 
 /// How connections ended, each of which did.
@@ -101,9 +114,7 @@ fn ends_of(alloc: Global, served: &[Served<MemLink>]) -> Result<Vec<End>, AllocE
 {
     let mut ends = Vec::new(alloc);
     for conn in served {
-        let Some(end) = conn.end else {
-            unreachable!()
-        };
+        let Some(end) = conn.end else { unreachable!() };
         ends.push(end)?;
     }
     Ok(ends)
@@ -114,5 +125,9 @@ fn written_of(served: &[Served<MemLink>]) -> u64
     requires { sum_by (λ conn. conn.written) served.now < 2 ^ 64 }
     ensures { result ≡ sum_by (λ conn. conn.written) served.now }
 {
-    served.iter().map(|conn| conn.written).sum()
+    let mut written = 0;
+    for conn in served {
+        written += conn.written;
+    }
+    written
 }

@@ -3,7 +3,7 @@ ghost use Rattle.std.specs.Prelude.{◌≡◌, ℕ};
 ghost use Rattle.sws_link.specs.LinkItems.{all_bytes};
 ghost use Rattle.sws_site.specs.Sites.{SiteFiles};
 ghost use Rattle.sws_script.specs.Scripted.{script_of};
-ghost use Rattle.sws_conn.specs.declared.End.TheVariants.{Done};
+ghost use Rattle.sws_steps.specs.declared.End.TheVariants.{Done};
 ghost use Rattle.sws_conn.specs.Outcome.{outcome_of};
 ghost use Rattle.sws_bench.specs.BenchScript.{bytes_from, conn_from};
 

@@ -1,4 +1,4 @@
-use Rattle.std.proofs.Common.{ℕ, false, List, [], sym, subst}
+use Rattle.std.proofs.Common.{false, List, [], sym, subst}
 use Rattle.sws_script.specs.declared.input.ScriptConn.{ScriptConn}
 use Rattle.sws_script.specs.Inputs.{IsInput}
 use Rattle.sws_bench.proofs.InputLaws.{bench_conns_are_an_input}

@@ -1,4 +1,4 @@
-use Rattle.std.proofs.Common.{◌≡◌, ◌+◌, ◌++◌, ℕ, List, [], ◌∷◌, map, length, sym, ap, ◌∙◌, arith, add-one}
+use Rattle.std.proofs.Common.{◌≡◌, ◌+◌, ◌++◌, ℕ, [], ◌∷◌, map, length, sym, ap, ◌∙◌, arith, add-one}
 use Rattle.std.specs.Prelude.{sum}
 use Rattle.std.specs.List.{range_with_len}
 use Rattle.sws_script.specs.declared.input.ScriptConn.{ScriptConn}

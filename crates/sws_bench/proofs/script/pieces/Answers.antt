@@ -1,8 +1,8 @@
-use Rattle.std.proofs.Common.{◌≡◌, ℕ, ◌+◌, ◌*◌, ◌<◌, ◌≤◌, List, [], ◌∷◌, ◌++◌, length, map, drop, min, sym, ap, subst, ◌∙◌}
+use Rattle.std.proofs.Common.{◌≡◌, ℕ, ◌*◌, ◌<◌, ◌≤◌, List, [], ◌∷◌, ◌++◌, length, map, drop, min, sym, ap, subst, ◌∙◌}
 use Rattle.std.specs.List.{range_with_len}
 use Rattle.std.specs.Int.{div_ceil}
 use Rattle.std.specs.Fork.{slice_chunk}
-use Rattle.std.specs.Slice.Iter.{chunks_rest, chunks_size}
+use Rattle.std.specs.Slice.Iter.{chunks_rest}
 use Rattle.std.proofs.lemmas.List.{length_push}
 use Rattle.std.proofs.lemmas.Simd.{map-map}
 use Rattle.sws_script.specs.declared.input.Item.TheVariants.{Send}
@@ -30,9 +30,9 @@ pieces-preserved c =
           subst (λ (k : ℕ). k ≤ div_ceil (length bytes) size) (sym count) (is_below bytes size n c.requires some);
       items =
           map_more (λ (k : ℕ). Send (slice_chunk bytes size k)) n _ _ before.items
-              (c.in_ok-push.ensures.items
-              ∙ ap (λ (b : List ℕ). c.pieces.items.items ++ Send b ∷ [])
-              (c.new.ensures ∙ c.in_ok-from_slice.ensures.items ∙ piece_is bytes rest piece (chunks_rest c.next.new.self) size n before.rest steps.1.0 long))
+          (c.in_ok-push.ensures.items
+          ∙ ap (λ (b : List ℕ). c.pieces.items.items ++ Send b ∷ [])
+          (c.new.ensures ∙ c.in_ok-from_slice.ensures.items ∙ piece_is bytes rest piece (chunks_rest c.next.new.self) size n before.rest steps.1.0 long))
           ∙ ap (λ (k : ℕ). map (λ (j : ℕ). Send (slice_chunk bytes size j)) (range_with_len 0 k)) (sym count);
     }
 

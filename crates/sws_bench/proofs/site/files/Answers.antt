@@ -1,6 +1,5 @@
-use Rattle.std.proofs.Common.{◌≡◌, ◌+◌, ◌++◌, [], ◌∷◌, List, ℕ, map, arith, ap, ◌∙◌}
+use Rattle.std.proofs.Common.{◌≡◌, ℕ, map, arith, ap, ◌∙◌}
 use Rattle.std.specs.List.{range_with_len}
-use Rattle.sws_link.specs.FolderFiles.{files_of}
 use Rattle.sws_bench.specs.BenchSite.{bench_files, file}
 use Rattle.sws_bench.proofs.ListLaws.{map_more}
 use Rattle.sws_bench.proofs.FileLaws.{files_of-push}
