@@ -1,0 +1,4 @@
+pub mod Draws
+pub mod BenchSite
+pub mod BenchScript
+pub mod BenchSummary
