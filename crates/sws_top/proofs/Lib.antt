@@ -1,6 +1,8 @@
-mod WordLemmas
-mod SiteLemmas
+mod RangeLemmas
+mod LongScriptLemmas
+mod ScriptLemmas
 mod AnswerLemmas
 mod EndLemmas
-mod RunLemmas
 mod PipeLemmas
+mod ServeLemmas
+mod CauseLemmas

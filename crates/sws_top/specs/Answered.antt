@@ -1,12 +1,13 @@
 -- What a run of `answer` has read and written.
 use Rattle.std.specs.Prelude.{◌≡◌, ◌⊎◌, ℕ, ◌≤◌, true, List, [], ◌++◌, length, Option, Some, None}
-use Rattle.sws_link.specs.Told.{FolderTells}
+use Rattle.sws_link.specs.Counts.{HasCause}
+use Rattle.sws_link.specs.declared.Source.{Ghosts as SourceWords}
+use Rattle.sws_link.specs.declared.Sink.{Ghosts as SinkWords}
 use Rattle.sws_site.specs.Sites.{SiteFiles}
 use Rattle.sws_conn.specs.Responses.{Begins, answers_to, responses_of, is_closed, input_limit}
 use Rattle.sws_top.specs.declared.faults.TopFault.{TopFault}
-use Rattle.sws_top.specs.declared.faults.TopFault.TheVariants.{ReadFault}
-use Rattle.sws_top.specs.Words.{Answering}
-use Rattle.sws_top.specs.Sites.{IsSite}
+use Rattle.sws_top.specs.declared.faults.TopFault.TheVariants.{ReadFault, WriteFault}
+use Rattle.sws_top.specs.Faults.{EndsAnswering}
 
 -- The first bytes of the input were read, and a front of the responses to them was written: all of them where there was no fault, and
 -- where the source failed. Without a fault the input was read to its end, or as far as it counts, or up to an answer that closes.
@@ -29,9 +30,11 @@ abbrev pub AnswersFrom : SiteFiles → Option (List ℕ) → Option (List ℕ) �
 AnswersFrom site input left before written fault =
     (bytes : List ℕ) (sent : List ℕ) → input ≡ Some bytes → before ≡ Some sent → Answered site bytes sent left written fault
 
--- the same wherever the words are those of `answer` and the folder tells its files too
-abbrev pub AnswersNamed : Option Answering → Option FolderTells → Option (List ℕ) → Option (List ℕ) → Option (List ℕ) → Option (List ℕ)
-    → Option TopFault → Type 0
-AnswersNamed words told input left before written fault =
-    (named : Answering) (folder : FolderTells) (site : SiteFiles) → words ≡ Some named → told ≡ Some folder → IsSite named folder site
-    → AnswersFrom site input left before written fault
+module _ {R O : Type 0} (r : SourceWords R) (o : SinkWords O) where
+  -- The connection whose input is the source's, and whose output the sink takes, was answered from the site. A fault of reading comes
+  -- only where the source failed, one of writing only where the sink did, and without it the count stands.
+  pub record AnswersInput (site : SiteFiles) (source source_now : R) (out out_now : O) (fault : Option TopFault) : Type 0 where
+    pub answered : AnswersFrom site (r.left source) (r.left source_now) (o.written out) (o.written out_now) fault
+    pub ends : EndsAnswering fault
+    pub read_cause : HasCause (r.faults source) (r.faults source_now) (fault ≡ Some ReadFault)
+    pub write_cause : HasCause (o.faults out) (o.faults out_now) (fault ≡ Some WriteFault)

@@ -1,23 +1,36 @@
 -- How a run ends.
-use Rattle.std.specs.Prelude.{◌≡◌, ◌⊎◌, ℕ, Option, Some, None, Result, Ok, Err, ⊤}
-use Rattle.sws_link.specs.Counts.{Count, Rose}
+use Rattle.std.specs.Prelude.{◌≡◌, ℕ, Option, Some, None, Result, Ok, Err, ⊤}
+use Rattle.sws_link.specs.declared.Put.{Put}
+use Rattle.sws_link.specs.declared.Put.TheVariants as put
 use Rattle.sws_steps.specs.declared.End.{End}
 use Rattle.sws_steps.specs.declared.End.TheVariants.{Done, Idle, Fault, Memory as EndMemory}
 use Rattle.sws_site.specs.declared.site_faults.SiteFault.{SiteFault}
-use Rattle.sws_site.specs.declared.site_faults.SiteFault.TheVariants.{TooManyFiles, TooManyBytes, LongName}
+use Rattle.sws_site.specs.declared.site_faults.SiteFault.TheVariants.{TooManyFiles, TooManyBytes, LongName, Fault as FolderFault, Memory as NoMemory}
+use Rattle.sws_replay.specs.declared.fault.RunFault.{RunFault}
+use Rattle.sws_replay.specs.declared.fault.RunFault.TheVariants as run_fault
+use Rattle.sws_script.specs.declared.fault.ScriptFault.{ScriptFault}
+use Rattle.sws_script.specs.declared.fault.ScriptFault.TheVariants as script_fault
 use Rattle.sws_top.specs.declared.faults.SiteLimit.{SiteLimit}
 use Rattle.sws_top.specs.declared.faults.SiteLimit.TheVariants.{Files, Bytes, Name}
 use Rattle.sws_top.specs.declared.faults.TopFault.{TopFault}
-use Rattle.sws_top.specs.declared.faults.TopFault.TheVariants.{Usage, ReadFault, WriteFault, Memory, SiteFull}
+use Rattle.sws_top.specs.declared.faults.TopFault.TheVariants.{Usage, BadScript, ReadFault, WriteFault, WorldFault, Memory, SiteFull, TooMany, Apart}
+
+-- the status of a fault
+abbrev pub fault_status : TopFault → ℕ
+fault_status Usage = 2
+fault_status (BadScript line) = 3
+fault_status ReadFault = 4
+fault_status WriteFault = 5
+fault_status WorldFault = 6
+fault_status Memory = 7
+fault_status (SiteFull limit) = 8
+fault_status (TooMany line) = 9
+fault_status (Apart conn) = 13
 
 -- the status of a run that ended by this fault, or by none
 abbrev pub status_of : Option TopFault → ℕ
 status_of None = 0
-status_of (Some Usage) = 2
-status_of (Some ReadFault) = 4
-status_of (Some WriteFault) = 5
-status_of (Some Memory) = 7
-status_of (Some (SiteFull limit)) = 8
+status_of (Some fault) = fault_status fault
 
 -- the fault of a result
 abbrev pub fault_of : {T : Type 0} → Result T TopFault → Option TopFault
@@ -30,42 +43,46 @@ refusal_of (Files count) = TooManyFiles count
 refusal_of (Bytes number) = TooManyBytes number
 refusal_of (Name number) = LongName number
 
--- how a run ends, by the end of its connection and the fault of the one of source and sink that failed
+-- how a run ends whose site was not loaded
+abbrev pub site_fault_of : SiteFault → TopFault
+site_fault_of (TooManyFiles count) = SiteFull (Files count)
+site_fault_of (TooManyBytes number) = SiteFull (Bytes number)
+site_fault_of (LongName number) = SiteFull (Name number)
+site_fault_of FolderFault = ReadFault
+site_fault_of NoMemory = Memory
+
+-- how a run ends whose script is none
+abbrev pub script_fault_of : ScriptFault → TopFault
+script_fault_of (script_fault.Bad line) = BadScript line
+script_fault_of (script_fault.TooMany line) = TooMany line
+script_fault_of script_fault.Memory = Memory
+
+-- how a run of `answer` ends, by the end of its connection and the fault of the one of source and sink that failed
 abbrev pub ended_by : End → Option TopFault → Option TopFault
 ended_by Done fault = None
 ended_by Idle fault = None
 ended_by Fault fault = fault
 ended_by EndMemory fault = Some Memory
 
--- the faults that words and site alone can have, before anything is read or written
-abbrev pub IsBeforeInput : Option TopFault → Type 0
-IsBeforeInput None = ⊥
-IsBeforeInput (Some Usage) = ⊤
-IsBeforeInput (Some ReadFault) = ⊥
-IsBeforeInput (Some WriteFault) = ⊥
-IsBeforeInput (Some Memory) = ⊥
-IsBeforeInput (Some (SiteFull limit)) = ⊤
+-- how a run ends whose whole output was handed to the sink
+abbrev pub put_fault_of : Put → Option TopFault
+put_fault_of put.Done = None
+put_fault_of put.Failed = Some WriteFault
+put_fault_of put.Memory = Some Memory
 
--- A fault of reading is the folder's, and then neither source nor sink was touched; or it is the source's, and then the folder had no
--- fault.
-abbrev pub HasReadCause : Count → Count → Count → Count → Type 0 → Type 0
-HasReadCause folder folder_now source source_now Untouched =
-    (Rose folder folder_now × Untouched) ⊎ ((folder_now ≡ folder) × Rose source source_now)
+-- how a run ends by the answer of a run of a script
+abbrev pub run_fault_of : RunFault → TopFault
+run_fault_of run_fault.Write = WriteFault
+run_fault_of run_fault.Memory = Memory
 
--- how the loading of a site can end
-abbrev pub EndsLoading : Option TopFault → Type 0
-EndsLoading None = ⊤
-EndsLoading (Some Usage) = ⊥
-EndsLoading (Some ReadFault) = ⊤
-EndsLoading (Some WriteFault) = ⊥
-EndsLoading (Some Memory) = ⊤
-EndsLoading (Some (SiteFull limit)) = ⊤
+abbrev pub ended_with : {T : Type 0} → Result T RunFault → Option TopFault
+ended_with (Ok value) = None
+ended_with (Err fault) = Some (run_fault_of fault)
 
 -- how the answering of an input can end
 abbrev pub EndsAnswering : Option TopFault → Type 0
 EndsAnswering None = ⊤
-EndsAnswering (Some Usage) = ⊥
 EndsAnswering (Some ReadFault) = ⊤
 EndsAnswering (Some WriteFault) = ⊤
 EndsAnswering (Some Memory) = ⊤
-EndsAnswering (Some (SiteFull limit)) = ⊥
+EndsAnswering other = ⊥

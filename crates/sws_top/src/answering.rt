@@ -1,66 +1,50 @@
 //! The command `answer`: one connection, from the bytes of its input to the bytes of its responses.
-ghost use Rattle.std.specs.Prelude.{◌≡◌, ◌≢◌, ◌≤◌, false, Some, IfSome, IfOk, IsSome};
-ghost use Rattle.sws_link.specs.Counts.{HasCause, Rose};
-ghost use Rattle.sws_top.specs.Words.{last_second};
-ghost use Rattle.sws_top.specs.WordValues.{told_by};
-ghost use Rattle.sws_top.specs.Faults.{fault_of, ended_by, EndsLoading, EndsAnswering};
-ghost use Rattle.sws_top.specs.Sites.{IsNamedSite, OpensFolder, MeetsLimit};
-ghost use Rattle.sws_top.specs.Answered.{AnswersFrom};
+ghost use Rattle.std.specs.Prelude.{◌≡◌, ◌≢◌, false, Some};
+ghost use Rattle.sws_link.specs.Counts.{HasCause};
+ghost use Rattle.sws_top.specs.Answered.{AnswersFrom, AnswersInput};
+ghost use Rattle.sws_top.specs.Faults.{fault_of, ended_by, EndsAnswering};
+ghost use Rattle.sws_top.specs.Hands.{hands};
+ghost use Rattle.sws_top.specs.RanAnswer.{RanAnswer};
+ghost use Rattle.sws_top.specs.Ranges.{IsDate};
 
-use crate::faults::{SiteLimit, TopFault};
+use crate::faults::TopFault;
 use crate::pipe::Pipe;
-use crate::words::Answering;
+use crate::sites::open_site;
 use std::alloc::Global;
 use std::snapshot::Snapshot;
 use sws_conn::{End, serve_one};
-use sws_link::{Folder, Opened, Sink, Source};
-use sws_site::{Site, SiteFault};
+use sws_link::{Folder, Sink, Source};
+use sws_site::Site;
 
-/// Opens the folder that the words name, and loads its files.
-pub fn open_site<F: Folder>(
+/// Runs `answer`: on the site of the folder, the connection whose input the source gives.
+pub fn answer<F: Folder, R: Source, O: Sink>(
     alloc: Global,
-    words: &Answering<'_>,
+    path: &str,
+    date: Option<u64>,
     folder: &mut F,
-) -> Result<Site, TopFault>
-    requires { IfSome words.now.date (λ secs. secs ≤ last_second) }
-    ensures site { IfOk result (IsNamedSite (told_by words.now) (F.tells folder.old)) }
-    ensures opened { OpensFolder (told_by words.now) (F.tells folder.old) (F.tells folder.new) (fault_of result) }
-    ensures limit { MeetsLimit (F.tells folder.old) (Rose (F.faults folder.old) (F.faults folder.new)) (fault_of result) }
-    ensures ends { EndsLoading (fault_of result) }
-    ensures cause { HasCause (F.faults folder.old) (F.faults folder.new) (fault_of result ≡ Some TopFault.ReadFault) }
+    source: &mut R,
+    out: &mut O,
+) -> Result<(), TopFault>
+    requires { IsDate date }
+    ensures { RanAnswer F.Folder R.Source O.Sink (hands folder.old source.old out.old)
+        (hands folder.new source.new out.new) (fault_of result) path.now date }
 {
-    match folder.open(words.folder) {
-        Opened::Ready => {}
-        Opened::Failed => return Err(TopFault::ReadFault),
-        Opened::Memory => return Err(TopFault::Memory),
-    }
-    match Site::load(alloc, folder, words.date) {
-        Ok(site) => Ok(site),
-        Err(SiteFault::TooManyFiles { count }) => Err(TopFault::SiteFull(SiteLimit::Files {
-            count,
-        })),
-        Err(SiteFault::TooManyBytes { number }) => Err(TopFault::SiteFull(SiteLimit::Bytes {
-            number,
-        })),
-        Err(SiteFault::LongName { number }) => Err(TopFault::SiteFull(SiteLimit::Name { number })),
-        Err(SiteFault::Fault) => Err(TopFault::ReadFault),
-        Err(SiteFault::Memory) => Err(TopFault::Memory),
+    match open_site(alloc, path, date, folder) {
+        Ok(site) => answer_input(alloc, &site, source, out),
+        Err(fault) => Err(fault),
     }
 }
 
 /// Runs the connection whose input the source gives, and whose responses the sink takes.
 ///
 /// All responses to what was read before the source failed are written.
-pub fn answer_input<R: Source, O: Sink>(
+fn answer_input<R: Source, O: Sink>(
     alloc: Global,
     site: &Site,
     source: &mut R,
     out: &mut O,
 ) -> Result<(), TopFault>
-    ensures answered { AnswersFrom site.now (R.left source.old) (R.left source.new) (O.written out.old) (O.written out.new) (fault_of result) }
-    ensures ends { EndsAnswering (fault_of result) }
-    ensures read_cause { HasCause (R.faults source.old) (R.faults source.new) (fault_of result ≡ Some TopFault.ReadFault) }
-    ensures write_cause { HasCause (O.faults out.old) (O.faults out.new) (fault_of result ≡ Some TopFault.WriteFault) }
+    ensures { AnswersInput R.Source O.Sink site.now source.old source.new out.old out.new (fault_of result) }
 {
     let first_source = Snapshot::of(&*source);
     let first_out = Snapshot::of(&*out);

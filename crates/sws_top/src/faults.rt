@@ -1,6 +1,9 @@
 //! Why a run has ended.
+ghost use Rattle.std.specs.Prelude.{◌≡◌};
+ghost use Rattle.sws_top.specs.Faults.{fault_status, run_fault_of};
 
 use std::fmt;
+use sws_replay::RunFault;
 
 /// Which limit a site meets. Files are counted from 1, in the folder's order.
 #[derive(Clone, Copy, Debug, PartialEq, Eq)]
@@ -18,14 +21,51 @@ pub enum SiteLimit {
 pub enum TopFault {
     /// The words are no command line.
     Usage,
+    /// This line of the script or of its schedule, counted from 1, is the first outside the grammar.
+    BadScript { line: u32 },
     /// The folder or the input could not be read.
     ReadFault,
     /// The output could not be written.
     WriteFault,
+    /// The world failed.
+    WorldFault,
     /// An allocation was refused.
     Memory,
     /// The folder is more than a site may be.
     SiteFull(SiteLimit),
+    /// This line of the script begins connection 1,025.
+    TooMany { line: u32 },
+    /// A run on threads lost this connection, or, where the number is that of all connections, its world.
+    Apart { conn: u16 },
+}
+
+impl TopFault {
+    /// The status that the program ends with.
+    pub fn status(self) -> u8
+        ensures { result ≡ fault_status self }
+    {
+        match self {
+            TopFault::Usage => 2,
+            TopFault::BadScript { .. } => 3,
+            TopFault::ReadFault => 4,
+            TopFault::WriteFault => 5,
+            TopFault::WorldFault => 6,
+            TopFault::Memory => 7,
+            TopFault::SiteFull(_) => 8,
+            TopFault::TooMany { .. } => 9,
+            TopFault::Apart { .. } => 13,
+        }
+    }
+}
+
+/// The fault of a run whose script was not run, or not all written.
+pub(crate) fn run_fault(fault: RunFault) -> TopFault
+    ensures { result ≡ run_fault_of fault }
+{
+    match fault {
+        RunFault::Write => TopFault::WriteFault,
+        RunFault::Memory => TopFault::Memory,
+    }
 }
 
 impl fmt::Display for SiteLimit {
@@ -46,10 +86,14 @@ impl fmt::Display for TopFault {
     fn fmt<W: fmt::Write>(&self, f: &mut fmt::Formatter<W>) -> fmt::Result {
         match self {
             TopFault::Usage => write!(f, "sws: the command line is not understood"),
+            TopFault::BadScript { line } => write!(f, "sws: line {line} is not understood"),
             TopFault::ReadFault => write!(f, "sws: reading failed"),
             TopFault::WriteFault => write!(f, "sws: writing failed"),
+            TopFault::WorldFault => write!(f, "sws: the network failed"),
             TopFault::Memory => write!(f, "sws: no memory"),
             TopFault::SiteFull(limit) => write!(f, "{limit}"),
+            TopFault::TooMany { line } => write!(f, "sws: line {line} begins connection 1025"),
+            TopFault::Apart { conn } => write!(f, "sws: the run lost connection {conn}"),
         }
     }
 }

@@ -1,0 +1,217 @@
+-- What `serve` may call, and what it leaves.
+use Rattle.std.specs.Prelude.{Ok, Err, is_some}
+use Rattle.std.specs.List.{fold, cons_option, AllByRecursion, slice_get}
+use Rattle.std.proofs.Common.{◌≡◌, ◌≢◌, ◌⊎◌, inl, inr, ℕ, zero, suc, ◌+◌, ◌*◌, ◌<◌, ◌≤◌, ◌^◌, ◌&&◌, min, nat_le, Bool, true, false, List, [], ◌∷◌, ◌++◌, length, map, Option, Some, None, IsSome, refl, sym, ap, ◌∙◌, subst, arith, le-leb, append-nil}
+use Rattle.std.specs.Prelude.{sum_by}
+use Rattle.std.proofs.Math.Nat.{mul-suc}
+use Rattle.std.proofs.lemmas.Option.{slice_get_within}
+use Rattle.mely_history.specs.Setup.{first_out_of_range, is_between}
+use Rattle.mely_history.specs.declared.shape.Shape.{Shape}
+use Rattle.sws_link.proofs.CountLaws.{HasCause-as}
+use Rattle.sws_link.specs.Contents.{Puts}
+use Rattle.sws_link.specs.Counts.{Rose, HasCause}
+use Rattle.sws_link.specs.Worlds.{Coming, WorldTells, Listens, total_within}
+use Rattle.sws_link.specs.declared.Link.{Ghosts as LinkWords}
+use Rattle.sws_link.specs.declared.Opened.TheVariants as opened
+use Rattle.sws_link.specs.declared.Put.{Put}
+use Rattle.sws_link.specs.declared.Put.TheVariants as put
+use Rattle.sws_link.specs.declared.Sink.{Ghosts as SinkWords}
+use Rattle.sws_link.specs.declared.world.World.{Ghosts as WorldWords}
+use Rattle.sws_steps.specs.declared.End.{End}
+use Rattle.sws_steps.specs.declared.End.TheVariants as ending
+use Rattle.sws_conn.specs.declared.talk.Talk.{Ghosts as TalkWords}
+use Rattle.sws_engine.specs.RunLeaves.{NoneOutOfMemory, is_out_of_memory}
+use Rattle.sws_engine.specs.ThreadsLeave.{ThreadsLeave, HasRunThreads, IsUnkept}
+use Rattle.sws_engine.specs.declared.ended.Ended.{Ended}
+use Rattle.sws_engine.specs.declared.ended.Served.{Served}
+use Rattle.sws_engine.specs.declared.ended.Verdict.TheVariants as verdict
+use Rattle.sws_replay.specs.Replays.{WritesOne, result_of}
+use Rattle.sws_replay.specs.declared.fault.RunFault.TheVariants.{Write, Memory as NoMemory}
+use Rattle.sws_report.specs.Summary.{summary}
+use Rattle.sws_site.specs.Sites.{SiteFiles}
+use Rattle.sws_top.specs.declared.outcomes.Outcome.{Outcome}
+use Rattle.sws_top.specs.Faults.{put_fault_of, ended_with}
+use Rattle.sws_top.specs.RanServe.{ends_of, summary_of, CanSumUp, EndsBy, HasServed}
+use Rattle.sws_top.specs.Ranges.{IsRunShape}
+use Rattle.sws_top.specs.Texts.{WritesText}
+
+-- ---- what may be called
+
+between : (low n high : ℕ) → low ≤ n → n ≤ high → is_between low n high ≡ true
+between low n high least most =
+    ap (λ b. b && nat_le n high) (le-leb low n least) ∙ ap (λ b. true && b) (le-leb n high most)
+
+-- a shape of an order is in range for any run
+pub shape_fits : (shape : Shape) (total : ℕ) → IsRunShape shape → total ≤ 1024 → first_out_of_range shape (total + 2) 1 ≡ None
+shape_fits shape total is few =
+    rw (
+      between 1 shape.cores 64 is.cores.0 is.cores.1,
+      between 1 shape.shards 64 is.shards.0 is.shards.1,
+      between 1 (total + 2) 65536 (omega arith) (omega arith),
+      between 1 shape.batch 1000 is.batch.0 is.batch.1,
+      between 1 shape.group 64 is.group.0 is.group.1,
+      le-leb 1 (total + 2) (omega arith),
+    ) refl
+
+total_few : (coming : Option (List Coming)) (total : ℕ) → total_within coming total ≤ total
+total_few None total = omega arith
+total_few (Some coming) total = omega arith
+
+module _ {W L : Type 0} (x : WorldWords W L) (before : W) (port connections : ℕ) (first : W)
+    (listens : Listens x.tells x.faults x.waits before port connections opened.Ready first) where
+  pub opened_total : (x.tells first).total ≡ total_within (x.tells before).coming connections
+  opened_total = ap (λ (t : WorldTells). t.total) listens.becomes
+
+  pub opened_few : connections ≤ 1024 → (x.tells first).total ≤ 1024
+  opened_few few = let most = total_few (x.tells before).coming connections in omega (arith, opened_total)
+
+  pub opened_none : (x.tells first).accepted ≡ 0
+  opened_none = ap (λ (t : WorldTells). t.accepted) listens.becomes
+
+  pub opened_port : (x.tells first).port ≡ port
+  opened_port = ap (λ (t : WorldTells). t.port) listens.becomes
+
+  pub opened_faults : x.faults first ≡ x.faults before
+  opened_faults = listens.failed.stays (λ e. cc)
+
+-- ---- sums over what was served
+
+later : {A : Type 0} (P : A → Type 0) (x : A) (xs : List A) → ((i : ℕ) (a : A) → slice_get (x ∷ xs) i ≡ Some a → P a)
+    → P x × ((i : ℕ) (a : A) → slice_get xs i ≡ Some a → P a)
+later P x xs all = (all 0 x refl, λ i a is. all (suc i) a is)
+
+fold_bound : {A : Type 0} (f : A → ℕ) (most : ℕ) (xs : List A) (a : ℕ) → ((i : ℕ) (x : A) → slice_get xs i ≡ Some x → f x ≤ most)
+    → fold (λ sum x. sum + f x) a xs ≤ a + most * length xs
+fold_bound f most [] a all = omega arith
+fold_bound f most (x ∷ xs) a all =
+    let parts = later (λ x. f x ≤ most) x xs all in
+    let rest = fold_bound f most xs (a + f x) parts.1 in
+    let one = parts.0 in
+    let more : most * suc (length xs) ≡ most * length xs + most = mul-suc most (length xs) in
+    omega arith
+
+sum_bound : {A : Type 0} (f : A → ℕ) (most : ℕ) (xs : List A) → ((i : ℕ) (x : A) → slice_get xs i ≡ Some x → f x ≤ most) → sum_by f xs ≤ most * length xs
+sum_bound f most xs all = let bound = fold_bound f most xs 0 all in omega arith
+
+length_mapped : {A B : Type 0} (f : A → B) (xs : List A) → length (map f xs) ≡ length xs
+length_mapped f [] = refl
+length_mapped f (x ∷ xs) = ap suc (length_mapped f xs)
+
+get_in : {A : Type 0} (xs : List A) (i : ℕ) → i < length xs → (x : A) × (slice_get xs i ≡ Some x)
+get_in [] i within = absurd (omega arith)
+get_in (x ∷ xs) zero within = (x, refl)
+get_in (x ∷ xs) (suc i) within = get_in xs i (omega arith)
+
+none_refused : {L : Type 0} (served : List (Served L)) → NoneOutOfMemory served → AllByRecursion (λ end. end ≢ ending.Memory) (ends_of served)
+none_refused [] none = tt
+none_refused (s ∷ served) none =
+    by_end s.end (none 0 s refl) (none_refused served (λ i t is. none (suc i) t is))
+  where
+    by_end : (end : Option End) → is_out_of_memory end ≡ false → AllByRecursion (λ end. end ≢ ending.Memory) (ends_of served)
+        → AllByRecursion (λ end. end ≢ ending.Memory) (cons_option end (ends_of served))
+    by_end None fine rest = rest
+    by_end (Some ending.Done) fine rest = (λ e. cc, rest)
+    by_end (Some ending.Idle) fine rest = (λ e. cc, rest)
+    by_end (Some ending.Fault) fine rest = (λ e. cc, rest)
+    by_end (Some ending.Memory) fine rest = cc
+
+module _ {W L T G : Type 0} (x : WorldWords W L) (l : LinkWords L) (y : TalkWords T L G SiteFiles) (shape : Shape) (site : SiteFiles) (first : W) (ended : Ended W L) where
+  sums : HasRunThreads x l y shape site first ended → (x.tells first).total ≤ 1024 → ended.verdict ≡ verdict.Ok → CanSumUp ended.served.items
+  sums run few ok =
+      let many = run.many_served in
+      let trails = map (λ t. t.items) ended.trails.items in
+      let long : length trails ≡ (x.tells first).total + 2 = length_mapped (λ t. t.items) ended.trails.items ∙ run.many_trails in
+      let read = sum_bound (λ (s : Served L). s.read) 65536 ended.served.items (λ i s is.
+      let within = slice_get_within ended.served.items i s is in
+      let trail = get_in trails (i + 2) (omega arith) in
+      (run.conn i s trail.0 is trail.1).few_read) in
+      let written = sum_bound (λ (s : Served L). s.written) 1099511627776 ended.served.items (λ i s is.
+      let within = slice_get_within ended.served.items i s is in
+      let trail = get_in trails (i + 2) (omega arith) in
+      let less = (run.conn i s trail.0 is trail.1).few_written in omega arith) in
+      record { ends = none_refused ended.served.items (run.ok ok).3; read = omega arith; written = omega arith }
+
+  -- at the verdict Ok all can be summed up
+  pub can_sum_up : ThreadsLeave x l y shape site first ended → (x.tells first).total ≤ 1024 → ended.verdict ≡ verdict.Ok → CanSumUp ended.served.items
+  can_sum_up (inl begun) few ok = (let other : verdict.Ok ≡ verdict.Memory = sym ok ∙ begun.refused in cc)
+  can_sum_up (inr run) few ok = sums run few ok
+
+  module _ {O : Type 0} (o : SinkWords O) (out out_now : O) (world : W) (outcome : Outcome W L) (port connections : ℕ)
+      (listens : Listens x.tells x.faults x.waits world port connections opened.Ready first) where
+    pub served_by : ThreadsLeave x l y shape site first ended → IsUnkept y → outcome.ended ≡ Some ended → outcome.world ≡ None
+        → EndsBy o out out_now outcome.fault ended.served.items ended.verdict → HasServed x l o y out out_now world outcome port connections shape site
+    served_by leaves unkept there gone ends = record {
+      first = first;
+      listens = listens;
+      ended = ended;
+      there = there;
+      gone = gone;
+      leaves = leaves;
+      unkept = unkept;
+      port_is = λ last is. port_by leaves last is;
+      rose = λ last is failed. rose_by leaves last is failed;
+      held = λ well. held_by leaves well;
+      many = λ run. many_by leaves run;
+      ends = ends;
+    }
+      where
+        port_by : ThreadsLeave x l y shape site first ended → (last : W) → ended.world ≡ Some last → (x.tells last).port ≡ port
+        port_by (inl begun) last is =
+            let same : first ≡ last = (let e = begun.back in cc) in ap (λ w. (x.tells w).port) (sym same) ∙ opened_port x world port connections first listens
+        port_by (inr run) last is = (run.stands last is).port ∙ opened_port x world port connections first listens
+        rose_by : ThreadsLeave x l y shape site first ended → (last : W) → ended.world ≡ Some last → ended.verdict ≡ verdict.World → Rose (x.faults world) (x.faults last)
+        rose_by (inl begun) last is failed = (let other : verdict.World ≡ verdict.Memory = sym failed ∙ begun.refused in cc)
+        rose_by (inr run) last is failed =
+            subst (λ count. Rose count (x.faults last)) (opened_faults x world port connections first listens)
+            ((run.stands last is).failed (run.world failed).1)
+        held_by : ThreadsLeave x l y shape site first ended → (ended.verdict ≡ verdict.Ok) ⊎ (ended.verdict ≡ verdict.World) → IsSome ended.world
+        held_by (inl begun) well = ap is_some begun.back
+        held_by (inr run) (inl ok) = (run.ok ok).0
+        held_by (inr run) (inr failed) = (run.world failed).0
+        many_by : ThreadsLeave x l y shape site first ended → ended.verdict ≢ verdict.Memory → length ended.served.items ≡ total_within (x.tells world).coming connections
+        many_by (inl begun) run = absurd (run begun.refused)
+        many_by (inr ran) run = ran.many_served ∙ opened_total x world port connections first listens
+
+-- ---- the summary
+
+put_writes : (before now : Option (List ℕ)) (answer : Put) (bytes : List ℕ) → Puts before now answer bytes
+    → WritesOne (λ text. text ≡ bytes) before now (result_of answer)
+put_writes None now put.Done bytes puts = puts
+put_writes None now put.Failed bytes puts = puts
+put_writes None now put.Memory bytes puts = puts
+put_writes (Some before) now put.Done bytes puts = (before ++ bytes, puts, (bytes, refl, refl))
+put_writes (Some before) now put.Failed bytes puts = (before ++ puts.0, puts.2, (puts.0, (bytes, refl, puts.1), refl))
+put_writes (Some before) now put.Memory bytes puts = (before ++ puts.0, puts.2, (puts.0, inr (bytes, refl, puts.1), refl))
+
+pub text_written : {O : Type 0} (o : SinkWords O) (out now : O) (answer : Put) (bytes : List ℕ) → Puts (o.written out) (o.written now) answer bytes
+    → HasCause (o.faults out) (o.faults now) (answer ≡ put.Failed) → WritesText o out now (put_fault_of answer) (λ text. text ≡ bytes)
+text_written o out now answer bytes puts cause = record {
+  answer = result_of answer;
+  ended = ended_is answer;
+  writes = put_writes (o.written out) (o.written now) answer bytes puts;
+  cause = HasCause-as (o.faults out) (o.faults out) (o.faults now) (answer ≡ put.Failed) (result_of answer ≡ Err Write) refl cause (λ e. ap result_of e) (back answer);
+}
+  where
+    ended_is : (answer : Put) → put_fault_of answer ≡ ended_with (result_of answer)
+    ended_is put.Done = refl
+    ended_is put.Failed = refl
+    ended_is put.Memory = refl
+    back : (answer : Put) → result_of answer ≡ Err Write → answer ≡ put.Failed
+    back put.Done e = cc
+    back put.Failed e = refl
+    back put.Memory e = cc
+
+-- nothing was written of a text for which there was no memory
+pub nothing_put : (written : Option (List ℕ)) (bytes : List ℕ) → Puts written written put.Memory bytes
+nothing_put None bytes = refl
+nothing_put (Some before) bytes = ([], (bytes, refl), ap Some (sym (append-nil before)))
+
+-- the summary of what was served
+pub summary_put : {L : Type 0} (served : List (Served L)) (ends : List End) (read written : ℕ) (before now : Option (List ℕ)) (answer : Put) → ends ≡ ends_of served
+    → read ≡ sum_by (λ (s : Served L). s.read) served → written ≡ sum_by (λ (s : Served L). s.written) served → Puts before now answer (summary ends read written)
+    → Puts before now answer (summary_of served)
+unfolding summary_of
+summary_put {L} served ends read written before now answer e f g puts =
+    subst (λ (w : ℕ). Puts before now answer (summary (ends_of served) (sum_by (λ (s : Served L). s.read) served) w)) g
+    (subst (λ (r : ℕ). Puts before now answer (summary (ends_of served) r written)) f
+    (subst (λ (es : List End). Puts before now answer (summary es read written)) e puts))

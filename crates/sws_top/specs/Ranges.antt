@@ -1,0 +1,35 @@
+-- The ranges of the numbers in an order.
+use Rattle.std.specs.Prelude.{ℕ, ◌≤◌, IfSome, Option}
+use Rattle.mely_history.specs.declared.shape.Shape.{Shape as RunShape}
+use Rattle.sws_words.specs.Orders.{Order, Shape, answer, replay, serve, bench}
+
+abbrev pub IsBetween : ℕ → ℕ → ℕ → Type 0
+IsBetween least most number = (least ≤ number) × (number ≤ most)
+
+-- the last second of the year 9999, in seconds after the beginning of 1970
+abbrev pub last_second : ℕ
+last_second = 253402300799
+
+abbrev pub IsDate : Option ℕ → Type 0
+IsDate date = IfSome date (λ secs. secs ≤ last_second)
+
+pub record IsRunShape (shape : RunShape) : Type 0 where
+  pub cores : IsBetween 1 64 shape.cores
+  pub shards : IsBetween 1 64 shape.shards
+  pub batch : IsBetween 1 1000 shape.batch
+  pub group : IsBetween 1 64 shape.group
+  pub steal_cost : shape.steal_cost ≤ 1000000
+
+-- the shape of a run, as the runtime has it
+abbrev pub run_shape : Shape → RunShape
+run_shape shape = record { cores = shape.cores; shards = shape.shards; batch = shape.batch; steal_cost = shape.steal_cost; group = shape.group }
+
+abbrev pub IsShape : Shape → Type 0
+IsShape shape = IsRunShape (run_shape shape)
+
+-- each number of the order is within its range
+abbrev pub IsInRange : Order → Type 0
+IsInRange (answer folder date) = IsDate date
+IsInRange (replay folder shape date journal schedule) = IsShape shape × IsDate date
+IsInRange (serve folder port connections shape date) = IsBetween 1 65535 port × IsBetween 1 1024 connections × IsShape shape × IsDate date
+IsInRange (bench connections number shape) = IsBetween 1 1024 connections × IsShape shape

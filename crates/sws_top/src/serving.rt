@@ -1,0 +1,149 @@
+//! The command `serve`: connections from outside.
+ghost use Rattle.std.specs.Prelude.{◌≡◌, ◌<◌, ◌^◌, IfOk, sum_by};
+ghost use Rattle.sws_link.specs.Contents.{Puts};
+ghost use Rattle.sws_link.specs.Counts.{HasCause};
+ghost use Rattle.sws_top.specs.Faults.{put_fault_of, status_of};
+ghost use Rattle.sws_top.specs.RanServe.{ends_of, summary_of, CanSumUp, EndsBy, IsServeEnd, RanServe};
+ghost use Rattle.sws_top.specs.Ranges.{IsBetween, IsDate, IsRunShape};
+
+use crate::faults::TopFault;
+use crate::outcomes::Outcome;
+use crate::sites::open_site;
+use mely_history::Shape;
+use mely_worker::OpenGate;
+use std::alloc::{AllocError, Global};
+use std::sync::Wait;
+use std::thread::Threads;
+use sws_conn::{Conn, End, Talk};
+use sws_engine::{Served, Verdict, serve_all};
+use sws_link::{Folder, Opened, Put, Sink, World};
+use sws_report::write_summary;
+use sws_site::Site;
+
+/// Where connections come in, and how they are served.
+#[derive(Clone, Copy, Debug)]
+pub struct Serving {
+    /// 1 to 65,535.
+    pub port: u16,
+    /// How many connections are served, 1 to 1,024.
+    pub connections: u16,
+    pub shape: Shape,
+}
+
+/// Runs `serve`: on the site of the folder, the connections that the world gives.
+pub fn serve<T: AllocGlobal + Threads + Wait + Sync, F: Folder, W: World + Drop + Send, O: Sink>(
+    rt: &T,
+    path: &str,
+    date: Option<u64>,
+    how: &Serving,
+    folder: &mut F,
+    world: W,
+    out: &mut O,
+) -> Outcome<W>
+where
+    W::Link: Send,
+    requires date { IsDate date }
+    requires shape { IsRunShape how.now.shape }
+    requires connections { IsBetween 1 1024 how.now.connections }
+    ensures status { result.status ≡ status_of result.fault }
+    ensures ran { RanServe F.Folder W.World W.Link.Link O.Sink ⟦<Conn<'static, W::Link> as Talk<W::Link>>⟧
+        folder.old folder.new out.old out.new world result
+        path.now how.now.port how.now.connections how.now.shape date }
+{
+    match open_site(rt.alloc(), path, date, folder) {
+        Ok(site) => serve_site(rt, &site, how, world, out),
+        Err(fault) => Outcome::without_run(world, Err(fault)),
+    }
+}
+
+/// Serves the connections that the world gives out of a site, and writes their summary.
+fn serve_site<'s, T: AllocGlobal + Threads + Wait + Sync, W: World + Drop + Send, O: Sink>(
+    rt: &T,
+    site: &'s Site,
+    how: &Serving,
+    world: W,
+    out: &mut O,
+) -> Outcome<W>
+where
+    W::Link: Send,
+    requires shape { IsRunShape how.now.shape }
+    requires connections { IsBetween 1 1024 how.now.connections }
+    ensures status { result.status ≡ status_of result.fault }
+    ensures served { IsServeEnd W.World W.Link.Link O.Sink ⟦<Conn<'s, W::Link> as Talk<W::Link>>⟧
+        out.old out.new world result how.now.port how.now.connections how.now.shape site.now }
+{
+    let mut world = world;
+    match world.open(how.port, how.connections) {
+        Opened::Ready => {}
+        Opened::Failed => return Outcome::without_run(world, Err(TopFault::WorldFault)),
+        Opened::Memory => return Outcome::without_run(world, Err(TopFault::Memory)),
+    }
+    let alloc = rt.alloc();
+    let ended = serve_all(rt, alloc, site, &how.shape, world, &OpenGate);
+    let fault = write_end(alloc, ended.verdict, &ended.served, out);
+    Outcome::of_run(ended, fault)
+}
+
+/// The fault of a run by its verdict; where all was served, the summary is written.
+fn write_end<L, O: Sink>(
+    alloc: Global,
+    verdict: Verdict,
+    served: &[Served<L>],
+    out: &mut O,
+) -> Option<TopFault>
+    requires { verdict ≡ Verdict.Ok → CanSumUp served.now }
+    ensures { EndsBy O.Sink out.old out.new result served.now verdict }
+{
+    match verdict {
+        Verdict::Ok => put_fault(sum_up(alloc, served, out)),
+        Verdict::World => Some(TopFault::WorldFault),
+        Verdict::Apart { conn } => Some(TopFault::Apart { conn }),
+        Verdict::Memory => Some(TopFault::Memory),
+    }
+}
+
+/// Writes the summary of connections, each of which has ended.
+fn sum_up<L, O: Sink>(alloc: Global, served: &[Served<L>], out: &mut O) -> Put
+    requires { CanSumUp served.now }
+    ensures text { Puts (O.written out.old) (O.written out.new) result (summary_of served.now) }
+    ensures cause { HasCause (O.faults out.old) (O.faults out.new) (result ≡ Put.Failed) }
+{
+    match ends(alloc, served) {
+        Ok(ends) => write_summary(alloc, out, &ends, read_of(served), written_of(served)),
+        Err(_) => Put::Memory,
+    }
+}
+
+/// How many bytes were read in all.
+fn read_of<L>(served: &[Served<L>]) -> u64
+    requires { sum_by (λ s. s.read) served.now < 2 ^ 64 }
+    ensures { result ≡ sum_by (λ s. s.read) served.now }
+{
+    served.iter().map(|s| s.read).sum()
+}
+
+/// How many bytes were written in all.
+fn written_of<L>(served: &[Served<L>]) -> u64
+    requires { sum_by (λ s. s.written) served.now < 2 ^ 64 }
+    ensures { result ≡ sum_by (λ s. s.written) served.now }
+{
+    served.iter().map(|s| s.written).sum()
+}
+
+/// How the connections ended.
+fn ends<L>(alloc: Global, served: &[Served<L>]) -> Result<Vec<End>, AllocError>
+    ensures { IfOk result (λ ends. ends.items ≡ ends_of served.now) }
+{
+    served.iter().filter_map(|s| s.end).collect(alloc)
+}
+
+/// The fault of a run by its last write.
+fn put_fault(put: Put) -> Option<TopFault>
+    ensures { result ≡ put_fault_of put }
+{
+    match put {
+        Put::Done => None,
+        Put::Failed => Some(TopFault::WriteFault),
+        Put::Memory => Some(TopFault::Memory),
+    }
+}

@@ -1,0 +1,212 @@
+//! The command `answer`.
+use super::{INDEX, INDEX_SENT, bytes_of, file, put, say, small_site, words_of};
+use std::alloc::AllocError;
+use std::sync::Wait;
+use std::test::Fail;
+use std::thread::Threads;
+use sws_link::{MemSink, MemSource, SureFolder, SureSink, SureSource, SureWorld};
+use sws_top::{SiteLimit, TopFault, sws};
+
+const INDEX_SENT_LAST: &str =
+    "HTTP/1.1 200 OK~Server: sws~Connection: close~Content-Type: text/html~Content-Length: 3~~hi\n";
+
+const BAD_REQUEST: &str =
+    "HTTP/1.1 400 Bad Request~Server: sws~Connection: close~Content-Type: text/plain~Content-Length: 16~~400 Bad Request\n";
+
+const TOO_LARGE: &str =
+    "HTTP/1.1 431 Request Header Fields Too Large~Server: sws~Connection: close~Content-Type: text/plain~Content-Length: 36~~431 Request Header Fields Too Large\n";
+
+const TEXT_SENT: &str =
+    "HTTP/1.1 200 OK~Server: sws~Content-Type: text/plain~Content-Length: 10~~0123456789";
+
+const NOT_MODIFIED: &str =
+    "HTTP/1.1 304 Not Modified~Server: sws~Last-Modified: Sun, 06 Nov 1994 08:49:37 GMT~~";
+
+const INDEX_SENT_DATED: &str =
+    "HTTP/1.1 200 OK~Server: sws~Last-Modified: Sun, 06 Nov 1994 08:49:37 GMT~Content-Type: text/html~Content-Length: 3~~hi\n";
+
+const BROWSER: &str =
+    "GET / HTTP/1.1~Host: localhost:8080~User-Agent: Mozilla/5.0 (X11; Linux x86_64; rv:128.0) Gecko/20100101 Firefox/128.0~Accept: text/html,application/xhtml+xml,application/xml;q=0.9,*/*;q=0.8~Accept-Language: en-US,en;q=0.5~Accept-Encoding: gzip, deflate, br~Connection: keep-alive~Upgrade-Insecure-Requests: 1~Sec-Fetch-Dest: document~Sec-Fetch-Mode: navigate~~";
+
+#[test]
+fn each_input_is_answered_with_these_bytes(rt: HostRuntime) -> Result<(), Fail> {
+    let rows = [
+        (INDEX, INDEX_SENT),
+        ("", ""),
+        ("GET / HTTP/1.1~Host: x~~GET /em", INDEX_SENT),
+        ("GET / HTTP/1.1~~GET / HTTP/1.1~Host: x~~", BAD_REQUEST),
+        (
+            "GET / HTTP/1.1~Host: x~Host: x~~GET / HTTP/1.1~Host: x~~",
+            BAD_REQUEST,
+        ),
+        ("GET /a%2Fb.txt HTTP/1.1~Host: x~~", TEXT_SENT),
+        ("GET /a/b.txt?q=1 HTTP/1.1~Host: x~~", TEXT_SENT),
+        ("GET http://h/a/b.txt HTTP/1.1~Host: x~~", TEXT_SENT),
+        (
+            "GET /%2e%2e/x HTTP/1.1~Host: x~~",
+            "HTTP/1.1 404 Not Found~Server: sws~Content-Type: text/plain~Content-Length: 14~~404 Not Found\n",
+        ),
+        (
+            "GET / HTTP/1.1~Host: x~~HEAD /a/b.txt HTTP/1.1~Host: x~~",
+            "HTTP/1.1 200 OK~Server: sws~Content-Type: text/html~Content-Length: 3~~hi\nHTTP/1.1 200 OK~Server: sws~Content-Type: text/plain~Content-Length: 10~~",
+        ),
+        (
+            "GET /empty.css HTTP/1.1~Host: x~~GET / HTTP/1.1~Host: x~~",
+            "HTTP/1.1 200 OK~Server: sws~Content-Type: text/css~Content-Length: 0~~HTTP/1.1 200 OK~Server: sws~Content-Type: text/html~Content-Length: 3~~hi\n",
+        ),
+        (
+            "POST / HTTP/1.1~Host: x~Content-Length: 5~~hello",
+            "HTTP/1.1 405 Method Not Allowed~Server: sws~Connection: close~Allow: GET, HEAD~Content-Type: text/plain~Content-Length: 23~~405 Method Not Allowed\n",
+        ),
+        (
+            "BREW / HTTP/1.1~Host: x~~GET / HTTP/1.1~Host: x~~",
+            "HTTP/1.1 501 Not Implemented~Server: sws~Content-Type: text/plain~Content-Length: 20~~501 Not Implemented\nHTTP/1.1 200 OK~Server: sws~Content-Type: text/html~Content-Length: 3~~hi\n",
+        ),
+    ];
+    for (input, wanted) in rows {
+        let said = say(&rt, "answer S", bytes_of(rt.alloc(), input)?)?;
+        assert_eq!(rt; said.status, 0, "{input}");
+        assert_eq!(rt; said.written, bytes_of(rt.alloc(), wanted)?, "{input}");
+    }
+    Ok(())
+}
+
+#[test]
+fn long_heads_and_many_heads_are_answered_up_to_their_limits(rt: HostRuntime) -> Result<(), Fail> {
+    let rows = [
+        (
+            "GET / HTTP/1.1~Host: x~X:",
+            "a",
+            8161,
+            "~~",
+            INDEX_SENT,
+            1,
+            "",
+        ),
+        (
+            "GET / HTTP/1.1~Host: x~X:",
+            "a",
+            8162,
+            "~~",
+            "",
+            0,
+            TOO_LARGE,
+        ),
+        ("", "a", 8192, "", "", 0, TOO_LARGE),
+        ("", INDEX, 65, "", INDEX_SENT, 63, INDEX_SENT_LAST),
+        ("", BROWSER, 30, "", INDEX_SENT, 30, ""),
+    ];
+    for (start, middle, times, end, answer, answers, last) in rows {
+        let mut input = bytes_of(rt.alloc(), start)?;
+        put(&mut input, middle, times)?;
+        put(&mut input, end, 1)?;
+        let mut wanted = Vec::new(rt.alloc());
+        put(&mut wanted, answer, answers)?;
+        put(&mut wanted, last, 1)?;
+        let said = say(&rt, "answer S", input)?;
+        assert_eq!(rt; said.status, 0, "{middle} {times} times");
+        assert_eq!(rt; said.written, wanted, "{middle} {times} times");
+    }
+    Ok(())
+}
+
+#[test]
+fn a_head_is_answered_once_it_is_whole(rt: HostRuntime) -> Result<(), Fail> {
+    let whole = bytes_of(rt.alloc(), INDEX)?;
+    let sent = bytes_of(rt.alloc(), INDEX_SENT)?;
+    for len in 0..whole.len() {
+        let said = say(&rt, "answer S", whole[..len].to_vec(rt.alloc())?)?;
+        assert_eq!(rt; said.written.len(), 0, "{len} bytes");
+        let mut both = whole.clone()?;
+        both.extend_from_slice(&whole[..len])?;
+        let said = say(&rt, "answer S", both)?;
+        assert_eq!(rt; said.written, sent, "{len} bytes more");
+    }
+    Ok(())
+}
+
+#[test]
+fn a_dated_site_answers_the_date_of_a_request(rt: HostRuntime) -> Result<(), Fail> {
+    let rows = [
+        ("Sun, 06 Nov 1994 08:49:37 GMT", NOT_MODIFIED),
+        ("Sunday, 06-Nov-94 08:49:37 GMT", NOT_MODIFIED),
+        ("Sun Nov  6 08:49:37 1994", NOT_MODIFIED),
+        ("Sun, 06 Nov 1994 08:49:36 GMT", INDEX_SENT_DATED),
+        ("yesterday", INDEX_SENT_DATED),
+    ];
+    for (value, wanted) in rows {
+        let mut input = bytes_of(rt.alloc(), "GET / HTTP/1.1~Host: x~If-Modified-Since: ")?;
+        put(&mut input, value, 1)?;
+        put(&mut input, "~~", 1)?;
+        let said = say(&rt, "answer S --date +0784111777", input)?;
+        assert_eq!(rt; said.status, 0, "{value}");
+        assert_eq!(rt; said.written, bytes_of(rt.alloc(), wanted)?, "{value}");
+    }
+    Ok(())
+}
+
+/// How a run on a folder of these files ends.
+fn fault_of<T: AllocGlobal + Threads + Wait + Sync>(
+    rt: &T,
+    files: Vec<(Vec<u8>, Vec<u8>)>,
+) -> Result<Option<TopFault>, AllocError> {
+    let words = words_of(rt.alloc(), "answer S")?;
+    let mut folder = SureFolder::new(rt.alloc(), files);
+    let mut source = SureSource::new(Vec::new(rt.alloc()));
+    let mut sink = SureSink::new(rt.alloc());
+    let world = SureWorld::new(Vec::new(rt.alloc()));
+    Ok(sws(rt, &words, &mut folder, &mut source, world, &mut sink).fault)
+}
+
+#[test]
+fn a_folder_over_a_limit_is_named_by_its_first_file_too_many(rt: HostRuntime) -> Result<(), Fail> {
+    let alloc = rt.alloc();
+    let mut many = Vec::new(alloc);
+    for _ in 0..4097 {
+        many.push(file(alloc, b"f", b"")?)?;
+    }
+    let full = Some(TopFault::SiteFull(SiteLimit::Files { count: 4097 }));
+    assert_eq!(rt; fault_of(&rt, many)?, full);
+
+    let mut long = Vec::new(alloc);
+    long.push(file(alloc, b"f", b"")?)?;
+    long.push((vec![in alloc; b'n'; 1025]?, Vec::new(alloc)))?;
+    let full = Some(TopFault::SiteFull(SiteLimit::Name { number: 2 }));
+    assert_eq!(rt; fault_of(&rt, long)?, full);
+    Ok(())
+}
+
+#[test]
+fn what_was_read_is_answered_before_a_fault(rt: HostRuntime) -> Result<(), Fail> {
+    let alloc = rt.alloc();
+    let words = words_of(alloc, "answer S")?;
+
+    let mut source = MemSource::new(bytes_of(alloc, INDEX)?, vec![in alloc; 2]?);
+    let mut sink = SureSink::new(alloc);
+    let world = SureWorld::new(Vec::new(alloc));
+    let outcome = sws(
+        &rt,
+        &words,
+        &mut small_site(alloc)?,
+        &mut source,
+        world,
+        &mut sink,
+    );
+    assert_eq!(rt; outcome.status, 4);
+    assert_eq!(rt; sink.written(), bytes_of(alloc, INDEX_SENT)?.as_slice());
+
+    let mut source = SureSource::new(bytes_of(alloc, INDEX)?);
+    let mut sink = MemSink::new(alloc, vec![in alloc; 1]?);
+    let world = SureWorld::new(Vec::new(alloc));
+    let outcome = sws(
+        &rt,
+        &words,
+        &mut small_site(alloc)?,
+        &mut source,
+        world,
+        &mut sink,
+    );
+    assert_eq!(rt; outcome.status, 5);
+    assert_eq!(rt; sink.written().len(), 0);
+    Ok(())
+}
