@@ -26,10 +26,10 @@ PEER = os.path.join(TOP, "bench", "peer")
 LOAD = os.path.join(PEER, "target", "release", "load")
 
 NGINX = """
-daemon off; worker_processes {workers}; error_log {folder}/nginx.log; pid {folder}/nginx.pid;
+daemon off; user root; worker_processes {workers}; error_log {folder}/nginx.log; pid {folder}/nginx.pid;
 events {{ worker_connections 2048; }}
 http {{
-  access_log off; keepalive_requests 1000000; sendfile on; tcp_nodelay on; {cache}
+  access_log off; keepalive_requests 1000000; sendfile on; tcp_nopush on; {cache}
   default_type text/plain;
   client_body_temp_path {folder}/b; proxy_temp_path {folder}/p; fastcgi_temp_path {folder}/f; uwsgi_temp_path {folder}/u; scgi_temp_path {folder}/s;
   server {{ listen 127.0.0.1:{port} backlog=1024; root {site}; }}
@@ -45,6 +45,7 @@ server.max-connections = 2048
 mimetype.assign = ( ".txt" => "text/plain" )
 """
 H2O = """
+user: root
 num-threads: {workers}
 max-connections: 2048
 listen: {{ host: 127.0.0.1, port: {port} }}
