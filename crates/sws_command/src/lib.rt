@@ -16,15 +16,18 @@ mod announced;
 use crate::announced::{Announced, line_of};
 use std::io::ErrorKind;
 use std::process::ExitCode;
+use std::sync::Wait;
+use std::thread::Threads;
 use std::{env, io};
 use sws_net::{FileFolder, Output, StdSink, StdSource, TcpWorld};
 use sws_top::{TopFault, sws};
 use sws_words::{WordFault, read_words};
 
-/// Runs the command on the machine. The fault of a run is said on standard error, in a line, and the status is the run's.
-pub fn command(rt: &HostRuntime) -> ExitCode {
+/// Runs the command on the machine, with threads of the second handle, which is the same runtime: only where a program begins does
+/// it have threads to give. The fault of a run is said on standard error, in a line, and the status is the run's.
+pub fn command<T: AllocGlobal + Threads + Wait + Sync>(rt: &HostRuntime, threads: &T) -> ExitCode {
     let fault = match words(rt) {
-        Ok(words) => run(rt, &words),
+        Ok(words) => run(rt, threads, &words),
         Err(fault) => Some(fault),
     };
     match fault {
@@ -53,7 +56,11 @@ fn words(rt: &HostRuntime) -> Result<Vec<String>, TopFault> {
 }
 
 /// Runs the command on the machine's files, streams and sockets, and answers its fault, if it has one.
-fn run(rt: &HostRuntime, words: &[String]) -> Option<TopFault> {
+fn run<T: AllocGlobal + Threads + Wait + Sync>(
+    rt: &HostRuntime,
+    threads: &T,
+    words: &[String],
+) -> Option<TopFault> {
     let line = match read_words(rt.alloc(), words) {
         Ok(order) => line_of(rt.alloc(), &order),
         Err(WordFault::Usage) => return Some(TopFault::Usage),
@@ -66,7 +73,7 @@ fn run(rt: &HostRuntime, words: &[String]) -> Option<TopFault> {
     let mut folder = FileFolder::new(rt);
     let mut source = StdSource::new(rt.reader(), &output);
     let mut sink = StdSink::new(&output);
-    let outcome = sws(rt, words, &mut folder, &mut source, world, &mut sink);
+    let outcome = sws(threads, words, &mut folder, &mut source, world, &mut sink);
     if !sink.finish() && outcome.fault.is_none() {
         return Some(TopFault::WriteFault);
     }
