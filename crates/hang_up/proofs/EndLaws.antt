@@ -2,9 +2,9 @@
 use Rattle.std.proofs.Common.{◌≡◌, Option, Some, None, sym, ap, ◌∙◌}
 use Rattle.std.proofs.lemmas.Option.{none-some}
 use Rattle.sws_link.specs.declared.Link.{Ghosts as LinkWords}
-use Rattle.sws_conn.specs.declared.End.{End}
-use Rattle.sws_conn.specs.declared.Next.{Next}
-use Rattle.sws_conn.specs.declared.Next.TheVariants as next
+use Rattle.sws_steps.specs.declared.End.{End}
+use Rattle.sws_steps.specs.declared.Next.{Next}
+use Rattle.sws_steps.specs.declared.Next.TheVariants as next
 use Rattle.hang_up.specs.Hanging.{Hanging, StepsFrom, IsReadyTo}
 
 module _ {L : Type 0} (x : LinkWords L) (before after : Hanging) (end : End) where

@@ -11,10 +11,10 @@ use Rattle.sws_link.specs.Scripts.{Script, Item, read_of}
 use Rattle.sws_link.specs.Exchanges.{read_call, shut_call, took, taken_in, written_in, Exchanges}
 use Rattle.sws_link.proofs.CountLaws.{IsLater-same, IsLater-trans, Rose-earlier}
 use Rattle.sws_link.proofs.ExchangeLaws.{taken_in-append, written_in-append, exchanges-more}
-use Rattle.sws_conn.specs.declared.End.{End}
-use Rattle.sws_conn.specs.declared.End.TheVariants as ending
-use Rattle.sws_conn.specs.declared.Next.{Next}
-use Rattle.sws_conn.specs.declared.Next.TheVariants as next
+use Rattle.sws_steps.specs.declared.End.{End}
+use Rattle.sws_steps.specs.declared.End.TheVariants as ending
+use Rattle.sws_steps.specs.declared.Next.{Next}
+use Rattle.sws_steps.specs.declared.Next.TheVariants as next
 use Rattle.sws_conn.specs.Standing.{told_by, end_at}
 use Rattle.sws_conn.specs.Outcome.{UnlessMemory}
 use Rattle.sws_conn.specs.Path.{Handler, open_link, close, answers_to_come, TakesOff}

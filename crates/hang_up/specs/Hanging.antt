@@ -7,10 +7,10 @@ use Rattle.sws_link.specs.Counts.{Rose, IsLater}
 use Rattle.sws_link.specs.Links.{LinkTells, Reads, Shuts, input_of}
 use Rattle.sws_link.specs.Scripts.{Script, Item, read_of}
 use Rattle.sws_link.specs.Exchanges.{LinkCall, Exchanges, taken_in, written_in}
-use Rattle.sws_conn.specs.declared.End.{End}
-use Rattle.sws_conn.specs.declared.End.TheVariants as ending
-use Rattle.sws_conn.specs.declared.Next.{Next}
-use Rattle.sws_conn.specs.declared.Next.TheVariants as next
+use Rattle.sws_steps.specs.declared.End.{End}
+use Rattle.sws_steps.specs.declared.End.TheVariants as ending
+use Rattle.sws_steps.specs.declared.Next.{Next}
+use Rattle.sws_steps.specs.declared.Next.TheVariants as next
 use Rattle.sws_conn.specs.Outcome.{Outcome}
 use Rattle.sws_conn.specs.Path.{Handler, open_link, read_piece, resume, close, answers_to_come}
 use Rattle.sws_conn.specs.Serving.{RoseBy}

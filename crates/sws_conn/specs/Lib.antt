@@ -2,13 +2,13 @@ pub mod Responses
 pub mod Windows
 pub mod WindowRooms
 pub mod Searches
+pub mod Http
 pub mod Standing
 pub mod Step
 pub mod Shown
 pub mod Sound
 pub mod Outcome
 pub mod Path
-pub mod Heading
 pub mod Serving
 pub mod Run
 pub mod Talks

@@ -75,8 +75,8 @@ impl<'s, L: Link + Drop> Conn<'s, L> {
         requires fresh { IsFresh (L.tells link) }
         requires not_shut { L.is_shut link ≡ false }
         ensures opens { Opens self.old link result self.new }
-        ensures run { IfOk result (λ _. HasRun L.Link self.old.standing.site link [] self.new) }
-        ensures path { IfOk result (λ next. TakesOff (open_link ∷ []) (path_told self.old.standing.site (L.tells link)) (rest_told L.Link self.new)) }
+        ensures run { IfOk result (λ _. HasRun L.Link self.old.standing.hall link [] self.new) }
+        ensures path { IfOk result (λ next. TakesOff (open_link ∷ []) (path_told self.old.standing.hall (L.tells link)) (rest_told L.Link self.new)) }
         ensures sound { IsSound L.Link self.new }
     {
         if self.link.is_some() {
@@ -95,7 +95,7 @@ impl<'s, L: Link + Drop> Conn<'s, L> {
         ensures told { result ≡ told_next self.new.standing }
         ensures scripted { FollowsScript L.Link self.old self.new }
         ensures path { TakesEvent L.Link self.old self.new }
-        ensures begins { BeginsResponses self.new.standing.site (told_by_link L.Link self.new.link) }
+        ensures begins { BeginsResponses self.new.standing.hall (told_by_link L.Link self.new.link) }
         ensures shut { IsShutAtEnd L.Link self.new.standing.pending self.new.link }
         ensures ended { (end : End) → self.old.standing.end ≡ Some end → self.new.standing.end ≡ Some end }
         ensures sound { IsSound L.Link self.new }

@@ -21,7 +21,7 @@ impl<'s, L: Link + Drop> Talk<L> for Conn<'s, L> {
 
     ghost contents_of = { λ hall. hall.now };
 
-    ghost hall_of = { λ conn. conn.standing.site };
+    ghost hall_of = { λ conn. conn.standing.hall };
 
     ghost link_of = { λ conn. conn.link };
 
@@ -75,11 +75,11 @@ impl<'s, L: Link + Drop> Talk<L> for Conn<'s, L> {
 
     fn a_run_serves()
         ensures serves { (first : L) (trail : List Handler) (talk : Connection L) → HasRunOpen L.Link first trail talk
-            → ServesNow (HasServed L.Link (responses_of talk.standing.site) (outcome_of talk.standing.site) first)
+            → ServesNow (HasServed L.Link (responses_of talk.standing.hall) (outcome_of talk.standing.hall) first)
             talk.link (talk_view talk.standing) }
         ensures path { (first : L) (trail : List Handler) (talk : Connection L) → HasRunOpen L.Link first trail talk
             → UnlessMemory talk.standing.end
-            (TakesOff trail (path_to_come (path_of talk.standing.site) (L.tells first)) (rest_told L.Link talk)) }
+            (TakesOff trail (path_to_come (path_of talk.standing.hall) (L.tells first)) (rest_told L.Link talk)) }
         ensures due { (first : L) (trail : List Handler) (talk : Connection L) → HasRunOpen L.Link first trail talk
             → IsDue (due (talk_view talk.standing)) (rest_told L.Link talk) }
     {}

@@ -4,8 +4,8 @@ ghost use Rattle.sws_link.specs.Links.{IsFresh};
 ghost use Rattle.sws_link.specs.Scripts.{Script, wait};
 ghost use Rattle.sws_site.specs.Sites.{SiteFiles};
 ghost use Rattle.sws_site.specs.Limits.{IsWithinLimits};
-ghost use Rattle.sws_conn.specs.declared.End.{End as EndValue};
-ghost use Rattle.sws_conn.specs.declared.Next.{Next as NextValue};
+ghost use Rattle.sws_steps.specs.declared.End.{End as EndValue};
+ghost use Rattle.sws_steps.specs.declared.Next.{Next as NextValue};
 ghost use Rattle.sws_conn.specs.Standing.{Connection};
 ghost use Rattle.sws_conn.specs.Step.{going_to, Steps};
 ghost use Rattle.sws_conn.specs.Sound.{unopened, IsReadyTo, IsSound};
@@ -26,7 +26,7 @@ pub fn a_path_is_of_steps()
     ensures close { (site : SiteFiles) (script : Script) → IsWithinLimits site.files → (before : List Handler) × (path_of site script ≡ before ++ close ∷ []) }
     ensures pause { (site : SiteFiles) (step cut : Option ℕ) → IsWithinLimits site.files
         → path_of site (record { items = wait 1 ∷ []; step = step; cut = cut }) ≡ open_link ∷ read_piece ∷ resume ∷ parse ∷ close ∷ [] }
-    ensures step { (c : Scripted) → IsWithinLimits c.standing.site.files → IsReadyTo c.standing.pending c.standing
+    ensures step { (c : Scripted) → IsWithinLimits c.standing.hall.files → IsReadyTo c.standing.pending c.standing
         → rest_of_path c.standing c.script ≡ event_of c.standing ++ rest_of_path (scripted_step c).standing (scripted_step c).script }
 {}
 

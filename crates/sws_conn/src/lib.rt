@@ -33,39 +33,6 @@ mod window;
 
 pub use conn::Conn;
 pub use serving::serve_one;
+pub use sws_steps::{End, Next};
 pub use talk::Talk;
 pub use window::Window;
-
-/// How a connection ended.
-#[derive(Clone, Copy, Debug, PartialEq, Eq)]
-pub enum End {
-    /// All responses were written, or a closing one was.
-    Done,
-    /// The link was not ready 30 times in succession.
-    Idle,
-    /// The link failed.
-    Fault,
-    /// A write of the link found no memory.
-    Memory,
-}
-
-/// The step that comes next.
-#[derive(Clone, Copy, Debug, PartialEq, Eq)]
-pub enum Next {
-    /// The link is to be given.
-    Open,
-    /// The link is read.
-    Read,
-    /// The bytes that were taken are searched for a head.
-    Parse,
-    /// The head is answered.
-    Look,
-    /// The answer is written.
-    Write,
-    /// The same step again, since the link was not ready.
-    Wait,
-    /// The link is shut.
-    Close,
-    /// Nothing more.
-    Nothing,
-}

@@ -14,7 +14,7 @@ use Rattle.mely_history.specs.declared.entry.Entry.{Entry}
 use Rattle.mely_history.specs.declared.setup.Setup.{Setup}
 use Rattle.mely_history.specs.declared.shape.Shape.{Shape}
 use Rattle.mely_weave.proofs.GatherLaws.{get_there}
-use Rattle.mely_machine.specs.Rules.{rules_of}
+use Rattle.mely_machine.specs.Rules.{Rules, rules_of}
 use Rattle.mely_weave.specs.Scene.{shard_of}
 use Rattle.mely_weave.specs.declared.draining.Drained.{Drained}
 use Rattle.mely_weave.specs.declared.draining.Drained.TheVariants as drained
@@ -22,8 +22,8 @@ use Rattle.mely_weave.specs.declared.parts.WeaveParts.{WeaveParts}
 use Rattle.mely_tally.specs.Tallies.{carried_by}
 use Rattle.sws_link.specs.declared.Link.{Ghosts as LinkWords}
 use Rattle.sws_link.specs.declared.world.World.{Ghosts as WorldWords}
-use Rattle.sws_conn.specs.declared.Next.{Next}
-use Rattle.sws_conn.specs.declared.Next.TheVariants as next
+use Rattle.sws_steps.specs.declared.Next.{Next}
+use Rattle.sws_steps.specs.declared.Next.TheVariants as next
 use Rattle.sws_conn.specs.declared.talk.Talk.{Ghosts as TalkWords}
 use Rattle.sws_conn.specs.Talks.{due, due_after}
 use Rattle.sws_conn.specs.Standing.{told_by}
@@ -182,6 +182,7 @@ module _ {W L T G H : Type 0} (x : WorldWords W L) (l : LinkWords L) (y : TalkWo
     fits = fits;
     concluded = is;
     legal = subst (λ (l : List (List Entry)). AreLegal setup l) (sym histories_are) ran.legal;
+    shards = ap length histories_are ∙ ran.shards ∙ ap (λ (r : Rules). r.shape.shards) rules;
     drained = λ isnt shard history at.
         let whole = judged ended.served.items (is_whole how parts.lost.items) (is_some ended.world) ended.failed total ended.accepted ended.verdict isnt is.verdict in
         let run = whole_is how parts.lost.items whole.ran in

@@ -1,13 +1,15 @@
 -- What a run leaves in the parts of its weave.
-use Rattle.std.proofs.Common.{◌≡◌, ℕ, ◌+◌, List, [], ◌++◌, Option, Some, sym, ◌∙◌, ap, subst}
+use Rattle.std.proofs.Common.{◌≡◌, ℕ, ◌+◌, List, [], ◌++◌, Option, Some, length, map, sym, ◌∙◌, ap, subst}
+use Rattle.std.proofs.lemmas.List.{length-map}
 use Rattle.std.specs.Prelude.{slice_get, flat_map}
 use Rattle.mely_event.specs.declared.colour.Colour.{Colour}
 use Rattle.mely_event.specs.declared.event.Event.{Event}
 use Rattle.mely_event.specs.declared.trail.Trail.{Ghosts as TrailWords}
 use Rattle.mely_history.specs.Legal.{AreLegal}
-use Rattle.mely_history.specs.Setup.{colours_of}
+use Rattle.mely_history.specs.Setup.{shape_of, colours_of}
 use Rattle.mely_history.specs.declared.entry.Entry.{Entry}
 use Rattle.mely_history.specs.declared.setup.Setup.{Setup}
+use Rattle.mely_shard.specs.Contents.{Contents}
 use Rattle.mely_weave.specs.Drains.{HistoriesAreDrained}
 use Rattle.mely_weave.specs.Scene.{shard_of}
 use Rattle.mely_weave.specs.StandsWell.{Loom}
@@ -31,9 +33,13 @@ use Rattle.sws_engine.proofs.Concludes.{placed_as, run_ends}
 use Rattle.sws_engine.proofs.WaitingLists.{each_weaker}
 use Rattle.sws_engine.proofs.SameStands.{same_stands}
 
+-- there is a history for each shard
+pub as_many_histories : {S P : Type 0} (shards : List (Contents S P)) (histories : List (List Entry)) (count : ℕ) → histories ≡ map (λ (has : Contents S P). has.history) shards → length shards ≡ count → length histories ≡ count
+as_many_histories {S} {P} shards histories count are many = ap length are ∙ length-map shards (λ (has : Contents S P). has.history) ∙ many
+
 module _ {W L T G H : Type 0} (x : WorldWords W L) (y : TalkWords T L G H) (t : TrailWords (PlaceView H W T) (Frame H W)) (setup : Setup) (first : W) (ended : Drained) (loom : Loom (PlaceView H W T) (Load W L))
     (histories : List (List Entry)) (states : List (PlaceView H W T)) (queued : List (List (Way W L))) (lost : List (Colour × Event × Option (Load W L)))
-    (apart : IsTakenApart t loom histories states queued lost) (fact : RunFact x y first loom) (of_setup : loom.setup ≡ setup) (colours : colours_of setup ≡ (x.tells first).total + 2) (drained_is : ended ≡ Empty → HistoriesAreDrained loom)
+    (apart : IsTakenApart t loom histories states queued lost) (fact : RunFact x y first loom) (of_setup : loom.setup ≡ setup) (colours : colours_of setup ≡ (x.tells first).total + 2) (drained_is : ended ≡ Empty → HistoriesAreDrained loom) (many_histories : length histories ≡ (shape_of loom.setup).shards)
     (colour_is : (s : PlaceView H W T) → t.colour_of s ≡ s.colour) (trail_is : (s : PlaceView H W T) → t.trail_of s ≡ s.trail) (frame_is : (s : PlaceView H W T) → t.frame_of s ≡ record { hall = s.hall; first = s.first }) where
   abbrev total : ℕ
   total = (x.tells first).total
@@ -56,6 +62,7 @@ module _ {W L T G H : Type 0} (x : WorldWords W L) (y : TalkWords T L G H) (t : 
   pub run_parts : RunParts x y setup first ended histories states queued lost
   run_parts = record {
     legal = subst (λ (s : Setup). AreLegal s histories) of_setup apart.legal;
+    shards = many_histories ∙ ap (λ (s : Setup). (shape_of s).shards) of_setup;
     drained = λ empty. apart.drained (drained_is empty);
     emptied = λ empty. apart.emptied (drained_is empty);
     many = apart.many ∙ ap (λ (s : Setup). colours_of s) of_setup ∙ colours;

@@ -7,9 +7,9 @@ use Rattle.sws_link.specs.declared.world.World.{Ghosts as WorldWords}
 use Rattle.sws_link.specs.Links.{LinkTells}
 use Rattle.sws_link.specs.Scripts.{Script}
 use Rattle.sws_link.specs.Worlds.{Coming}
-use Rattle.sws_conn.specs.declared.End.{End}
-use Rattle.sws_conn.specs.declared.End.TheVariants as ending
-use Rattle.sws_conn.specs.declared.Next.TheVariants as next
+use Rattle.sws_steps.specs.declared.End.{End}
+use Rattle.sws_steps.specs.declared.End.TheVariants as ending
+use Rattle.sws_steps.specs.declared.Next.TheVariants as next
 use Rattle.sws_conn.specs.declared.talk.Talk.{Ghosts as TalkWords}
 use Rattle.sws_conn.specs.Outcome.{Outcome, UnlessMemory}
 use Rattle.sws_conn.specs.Path.{Handler, open_link, TakesOff, answers_to_come}

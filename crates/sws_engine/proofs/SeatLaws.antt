@@ -8,8 +8,8 @@ use Rattle.sws_engine.specs.declared.load.WorldLoad.{WorldLoad}
 use Rattle.sws_engine.specs.declared.load.Load.TheVariants as load
 use Rattle.sws_engine.specs.Handling.{is_due}
 use Rattle.sws_engine.specs.Seating.{LoadSuits}
-use Rattle.sws_conn.specs.declared.Next.{Next}
-use Rattle.sws_conn.specs.declared.Next.TheVariants as next
+use Rattle.sws_steps.specs.declared.Next.{Next}
+use Rattle.sws_steps.specs.declared.Next.TheVariants as next
 use Rattle.sws_conn.specs.Path.{Handler, open_link, read_piece, parse, look, write_part, resume, close}
 use Rattle.sws_conn.specs.Standing.{told_by}
 use Rattle.sws_conn.specs.Talks.{TalkView, unopened_view, ServesNow, due, due_after}

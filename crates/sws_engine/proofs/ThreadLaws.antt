@@ -9,13 +9,13 @@ use Rattle.mely_event.specs.declared.event.Event.{Event}
 use Rattle.mely_event.specs.declared.trail.Trail.{Ghosts as TrailWords}
 use Rattle.mely_history.specs.History.{ran_of}
 use Rattle.mely_history.specs.Legal.{AreLegal}
-use Rattle.mely_history.specs.Setup.{colours_of}
+use Rattle.mely_history.specs.Setup.{shape_of, colours_of}
 use Rattle.mely_history.specs.declared.entry.Entry.{Entry}
 use Rattle.mely_history.specs.declared.setup.Setup.{Setup}
 use Rattle.mely_history.specs.declared.shape.Shape.{Shape}
 use Rattle.mely_weave.specs.Dealing.{AtEach}
 use Rattle.mely_weave.specs.Drains.{HistoriesAreDrained}
-use Rattle.mely_machine.specs.Rules.{rules_of}
+use Rattle.mely_machine.specs.Rules.{Rules, rules_of}
 use Rattle.mely_weave.specs.Scene.{shard_of}
 use Rattle.mely_weave.specs.StandsWell.{Loom}
 use Rattle.mely_weave.specs.declared.draining.Drained.{Drained}
@@ -25,7 +25,7 @@ use Rattle.mely_tally.specs.Tallies.{carried_by}
 use Rattle.mely_tally.specs.Tells.{IsTakenApart}
 use Rattle.sws_link.specs.declared.Link.{Ghosts as LinkWords}
 use Rattle.sws_link.specs.declared.world.World.{Ghosts as WorldWords}
-use Rattle.sws_conn.specs.declared.Next.{Next}
+use Rattle.sws_steps.specs.declared.Next.{Next}
 use Rattle.sws_conn.specs.declared.talk.Talk.{Ghosts as TalkWords}
 use Rattle.sws_conn.specs.Standing.{told_by}
 use Rattle.sws_conn.specs.Talks.{due_after}
@@ -75,7 +75,7 @@ module _ {W L T G H : Type 0} (x : WorldWords W L) (l : LinkWords L) (y : TalkWo
 
 module _ {W L T G H : Type 0} (x : WorldWords W L) (l : LinkWords L) (y : TalkWords T L G H) (t : TrailWords (PlaceView H W T) (Frame H W)) (setup : Setup) (first : W) (how : Drained) (loom : Loom (PlaceView H W T) (Load W L))
     (histories : List (List Entry)) (states : List (PlaceView H W T)) (queued : List (List (Event × Option (Load W L)))) (lost : List (Colour × Event × Option (Load W L)))
-    (apart : IsTakenApart t loom histories states queued lost) (of_setup : loom.setup ≡ setup) (colours : colours_of setup ≡ (x.tells first).total + 2) (drained_is : how ≡ Empty → HistoriesAreDrained loom)
+    (apart : IsTakenApart t loom histories states queued lost) (of_setup : loom.setup ≡ setup) (colours : colours_of setup ≡ (x.tells first).total + 2) (drained_is : how ≡ Empty → HistoriesAreDrained loom) (many_histories : length histories ≡ (shape_of loom.setup).shards)
     (of_world : loom.given.first ≡ first) (kept : AtEach (λ i place. IsKept x l y place) states)
     (colour_is : (s : PlaceView H W T) → t.colour_of s ≡ s.colour) (trail_is : (s : PlaceView H W T) → t.trail_of s ≡ s.trail) (frame_is : (s : PlaceView H W T) → t.frame_of s ≡ record { hall = s.hall; first = s.first }) where
   first_is : (s : PlaceView H W T) → (t.frame_of s).first ≡ s.first
@@ -84,6 +84,7 @@ module _ {W L T G H : Type 0} (x : WorldWords W L) (l : LinkWords L) (y : TalkWo
   pub parts_kept : PartsKept x y setup first how histories states queued
   parts_kept = record {
     legal = subst (λ (s : Setup). AreLegal s histories) of_setup apart.legal;
+    shards = many_histories ∙ ap (λ (s : Setup). (shape_of s).shards) of_setup;
     drained = λ empty. apart.drained (drained_is empty);
     emptied = λ empty. apart.emptied (drained_is empty);
     many = apart.many ∙ ap (λ (s : Setup). colours_of s) of_setup ∙ colours;
@@ -122,6 +123,7 @@ module _ {W L T G H : Type 0} (x : WorldWords W L) (l : LinkWords L) (y : TalkWo
     concluded = is;
     fits = fits;
     legal = subst (λ (l : List (List Entry)). AreLegal setup l) (sym histories_are) kept.legal;
+    shards = ap length histories_are ∙ kept.shards ∙ ap (λ (r : Rules). r.shape.shards) rules;
     drained = λ isnt shard history at.
         let whole = judged ended.served.items (is_whole how parts.lost.items) (is_some ended.world) ended.failed total ended.accepted ended.verdict isnt is.verdict in
         let run = whole_is how parts.lost.items whole.ran in

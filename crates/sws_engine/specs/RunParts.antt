@@ -4,6 +4,7 @@ use Rattle.mely_event.specs.declared.colour.Colour.{Colour}
 use Rattle.mely_event.specs.declared.event.Event.{Event}
 use Rattle.mely_history.specs.History.{ran_of}
 use Rattle.mely_history.specs.Legal.{AreLegal, IsDrained}
+use Rattle.mely_history.specs.Setup.{shape_of}
 use Rattle.mely_history.specs.declared.entry.Entry.{Entry}
 use Rattle.mely_history.specs.declared.setup.Setup.{Setup}
 use Rattle.mely_weave.specs.Scene.{shard_of}
@@ -21,8 +22,9 @@ use Rattle.sws_engine.specs.RunStands.{Way, RunStands}
 
 module _ {W L T G H : Type 0} (x : WorldWords W L) (y : TalkWords T L G H) (setup : Setup) (first : W) (ended : Drained) (histories : List (List Entry)) (states : List (PlaceView H W T)) (queued : List (List (Way W L))) (lost : List (Colour × Event × Option (Load W L))) where
   pub record RunParts : Type 0 where
-    -- the histories are legal, and where the weave was drained each of them is
+    -- the histories are legal, one for each shard, and where the weave was drained each of them is
     pub legal : AreLegal setup histories
+    pub shards : length histories ≡ (shape_of setup).shards
     pub drained : ended ≡ Empty → (shard : ℕ) (history : List Entry) → slice_get histories shard ≡ Some history → IsDrained history
     -- nothing is queued then
     pub emptied : ended ≡ Empty → flat_map (λ events. events) queued ≡ []

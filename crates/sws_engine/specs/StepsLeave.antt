@@ -57,8 +57,9 @@ module _ {W L T G H : Type 0} (x : WorldWords W L) (l : LinkWords L) (y : TalkWo
     pub ran : RunParts x y setup first how (map (λ history. history.items) parts.histories.items) parts.states.items (map (λ events. events.items) parts.queued.items) parts.lost.items
     pub fits : RunFits x l first hall parts.states.items (map (λ events. events.items) parts.queued.items) parts.lost.items
     pub concluded : IsConcluded y (x.tells first).total how parts ended
-    -- the histories are legal, and drained unless memory was refused; each colour's trail is what was run of it
+    -- the histories, one for each shard, are legal, and drained unless memory was refused; each colour's trail is what was run of it
     pub legal : AreLegal setup histories_in
+    pub shards : length histories_in ≡ shape.shards
     pub drained : ended.verdict ≢ verdict.Memory → (shard : ℕ) (history : List Entry) → slice_get histories_in shard ≡ Some history → IsDrained history
     pub trailed : (c : Colour) (history trail : List _) → slice_get (map (λ t. t.items) ended.trails.items) c.0 ≡ Some trail → slice_get histories_in (shard_of setup c) ≡ Some history → trail ≡ ran_of history c
     pub many_trails : length ended.trails.items ≡ (x.tells first).total + 2

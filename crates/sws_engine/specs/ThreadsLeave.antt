@@ -4,7 +4,7 @@ use Rattle.mely_event.specs.declared.colour.Colour.{Colour}
 use Rattle.mely_event.specs.declared.event.Event.{Event}
 use Rattle.mely_history.specs.History.{ran_of}
 use Rattle.mely_history.specs.Legal.{AreLegal, IsDrained}
-use Rattle.mely_history.specs.Setup.{colours_of}
+use Rattle.mely_history.specs.Setup.{shape_of, colours_of}
 use Rattle.mely_history.specs.declared.entry.Entry.{Entry}
 use Rattle.mely_history.specs.declared.setup.Setup.{Setup}
 use Rattle.mely_history.specs.declared.shape.Shape.{Shape}
@@ -33,9 +33,10 @@ use Rattle.sws_engine.specs.RunFits.{RunFits}
 use Rattle.sws_engine.specs.RunLeaves.{AreWhole, NoneOutOfMemory}
 use Rattle.sws_engine.specs.StepsLeave.{HasNotBegun, histories_in}
 
--- What the parts of the weave that comes out of a fleet keep, by the types of shards and states alone: the histories are legal, and where the weave was drained each of them is and nothing is queued. There is a state for each colour, of its role, over the world that was handed in, and its trail is what was run of it.
+-- What the parts of the weave that comes out of a fleet keep, by the types of shards and states alone: the histories are legal, one for each shard, and where the weave was drained each of them is and nothing is queued. There is a state for each colour, of its role, over the world that was handed in, and its trail is what was run of it.
 pub record PartsKept {W L T G H : Type 0} (x : WorldWords W L) (y : TalkWords T L G H) (setup : Setup) (first : W) (how : Drained) (histories : List (List Entry)) (states : List (PlaceView H W T)) (queued : List (List (Event × Option (Load W L)))) : Type 0 where
   pub legal : AreLegal setup histories
+  pub shards : length histories ≡ (shape_of setup).shards
   pub drained : how ≡ Empty → (shard : ℕ) (history : List Entry) → slice_get histories shard ≡ Some history → IsDrained history
   pub emptied : how ≡ Empty → flat_map (λ events. events) queued ≡ []
   pub many : length states ≡ (x.tells first).total + 2
@@ -64,8 +65,9 @@ module _ {W L T G H : Type 0} (x : WorldWords W L) (l : LinkWords L) (y : TalkWo
     pub fits : RunFits x l first hall parts.states.items (map (λ events. events.items) parts.queued.items) parts.lost.items
     -- the verdict is exactly what these show
     pub concluded : IsConcluded y (x.tells first).total how parts ended
-    -- the histories are legal, and drained unless memory was refused; each colour's trail is what was run of it
+    -- the histories, one for each shard, are legal, and drained unless memory was refused; each colour's trail is what was run of it
     pub legal : AreLegal setup histories
+    pub shards : length histories ≡ shape.shards
     pub drained : ended.verdict ≢ verdict.Memory → (shard : ℕ) (history : List Entry) → slice_get histories shard ≡ Some history → IsDrained history
     pub trailed : (c : Colour) (history trail : List _) → slice_get (map (λ t. t.items) ended.trails.items) c.0 ≡ Some trail → slice_get histories (shard_of setup c) ≡ Some history → trail ≡ ran_of history c
     pub many_trails : length ended.trails.items ≡ (x.tells first).total + 2

@@ -1,8 +1,8 @@
 -- The summary of connections.
 use Rattle.std.specs.Prelude.{ℕ, Bool, true, false, List, [], ◌∷◌, ◌++◌, length, codes}
 use Rattle.std.specs.List.{count_by}
-use Rattle.sws_conn.specs.declared.End.{End}
-use Rattle.sws_conn.specs.declared.End.TheVariants.{Done, Idle, Fault}
+use Rattle.sws_steps.specs.declared.End.{End}
+use Rattle.sws_steps.specs.declared.End.TheVariants.{Done, Idle, Fault}
 use Rattle.sws_report.specs.Numbers.{spaced}
 
 abbrev pub is_done : End → Bool

@@ -1,8 +1,8 @@
 -- The transcript of connections.
 use Rattle.std.specs.Prelude.{ℕ, ◌+◌, List, [], ◌∷◌, ◌++◌, length, codes}
 use Rattle.sws_text.specs.Shown.{shown}
-use Rattle.sws_conn.specs.declared.End.{End}
-use Rattle.sws_conn.specs.declared.End.TheVariants.{Done, Idle, Fault, Memory}
+use Rattle.sws_steps.specs.declared.End.{End}
+use Rattle.sws_steps.specs.declared.End.TheVariants.{Done, Idle, Fault, Memory}
 use Rattle.sws_report.specs.Numbers.{spaced}
 
 -- how a connection ended; want of memory has no word

@@ -1,6 +1,6 @@
 //! The transcript of a connection.
 ghost use Rattle.std.specs.Prelude.{◌≡◌, ◌≢◌, ◌++◌, IfOk};
-ghost use Rattle.sws_conn.specs.declared.End.TheVariants as how;
+ghost use Rattle.sws_steps.specs.declared.End.TheVariants as how;
 ghost use Rattle.sws_link.specs.declared.Put.TheVariants as put;
 ghost use Rattle.sws_link.specs.Counts.{HasCause};
 ghost use Rattle.sws_link.specs.Contents.{Puts};

@@ -1,7 +1,7 @@
 //! The summary of connections.
 ghost use Rattle.std.specs.Prelude.{◌≡◌, ◌≢◌, ◌++◌, IfOk, OnOk};
 ghost use Rattle.std.specs.List.{count_by, AllByRecursion};
-ghost use Rattle.sws_conn.specs.declared.End.TheVariants as how;
+ghost use Rattle.sws_steps.specs.declared.End.TheVariants as how;
 ghost use Rattle.sws_link.specs.declared.Put.TheVariants as put;
 ghost use Rattle.sws_link.specs.Counts.{HasCause};
 ghost use Rattle.sws_link.specs.Contents.{Puts};

@@ -5,8 +5,8 @@ use Rattle.sws_link.specs.Counts.{Count, no_faults, HasCause}
 use Rattle.sws_link.proofs.CountLaws.{HasCause-none}
 use Rattle.sws_link.specs.Links.{Way, reading, writing}
 use Rattle.sws_site.specs.Sites.{SiteFiles}
-use Rattle.sws_conn.specs.declared.End.{End}
-use Rattle.sws_conn.specs.declared.End.TheVariants as ending
+use Rattle.sws_steps.specs.declared.End.{End}
+use Rattle.sws_steps.specs.declared.End.TheVariants as ending
 use Rattle.sws_conn.specs.Step.{wait_limit}
 use Rattle.sws_conn.specs.Serving.{RoseBy, Serves, IsAnswered}
 use Rattle.sws_top.specs.declared.faults.TopFault.{TopFault}

@@ -1,8 +1,8 @@
 -- How a run ends.
 use Rattle.std.specs.Prelude.{◌≡◌, ◌⊎◌, ℕ, Option, Some, None, Result, Ok, Err, ⊤}
 use Rattle.sws_link.specs.Counts.{Count, Rose}
-use Rattle.sws_conn.specs.declared.End.{End}
-use Rattle.sws_conn.specs.declared.End.TheVariants.{Done, Idle, Fault, Memory as EndMemory}
+use Rattle.sws_steps.specs.declared.End.{End}
+use Rattle.sws_steps.specs.declared.End.TheVariants.{Done, Idle, Fault, Memory as EndMemory}
 use Rattle.sws_site.specs.declared.site_faults.SiteFault.{SiteFault}
 use Rattle.sws_site.specs.declared.site_faults.SiteFault.TheVariants.{TooManyFiles, TooManyBytes, LongName}
 use Rattle.sws_top.specs.declared.faults.SiteLimit.{SiteLimit}

@@ -16,10 +16,10 @@ use Rattle.mely_tally.specs.Tallies.{carried_by}
 use Rattle.mely_run.proofs.Lists.Elements.{there_of}
 use Rattle.sws_link.specs.declared.Link.{Ghosts as LinkWords}
 use Rattle.sws_link.specs.declared.world.World.{Ghosts as WorldWords}
-use Rattle.sws_conn.specs.declared.End.{End}
-use Rattle.sws_conn.specs.declared.End.TheVariants as ending
-use Rattle.sws_conn.specs.declared.Next.{Next}
-use Rattle.sws_conn.specs.declared.Next.TheVariants as next
+use Rattle.sws_steps.specs.declared.End.{End}
+use Rattle.sws_steps.specs.declared.End.TheVariants as ending
+use Rattle.sws_steps.specs.declared.Next.{Next}
+use Rattle.sws_steps.specs.declared.Next.TheVariants as next
 use Rattle.sws_conn.specs.declared.talk.Talk.{Ghosts as TalkWords}
 use Rattle.sws_conn.specs.Standing.{end_at}
 use Rattle.sws_conn.specs.Path.{Handler}

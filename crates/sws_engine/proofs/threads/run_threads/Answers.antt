@@ -2,7 +2,7 @@ use Rattle.std.proofs.Common.{subst, refl}
 use Rattle.mely_weave.specs.Dealing.{AtEach}
 use Rattle.sws_engine.specs.Kept.{IsKept}
 use Rattle.sws_engine.proofs.ThreadLaws.{parts_kept}
-use Rattle.sws_engine.proofs.Parted.{run_fits}
+use Rattle.sws_engine.proofs.Parted.{as_many_histories, run_fits}
 use Rattle.sws_engine.proofs.threads.run_threads.Goals as goal
 
 pub returns-clause-kept : goal.returns-clause-kept
@@ -11,7 +11,7 @@ returns-clause-kept g c =
     let stands = c.stands_well.ensures in
     let ran = c.in_ok-weave.ensures in
     let apart = c.the_parts_are_what_the_weave_had.ensures c.in_ok-weave.weave _ _ _ _ stands.keeps stands.parts ran.free parts.histories parts.states parts.queued parts.lost in
-    parts_kept g.W.World g.W.Link.Link g.T.Talk _ c.args.setup.now c.args.world c.in_ok-weave.drained c.in_ok-weave.weave _ _ _ _ apart ran.of_setup c.requires.colours ran.drained ran.of_world
+    parts_kept g.W.World g.W.Link.Link g.T.Talk _ c.args.setup.now c.args.world c.in_ok-weave.drained c.in_ok-weave.weave _ _ _ _ apart ran.of_setup c.requires.colours ran.drained (as_many_histories c.in_ok-weave.weave.shards _ _ parts.histories stands.keeps.shards) ran.of_world
     (subst (λ places. AtEach (λ i place. IsKept g.W.World g.W.Link.Link g.T.Talk place) places) c.deref.ensures.value c.are_kept.ensures) (λ s. refl) (λ s. refl) (λ s. refl)
 
 pub returns-clause-fits : goal.returns-clause-fits

@@ -1,5 +1,5 @@
 use Rattle.std.proofs.Common.{refl}
-use Rattle.sws_engine.proofs.Parted.{run_parts, run_fits}
+use Rattle.sws_engine.proofs.Parted.{as_many_histories, run_parts, run_fits}
 use Rattle.sws_engine.proofs.Model.Engine.{engine_run}
 use Rattle.sws_engine.proofs.whole.run_apart.Goals as goal
 
@@ -8,7 +8,7 @@ returns-clause-ran g c =
     let parts = c.into_parts.ensures in
     let stands = c.stands_well.ensures in
     let apart = c.the_parts_are_what_the_weave_had.ensures c.in_ok-weave.weave _ _ _ _ stands.keeps stands.parts c.in_ok-weave.ensures.free parts.histories parts.states parts.queued parts.lost in
-    run_parts g.W.World g.T.Talk _ c.args.setup.now c.args.world _ c.in_ok-weave.weave _ _ _ _ apart c.in_ok-weave.ensures.stands c.in_ok-weave.ensures.of_setup c.requires.colours c.in_ok-weave.ensures.drained (λ s. refl) (λ s. refl) (λ s. refl)
+    run_parts g.W.World g.T.Talk _ c.args.setup.now c.args.world _ c.in_ok-weave.weave _ _ _ _ apart c.in_ok-weave.ensures.stands c.in_ok-weave.ensures.of_setup c.requires.colours c.in_ok-weave.ensures.drained (as_many_histories c.in_ok-weave.weave.shards _ _ parts.histories stands.keeps.shards) (λ s. refl) (λ s. refl) (λ s. refl)
 
 pub returns-clause-fits : goal.returns-clause-fits
 returns-clause-fits g c =

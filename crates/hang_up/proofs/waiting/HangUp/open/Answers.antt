@@ -1,6 +1,6 @@
 use Rattle.std.specs.Prelude.{◌∷◌, []}
 use Rattle.std.proofs.Common.{subst, sym}
-use Rattle.sws_conn.specs.declared.Next.TheVariants as next
+use Rattle.sws_steps.specs.declared.Next.TheVariants as next
 use Rattle.sws_conn.specs.Path.{open_link}
 use Rattle.hang_up.specs.Hanging.{Hanging, HasRunOver}
 use Rattle.hang_up.specs.Shown.{shown}

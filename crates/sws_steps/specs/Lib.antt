@@ -1,0 +1,10 @@
+pub mod Protocol
+pub mod Standing
+pub mod Step
+pub mod Sound
+pub mod Outcome
+pub mod Path
+pub mod Heading
+pub mod Serving
+pub mod Run
+pub mod Talks

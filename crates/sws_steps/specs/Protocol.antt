@@ -1,0 +1,78 @@
+-- What a connection talks by: what cuts requests off its bytes, what answers them out of a hall, and how much of each there may be.
+use Rattle.std.specs.Prelude.{◌≡◌, ℕ, ◌-◌, ◌<◌, ◌≤◌, ◌==◌, Bool, true, false, if◌then◌else◌, List, [], ◌∷◌, ◌++◌, length, take}
+use Rattle.std.specs.List.{flat_map, list_any}
+
+-- where the first request of some bytes ends: behind so many of them, or it has more than a request may, or it is not whole yet
+pub data Cut : Type 0 where
+  Whole : ℕ → Cut
+  TooLong NotYet : Cut
+
+-- what is answered: the bytes of a whole request, or one that is too long
+pub data Asked : Type 0 where
+  request : List ℕ → Asked
+  too_long : Asked
+
+-- a hall is what a connection is lent, which its answers are taken from
+pub record Protocol (Hall Answer : Type 0) : Type 1 where
+  -- what is known of each hall
+  pub IsHall : Hall → Type 0
+  pub cut : List ℕ → Cut
+  -- with `true` it is the last answer of its connection
+  pub answer : Hall → Asked → Bool → Answer
+  -- the bytes of an answer, whether there are none, and whether the connection ends with it
+  pub head : Answer → List ℕ
+  pub body : Answer → List ℕ
+  pub is_empty : Answer → Bool
+  pub closes : Answer → Bool
+  -- the answers to some bytes, so many at most; those to all bytes of a connection, and what is sent then
+  pub answers : ℕ → Hall → List ℕ → List Answer
+  pub answers_to : Hall → List ℕ → List Answer
+  pub responses_of : Hall → List ℕ → List ℕ
+  -- so many bytes of a connection count, so many requests are answered, and no answer has more bytes
+  pub input_limit : ℕ
+  pub answer_limit : ℕ
+  pub text_limit : ℕ
+
+-- the answers after one, unless it closes
+abbrev pub later_unless : {Answer : Type 0} → Bool → List Answer → List Answer
+later_unless closes later = if closes then [] else later
+
+module _ {Hall Answer : Type 0} (p : Protocol Hall Answer) where
+  -- all that is sent of an answer
+  abbrev pub text_of : Answer → List ℕ
+  text_of answer = p.head answer ++ p.body answer
+
+  -- the texts of answers, one after another
+  abbrev pub texts_of : List Answer → List ℕ
+  texts_of given = flat_map text_of given
+
+  -- whether one of them closes, which is then the last
+  abbrev pub is_closed : List Answer → Bool
+  is_closed given = list_any p.closes given
+
+  -- an answer, and those after it unless it closes
+  abbrev pub followed : Answer → List Answer → List Answer
+  followed answer later = answer ∷ later_unless (p.closes answer) later
+
+  -- The answers are those to the requests, in order: to each as soon as it is whole, whatever comes behind it, up to the first that closes.
+  -- One that is too long is the last, and so is the answer that is given as the last one. What doesn't close has bytes.
+  pub record IsOrderly : Type 0 where
+    pub none_left : (hall : Hall) (bytes : List ℕ) → p.answers 0 hall bytes ≡ []
+    pub none_yet : (left : ℕ) (hall : Hall) (bytes : List ℕ) → p.cut bytes ≡ NotYet → p.answers left hall bytes ≡ []
+    pub one_more : (left : ℕ) (hall : Hall) (bytes more : List ℕ) (len : ℕ) → 0 < left → p.cut bytes ≡ Whole len
+        → p.answers left hall (take len bytes ++ more) ≡ followed (p.answer hall (request (take len bytes)) (left == 1)) (p.answers (left - 1) hall more)
+    pub refused : (left : ℕ) (hall : Hall) (bytes more : List ℕ) → 0 < left → p.cut bytes ≡ TooLong
+        → p.answers left hall (bytes ++ more) ≡ p.answer hall too_long (left == 1) ∷ []
+    pub refusal_closes : (hall : Hall) (last : Bool) → p.closes (p.answer hall too_long last) ≡ true
+    pub last_closes : (hall : Hall) (asked : Asked) → p.closes (p.answer hall asked true) ≡ true
+    pub empty_is : (hall : Hall) (asked : Asked) (last : Bool)
+        → p.is_empty (p.answer hall asked last) ≡ (length (text_of (p.answer hall asked last)) == 0)
+    pub has_bytes : (hall : Hall) (asked : Asked) (last : Bool) → p.closes (p.answer hall asked last) ≡ false → p.is_empty (p.answer hall asked last) ≡ false
+    pub short : (hall : Hall) (asked : Asked) (last : Bool) → p.IsHall hall → length (text_of (p.answer hall asked last)) ≤ p.text_limit
+    -- those to all bytes are those to the ones that count, and the responses are their texts
+    pub all : (hall : Hall) (bytes : List ℕ) → p.answers_to hall bytes ≡ p.answers p.answer_limit hall (take p.input_limit bytes)
+    pub texts : (hall : Hall) (bytes : List ℕ) → p.responses_of hall bytes ≡ texts_of (p.answers_to hall bytes)
+    -- a connection begins without a request, and may have some bytes and an answer
+    pub nothing : p.cut [] ≡ NotYet
+    pub some_input : 0 < p.input_limit
+    pub some_answers : 0 < p.answer_limit
