@@ -37,22 +37,6 @@ use Rattle.sws_top.specs.Texts.{WritesText}
 
 -- ---- what may be called
 
-between : (low n high : ℕ) → low ≤ n → n ≤ high → is_between low n high ≡ true
-between low n high least most =
-    ap (λ b. b && nat_le n high) (le-leb low n least) ∙ ap (λ b. true && b) (le-leb n high most)
-
--- a shape of an order is in range for any run
-pub shape_fits : (shape : Shape) (total : ℕ) → IsRunShape shape → total ≤ 1024 → first_out_of_range shape (total + 2) 1 ≡ None
-shape_fits shape total is few =
-    rw (
-      between 1 shape.cores 64 is.cores.0 is.cores.1,
-      between 1 shape.shards 64 is.shards.0 is.shards.1,
-      between 1 (total + 2) 65536 (omega arith) (omega arith),
-      between 1 shape.batch 1000 is.batch.0 is.batch.1,
-      between 1 shape.group 64 is.group.0 is.group.1,
-      le-leb 1 (total + 2) (omega arith),
-    ) refl
-
 total_few : (coming : Option (List Coming)) (total : ℕ) → total_within coming total ≤ total
 total_few None total = omega arith
 total_few (Some coming) total = omega arith
@@ -64,9 +48,6 @@ module _ {W L : Type 0} (x : WorldWords W L) (before : W) (port connections : �
 
   pub opened_few : connections ≤ 1024 → (x.tells first).total ≤ 1024
   opened_few few = let most = total_few (x.tells before).coming connections in omega (arith, opened_total)
-
-  pub opened_none : (x.tells first).accepted ≡ 0
-  opened_none = ap (λ (t : WorldTells). t.accepted) listens.becomes
 
   pub opened_port : (x.tells first).port ≡ port
   opened_port = ap (λ (t : WorldTells). t.port) listens.becomes
@@ -159,15 +140,18 @@ module _ {W L T G : Type 0} (x : WorldWords W L) (l : LinkWords L) (y : TalkWord
         port_by (inl begun) last is =
             let same : first ≡ last = (let e = begun.back in cc) in ap (λ w. (x.tells w).port) (sym same) ∙ opened_port x world port connections first listens
         port_by (inr run) last is = (run.stands last is).port ∙ opened_port x world port connections first listens
+
         rose_by : ThreadsLeave x l y shape site first ended → (last : W) → ended.world ≡ Some last → ended.verdict ≡ verdict.World → Rose (x.faults world) (x.faults last)
         rose_by (inl begun) last is failed = (let other : verdict.World ≡ verdict.Memory = sym failed ∙ begun.refused in cc)
         rose_by (inr run) last is failed =
             subst (λ count. Rose count (x.faults last)) (opened_faults x world port connections first listens)
             ((run.stands last is).failed (run.world failed).1)
+
         held_by : ThreadsLeave x l y shape site first ended → (ended.verdict ≡ verdict.Ok) ⊎ (ended.verdict ≡ verdict.World) → IsSome ended.world
         held_by (inl begun) well = ap is_some begun.back
         held_by (inr run) (inl ok) = (run.ok ok).0
         held_by (inr run) (inr failed) = (run.world failed).0
+
         many_by : ThreadsLeave x l y shape site first ended → ended.verdict ≢ verdict.Memory → length ended.served.items ≡ total_within (x.tells world).coming connections
         many_by (inl begun) run = absurd (run begun.refused)
         many_by (inr ran) run = ran.many_served ∙ opened_total x world port connections first listens
@@ -196,6 +180,7 @@ text_written o out now answer bytes puts cause = record {
     ended_is put.Done = refl
     ended_is put.Failed = refl
     ended_is put.Memory = refl
+
     back : (answer : Put) → result_of answer ≡ Err Write → answer ≡ put.Failed
     back put.Done e = cc
     back put.Failed e = refl

@@ -44,7 +44,8 @@ fn answer_input<R: Source, O: Sink>(
     source: &mut R,
     out: &mut O,
 ) -> Result<(), TopFault>
-    ensures { AnswersInput R.Source O.Sink site.now source.old source.new out.old out.new (fault_of result) }
+    ensures { AnswersInput R.Source O.Sink site.now
+        source.old source.new out.old out.new (fault_of result) }
 {
     let first_source = Snapshot::of(&*source);
     let first_out = Snapshot::of(&*out);
@@ -70,11 +71,14 @@ fn serve<'f, 'p, R: Source, O: Sink>(
     requires not_shut { pipe.shut ≡ false }
     ensures same_source { result.source.ghost_name ≡ pipe.entry.source.ghost_name }
     ensures same_out { result.out.ghost_name ≡ pipe.entry.out.ghost_name }
-    ensures answered { AnswersFrom site.now (R.left pipe.entry.source.now) (R.left result.source.now) (O.written pipe.entry.out.now)
-        (O.written result.out.now) result.fault }
+    ensures answered { AnswersFrom site.now
+        (R.left pipe.entry.source.now) (R.left result.source.now)
+        (O.written pipe.entry.out.now) (O.written result.out.now) result.fault }
     ensures ends { EndsAnswering result.fault }
-    ensures read_cause { HasCause (R.faults pipe.entry.source.now) (R.faults result.source.now) (result.fault ≡ Some TopFault.ReadFault) }
-    ensures write_cause { HasCause (O.faults pipe.entry.out.now) (O.faults result.out.now) (result.fault ≡ Some TopFault.WriteFault) }
+    ensures read_cause { HasCause (R.faults pipe.entry.source.now) (R.faults result.source.now)
+        (result.fault ≡ Some TopFault.ReadFault) }
+    ensures write_cause { HasCause (O.faults pipe.entry.out.now) (O.faults result.out.now)
+        (result.fault ≡ Some TopFault.WriteFault) }
 {
     match serve_one(alloc, site, pipe) {
         Ok((pipe, end)) => {

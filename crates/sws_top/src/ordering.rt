@@ -43,34 +43,35 @@ pub fn sws<
     R: Source,
     W: World + Drop + Send,
     O: Sink,
->(
-    rt: &T,
-    words: &[String],
-    folder: &mut F,
-    source: &mut R,
-    world: W,
-    out: &mut O,
-) -> Outcome<W>
+>(rt: &T, words: &[String], folder: &mut F, source: &mut R, world: W, out: &mut O) -> Outcome<W>
 where
     W::Link: Send,
     ensures status { result.status ≡ status_of result.fault }
-    ensures usage { result.fault ≡ Some TopFault.Usage → order_of (map string_bytes words.now) ≡ None }
+    ensures usage { result.fault ≡ Some TopFault.Usage
+        → order_of (map string_bytes words.now) ≡ None }
     ensures refused { order_of (map string_bytes words.now) ≡ None
-        → IsRefused (hands folder.old source.old out.old) (hands folder.new source.new out.new) world result }
+        → IsRefused (hands folder.old source.old out.old)
+        (hands folder.new source.new out.new) world result }
     ensures ran { (order : OrderValue) → order_of (map string_bytes words.now) ≡ Some order
-        → Ran F.Folder R.Source W.World W.Link.Link O.Sink ⟦<Conn<'static, W::Link> as Talk<W::Link>>⟧
-        (hands folder.old source.old out.old) (hands folder.new source.new out.new) world result order }
+        → Ran F.Folder R.Source W.World W.Link.Link O.Sink
+        ⟦<Conn<'static, W::Link> as Talk<W::Link>>⟧
+        (hands folder.old source.old out.old) (hands folder.new source.new out.new)
+        world result order }
     ensures causes { HasCauses F.Folder R.Source W.World O.Sink
-        (hands folder.old source.old out.old) (hands folder.new source.new out.new) world result }
+        (hands folder.old source.old out.old) (hands folder.new source.new out.new)
+        world result }
 
     // words in the grammar, a site and a script within theirs and their limits, and no fault outside
     ensures complete { (order : OrderValue) → order_of (map string_bytes words.now) ≡ Some order
         → IsSound F.Folder R.Source W.World O.Sink
-        (hands folder.old source.old out.old) (hands folder.new source.new out.new) world result order
+        (hands folder.old source.old out.old) (hands folder.new source.new out.new)
+        world result order
         → NothingFailed F.Folder R.Source W.World O.Sink
-        (hands folder.old source.old out.old) (hands folder.new source.new out.new) world result
+        (hands folder.old source.old out.old) (hands folder.new source.new out.new)
+        world result
         → IsDone F.Folder R.Source W.World O.Sink
-        (hands folder.old source.old out.old) (hands folder.new source.new out.new) world result }
+        (hands folder.old source.old out.old) (hands folder.new source.new out.new)
+        world result }
 {
     match read_words(rt.alloc(), words) {
         Ok(order) => run(rt, &order, folder, source, world, out),
@@ -86,20 +87,15 @@ fn run<
     R: Source,
     W: World + Drop + Send,
     O: Sink,
->(
-    rt: &T,
-    order: &Order,
-    folder: &mut F,
-    source: &mut R,
-    world: W,
-    out: &mut O,
-) -> Outcome<W>
+>(rt: &T, order: &Order, folder: &mut F, source: &mut R, world: W, out: &mut O) -> Outcome<W>
 where
     W::Link: Send,
     requires range { IsInRange (told order.now) }
     ensures status { result.status ≡ status_of result.fault }
-    ensures ran { RanAs F.Folder R.Source W.World W.Link.Link O.Sink ⟦<Conn<'static, W::Link> as Talk<W::Link>>⟧
-        (hands folder.old source.old out.old) (hands folder.new source.new out.new) world result (told order.now) }
+    ensures ran { RanAs F.Folder R.Source W.World W.Link.Link O.Sink
+        ⟦<Conn<'static, W::Link> as Talk<W::Link>>⟧
+        (hands folder.old source.old out.old) (hands folder.new source.new out.new)
+        world result (told order.now) }
 {
     match order {
         Order::Answer { folder: path, date } => {

@@ -36,7 +36,8 @@ impl<'f, 'p, R: Source, O: Sink> Pipe<'f, 'p, R, O> {
         requires out { first_out.now.value ≡ out.old }
         ensures same_source { result.source.ghost_name ≡ source.entry.ghost_name }
         ensures same_out { result.out.ghost_name ≡ out.entry.ghost_name }
-        ensures source { (result.source.now ≡ source.old) × (result.first_source.now.value ≡ source.old) }
+        ensures source { (result.source.now ≡ source.old)
+            × (result.first_source.now.value ≡ source.old) }
         ensures out { (result.out.now ≡ out.old) × (result.first_out.now.value ≡ out.old) }
         ensures not_shut { result.shut ≡ false }
     {

@@ -45,7 +45,8 @@ pub fn replay_source<T: AllocGlobal + Threads + Wait + Sync, F: Folder, R: Sourc
     requires date { IsDate date }
     requires shape { IsRunShape how.now.shape }
     ensures { RanReplay F.Folder R.Source O.Sink (hands folder.old source.old out.old)
-        (hands folder.new source.new out.new) (fault_of result) path.now how.now.shape date how.now.journal how.now.schedule }
+        (hands folder.new source.new out.new) (fault_of result)
+        path.now how.now.shape date how.now.journal how.now.schedule }
 {
     let alloc = rt.alloc();
     let site = match open_site(alloc, path, date, folder) {
@@ -89,7 +90,8 @@ fn run_input<T: AllocGlobal + Threads + Wait + Sync, O: Sink>(
     requires shape { IsRunShape how.now.shape }
     requires input { IsInput how.now.schedule how.now.shape.cores input.now }
     requires few { length input.now.conns ≤ conn_limit }
-    ensures writes { WritesOne (IsReplayText how.now.shape how.now.journal how.now.schedule site.now input.now)
+    ensures writes { WritesOne
+        (IsReplayText how.now.shape how.now.journal how.now.schedule site.now input.now)
         (O.written out.old) (O.written out.new) result }
     ensures cause { HasCause (O.faults out.old) (O.faults out.new) (result ≡ Err RunFault.Write) }
 {

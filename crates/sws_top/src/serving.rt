@@ -46,7 +46,8 @@ where
     requires shape { IsRunShape how.now.shape }
     requires connections { IsBetween 1 1024 how.now.connections }
     ensures status { result.status ≡ status_of result.fault }
-    ensures ran { RanServe F.Folder W.World W.Link.Link O.Sink ⟦<Conn<'static, W::Link> as Talk<W::Link>>⟧
+    ensures ran { RanServe F.Folder W.World W.Link.Link O.Sink
+        ⟦<Conn<'static, W::Link> as Talk<W::Link>>⟧
         folder.old folder.new out.old out.new world result
         path.now how.now.port how.now.connections how.now.shape date }
 {
@@ -69,7 +70,8 @@ where
     requires shape { IsRunShape how.now.shape }
     requires connections { IsBetween 1 1024 how.now.connections }
     ensures status { result.status ≡ status_of result.fault }
-    ensures served { IsServeEnd W.World W.Link.Link O.Sink ⟦<Conn<'s, W::Link> as Talk<W::Link>>⟧
+    ensures served { IsServeEnd W.World W.Link.Link O.Sink
+        ⟦<Conn<'s, W::Link> as Talk<W::Link>>⟧
         out.old out.new world result how.now.port how.now.connections how.now.shape site.now }
 {
     let mut world = world;

@@ -4,17 +4,21 @@ use std::test::Fail;
 use sws_top::TopFault;
 
 /// A script of three connections, and its transcript.
-const THREE: &str = "sws-script 1\nconn\nsend GET / HTTP/1.1~Host: x~~\nconn\nsend GET /empty.css HTTP/1.1~Host: x~~\nconn\n";
+const THREE: &str =
+    "sws-script 1\nconn\nsend GET / HTTP/1.1~Host: x~~\nconn\nsend GET /empty.css HTTP/1.1~Host: x~~\nconn\n";
 
-const THREE_SHOWN: &str = "conn 0 done 79\n| HTTP/1.1 200 OK~\n| Server: sws~\n| Content-Type: text/html~\n| Content-Length: 3~\n| ~\n| hi\\n\nconn 1 done 75\n| HTTP/1.1 200 OK~\n| Server: sws~\n| Content-Type: text/css~\n| Content-Length: 0~\n| ~\nconn 2 done 0\n";
+const THREE_SHOWN: &str =
+    "conn 0 done 79\n| HTTP/1.1 200 OK~\n| Server: sws~\n| Content-Type: text/html~\n| Content-Length: 3~\n| ~\n| hi\\n\nconn 1 done 75\n| HTTP/1.1 200 OK~\n| Server: sws~\n| Content-Type: text/css~\n| Content-Length: 0~\n| ~\nconn 2 done 0\n";
 
 /// A schedule by which core 1 steals the connection, and what its replay writes.
 const STOLEN: &str = "sws-schedule 1\nstep 0 6\nstep 1 12\nend\nsws-script 1\nconn\n";
 
-const STOLEN_SHOWN: &str = "conn 0 done 0\nshard 0 22\nreg 0 0 0 2\ntake 0 0 1\nreg 1 2 0 0\nfin 0 0 1\ntake 1 1 1\nreg 0 0 1 1\nreg 2 3 0 1\nfin 1 1 1\nsteal 2 0 1\ntake 0 0 1\ntake 2 1 1\nfin 0 0 1\nreg 2 4 0 1\nfin 2 1 1\ntake 2 1 1\nreg 2 5 0 1\nfin 2 1 1\ntake 2 1 1\nreg 2 8 0 1\nfin 2 1 1\ntake 2 1 1\nfin 2 1 1\n";
+const STOLEN_SHOWN: &str =
+    "conn 0 done 0\nshard 0 22\nreg 0 0 0 2\ntake 0 0 1\nreg 1 2 0 0\nfin 0 0 1\ntake 1 1 1\nreg 0 0 1 1\nreg 2 3 0 1\nfin 1 1 1\nsteal 2 0 1\ntake 0 0 1\ntake 2 1 1\nfin 0 0 1\nreg 2 4 0 1\nfin 2 1 1\ntake 2 1 1\nreg 2 5 0 1\nfin 2 1 1\ntake 2 1 1\nreg 2 8 0 1\nfin 2 1 1\ntake 2 1 1\nfin 2 1 1\n";
 
 /// The same with two shards.
-const STOLEN_APART: &str = "conn 0 done 0\nshard 0 19\nreg 0 0 0 2\ntake 0 0 1\nfin 0 0 1\nreg 0 0 1 1\nreg 2 3 0 1\nsteal 2 0 1\ntake 0 0 1\ntake 2 1 1\nfin 0 0 1\nreg 2 4 0 1\nfin 2 1 1\ntake 2 1 1\nreg 2 5 0 1\nfin 2 1 1\ntake 2 1 1\nreg 2 8 0 1\nfin 2 1 1\ntake 2 1 1\nfin 2 1 1\nshard 1 3\nreg 1 2 0 0\ntake 1 1 1\nfin 1 1 1\n";
+const STOLEN_APART: &str =
+    "conn 0 done 0\nshard 0 19\nreg 0 0 0 2\ntake 0 0 1\nfin 0 0 1\nreg 0 0 1 1\nreg 2 3 0 1\nsteal 2 0 1\ntake 0 0 1\ntake 2 1 1\nfin 0 0 1\nreg 2 4 0 1\nfin 2 1 1\ntake 2 1 1\nreg 2 5 0 1\nfin 2 1 1\ntake 2 1 1\nreg 2 8 0 1\nfin 2 1 1\ntake 2 1 1\nfin 2 1 1\nshard 1 3\nreg 1 2 0 0\ntake 1 1 1\nfin 1 1 1\n";
 
 #[test]
 fn a_transcript_is_the_same_for_every_shape(rt: HostRuntime) -> Result<(), Fail> {

@@ -46,7 +46,14 @@ fn serve_two<T: AllocGlobal + Threads + Wait + Sync>(
 fn a_world_that_fails_ends_the_run(rt: HostRuntime) -> Result<(), Fail> {
     let summary: &[u8] = b"connections 2 done 2 idle 0 fault 0\nread 54 written 158\n";
     let sent = bytes_of(rt.alloc(), INDEX_SENT)?;
-    let rows = [(1, 6, 0), (2, 6, 0), (3, 6, 0), (4, 6, 1), (5, 6, 1), (6, 0, 2)];
+    let rows = [
+        (1, 6, 0),
+        (2, 6, 0),
+        (3, 6, 0),
+        (4, 6, 1),
+        (5, 6, 1),
+        (6, 0, 2),
+    ];
     for (failing, status, served) in rows {
         let (outcome, written) = serve_two(&rt, failing)?;
         assert_eq!(rt; outcome.status, status, "call {failing}");
@@ -73,7 +80,10 @@ fn a_world_that_fails_ends_the_run(rt: HostRuntime) -> Result<(), Fail> {
 #[test]
 fn two_workers_serve_at_once(rt: HostRuntime) -> Result<(), Fail> {
     let alloc = rt.alloc();
-    let words = words_of(alloc, "serve S --port 1 --connections 2 --workers 2 --cost 0")?;
+    let words = words_of(
+        alloc,
+        "serve S --port 1 --connections 2 --workers 2 --cost 0",
+    )?;
     let room = Room {
         clock: &rt,
         has_come: AtomicU64::new(0),

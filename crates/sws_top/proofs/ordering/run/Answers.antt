@@ -1,5 +1,24 @@
-use Rattle.std.proofs.Common.{refl}
+use Rattle.std.proofs.Common.{ℕ, List, Option, refl, sym, subst, string_bytes}
+use Rattle.sws_top.specs.declared.faults.TopFault.{TopFault}
+use Rattle.sws_top.specs.Faults.{fault_of}
+use Rattle.sws_top.specs.Hands.{hands}
+use Rattle.sws_top.specs.RanReplay.{RanReplay}
 use Rattle.sws_top.proofs.ordering.run.Goals as goal
+
+pub returns-in-Replay-clause-ran : goal.returns-in-Replay-clause-ran
+returns-in-Replay-clause-ran g c =
+    let before = hands c.args.folder.now c.args.source.now c.args.out.now in
+    let ended = c.replay_source-ended in
+    let now = hands ended.new.folder ended.new.source ended.new.out in
+    let how = c.in-Replay in
+    let outcome = c.without_run-in-Replay in
+    rw c.in-Replay.is (
+      subst (λ (fault : Option TopFault). RanReplay g.F.Folder g.R.Source g.O.Sink before now fault (string_bytes how.path) how.shape how.date how.journal how.schedule)
+          (sym outcome.ensures.fault)
+          (subst (λ (path : List ℕ). RanReplay g.F.Folder g.R.Source g.O.Sink before now (fault_of ended.result) path how.shape how.date how.journal how.schedule)
+          c.as_str-in-Replay.ensures.value ended.ensures),
+      record { none_ended = outcome.ensures.none_ended; back = outcome.ensures.back },
+    )
 
 pub returns-in-Serve-clause-ran : goal.returns-in-Serve-clause-ran
 returns-in-Serve-clause-ran g c = rw c.in-Serve.is (refl, rw c.as_str-in-Serve.ensures.value at c.serve.ensures.ran)
