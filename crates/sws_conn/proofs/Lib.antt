@@ -1,6 +1,6 @@
 mod WindowLemmas
 mod SearchLemmas
 mod LookLemmas
-mod HttpLaws
+mod LentLemmas
 pub mod PathLaws
 pub mod ResponseLaws

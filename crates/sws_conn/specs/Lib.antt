@@ -3,6 +3,7 @@ pub mod Windows
 pub mod WindowRooms
 pub mod Searches
 pub mod Http
+pub mod HttpLaws
 pub mod Standing
 pub mod Step
 pub mod Shown

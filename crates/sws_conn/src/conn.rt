@@ -11,7 +11,7 @@ ghost use Rattle.sws_conn.specs.Shown.{shown};
 ghost use Rattle.std.specs.Option.{option_copied};
 
 use crate::buffer::Buffer;
-use crate::talking::{Talking, close_step, look_step, parse_step, read_step, told, write_step};
+use crate::http::Http;
 use crate::{End, Next};
 use std::alloc::Global;
 use std::marker::Model;
@@ -19,11 +19,13 @@ use sws_answer::PathRoom;
 use sws_link::{Link, Memory};
 use sws_parts::Parts;
 use sws_site::Site;
+use sws_steps::{Talking, close_step, look_step, parse_step, read_step, told, write_step};
 
-/// A connection over a link, which does one step at a time.
+/// A connection over a link, which does one step at a time. All of it but the link lies in a box, so that little is
+/// moved where the connection is.
 #[derive(Drop)]
 pub struct Conn<'s, L: Link> {
-    talking: Talking<'s>,
+    talking: Box<Talking<Http<'s>>>,
     link: Option<L>,
 }
 
@@ -35,9 +37,9 @@ impl<'s, L: Link> Model for Conn<'s, L> {
     ghost use Rattle.sws_conn.specs.Shown.{shown};
     ghost use Rattle.sws_conn.specs.Sound.{IsSound};
 
-    ghost view = { λ conn. record { standing = shown conn.talking; link = conn.link } };
+    ghost view = { λ conn. record { standing = shown conn.talking.value; link = conn.link } };
 
-    ghost invariant = { λ conn. IsSound L.Link (record { standing = shown conn.talking; link = conn.link }) };
+    ghost invariant = { λ conn. IsSound L.Link (record { standing = shown conn.talking.value; link = conn.link }) };
 }
 
 impl<'s, L: Link + Drop> Conn<'s, L> {
@@ -50,23 +52,29 @@ impl<'s, L: Link + Drop> Conn<'s, L> {
         let buffer = Buffer::new(alloc)?;
         let room = PathRoom::new(alloc)?;
         site.limits();
-        Ok(Conn {
-            talking: Talking {
+        let talking = Talking {
+            speech: Http {
                 site,
-                pending: Next::Open,
                 buffer,
-                input_ended: false,
-                waits: 0,
                 parts: Parts::new(b"", b""),
-                closes: false,
-                answered: 0,
-                end: None,
-                read: 0,
-                written: 0,
                 room,
             },
-            link: None,
-        })
+            pending: Next::Open,
+            input_ended: false,
+            waits: 0,
+            closes: false,
+            answered: 0,
+            end: None,
+            read: 0,
+            written: 0,
+        };
+        match Box::new(alloc, talking) {
+            Ok(talking) => Ok(Conn {
+                talking,
+                link: None,
+            }),
+            Err(_) => Err(Memory),
+        }
     }
 
     /// Gives the connection its link, which isn't shut and of which nothing was taken or written; hands it back where
@@ -159,7 +167,7 @@ impl<'s, L: Link + Drop> Conn<'s, L> {
 }
 
 /// Does the pending step.
-fn step_over<L: Link>(talking: &mut Talking<'_>, link: &mut Option<L>)
+fn step_over<L: Link>(talking: &mut Talking<Http<'_>>, link: &mut Option<L>)
     requires { IsSound L.Link (record { standing = shown talking.old; link = link.old }) }
     ensures { StepsFrom L.Link (shown talking.old) (shown talking.new) talking.old.pending link.old link.new }
 {

@@ -23,10 +23,10 @@
 mod buffer;
 mod conn;
 mod conn_talk;
+mod http;
 pub mod laws;
 mod serving;
 mod talk;
-mod talking;
 #[cfg(test)]
 mod tests;
 mod window;

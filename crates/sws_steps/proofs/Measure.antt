@@ -9,7 +9,7 @@ use Rattle.sws_link.specs.declared.LinkWrite.{LinkWrite}
 use Rattle.sws_link.specs.declared.LinkWrite.TheVariants as write
 use Rattle.sws_link.specs.Links.{IsReadWithin, IsWriteWithin}
 use Rattle.sws_parts.specs.Unsent.{front_of, unsent_bytes, after_sending}
-use Rattle.sws_steps.specs.Protocol.{Protocol, IsOrderly, Cut, Whole, TooLong, NotYet, Asked, request, too_long, text_of}
+use Rattle.sws_steps.specs.Protocol.{Protocol, IsOrderly, Cut, Whole, TooLong, NotYet, request, too_long, text_of}
 use Rattle.sws_steps.specs.Standing.{is_sent, Standing}
 use Rattle.sws_steps.specs.declared.End.TheVariants as ending
 use Rattle.sws_steps.specs.declared.Next.{Next}

@@ -1,6 +1,6 @@
 -- What is known of the pending step is known of the next one too, whatever the link answers.
 use Rattle.std.specs.Prelude.{◌||◌, if◌then◌else◌}
-use Rattle.std.proofs.Common.{inl, inr, ◌≡◌, ◌≢◌, ℕ, ◌+◌, ◌<◌, Bool, true, false, nat_le, List, [], length, take, drop, refl, sym, ap, ◌∙◌, subst, arith, leb-true, leb-false, lit<}
+use Rattle.std.proofs.Common.{inl, inr, ◌≡◌, ◌≢◌, ℕ, ◌+◌, ◌<◌, Bool, true, false, nat_le, List, [], take, drop, refl, sym, ◌∙◌, subst, arith, leb-true, leb-false, lit<}
 use Rattle.std.proofs.lemmas.Bool.{eq-eqb}
 use Rattle.sws_link.specs.declared.LinkRead.{LinkRead}
 use Rattle.sws_link.specs.declared.LinkRead.TheVariants as read

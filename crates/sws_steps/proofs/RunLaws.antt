@@ -37,6 +37,31 @@ module _ {Hall Answer L : Type 0} (p : Protocol Hall Answer) (x : LinkWords L) (
     pub hall_is : conn.standing.hall ≡ hall
 
 module _ {Hall Answer : Type 0} (p : Protocol Hall Answer) (orderly : IsOrderly p) where
+  -- a connection that waits for its link
+  pub unopened-sound : {L : Type 0} (x : LinkWords L) (hall : Hall) → p.IsHall hall → IsSound p x (record { standing = unopened hall; link = None })
+  unopened-sound x hall limits = record {
+    taken = [];
+    sent = [];
+    ready = refl;
+    linked = refl;
+    shut = tt;
+    course = record {
+      consumed = [];
+      given = [];
+      taken_is = refl;
+      sent_is = refl;
+      given_first = λ more. ap (λ n. p.answers n hall more) (let whole : p.answer_limit ≡ p.answer_limit - 0 = omega arith in whole);
+      closed_is = λ closes. absurd (let no : false ≡ true = closes in cc);
+      read_is = refl;
+      written_is = refl;
+      read_few = omega arith;
+      limits = limits;
+      given_few = omega arith;
+      texts_few = omega arith;
+    };
+    told = (refl, refl);
+  }
+
   module _ {L : Type 0} (x : LinkWords L) where
     -- one more event
     runs-more : (trail : List Handler) (event : Handler) (first before after : Connection Hall L) → RunsBy p x trail first before

@@ -1,5 +1,7 @@
 pub mod Protocol
+pub mod Speaking
 pub mod Standing
+pub mod Shown
 pub mod Step
 pub mod Sound
 pub mod Outcome

@@ -7,6 +7,12 @@ pub data Cut : Type 0 where
   Whole : ℕ → Cut
   TooLong NotYet : Cut
 
+-- a request is there, whole or too long
+abbrev pub is_there : Cut → Bool
+is_there (Whole len) = true
+is_there TooLong = true
+is_there NotYet = false
+
 -- what is answered: the bytes of a whole request, or one that is too long
 pub data Asked : Type 0 where
   request : List ℕ → Asked

@@ -19,6 +19,7 @@ use Rattle.sws_steps.specs.declared.Next.{Next}
 use Rattle.sws_steps.specs.declared.Next.TheVariants as next
 use Rattle.sws_conn.specs.Step.{going_to, ending_as, still_waiting, has_all_input, room_of, after_read, after_parse, after_look, after_part, after_write, wait_limit}
 use Rattle.sws_conn.specs.Sound.{unopened}
+use Rattle.sws_steps.specs.Path.{IsPathFrom as IsPathBy}
 use Rattle.sws_conn.specs.Path.{Handler, open_link, read_piece, parse, look, write_part, resume, close, handler_of, Scripted, scripted_at, scripted_step, IsPathFrom, path_of}
 use Rattle.sws_conn.proofs.PathLaws.{path_of-path}
 use Rattle.sws_engine.specs.Handling.{number_of}
@@ -96,7 +97,7 @@ waiting_event true c event is e = other resume event e (λ k. omega (arith, k))
 waiting_event false c event is e = handler_opened c.pending event is e
 
 path_opened : (c : Scripted) (path : List Handler) → IsOpened c.standing.pending → IsPathFrom c path → HasNoOpening path
-unfolding IsPathFrom
+unfolding IsPathBy
 path_opened c [] is from = tt
 path_opened c (event ∷ later) is from = (
   waiting_event (is_waiting c.standing) c.standing event is from.0,
@@ -104,7 +105,7 @@ path_opened c (event ∷ later) is from = (
 )
 
 pub path_opens : (site : SiteFiles) (script : Script) → IsWithinLimits site.files → (later : List Handler) × (path_of site script ≡ open_link ∷ later) × HasNoOpening later
-unfolding IsPathFrom
+unfolding IsPathBy
 path_opens site script limits = by_path (path_of site script) (path_of-path site script limits)
   where
     by_path : (path : List Handler) → IsPathFrom (record { standing = unopened site; script = script }) path → (later : List Handler) × (path ≡ open_link ∷ later) × HasNoOpening later

@@ -11,6 +11,7 @@ use Rattle.sws_conn.specs.Standing.{Standing}
 use Rattle.sws_steps.specs.declared.Next.TheVariants as next
 use Rattle.sws_conn.specs.Step.{after_parse}
 use Rattle.sws_conn.specs.Sound.{unopened}
+use Rattle.sws_steps.specs.Path.{IsPathFrom as IsPathBy}
 use Rattle.sws_conn.specs.Path.{Handler, close, IsPathFrom, path_of}
 use Rattle.sws_conn.proofs.PathLaws.{path-unique, path_of-path}
 use Rattle.sws_engine.specs.ServerRun.{IsRunOfPaths}
@@ -39,7 +40,7 @@ nothing_cut =
 
 -- the path of a connection without input
 silent_path : (site : SiteFiles) → IsWithinLimits site.files → path_of site no_input ≡ silent
-unfolding IsPathFrom
+unfolding IsPathBy
 silent_path site limits =
     path-unique (record { standing = unopened site; script = no_input }) (path_of site no_input) silent (path_of-path site no_input limits) (refl, (refl, (refl, last)))
   where

@@ -1,0 +1,38 @@
+use Rattle.std.proofs.Common.{◌≡◌, ◌≤◌, ℕ, List, length, drop, sym, ap, subst, ◌∙◌, refl}
+use Rattle.std.proofs.lemmas.List.{length-take-le}
+use Rattle.sws_request.specs.declared.cuts.Cut.TheVariants.{Head}
+use Rattle.sws_request.specs.Cuts.{cut_of}
+use Rattle.sws_request.proofs.CutLaws.{IsCutOf-cut_of}
+use Rattle.sws_answer.specs.Asked.{Asked}
+use Rattle.sws_answer.specs.Answers.{Answer, answer_of}
+use Rattle.sws_steps.specs.Speaking.{AnswersFirst}
+use Rattle.sws_conn.specs.Http.{http, cut_by}
+use Rattle.sws_conn.proofs.LookLemmas.{parts-are, asked-is}
+use Rattle.sws_conn.proofs.http.HttpSpeech.answer.Goals as goal
+
+-- a head that was found lies in the buffer
+head_fits : (buffer now : List ℕ) (len : ℕ) → Head len ≡ cut_of buffer → now ≡ buffer → len ≤ length now
+head_fits buffer now len cut same = subst (λ b. len ≤ length b) (sym same) (IsCutOf-cut_of buffer (Head len) (sym cut)).0.fits
+
+pub slice_bounds-ask-end : goal.slice_bounds-ask-end
+slice_bounds-ask-end c =
+    sym (length-take-le c.in-Head.len c.bytes.result.now
+    (head_fits c.args.self.now.buffer c.bytes.result.now c.in-Head.len c.in-Head.ensures.cut (c.bytes.ensures ∙ c.in-Head.ensures.same)))
+
+pub drop_front-requires : goal.drop_front-requires
+drop_front-requires c = head_fits c.args.self.now.buffer c.cut.new.self c.in-Head.len c.in-Head.ensures.cut c.in-Head.ensures.same
+
+pub returns-in-Head-clause-answers : goal.returns-in-Head-clause-answers
+returns-in-Head-clause-answers c =
+    let before = c.args.self.now in
+    let buffer = before.buffer in
+    let len = c.in-Head.len in
+    let given = c.answer-given in
+    let asked = c.ask-asked.ensures ∙ asked-is buffer c.bytes.result.now len len (c.bytes.ensures ∙ c.in-Head.ensures.same) refl in
+    let answer_by : Asked → Answer = λ a. answer_of before.site.now a c.args.last in
+    subst (λ cut. AnswersFirst http before.site.now buffer c.args.last (cut_by cut) c.drop_front.new.self c.send.new.parts c.send.result) c.in-Head.ensures.cut (record {
+      rest_is = c.drop_front.ensures ∙ ap (drop len) c.in-Head.ensures.same;
+      parts_is = c.send.ensures.parts ∙ parts-are given.result.parts _ _
+          (given.ensures.head ∙ ap (λ a. (answer_by a).head) asked) (given.ensures.body ∙ ap (λ a. (answer_by a).body) asked);
+      closes_is = c.send.ensures.closes ∙ given.ensures.closes ∙ ap (λ a. (answer_by a).closes) asked;
+    })

@@ -1,0 +1,4 @@
+pub mod InputLemmas
+pub mod WorldLemmas
+pub mod RunLemmas
+pub mod TextLemmas

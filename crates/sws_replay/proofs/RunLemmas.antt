@@ -1,0 +1,215 @@
+-- What a run of a scripted world has served.
+use Rattle.std.proofs.Common.{◌≡◌, ◌≢◌, ℕ, zero, suc, ◌+◌, ◌<◌, Bool, true, false, true≢false, List, [], ◌∷◌, Option, None, Some, length, map, refl, sym, ap, ◌∙◌, subst, arith, inl, inr}
+use Rattle.std.specs.Prelude.{slice_get, option_map, IsSome, IsTrue}
+use Rattle.std.proofs.lemmas.List.{length-map}
+use Rattle.std.proofs.lemmas.Option.{same_Some, slice_get-map, slice_get_within}
+use Rattle.mely_event.specs.declared.colour.Colour.{Colour}
+use Rattle.mely_event.specs.declared.event.Event.{Event}
+use Rattle.mely_history.specs.History.{ran_of}
+use Rattle.mely_history.specs.Legal.{AreLegal, IsDrained}
+use Rattle.mely_history.specs.Setup.{colours_of}
+use Rattle.mely_history.specs.declared.entry.Entry.{Entry}
+use Rattle.mely_history.specs.declared.setup.Setup.{Setup}
+use Rattle.mely_history.specs.declared.shape.Shape.{Shape}
+use Rattle.mely_machine.specs.Rules.{rules_of}
+use Rattle.mely_weave.proofs.GatherLaws.{get_there}
+use Rattle.mely_weave.specs.Scene.{shard_of}
+use Rattle.sws_conn.specs.Outcome.{Outcome, outcome_of}
+use Rattle.sws_conn.specs.Path.{Handler, path_of}
+use Rattle.sws_conn.specs.Talks.{TalkView, HasServed, ServesLink, ServesTold}
+use Rattle.sws_steps.specs.declared.End.{End}
+use Rattle.sws_steps.specs.declared.End.TheVariants.{Memory}
+use Rattle.sws_conn.specs.declared.talk.Talk.{Ghosts as TalkWords}
+use Rattle.sws_engine.specs.ConnFollows.{ConnFollows}
+use Rattle.sws_engine.specs.ConnLeft.{LinkLeft, ConnLeft}
+use Rattle.sws_engine.specs.Kept.{event_for}
+use Rattle.sws_engine.specs.Loads.{IsComing, LinkStands, WorldStands}
+use Rattle.sws_engine.specs.RunLeaves.{is_out_of_memory, AreWhole, NoneOutOfMemory}
+use Rattle.sws_engine.specs.ServerRun.{server_rules}
+use Rattle.sws_engine.specs.StepsLeave.{HasNotBegun, HasRun, StepsLeave}
+use Rattle.sws_engine.specs.ThreadsLeave.{IsUnkept, HasRunThreads, ThreadsLeave}
+use Rattle.sws_engine.specs.declared.ended.Ended.{Ended}
+use Rattle.sws_engine.specs.declared.ended.Served.{Served}
+use Rattle.sws_engine.specs.declared.ended.Verdict.{Verdict}
+use Rattle.sws_engine.specs.declared.ended.Verdict.TheVariants as verdict
+use Rattle.sws_link.specs.Links.{LinkTells}
+use Rattle.sws_link.specs.MemLinks.{MemLinkState, wire_tells, mem_link_tells}
+use Rattle.sws_link.specs.MemWorlds.{MemWorldState}
+use Rattle.sws_link.specs.Scripts.{Script}
+use Rattle.sws_link.specs.Worlds.{Coming, WorldTells, untouched}
+use Rattle.sws_link.specs.declared.Link.{Ghosts as LinkWords}
+use Rattle.sws_link.specs.declared.world.World.{Ghosts as WorldWords}
+use Rattle.sws_script.specs.Scripted.{coming_of, script_of, told_of}
+use Rattle.sws_script.specs.declared.input.ScriptConn.{ScriptConn}
+use Rattle.sws_site.specs.Sites.{SiteFiles}
+use Rattle.sws_replay.specs.Histories.{colour_for, AreServed}
+use Rattle.sws_replay.specs.Runs.{IsServedAlone, ServesAll, histories_of, RunsWell}
+use Rattle.sws_replay.specs.Transcripts.{alone}
+
+-- what a map gives at a place
+map_at : {A B : Type 0} (f : A → B) (xs : List A) (k : ℕ) (a : A) → slice_get xs k ≡ Some a → slice_get (map f xs) k ≡ Some (f a)
+map_at f xs k a at = slice_get-map f xs k ∙ ap (λ o. option_map f o) at
+
+some_of : {A : Type 0} (o : Option A) → IsSome o → (a : A) × (o ≡ Some a)
+some_of None some = cc
+some_of (Some a) some = (a, refl)
+
+-- ---- one connection
+
+module _ {T G : Type 0} (x : WorldWords MemWorldState MemLinkState) (l : LinkWords MemLinkState) (y : TalkWords T MemLinkState G SiteFiles) (site : SiteFiles) (first : MemWorldState) (conns : List ScriptConn)
+    (told : x.tells first ≡ told_of conns) (link_told : (link : MemLinkState) → l.tells link ≡ mem_link_tells link) (outcome_is : (script : Script) → y.outcome site script ≡ outcome_of site script) where
+  tells_is : (link : MemLinkState) (tells : LinkTells) → l.tells link ≡ Some tells → tells ≡ wire_tells link.calls.failing link.wire
+  tells_is link tells is = same_Some tells (wire_tells link.calls.failing link.wire) (sym is ∙ link_told link)
+
+  -- the link came with the input of its connection
+  came : (i : ℕ) (conn : ScriptConn) (begun : MemLinkState) → slice_get conns i ≡ Some conn → LinkStands x l first i begun → l.tells begun ≡ Some (untouched (coming_of conn))
+  came i conn begun at stands =
+      let coming : IsComing (Some (map coming_of conns)) i (l.tells begun) = subst (λ (t : WorldTells). IsComing t.coming i (l.tells begun)) told stands.coming in
+      let same : coming.0 ≡ coming_of conn = same_Some coming.0 (coming_of conn) (sym coming.1 ∙ map_at coming_of conns i conn at) in
+      coming.2 ∙ ap (λ (c : Coming). Some (untouched c)) same
+
+  -- what was taken and written of it, by the counts
+  served_link : (i : ℕ) (conn : ScriptConn) (link : MemLinkState) (view : TalkView) → slice_get conns i ≡ Some conn → LinkLeft x l y site first i (Some link) view
+      → ServesLink (y.responses site) (untouched (coming_of conn)) (wire_tells link.calls.failing link.wire) view
+  served_link i conn link view at left =
+      let serves : ServesTold (y.responses site) (Some (untouched (coming_of conn))) (l.tells link) view =
+      subst (λ (t : Option LinkTells). ServesTold (y.responses site) t (l.tells link) view) (came i conn left.0 at left.1) left.2.told in
+      subst (λ (t : LinkTells). ServesLink (y.responses site) (untouched (coming_of conn)) t view) (tells_is link serves.0 serves.1) serves.2
+
+  not_memory : (end : End) → is_out_of_memory (Some end) ≡ false → end ≢ Memory
+  not_memory end enough same = true≢false (ap (λ (e : End). is_out_of_memory (Some e)) (sym same) ∙ enough)
+
+  pub served_alone : (i : ℕ) (conn : ScriptConn) (s : Served MemLinkState) (trail : List Event) → slice_get conns i ≡ Some conn → ConnLeft x l y site first i trail s → ConnFollows l y site i (script_of conn) trail s
+      → is_out_of_memory s.end ≡ false → IsServedAlone site conn s
+  served_alone i conn s trail at left follows enough =
+      let view : TalkView = y.view_of left.seat.talk in
+      let link : MemLinkState = follows.link in
+      let serves = served_link i conn link view at (subst (λ (o : Option MemLinkState). LinkLeft x l y site first i o view) follows.there left.link) in
+      let end_is : s.end ≡ Some (alone site conn).end = follows.end ∙ ap (λ (o : Outcome). Some o.end) (outcome_is (script_of conn)) in
+      record {
+        link = link;
+        there = follows.there;
+        end = end_is;
+        fine = not_memory (alone site conn).end (ap (λ (e : Option End). is_out_of_memory e) (sym end_is) ∙ enough);
+        bytes = ap (λ (t : LinkTells). t.written) (sym (tells_is link follows.tells follows.told)) ∙ follows.bytes ∙ ap (λ (o : Outcome). o.bytes) (outcome_is (script_of conn));
+        written = left.written ∙ serves.written (inr refl);
+        few_written = left.few_written;
+        read = left.read ∙ serves.read;
+        few_read = left.few_read;
+        input = serves.input;
+      }
+
+-- ---- all of them
+
+module _ {T G : Type 0} (x : WorldWords MemWorldState MemLinkState) (l : LinkWords MemLinkState) (y : TalkWords T MemLinkState G SiteFiles) (site : SiteFiles) (shape : Shape) (first : MemWorldState) (conns : List ScriptConn) (ended : Ended MemWorldState MemLinkState)
+    (told : x.tells first ≡ told_of conns) (link_told : (link : MemLinkState) → l.tells link ≡ mem_link_tells link) (outcome_is : (script : Script) → y.outcome site script ≡ outcome_of site script)
+    (path_is : (script : Script) → y.path site script ≡ path_of site script) (well : ended.verdict ≡ verdict.Ok) (many_served : length ended.served.items ≡ (x.tells first).total) (many_trails : length ended.trails.items ≡ (x.tells first).total + 2)
+    (enough : NoneOutOfMemory ended.served.items) (left : (i : ℕ) (s : Served MemLinkState) (trail : List Event) → slice_get ended.served.items i ≡ Some s → slice_get (map (λ t. t.items) ended.trails.items) (i + 2) ≡ Some trail → ConnLeft x l y site first i trail s)
+    (follows : (coming : List Coming) (one : Coming) (script : Script) (i : ℕ) (s : Served MemLinkState) (trail : List Event) → (x.tells first).coming ≡ Some coming → slice_get coming i ≡ Some one → one.answers ≡ Some script
+    → slice_get ended.served.items i ≡ Some s → slice_get (map (λ t. t.items) ended.trails.items) (i + 2) ≡ Some trail → ConnFollows l y site i script trail s) where
+  total_is : (x.tells first).total ≡ length conns
+  total_is = ap (λ (t : WorldTells). t.total) told
+
+  trail_at : (i : ℕ) → i < length conns → (trail : List Event) × (slice_get (map (λ t. t.items) ended.trails.items) (i + 2) ≡ Some trail)
+  trail_at i low =
+      let there = get_there ended.trails.items (i + 2) (omega (arith, low, many_trails, total_is)) in
+      (there.0.items, map_at (λ t. t.items) ended.trails.items (i + 2) there.0 there.1)
+
+  served_at : (i : ℕ) → i < length conns → (s : Served MemLinkState) × (slice_get ended.served.items i ≡ Some s)
+  served_at i low = get_there ended.served.items i (omega (arith, low, many_served, total_is))
+
+  followed : (i : ℕ) (conn : ScriptConn) (s : Served MemLinkState) (trail : List Event) → slice_get conns i ≡ Some conn → slice_get ended.served.items i ≡ Some s → slice_get (map (λ t. t.items) ended.trails.items) (i + 2) ≡ Some trail
+      → ConnFollows l y site i (script_of conn) trail s
+  followed i conn s trail at there ran = follows (map coming_of conns) (coming_of conn) (script_of conn) i s trail (ap (λ (t : WorldTells). t.coming) told) (map_at coming_of conns i conn at) refl there ran
+
+  pub serves_all : ServesAll site conns ended
+  serves_all = record {
+    well = well;
+    many = many_served ∙ total_is;
+    each = λ i conn s at there.
+        let trail = trail_at i (slice_get_within conns i conn at) in
+        served_alone x l y site first conns told link_told outcome_is i conn s trail.0 at (left i s trail.0 there trail.1) (followed i conn s trail.0 at there trail.1) (enough i s there);
+  }
+
+  -- what was run of a connection is its path
+  pub path_ran : (setup : Setup)
+      → ((c : Colour) (history : List Entry) (trail : List Event) → slice_get (map (λ t. t.items) ended.trails.items) c.0 ≡ Some trail → slice_get (histories_of ended) (shard_of setup c) ≡ Some history → trail ≡ ran_of history c)
+      → (i : ℕ) (conn : ScriptConn) (history : List Entry) → slice_get conns i ≡ Some conn → slice_get (histories_of ended) (shard_of setup (colour_for i)) ≡ Some history
+      → ran_of history (colour_for i) ≡ map (event_for i) (path_of site (script_of conn))
+  path_ran setup trailed i conn history at there =
+      let low = slice_get_within conns i conn at in
+      let trail = trail_at i low in
+      let s = served_at i low in
+      sym (trailed (colour_for i) history trail.0 trail.1 there) ∙ (followed i conn s.0 trail.0 at s.1 trail.1).path ∙ ap (λ (p : List Handler). map (event_for i) p) (path_is (script_of conn))
+
+-- ---- whole runs
+
+ok≢memory : verdict.Ok ≢ verdict.Memory
+ok≢memory same = cc
+
+pub threads_run_well : {T G : Type 0} (x : WorldWords MemWorldState MemLinkState) (l : LinkWords MemLinkState) (y : TalkWords T MemLinkState G SiteFiles) (site : SiteFiles) (shape : Shape) (first : MemWorldState) (conns : List ScriptConn) (ended : Ended MemWorldState MemLinkState)
+    → ThreadsLeave x l y shape site first ended → IsUnkept y → x.tells first ≡ told_of conns → ((link : MemLinkState) → l.tells link ≡ mem_link_tells link) → ((script : Script) → y.outcome site script ≡ outcome_of site script)
+    → ((script : Script) → y.path site script ≡ path_of site script) → ended.verdict ≡ verdict.Ok → RunsWell site shape conns ended
+threads_run_well x l y site shape first conns ended (inl refused) unkept told link_told outcome_is path_is well = absurd (ok≢memory (sym well ∙ refused.refused))
+threads_run_well x l y site shape first conns ended (inr run) unkept told link_told outcome_is path_is well =
+    let enough = (run.ok well).3 in
+    record {
+      serves = serves_all x l y site shape first conns ended told link_told outcome_is path_is well run.many_served run.many_trails enough run.conn (run.follows unkept well);
+      served = record {
+        setup = run.setup;
+        rules = run.rules;
+        colours = run.colours ∙ ap (λ (t : WorldTells). t.total + 2) told;
+        shards = run.shards;
+        legal = run.legal;
+        drained = run.drained (λ same. ok≢memory (sym well ∙ same));
+        paths = path_ran x l y site shape first conns ended told link_told outcome_is path_is well run.many_served run.many_trails enough run.conn (run.follows unkept well) run.setup run.trailed;
+      };
+    }
+
+pub steps_run_well : {T G : Type 0} (x : WorldWords MemWorldState MemLinkState) (l : LinkWords MemLinkState) (y : TalkWords T MemLinkState G SiteFiles) (site : SiteFiles) (shape : Shape) (first : MemWorldState) (conns : List ScriptConn) (ended : Ended MemWorldState MemLinkState)
+    → StepsLeave x l y shape site first ended → x.tells first ≡ told_of conns → ((link : MemLinkState) → l.tells link ≡ mem_link_tells link) → ((script : Script) → y.outcome site script ≡ outcome_of site script)
+    → ((script : Script) → y.path site script ≡ path_of site script) → ended.verdict ≡ verdict.Ok → RunsWell site shape conns ended
+steps_run_well x l y site shape first conns ended (inl refused) told link_told outcome_is path_is well = absurd (ok≢memory (sym well ∙ refused.refused))
+steps_run_well x l y site shape first conns ended (inr run) told link_told outcome_is path_is well =
+    let enough = (run.ok well).3 in
+    record {
+      serves = serves_all x l y site shape first conns ended told link_told outcome_is path_is well run.many_served run.many_trails enough run.conn (run.follows well);
+      served = record {
+        setup = run.setup;
+        rules = run.rules;
+        colours = run.colours ∙ ap (λ (t : WorldTells). t.total + 2) told;
+        shards = run.shards;
+        legal = run.legal;
+        drained = run.drained (λ same. ok≢memory (sym well ∙ same));
+        paths = path_ran x l y site shape first conns ended told link_told outcome_is path_is well run.many_served run.many_trails enough run.conn (run.follows well) run.setup run.trailed;
+      };
+    }
+
+-- a scripted world doesn't fail
+no_fault : (x : WorldWords MemWorldState MemLinkState) (l : LinkWords MemLinkState) (first : MemWorldState) (conns : List ScriptConn) (ended : Ended MemWorldState MemLinkState) → x.tells first ≡ told_of conns → IsSome ended.world → ended.failed ≡ true
+    → ((world : MemWorldState) → ended.world ≡ Some world → WorldStands x l first (record { world = world; accepted = ended.accepted; failed = ended.failed })) → ⊥
+no_fault x l first conns ended told some failed stands =
+    let world = some_of ended.world some in
+    true≢false (sym failed ∙ (stands world.0 world.1).sure (subst (λ (t : WorldTells). IsTrue t.scripted) (sym told) refl))
+
+world≢memory : verdict.World ≢ verdict.Memory
+world≢memory same = cc
+
+apart≢memory : (conn : ℕ) → verdict.Apart conn ≢ verdict.Memory
+apart≢memory conn same = cc
+
+pub threads_keep_the_world : {T G : Type 0} (x : WorldWords MemWorldState MemLinkState) (l : LinkWords MemLinkState) (y : TalkWords T MemLinkState G SiteFiles) (site : SiteFiles) (shape : Shape) (first : MemWorldState) (conns : List ScriptConn) (ended : Ended MemWorldState MemLinkState)
+    → ThreadsLeave x l y shape site first ended → x.tells first ≡ told_of conns → ended.verdict ≡ verdict.World → ⊥
+threads_keep_the_world x l y site shape first conns ended (inl refused) told gone = world≢memory (sym gone ∙ refused.refused)
+threads_keep_the_world x l y site shape first conns ended (inr run) told gone = no_fault x l first conns ended told (run.world gone).0 (run.world gone).1 run.stands
+
+pub steps_keep_the_world : {T G : Type 0} (x : WorldWords MemWorldState MemLinkState) (l : LinkWords MemLinkState) (y : TalkWords T MemLinkState G SiteFiles) (site : SiteFiles) (shape : Shape) (first : MemWorldState) (conns : List ScriptConn) (ended : Ended MemWorldState MemLinkState)
+    → StepsLeave x l y shape site first ended → x.tells first ≡ told_of conns → ended.verdict ≡ verdict.World → ⊥
+steps_keep_the_world x l y site shape first conns ended (inl refused) told gone = world≢memory (sym gone ∙ refused.refused)
+steps_keep_the_world x l y site shape first conns ended (inr run) told gone = no_fault x l first conns ended told (run.world gone).0 (run.world gone).1 run.stands
+
+-- a weave misses nothing
+pub steps_miss_nothing : {T G : Type 0} (x : WorldWords MemWorldState MemLinkState) (l : LinkWords MemLinkState) (y : TalkWords T MemLinkState G SiteFiles) (site : SiteFiles) (shape : Shape) (first : MemWorldState) (ended : Ended MemWorldState MemLinkState)
+    → StepsLeave x l y shape site first ended → (conn : ℕ) → ended.verdict ≡ verdict.Apart conn → ⊥
+steps_miss_nothing x l y site shape first ended (inl refused) conn apart = apart≢memory conn (sym apart ∙ refused.refused)
+steps_miss_nothing x l y site shape first ended (inr run) conn apart = run.never_apart conn apart

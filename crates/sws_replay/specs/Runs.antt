@@ -1,0 +1,46 @@
+-- What a run of scripted connections leaves, where it ends well.
+use Rattle.std.specs.Prelude.{◌≡◌, ◌≢◌, ◌≤◌, ◌<◌, ◌^◌, ◌++◌, ℕ, List, Some, length, map, slice_get}
+use Rattle.mely_history.specs.declared.entry.Entry.{Entry}
+use Rattle.mely_history.specs.declared.shape.Shape.{Shape}
+use Rattle.sws_steps.specs.declared.End.TheVariants.{Memory}
+use Rattle.sws_engine.specs.declared.ended.Ended.{Ended}
+use Rattle.sws_engine.specs.declared.ended.Served.{Served}
+use Rattle.sws_engine.specs.declared.ended.Verdict.TheVariants as verdict
+use Rattle.sws_link.specs.LinkItems.{all_bytes}
+use Rattle.sws_link.specs.MemLinks.{MemLinkState}
+use Rattle.sws_link.specs.MemWorlds.{MemWorldState}
+use Rattle.sws_script.specs.Scripted.{script_of}
+use Rattle.sws_script.specs.declared.input.ScriptConn.{ScriptConn}
+use Rattle.sws_site.specs.Sites.{SiteFiles}
+use Rattle.sws_replay.specs.Histories.{AreServed}
+use Rattle.sws_replay.specs.Transcripts.{alone}
+
+-- the connection was served as if it were alone
+pub record IsServedAlone (site : SiteFiles) (conn : ScriptConn) (s : Served MemLinkState) : Type 0 where
+  pub link : MemLinkState
+  pub there : s.link ≡ Some link
+  -- its end and what was written are those of its outcome, in which memory doesn't occur
+  pub end : s.end ≡ Some (alone site conn).end
+  pub fine : (alone site conn).end ≢ Memory
+  pub bytes : link.wire.written ≡ (alone site conn).bytes
+  -- the counts are those of what was written and taken, and what was taken and is left is all that its lines give
+  pub written : s.written ≡ length link.wire.written
+  pub few_written : s.written < 2 ^ 40
+  pub read : s.read ≡ length link.wire.input.taken
+  pub few_read : s.read ≤ 65536
+  pub input : link.wire.input.taken ++ all_bytes link.wire.input.items ≡ all_bytes (script_of conn).items
+
+-- the run went well: each connection was served as if it were alone
+pub record ServesAll (site : SiteFiles) (conns : List ScriptConn) (ended : Ended MemWorldState MemLinkState) : Type 0 where
+  pub well : ended.verdict ≡ verdict.Ok
+  pub many : length ended.served.items ≡ length conns
+  pub each : (i : ℕ) (conn : ScriptConn) (s : Served MemLinkState) → slice_get conns i ≡ Some conn → slice_get ended.served.items i ≡ Some s → IsServedAlone site conn s
+
+-- the entries of each shard
+abbrev pub histories_of : Ended MemWorldState MemLinkState → List (List Entry)
+histories_of ended = map (λ history. history.items) ended.histories.items
+
+-- and the histories are those of a server that has served them
+pub record RunsWell (site : SiteFiles) (shape : Shape) (conns : List ScriptConn) (ended : Ended MemWorldState MemLinkState) : Type 0 where
+  pub serves : ServesAll site conns ended
+  pub served : AreServed site shape conns (histories_of ended)

@@ -1,0 +1,26 @@
+-- What is shown of a connection that has ended with its link.
+use Rattle.std.specs.Prelude.{◌≡◌, ◌≢◌, ℕ, List, [], Option, Some, None}
+use Rattle.sws_steps.specs.declared.End.{End}
+use Rattle.sws_steps.specs.declared.End.TheVariants.{Done, Memory}
+use Rattle.sws_engine.specs.declared.ended.Served.{Served}
+use Rattle.sws_link.specs.MemLinks.{MemLinkState}
+
+-- it has its link and an end other than want of memory
+pub record IsShowable (s : Served MemLinkState) : Type 0 where
+  pub link : MemLinkState
+  pub there : s.link ≡ Some link
+  pub end : End
+  pub is : s.end ≡ Some end
+  pub fine : end ≢ Memory
+
+abbrev pub shown_bytes : Option MemLinkState → List ℕ
+shown_bytes None = []
+shown_bytes (Some link) = link.wire.written
+
+abbrev pub shown_end : Option End → End
+shown_end None = Done
+shown_end (Some end) = end
+
+-- its end, and what was written
+abbrev pub shown_of : Served MemLinkState → End × List ℕ
+shown_of s = (shown_end s.end, shown_bytes s.link)

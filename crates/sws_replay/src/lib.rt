@@ -1,0 +1,30 @@
+//! A script run over a site, and what is written of that run.
+//!
+//! [`replay`] serves the connections of a script on threads and writes their transcript, which is the same for every number of
+//! workers and shards: each connection is served as if it were alone. With the journal it writes the entries of each shard as well.
+//! [`replay_by_schedule`] runs the same connections on one thread, by a schedule that says which core makes a step, and writes the
+//! one text of that schedule. [`run_script`] is the run alone, for whoever counts what it leaves.
+//!
+//! Nothing is written before a run has ended well. A run on threads tests on what it left what no contract says of running threads:
+//! that each connection met its link and the events that were due. Where that test fails, the connections are run again by
+//! one thread, of which it is proved.
+//!
+//! ```text
+//! let input = parse(alloc, &mut source, false, 1)?;
+//! replay(&rt, alloc, &site, &shape, input.conns.as_slice(), false, &mut sink)?;
+//! // conn 0 done 79
+//! // | HTTP/1.1 200 OK~
+//! // ..
+//! ```
+#![tactic(auto)]
+
+mod fault;
+mod replaying;
+mod running;
+#[cfg(test)]
+mod tests;
+mod writing;
+
+pub use fault::RunFault;
+pub use replaying::{replay, replay_by_schedule};
+pub use running::run_script;

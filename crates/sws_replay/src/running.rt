@@ -1,0 +1,97 @@
+//! A script run over a site, by threads or by a schedule.
+ghost use Rattle.std.specs.Prelude.{◌≡◌, ◌≤◌, ◌<◌, ◌+◌, ◌^◌, All, None, IfOk, IfErr, length, map, sum_by};
+ghost use Rattle.mely_history.specs.Setup.{first_out_of_range};
+ghost use Rattle.sws_engine.specs.ServerRun.{IsServerRun};
+ghost use Rattle.sws_link.specs.MemWorlds.{mem_world_tells};
+ghost use Rattle.sws_script.specs.Scripted.{script_of, told_of};
+ghost use Rattle.sws_replay.specs.OfInput.{AreOfInput};
+ghost use Rattle.sws_replay.specs.Runs.{RunsWell, histories_of};
+
+use crate::fault::RunFault;
+use mely_history::Shape;
+use mely_worker::OpenGate;
+use std::alloc::Global;
+use std::sync::Wait;
+use std::thread::Threads;
+use sws_engine::{Ended, Verdict, serve_all, serve_steps};
+use sws_link::MemWorld;
+use sws_script::{ScriptConn, script_world};
+use sws_site::Site;
+
+/// Serves the connections of a script out of a site, with a thread for each worker, and gives what the run leaves. It need not
+/// return.
+///
+/// However the threads run, each connection is served as if it were alone.
+///
+/// # Errors
+///
+/// `Memory` where an allocation was refused. There is no other.
+pub fn run_script<R: Threads + Wait + Sync>(
+    rt: &R,
+    alloc: Global,
+    site: &Site,
+    shape: &Shape,
+    conns: &[ScriptConn],
+) -> Result<Ended<MemWorld>, RunFault>
+    requires shape { first_out_of_range shape.now (length conns.now + 2) 1 ≡ None }
+    requires few { length conns.now ≤ 1024 }
+    requires conns { AreOfInput conns.now }
+    ensures ran { IfOk result (λ ended. RunsWell site.now shape.now conns.now ended) }
+    ensures refused { IfErr result (λ fault. fault ≡ RunFault.Memory) }
+{
+    let world = make_world(alloc, conns)?;
+    let ended = serve_all(rt, alloc, site, shape, world, &OpenGate);
+    match ended.verdict {
+        Verdict::Ok => Ok(ended),
+        Verdict::Memory => Err(RunFault::Memory),
+        // What threads may miss is proved of a weave.
+        Verdict::Apart { .. } => run_steps(rt, alloc, site, shape, conns, &[]),
+        Verdict::World => unreachable!(),
+    }
+}
+
+/// Serves the connections of a script out of a site on one thread: the schedule's steps of each core, and then rounds of one step
+/// a core until nothing is left. It need not return.
+///
+/// # Errors
+///
+/// `Memory` where an allocation was refused. There is no other.
+pub fn run_steps<R: Wait>(
+    rt: &R,
+    alloc: Global,
+    site: &Site,
+    shape: &Shape,
+    conns: &[ScriptConn],
+    schedule: &[(u16, u32)],
+) -> Result<Ended<MemWorld>, RunFault>
+    requires shape { first_out_of_range shape.now (length conns.now + 2) 1 ≡ None }
+    requires few { length conns.now ≤ 1024 }
+    requires conns { AreOfInput conns.now }
+    requires cores { All (λ part. part.0 < shape.now.cores) schedule.now }
+    requires count { sum_by (λ part. part.1) schedule.now < 2 ^ 64 }
+    ensures ran { IfOk result (λ ended. RunsWell site.now shape.now conns.now ended) }
+    ensures scheduled { IfOk result (λ ended.
+        IsServerRun shape.now site.now (map script_of conns.now) schedule.now (histories_of ended)) }
+    ensures refused { IfErr result (λ fault. fault ≡ RunFault.Memory) }
+{
+    let world = make_world(alloc, conns)?;
+    let ended = serve_steps(rt, alloc, site, shape, world, schedule);
+    match ended.verdict {
+        Verdict::Ok => Ok(ended),
+        Verdict::Memory => Err(RunFault::Memory),
+        Verdict::World | Verdict::Apart { .. } => unreachable!(),
+    }
+}
+
+/// The world of the connections.
+fn make_world(alloc: Global, conns: &[ScriptConn]) -> Result<MemWorld, RunFault>
+    requires few { length conns.now ≤ 1024 }
+    requires conns { AreOfInput conns.now }
+    ensures tells { IfOk result (λ world. mem_world_tells world ≡ told_of conns.now) }
+    ensures refused { IfErr result (λ fault. fault ≡ RunFault.Memory) }
+{
+    match script_world(alloc, conns) {
+        Ok(world) => Ok(world),
+        Err(_) => Err(RunFault::Memory),
+    }
+}

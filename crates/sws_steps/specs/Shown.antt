@@ -1,0 +1,19 @@
+-- How a connection is kept.
+use Rattle.sws_steps.specs.declared.speech.Speech.{Ghosts as SpeechWords}
+use Rattle.sws_steps.specs.declared.talking.Talking.{Talking}
+use Rattle.sws_steps.specs.Standing.{Standing}
+
+abbrev pub shown : {S C : Type 0} → SpeechWords S C → Talking S → Standing C
+shown y talking = record {
+  hall = y.hall_of talking.speech;
+  pending = talking.pending;
+  buffer = y.bytes_of talking.speech;
+  input_ended = talking.input_ended;
+  waits = talking.waits;
+  parts = y.parts_of talking.speech;
+  closes = talking.closes;
+  answered = talking.answered;
+  end = talking.end;
+  read = talking.read;
+  written = talking.written;
+}
