@@ -1,29 +1,41 @@
-//! `engine_loop CONNECTIONS REQUESTS WORKERS`: connections over links in memory, served by the runtime on one thread.
+//! `engine_loop KIND CONNECTIONS REQUESTS WORKERS SHARDS`: connections over links in memory, served by the runtime.
 //!
-//! Each of so many links gives so many heads of a browser in one piece, and all are served by so many workers, a step of each in
-//! turn. It prints how many bytes were written. It is the smallest program that uses the engine, and what an event of it is
-//! measured by, beside `conn_loop`, which serves the same heads without a runtime.
+//! Each of so many links gives so many heads of a browser in one piece, and all are served by so many workers over so many
+//! shards. KIND is `steps`, where one thread makes a step of each worker in turn, or `threads`, where each worker has a thread
+//! of its own. It prints how many bytes were written. It is the smallest program that uses the engine, and what an event of it
+//! is measured by, beside `conn_loop`, which serves the same heads without a runtime.
 #![tactic(auto)]
 
 mod serving;
 
-use serving::Order;
+use serving::{Kind, Order};
 use std::process::ExitCode;
 use std::{env, io};
 
-/// The three numbers of the command line.
+/// How the command line says that the workers run.
+fn kind_of(word: &str) -> Option<Kind> {
+    match word {
+        "steps" => Some(Kind::Steps),
+        "threads" => Some(Kind::Threads),
+        _ => None,
+    }
+}
+
+/// The kind and the four numbers of the command line.
 fn order(rt: &HostRuntime) -> Option<Order> {
     let mut words = env::args(rt).ok()?.skip(1);
     Some(Order {
+        kind: kind_of(words.next()?.as_str())?,
         connections: words.next()?.as_str().parse::<u16>().ok()?,
         requests: words.next()?.as_str().parse::<u16>().ok()?,
         workers: words.next()?.as_str().parse::<u16>().ok()?,
+        shards: words.next()?.as_str().parse::<u16>().ok()?,
     })
 }
 
 fn main(rt: HostRuntime) -> io::Result<ExitCode> {
     let Some(order) = order(&rt) else {
-        eprintln!(rt; "usage: engine_loop CONNECTIONS REQUESTS WORKERS")?;
+        eprintln!(rt; "usage: engine_loop steps|threads CONNECTIONS REQUESTS WORKERS SHARDS")?;
         return Ok(ExitCode::from(2));
     };
     match serving::run(&rt, rt.alloc(), &order) {

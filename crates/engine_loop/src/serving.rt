@@ -5,18 +5,32 @@ ghost use Rattle.sws_link.specs.MemWorlds.{IsFreshMemLink};
 
 use mely_event::Handlers;
 use mely_history::{Setup, Shape};
+use mely_worker::OpenGate;
 use std::alloc::Global;
 use std::sync::Wait;
-use sws_engine::{Verdict, serve_steps};
+use std::thread::Threads;
+use sws_engine::{Verdict, serve_all, serve_steps};
 use sws_link::{Link, LinkItem, MemLink, MemWorld, SureFolder, World};
 use sws_site::Site;
 
-/// How many connections there are, how many requests each sends, and how many workers serve them.
+/// How the workers run.
+#[derive(Clone, Copy, Debug, PartialEq, Eq)]
+pub enum Kind {
+    /// One thread makes a step of each in turn.
+    Steps,
+
+    /// Each has a thread of its own.
+    Threads,
+}
+
+/// How many connections there are, how many requests each sends, and how many workers serve them over how many shards.
 #[derive(Drop)]
 pub struct Order {
+    pub kind: Kind,
     pub connections: u16,
     pub requests: u16,
     pub workers: u16,
+    pub shards: u16,
 }
 
 /// What a browser asks for the page of a folder.
@@ -64,7 +78,7 @@ fn links_of(alloc: Global, connections: u16, requests: u16) -> Option<Vec<MemLin
 
 /// Serves all of them, and answers how many bytes were written in all; nothing for want of memory, or where a number is out of
 /// its range.
-pub fn run<R: Wait>(rt: &R, alloc: Global, order: &Order) -> Option<u64> {
+pub fn run<R: Threads + Wait + Sync>(rt: &R, alloc: Global, order: &Order) -> Option<u64> {
     if order.connections > 1024 {
         return None;
     }
@@ -75,7 +89,7 @@ pub fn run<R: Wait>(rt: &R, alloc: Global, order: &Order) -> Option<u64> {
     );
     let shape = Shape {
         cores: order.workers,
-        shards: 1,
+        shards: order.shards,
         batch: 10,
         steal_cost: 20,
         group: 4,
@@ -84,7 +98,10 @@ pub fn run<R: Wait>(rt: &R, alloc: Global, order: &Order) -> Option<u64> {
     let Ok(_) = Setup::new(&shape, u32::from(world.total()) + 2, handlers, 1) else {
         return None;
     };
-    let ended = serve_steps(rt, alloc, &site, &shape, world, &[]);
+    let ended = match order.kind {
+        Kind::Steps => serve_steps(rt, alloc, &site, &shape, world, &[]),
+        Kind::Threads => serve_all(rt, alloc, &site, &shape, world, &OpenGate),
+    };
     if ended.verdict != Verdict::Ok {
         return None;
     }

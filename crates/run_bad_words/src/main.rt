@@ -5,5 +5,5 @@ use std::process::ExitCode;
 use sws_command::command;
 
 fn main(rt: HostRuntime) -> ExitCode {
-    command(&rt)
+    command(&rt, &rt)
 }

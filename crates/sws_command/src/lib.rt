@@ -1,29 +1,42 @@
-//! The command `sws` on the machine: its words, its folder, standard input and output, and what it says of a fault.
+//! The command `sws` on the machine: its words, its folder, standard input and output, a port, and what it says of a fault.
 //!
 //! A program whose `main` is [`command`] is the command. `sws_main` is the one that users have; others beside it run it on
 //! data of their own, since a program has one stored run.
 //!
 //! ```text
-//! sws answer FOLDER [--date SECONDS]     the responses to the bytes of standard input, out of the files below a folder
+//! sws answer FOLDER [--date SECONDS]              the responses to the bytes of standard input, out of the files below a folder
+//! sws replay FOLDER [..] [--journal] [--schedule] the connections of a script on standard input, and what each is sent
+//! sws serve FOLDER --port P --connections N [..]  so many connections to a TCP port, and then a summary
+//! sws bench N NUMBER [..]                         so many connections of a generated script, and then a summary
 //! ```
 #![tactic(auto)]
 
+mod announced;
+
+use crate::announced::{Announced, line_of};
 use std::io::ErrorKind;
 use std::process::ExitCode;
+use std::sync::Wait;
+use std::thread::Threads;
 use std::{env, io};
-use sws_net::{FileFolder, Output, StdSink, StdSource};
-use sws_top::{Outcome, TopFault, sws};
+use sws_net::{FileFolder, Output, StdSink, StdSource, TcpWorld};
+use sws_top::{TopFault, sws};
+use sws_words::{WordFault, read_words};
 
-/// Runs the command on the machine. The fault of a run is said on standard error, in a line, and the status is the run's.
-pub fn command(rt: &HostRuntime) -> ExitCode {
-    let outcome = match words(rt) {
-        Ok(words) => run(rt, &words),
-        Err(fault) => Outcome::of(Err(fault)),
+/// Runs the command on the machine, with threads of the second handle, which is the same runtime: only where a program begins does
+/// it have threads to give. The fault of a run is said on standard error, in a line, and the status is the run's.
+pub fn command<T: AllocGlobal + Threads + Wait + Sync>(rt: &HostRuntime, threads: &T) -> ExitCode {
+    let fault = match words(rt) {
+        Ok(words) => run(rt, threads, &words),
+        Err(fault) => Some(fault),
     };
-    if let Some(fault) = outcome.fault {
-        let _ = eprintln!(rt; "{fault}");
+    match fault {
+        None => ExitCode::SUCCESS,
+        Some(fault) => {
+            let _ = eprintln!(rt; "{fault}");
+            ExitCode::from(fault.status())
+        }
     }
-    ExitCode::from(outcome.status)
 }
 
 /// The words behind the program's name. A word that is not UTF-8 is part of no command line.
@@ -42,17 +55,27 @@ fn words(rt: &HostRuntime) -> Result<Vec<String>, TopFault> {
     Ok(words)
 }
 
-/// Runs the command on the machine's files and streams.
-fn run(rt: &HostRuntime, words: &[String]) -> Outcome {
-    let Ok(output) = Output::new(rt.alloc(), io::writer(rt)) else {
-        return Outcome::of(Err(TopFault::Memory));
+/// Runs the command on the machine's files, streams and sockets, and answers its fault, if it has one.
+fn run<T: AllocGlobal + Threads + Wait + Sync>(
+    rt: &HostRuntime,
+    threads: &T,
+    words: &[String],
+) -> Option<TopFault> {
+    let line = match read_words(rt.alloc(), words) {
+        Ok(order) => line_of(rt.alloc(), &order),
+        Err(WordFault::Usage) => return Some(TopFault::Usage),
+        Err(WordFault::Memory) => return Some(TopFault::Memory),
     };
+    let Ok(output) = Output::new(rt.alloc(), io::writer(rt)) else {
+        return Some(TopFault::Memory);
+    };
+    let world = Announced::new(rt, TcpWorld::new(rt), line);
     let mut folder = FileFolder::new(rt);
     let mut source = StdSource::new(rt.reader(), &output);
     let mut sink = StdSink::new(&output);
-    let outcome = sws(rt, words, &mut folder, &mut source, &mut sink);
+    let outcome = sws(threads, words, &mut folder, &mut source, world, &mut sink);
     if !sink.finish() && outcome.fault.is_none() {
-        return Outcome::of(Err(TopFault::WriteFault));
+        return Some(TopFault::WriteFault);
     }
-    outcome
+    outcome.fault
 }

@@ -8,6 +8,7 @@ use crate::signs::Signs;
 use crate::tcp_link::TcpLink;
 use mio::net::{TcpListener, TcpStream};
 use mio::{Events, Interest, Poll, Token};
+use std::alloc::Global;
 use std::io::{self, ErrorKind};
 use std::net::{IpAddr, Ipv4Addr, SocketAddr};
 use std::time::{Clock, Duration};
@@ -39,6 +40,7 @@ pub enum Came {
 /// system.
 #[derive(Drop)]
 pub struct Server {
+    alloc: Global,
     poll: Poll,
     listener: TcpListener,
     events: Events,
@@ -78,6 +80,7 @@ impl Server {
         poll.registry()
             .register(&mut listener, LISTENER, Interest::READABLE)?;
         Ok(Server {
+            alloc,
             poll,
             listener,
             events,
@@ -191,6 +194,6 @@ impl Server {
         let place = Token(number as usize + 1);
         self.poll.registry().register(&mut stream, place, Interest::READABLE | Interest::WRITABLE)?;
         self.signs.begin(number as usize, self.now);
-        Ok(TcpLink::new(stream, presence))
+        Ok(TcpLink::new(self.alloc, stream, presence))
     }
 }

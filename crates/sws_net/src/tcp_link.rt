@@ -7,6 +7,7 @@ use crate::errors::is_not_yet;
 use crate::kept::Kept;
 use crate::lobby::Presence;
 use mio::net::TcpStream;
+use std::alloc::Global;
 use std::io::{self, ErrorKind, Read, Write};
 use std::net::{self, Shutdown};
 use std::time::Duration;
@@ -103,8 +104,7 @@ fn write_to(socket: &Socket, kept: &mut Kept, in_piece: bool, piece: &[u8]) -> i
     if !kept.is_empty() {
         return kept.send_with(&socket.stream, piece);
     }
-    if !in_piece && kept.has_room_for(piece) {
-        kept.keep(piece);
+    if !in_piece && kept.keep(piece) {
         return Ok(piece.len());
     }
     (&mut &socket.stream).write(piece)
@@ -149,12 +149,12 @@ fn finish(socket: Socket, kept: &Kept, has_ended: bool) -> io::Result<()> {
 
 impl TcpLink {
     /// A link over a socket that doesn't block.
-    pub(crate) fn new(stream: TcpStream, presence: Presence) -> TcpLink
+    pub(crate) fn new(alloc: Global, stream: TcpStream, presence: Presence) -> TcpLink
         ensures { IsUntouched result }
     {
         TcpLink {
             socket: Some(Socket { stream, presence }),
-            kept: Kept::new(),
+            kept: Kept::new(alloc),
             in_piece: false,
             is_drained: false,
             has_ended: false,
