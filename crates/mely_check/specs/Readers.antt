@@ -1,5 +1,5 @@
 -- Within the crate: what of a text was read.
-use Rattle.std.specs.Prelude.{◌≡◌, ℕ, ◌<◌, List, ◌++◌, length, Option, Some, None, ⊤}
+use Rattle.std.specs.Prelude.{◌≡◌, ℕ, ◌+◌, ◌*◌, ◌<◌, List, ◌++◌, length, Option, Some, None, ⊤}
 use Rattle.mely_check.specs.Journals.{HasNoFeed, IsFirstOutside, joined}
 use Rattle.mely_check.specs.Walks.{IsAt}
 use Rattle.mely_check.specs.declared.fault.TextFault.{TextFault}
@@ -13,6 +13,15 @@ pub record Stands (text : List ℕ) (reader : Reader) : Type 0 where
   pub is : text ≡ joined lines ++ reader.line.items
   pub unended : HasNoFeed reader.line.items
   pub short : length reader.line.items < 64
+
+-- the line that is being read isn't ended, and isn't too long
+pub record IsOpen (reader : Reader) : Type 0 where
+  pub unended : HasNoFeed reader.line.items
+  pub short : length reader.line.items < 64
+
+-- how far it has come: further with each byte, as a line has 64 at most
+abbrev pub reach : Reader → ℕ
+reach reader = 64 * reader.place.number + length reader.line.items
 
 -- whatever comes behind the text, the line is the first outside
 abbrev pub Refuses : ℕ → List ℕ → TextFault → Type 0

@@ -1,8 +1,8 @@
 //! Reading a journal piece by piece.
-ghost use Rattle.std.specs.Prelude.{◌≡◌, ◌≢◌, ◌++◌, ℕ, List, OnOk, IfErr, Err, MatchResult};
+ghost use Rattle.std.specs.Prelude.{◌≡◌, ◌≢◌, ◌+◌, ◌≤◌, ◌++◌, ℕ, List, length, OnOk, IfErr, Err, MatchResult};
 ghost use Rattle.sws_link.specs.Counts.{HasCause};
-ghost use Rattle.mely_check.specs.Journals.{HasNoFeed, Finds};
-ghost use Rattle.mely_check.specs.Readers.{Stands, Refuses};
+ghost use Rattle.mely_check.specs.Journals.{Finds};
+ghost use Rattle.mely_check.specs.Readers.{Stands, IsOpen, Refuses, reach};
 
 use crate::fault::TextFault;
 use crate::reader::Reader;
@@ -20,7 +20,7 @@ pub fn check_text<R: Source>(alloc: Global, shards: u16, source: &mut R) -> Resu
 {
     let mut reader = Reader::new(alloc, shards);
     let mut room = [0; PIECE];
-    'pieces: for _ in 0..u64::MAX {
+    'pieces: loop {
         match source.read(&mut room) {
             Got::Took(count) => match take_all(&mut reader, &room[..count]) {
                 Ok(()) => {}
@@ -30,16 +30,16 @@ pub fn check_text<R: Source>(alloc: Global, shards: u16, source: &mut R) -> Resu
             Got::Failed => return Err(TextFault::Read),
         }
     }
-    Err(TextFault::Memory)
 }
 
 /// Goes on behind all these bytes.
 fn take_all(reader: &mut Reader, bytes: &[u8]) -> Result<(), TextFault>
-    requires { HasNoFeed reader.old.line.items }
+    requires { IsOpen reader.old }
     ensures goes { (text : List ℕ) → Stands text reader.old
         → MatchResult result (λ _. Stands (text ++ bytes.now) reader.new)
         (Refuses reader.old.place.shards (text ++ bytes.now)) }
-    ensures unended { OnOk result (HasNoFeed reader.new.line.items) }
+    ensures open_line { OnOk result (IsOpen reader.new) }
+    ensures further { OnOk result (reach reader.old + length bytes.now ≤ reach reader.new) }
     ensures shards { reader.new.place.shards ≡ reader.old.place.shards }
     ensures sound { IfErr result (λ fault. fault ≢ TextFault.Read) }
 {

@@ -1,6 +1,6 @@
 //! How far a journal was read.
 ghost use Rattle.std.specs.Prelude.{◌≡◌, ◌<◌, ◌≤◌, ◌+◌, ◌-◌, ◌++◌, ◌∷◌, ◌↔◌, [], List, ℕ, MatchBool, IsTrue};
-ghost use Rattle.std.specs.Bool.{OnFalse};
+ghost use Rattle.std.specs.Bool.{OnFalse, OnTrue};
 
 use crate::reading::{Line, read_line};
 
@@ -44,6 +44,7 @@ impl Place {
             → MatchBool result (IsAt (lines ++ line.now ∷ []) self.new) (MayNotStand lines line.now self.old) }
         ensures shards { self.new.shards ≡ self.old.shards }
         ensures kept { OnFalse result (self.new ≡ self.old) }
+        ensures counted { OnTrue result (self.new.number ≡ self.old.number + 1) }
     {
         if self.number == u32::MAX {
             return false;

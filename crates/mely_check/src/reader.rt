@@ -1,5 +1,5 @@
 //! Reading a journal byte by byte.
-ghost use Rattle.std.specs.Prelude.{◌≡◌, ◌≢◌, ◌<◌, ◌++◌, ◌∷◌, [], ℕ, List, Some, OnOk, IfErr, MatchResult};
+ghost use Rattle.std.specs.Prelude.{◌≡◌, ◌≢◌, ◌+◌, ◌≤◌, ◌++◌, ◌∷◌, [], ℕ, List, Some, OnOk, IfErr, MatchResult};
 
 use crate::fault::TextFault;
 use crate::place::Place;
@@ -16,13 +16,14 @@ pub(crate) struct Reader {
 }
 
 impl Reader {
-    ghost use Rattle.mely_check.specs.Journals.{HasNoFeed, IsLine, Finds};
+    ghost use Rattle.mely_check.specs.Journals.{IsLine, Finds};
     ghost use Rattle.mely_check.specs.Walks.{IsAt, MayNotStand};
-    ghost use Rattle.mely_check.specs.Readers.{Stands, Refuses};
+    ghost use Rattle.mely_check.specs.Readers.{Stands, IsOpen, Refuses, reach};
 
     /// Before a text of so many shards.
     pub(crate) fn new(alloc: Global, shards: u16) -> Reader
         ensures stands { Stands [] result }
+        ensures open_line { IsOpen result }
         ensures shards { result.place.shards ≡ shards }
     {
         Reader {
@@ -37,11 +38,12 @@ impl Reader {
     ///
     /// The line of the byte may not stand, or there was no memory.
     pub(crate) fn take(&mut self, byte: u8) -> Result<(), TextFault>
-        requires { HasNoFeed self.old.line.items }
+        requires { IsOpen self.old }
         ensures goes { (text : List ℕ) → Stands text self.old
             → MatchResult result (λ _. Stands (text ++ byte ∷ []) self.new)
             (Refuses self.old.place.shards (text ++ byte ∷ [])) }
-        ensures unended { OnOk result (HasNoFeed self.new.line.items) }
+        ensures open_line { OnOk result (IsOpen self.new) }
+        ensures further { OnOk result (reach self.old + 1 ≤ reach self.new) }
         ensures shards { self.new.place.shards ≡ self.old.place.shards }
         ensures sound { IfErr result (λ fault. fault ≢ TextFault.Read) }
     {
@@ -65,6 +67,7 @@ impl Reader {
             (λ fault. (fault ≡ TextFault.BadJournal self.old.place.number)
             × MayNotStand lines self.old.line.items self.old.place) }
         ensures empty { OnOk result (self.new.line.items ≡ []) }
+        ensures counted { OnOk result (self.new.place.number ≡ self.old.place.number + 1) }
         ensures sound { IfErr result (λ fault. fault ≢ TextFault.Read) }
         ensures shards { self.new.place.shards ≡ self.old.place.shards }
     {

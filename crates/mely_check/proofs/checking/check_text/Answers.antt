@@ -16,7 +16,7 @@ pieces-preserved g c =
     let left = g.R.Source.left in
     let before = c.pieces.invariant in
     record {
-      unended = c.in-Ok.ensures.unended;
+      open_line = c.in-Ok.ensures.open_line;
       shards = c.take_all.ensures.shards ∙ before.shards;
       faults = c.in-Took.ensures.cause.stays (λ same. cc) ∙ before.faults;
       read = piece_read (left c.args.source.now) (left c.pieces.source) (left c.read.new.self) c.in-Took.count c.read.new.into c.pieces.reader before.read c.in-Took.ensures.bytes c.take_all.new.reader c.in-Ok.ensures.goes;

@@ -12,4 +12,4 @@ returns-then-byte-eq10-clause-goes c = λ text stands.
     let line : c.push.new.self.items ≡ c.args.self.now.line.items ++ c.args.byte ∷ [] =
     pushed c.push.result c.push.new.self.items c.args.self.now.line.items (c.args.self.now.line.items ++ c.args.byte ∷ []) c.push.ensures.items (sym c.is_err.ensures.value ∙ c.if-is_err.false) in
     line_ended text c.args.self.now c.end_line.new.self c.args.byte c.push.new.self.items c.end_line.result stands c.if-byte-eq10.true line
-    (record { front = c.args.self.now.line.items; is = line ∙ ap (λ (b : ℕ). c.args.self.now.line.items ++ b ∷ []) c.if-byte-eq10.true; no_feed = c.requires }) (c.end_line.ensures.goes stands.lines stands.at) c.end_line.ensures.empty
+    (record { front = c.args.self.now.line.items; is = line ∙ ap (λ (b : ℕ). c.args.self.now.line.items ++ b ∷ []) c.if-byte-eq10.true; no_feed = c.requires.unended }) (c.end_line.ensures.goes stands.lines stands.at) c.end_line.ensures.empty
