@@ -26,7 +26,7 @@ head_is a b x y e = cc
 tail_is : (a b : ℕ) (x y : List ℕ) → a ∷ x ≡ b ∷ y → x ≡ y
 tail_is a b x y e = cc
 
-nil_is : {X : Type 0} (a : ℕ) (x : List ℕ) → [] ≡ a ∷ x → X
+pub nil_is : {X : Type 0} (a : ℕ) (x : List ℕ) → [] ≡ a ∷ x → X
 nil_is a x e = absurd (no a x e)
   where
     no : (a : ℕ) (x : List ℕ) → [] ≡ a ∷ x → ⊥
@@ -50,7 +50,7 @@ digits_split (c ∷ a) (d ∷ b) x y all_a all_b ends_x ends_y e =
     (ap (λ z. z ∷ a) (head_is c d (a ++ x) (b ++ y) e) ∙ ap (λ z. d ∷ z) rest.0, rest.1)
 
 -- a number with a space before it, and what stands behind it
-spaced_split : (m n : ℕ) (x y : List ℕ) → m < 2 ^ 64 → n < 2 ^ 64 → Ends x → Ends y → spaced m ++ x ≡ spaced n ++ y → (m ≡ n) × (x ≡ y)
+pub spaced_split : (m n : ℕ) (x y : List ℕ) → m < 2 ^ 64 → n < 2 ^ 64 → Ends x → Ends y → spaced m ++ x ≡ spaced n ++ y → (m ≡ n) × (x ≡ y)
 spaced_split m n x y small_m small_n ends_x ends_y e =
     let parts = digits_split (decimal m) (decimal n) x y (decimal_is_IsNumeral m small_m).0.1 (decimal_is_IsNumeral n small_n).0.1 ends_x ends_y
     (tail_is 32 32 (decimal m ++ x) (decimal n ++ y) e) in
@@ -69,7 +69,7 @@ three_split a b c d e f x y small other is =
 
 -- ---- words
 
-cancel : (word a b : List ℕ) → word ++ a ≡ word ++ b → a ≡ b
+pub cancel : (word a b : List ℕ) → word ++ a ≡ word ++ b → a ≡ b
 cancel [] a b e = e
 cancel (c ∷ word) a b e = cancel word a b (tail_is c c (word ++ a) (word ++ b) e)
 
@@ -98,7 +98,7 @@ colour_at number = record { 0 = number }
 
 -- ---- entries
 
-abbrev SameEntry : Entry → Entry → List ℕ → List ℕ → Type 0
+abbrev pub SameEntry : Entry → Entry → List ℕ → List ℕ → Type 0
 SameEntry one other x y = (one ≡ other) × (x ≡ y)
 
 three_numbers : (make : Colour → ℕ → ℕ → Entry) (c d : Colour) (m n p q : ℕ) (x y : List ℕ) → (c.0 ≡ d.0) × (m ≡ n) × (p ≡ q) × (x ≡ y) → (make c m p ≡ make d n q) × (x ≡ y)
@@ -121,7 +121,7 @@ reg_split c d e f by other x y small small' is =
       rest.3,
     )
 
-entry_split : (one other : Entry) (x y : List ℕ) → IsSmall one → IsSmall other → entry_line one ++ x ≡ entry_line other ++ y → SameEntry one other x y
+pub entry_split : (one other : Entry) (x y : List ℕ) → IsSmall one → IsSmall other → entry_line one ++ x ≡ entry_line other ++ y → SameEntry one other x y
 entry_split (Reg c e by) (Reg d f other) x y small small' is = reg_split c d e f by other x y small small' is
 entry_split (Reg c e by) (Take d n q) x y small small' is = other_word 114 116 _ _ (λ s. omega arith) is
 entry_split (Reg c e by) (Fin d n q) x y small small' is = other_word 114 102 _ _ (λ s. omega arith) is
@@ -151,7 +151,7 @@ entries_split (e ∷ a) (f ∷ b) x y small small' long is =
     let rest = entries_split a b x y small.1 small'.1 (omega arith) first.1 in
     (ap (λ z. z ∷ a) first.0 ∙ ap (λ z. f ∷ z) rest.0, rest.1)
 
-shard_split : (number : ℕ) (a b : List Entry) (x y : List ℕ) → AreSmall a → AreSmall b → shard_text number a ++ x ≡ shard_text number b ++ y → (a ≡ b) × (x ≡ y)
+pub shard_split : (number : ℕ) (a b : List Entry) (x y : List ℕ) → AreSmall a → AreSmall b → shard_text number a ++ x ≡ shard_text number b ++ y → (a ≡ b) × (x ≡ y)
 shard_split number a b x y small small' is =
     let feed : 10 < 48 = omega arith in
     let counted = cancel (spaced number) (spaced (length a) ++ 10 ∷ (flat_map entry_line a ++ x)) (spaced (length b) ++ 10 ∷ (flat_map entry_line b ++ y))

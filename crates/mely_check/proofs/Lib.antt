@@ -1,0 +1,9 @@
+pub mod NumberLaws
+pub mod ReadingLaws
+pub mod WalkLaws
+pub mod LineLaws
+pub mod StepLaws
+pub mod BeginLaws
+pub mod OutsideLaws
+pub mod ReaderLaws
+pub mod ExactLaws

@@ -1,0 +1,11 @@
+use Rattle.std.proofs.Common.{◌≡◌, ◌+◌, ◌≤◌, ◌++◌, ℕ, List, take}
+use Rattle.mely_check.specs.Readers.{Stands, IsOpen, reach}
+use Rattle.mely_check.proofs.checking.take_all.Given as goal
+
+abbrev pub invariant-loop-byte : goal.invariant-loop-byte
+invariant-loop-byte l = record {
+  open_line : IsOpen l.reader;
+  further : reach l.fn.reader + l.byte-index ≤ reach l.reader;
+  stands : (text : List ℕ) → Stands text l.fn.reader → Stands (text ++ take l.byte-index l.bytes) l.reader;
+  shards : l.reader.place.shards ≡ l.fn.reader.place.shards;
+}

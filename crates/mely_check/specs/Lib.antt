@@ -1,0 +1,4 @@
+pub mod Journals
+pub mod Reading
+pub mod Walks
+pub mod Readers

@@ -1,0 +1,55 @@
+-- Within the crate: how far a journal was read.
+use Rattle.std.specs.Prelude.{◌≡◌, ℕ, ◌+◌, ◌^◌, ◌<◌, List, [], ◌++◌, length, ⊤}
+use Rattle.std.specs.List.{flat_map, AllByRecursion}
+use Rattle.mely_history.specs.declared.entry.Entry.{Entry}
+use Rattle.sws_report.specs.Journal.{entry_line, shard_line, journal}
+use Rattle.mely_check.specs.Journals.{IsFit, IsFitHistory, IsLine, BeginsJournal, joined, entries_in, line_limit}
+use Rattle.mely_check.specs.declared.place.Place.{Place}
+
+-- no shard has begun; or these were read whole, and of the last one these entries, with so many still to come
+pub data Walk : Type 0 where
+  start : Walk
+  within : List (List Entry) → List Entry → ℕ → Walk
+
+abbrev pub walk_text : Walk → List ℕ
+walk_text start = []
+walk_text (within done last left) = journal done ++ (shard_line (length done) (length last + left) ++ flat_map entry_line last)
+
+abbrev pub begun_in : Walk → ℕ
+begun_in start = 0
+begun_in (within done last left) = length done + 1
+
+abbrev pub left_in : Walk → ℕ
+left_in start = 0
+left_in (within done last left) = left
+
+abbrev pub count_in : Walk → ℕ
+count_in start = 0
+count_in (within done last left) = entries_in done + length last
+
+abbrev pub IsFitWalk : Walk → Type 0
+IsFitWalk start = ⊤
+IsFitWalk (within done last left) = AllByRecursion IsFitHistory done × AllByRecursion IsFit last × (length last + left < 2 ^ 64)
+
+-- the whole lines of the text were read, as the place says
+pub record IsAt (lines : List (List ℕ)) (place : Place) : Type 0 where
+  pub walk : Walk
+  pub is : joined lines ≡ walk_text walk
+  pub are : AllByRecursion IsLine lines
+  pub fit : IsFitWalk walk
+  pub begun : place.begun ≡ begun_in walk
+  pub left : place.left ≡ left_in walk
+  pub entries : place.entries ≡ count_in walk
+  pub number : place.number ≡ length lines + 1
+
+-- the line is no next one: with it the lines begin no journal, or it is one too many
+abbrev pub MayNotStand : List (List ℕ) → List ℕ → Place → Type 0
+MayNotStand lines line place = place.number < line_limit → BeginsJournal place.shards (joined lines ++ line) → ⊥
+
+-- a line was counted: then so many shards have begun, so many entries are left, and so many there were
+pub record Moves (before after : Place) (begun left entries : ℕ) : Type 0 where
+  pub shards : after.shards ≡ before.shards
+  pub begun_is : after.begun ≡ begun
+  pub left_is : after.left ≡ left
+  pub entries_are : after.entries ≡ entries
+  pub number : after.number ≡ before.number + 1
