@@ -5,6 +5,7 @@ ghost use Rattle.sws_link.specs.Counts.{kept_count};
 use crate::errors::is_want_of_memory;
 use crate::server::{Came, Server};
 use crate::tcp_link::TcpLink;
+use std::io::{self, ErrorKind};
 use sws_link::{Accepted, Opened, Polled, World};
 
 /// Gives the connections to a port of the machine as links; of what they bring nothing is known.
@@ -16,12 +17,22 @@ use sws_link::{Accepted, Opened, Polled, World};
 #[derive(Drop)]
 pub struct TcpWorld<'r> {
     rt: &'r HostRuntime,
-    server: Option<Server>,
+    /// In a box, since a server moves its world from event to event.
+    server: Option<Box<Server>>,
     port: u16,
     total: u16,
     accepted: u16,
     faults: u64,
     waits: u64,
+}
+
+/// Listens at the port for so many links.
+fn open_server(rt: &HostRuntime, port: u16, total: u16) -> io::Result<Box<Server>> {
+    let server = Server::new(rt, port, total)?;
+    match Box::new(rt.alloc(), server) {
+        Ok(server) => Ok(server),
+        Err(_) => Err(io::Error::from(ErrorKind::OutOfMemory)),
+    }
 }
 
 impl<'r> TcpWorld<'r> {
@@ -62,7 +73,7 @@ impl<'r> World for TcpWorld<'r> {
     ghost waits = { λ world. kept_count world.waits };
 
     fn open(&mut self, port: u16, total: u16) -> Opened {
-        match Server::new(self.rt, port, total) {
+        match open_server(self.rt, port, total) {
             Ok(server) => {
                 self.server = Some(server);
                 self.port = port;
