@@ -10,7 +10,7 @@
 //! one thread, of which it is proved.
 //!
 //! ```text
-//! let input = parse(alloc, &mut source, false, 1)?;
+//! let input = parse(alloc, text, false, shape.cores)?;
 //! replay(&rt, alloc, &site, &shape, input.conns.as_slice(), false, &mut sink)?;
 //! // conn 0 done 79
 //! // | HTTP/1.1 200 OK~

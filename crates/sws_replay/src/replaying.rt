@@ -79,7 +79,7 @@ pub fn replay_by_schedule<R: Wait, O: Sink>(
     fault_of(write_run(alloc, out, &ended))
 }
 
-/// What a write that stopped says of the replay.
+/// How a replay ends by its last write.
 fn fault_of(put: Put) -> Result<(), RunFault>
     ensures { result ≡ result_of put }
 {
