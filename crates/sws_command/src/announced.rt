@@ -67,6 +67,5 @@ pub fn line_of(alloc: Global, order: &Order) -> Option<String> {
     let (workers, shards) = (shape.cores, shape.shards);
     format!(in alloc;
         "sws: serving {folder} at 0.0.0.0:{port} (connections {connections}, workers {workers}, shards {shards})"
-    )
-    .ok()
+    ).ok()
 }
