@@ -5,7 +5,7 @@
 
 It wants the program built (`./sws`) and a C compiler. Each command is run with its first request for memory refused, then with its
 second, and so on until a run makes fewer requests than that (or N runs were made). Every run must end with status 0 or 7, and what it
-writes must be a front of what it writes with ample memory. Runs on threads make their requests in no fixed order, so two sweeps may
+writes must be a front of what it writes with ample memory. A run that doesn't end within 20 seconds is ended and told. Runs on threads make their requests in no fixed order, so two sweeps may
 differ. The server is asked on this machine's loopback.
 """
 import argparse
@@ -68,24 +68,34 @@ def serve(words, environment):
 def run(words, given, environment):
     if words[1] == "serve":
         return serve(words, environment)
-    done = subprocess.run(words, input=given.encode(), stdout=subprocess.PIPE, stderr=subprocess.DEVNULL, env=environment, timeout=60)
+    done = subprocess.run(words, input=given.encode(), stdout=subprocess.PIPE, stderr=subprocess.DEVNULL, env=environment, timeout=20)
     return done.returncode, done.stdout
 
 
-def sweep(words, given, library, count, most):
+def was_met(mark):
+    """Whether the last run made the request that was to be refused."""
+    is_there = os.path.exists(mark)
+    if is_there:
+        os.remove(mark)
+    return is_there
+
+
+def sweep(words, given, library, mark, most):
     """Refuses one request after another: how many runs ended with each status, and what went wrong."""
     whole = run(words, given, dict(os.environ))[1]
     seen, wrong = {}, []
     for number in range(1, most + 1):
-        environment = dict(os.environ, LD_PRELOAD=library, REFUSE_AT=str(number), REFUSE_COUNT=count)
-        status, written = run(words, given, environment)
+        environment = dict(os.environ, LD_PRELOAD=library, REFUSE_AT=str(number), REFUSE_MARK=mark)
+        try:
+            status, written = run(words, given, environment)
+        except subprocess.TimeoutExpired:
+            status, written = "no end", b""
+        if not was_met(mark):
+            return number - 1, seen, wrong
         seen[status] = seen.get(status, 0) + 1
         is_front = whole.startswith(written) or words[1] == "serve" and written == b""
         if status not in (0, 7) or not is_front or status == 0 and written != whole:
             wrong.append((number, status, len(written)))
-        with open(count) as file:
-            if int(file.read()) < number:
-                return number - 1, seen, wrong
     return most, seen, wrong
 
 
@@ -97,7 +107,7 @@ def main():
         sys.exit("memory: the program isn't built")
     folder = tempfile.mkdtemp(prefix="sws-memory-")
     try:
-        library, count = os.path.join(folder, "refuse.so"), os.path.join(folder, "count")
+        library, mark = os.path.join(folder, "refuse.so"), os.path.join(folder, "mark")
         source = os.path.join(TOP, "bench", "refuse.c")
         subprocess.run(["cc", "-O2", "-shared", "-fPIC", "-o", library, source], check=True)
         print("| command | requests refused | ended with 0 | ended with 7 | wrong |\n|---|---|---|---|---|")
@@ -108,7 +118,7 @@ def main():
             ("bench", ["4", "1"], ""),
             ("serve", [SITE, "--connections", "2", "--workers", "2"], ""),
         ):
-            refused, seen, wrong = sweep([SWS, name] + options, text, library, count, given.most)
+            refused, seen, wrong = sweep([SWS, name] + options, text, library, mark, given.most)
             shown = " ".join([name] + [word.replace(SITE, "FOLDER") for word in options])
             print(f"| `{shown}` | {refused} | {seen.get(0, 0)} | {seen.get(7, 0)} | {wrong[:5] if wrong else 'none'} |", flush=True)
     finally:

@@ -1,9 +1,8 @@
-// Refuses one request for memory of a program: the one whose number is in REFUSE_AT, counted from 1. Where REFUSE_COUNT names a
-// file, the number of all requests is written there at the end. Built and used by memory.py; nothing of it is proved.
+// Refuses one request for memory of a program: the one whose number is in REFUSE_AT, counted from 1. Where REFUSE_MARK names a file,
+// it is made when that request is met. Built and used by memory.py; nothing of it is proved.
 #define _GNU_SOURCE
 #include <fcntl.h>
 #include <stdatomic.h>
-#include <stdio.h>
 #include <stdlib.h>
 #include <unistd.h>
 #include <errno.h>
@@ -23,8 +22,11 @@ __attribute__((constructor)) static void begin(void) {
 }
 
 static int is_refused(void) {
-    if (refuse_at < 0) return 0;
-    return atomic_fetch_add(&requests, 1) + 1 == refuse_at;
+    if (refuse_at <= 0 || atomic_fetch_add(&requests, 1) + 1 != refuse_at) return 0;
+    const char *mark = getenv("REFUSE_MARK");
+    int made = mark ? open(mark, O_WRONLY | O_CREAT, 0644) : -1;
+    if (made >= 0) close(made);
+    return 1;
 }
 
 void *malloc(size_t size) {
@@ -51,17 +53,4 @@ int posix_memalign(void **to, size_t align, size_t size) {
     if (is_refused()) return ENOMEM;
     *to = __libc_memalign(align, size);
     return *to ? 0 : ENOMEM;
-}
-
-__attribute__((destructor)) static void end(void) {
-    const char *file = getenv("REFUSE_COUNT");
-    if (!file) return;
-    long count = requests;
-    char text[32];
-    int length = snprintf(text, sizeof text, "%ld\n", count);
-    int to = open(file, O_WRONLY | O_CREAT | O_TRUNC, 0644);
-    if (to >= 0) {
-        if (write(to, text, length) < 0) {}
-        close(to);
-    }
 }
