@@ -61,13 +61,13 @@ fn a_world_that_fails_ends_the_run(rt: HostRuntime) -> Result<(), Fail> {
         assert_eq!(rt; outcome.world.is_some(), failing == 1, "call {failing}");
         let wanted = if status == 0 { summary } else { b"" };
         assert_eq!(rt; written.as_slice(), wanted, "call {failing}");
-        let mut count = 0;
+        let mut count: usize = 0;
         if let Some(ended) = &outcome.ended {
             for conn in &ended.served {
                 if let Some(link) = &conn.link {
                     assert_eq!(rt; link.written(), sent.as_slice(), "call {failing}");
                     assert_eq!(rt; conn.end, Some(End::Done), "call {failing}");
-                    count += 1;
+                    count = count.saturating_add(1);
                 }
             }
         }
