@@ -125,6 +125,7 @@ fn post_all<R: Wait>(rt: &R, fleet: &Fleet<Tally, u8>, own: &mut Passes<Tally, u
 #[derive(Clone, Copy, PartialEq, Eq)]
 enum Who {
     Others,
+    FirstCore,
     Cores,
     All,
 }
@@ -148,13 +149,13 @@ fn act<R: Wait>(
         caller.new.passes caller.new.worker }
 {
     if number >= setup.cores() as usize {
-        if who == Who::Cores {
+        if who == Who::Cores || who == Who::FirstCore {
             return;
         }
         post_all(rt, fleet, &mut caller.passes, run);
         return;
     }
-    if who == Who::Others {
+    if who == Who::Others || (who == Who::FirstCore && number != 0) {
         return;
     }
     if fleet.work_at(rt, caller, &run.app, &OpenGate) == Worked::Quiet {
@@ -306,6 +307,37 @@ fn two_workers_run_what_one_outsider_posted(rt: HostRuntime) -> Result<(), Fail>
         lengths.push(state.log.trail().len())?;
     }
     assert_eq!(rt; lengths.as_slice(), [10, 0, 10].as_slice());
+    Ok(())
+}
+
+/// A machine that refuses a thread leaves a fleet like this.
+#[test]
+fn a_worker_whose_fellow_never_begins_gives_up_and_nothing_is_lost(
+    rt: HostRuntime,
+) -> Result<(), Fail> {
+    let shape = Shape {
+        cores: 2,
+        shards: 1,
+        batch: 1,
+        steal_cost: 1_000_000,
+        group: 2,
+    };
+    let setup = setup_of(&shape, 3, 10)?;
+    let run = Run::new(3, 30, 0, None);
+    let room = Room::new(rt.alloc(), &setup, 1)?;
+    let (fleet, passes) = fleet_of(rt.alloc(), &setup, 3, 1)?;
+    let mut callers = callers_of(rt.alloc(), &fleet, &setup, passes)?;
+    act_all(&rt, &fleet, &setup, &mut callers, &run, Who::Others);
+    act_all(&rt, &fleet, &setup, &mut callers, &run, Who::FirstCore);
+    assert_eq!(rt; run.app.ran.load(Ordering::SeqCst), 20);
+    act_all(&rt, &fleet, &setup, &mut callers, &run, Who::Cores);
+    assert_eq!(rt; run.app.ran.load(Ordering::SeqCst), 20);
+    assert_eq!(rt; run.quiet.load(Ordering::SeqCst), 0);
+    let outside = part(rt.alloc(), &fleet, &setup, &mut callers)?;
+    let mut weave = fleet.close_seats(rt.alloc(), room, callers, outside)?;
+    assert_eq!(rt; weave.drain(&rt, &run.app), Drained::Empty);
+    assert_eq!(rt; run.app.ran.load(Ordering::SeqCst), 30);
+    drop(weave.into_parts());
     Ok(())
 }
 
