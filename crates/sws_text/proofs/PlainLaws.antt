@@ -47,10 +47,6 @@ still_shown-front in_line bytes count there some all =
 text_of-front : (bytes : List ℕ) (count : ℕ) → AllByRecursion IsPlain (take count bytes) → text_of bytes ≡ take count bytes ++ text_of (drop count bytes)
 text_of-front bytes count all = ap text_of (sym (take-append-drop count bytes)) ∙ text_of-plain (take count bytes) (drop count bytes) all
 
-    snoc : (a : List ℕ) (x : ℕ) → AllByRecursion IsPlain a → IsPlain x → AllByRecursion IsPlain (a ++ x ∷ [])
-    snoc [] x all one = (one, tt)
-    snoc (y ∷ a) x all one = (all.0, snoc a x all.1 one)
-
 -- the bytes behind so many
 pub behind : (bytes : List ℕ) (count : ℕ) → take (length bytes - count) (drop count bytes) ≡ drop count bytes
 behind bytes count = take_all (length bytes - count) (drop count bytes) (omega (arith, length-drop count bytes))
