@@ -5,6 +5,6 @@ use Rattle.sws_replay.specs.Transcripts.{transcript_of}
 use Rattle.sws_replay.proofs.laws.a_schedule_has_one_text.Goals as goal
 
 pub returns : goal.returns
-returns g c = λ site shape input one other first second.
-    first.1.1 ∙ (ap (λ histories. transcript_of site input.conns ++ journal histories)
-    (one_run _ _ _ _ _ first.0 second.0 first.1.0 second.1.0) ∙ sym second.1.1)
+returns c = λ site shape input one other first second.
+    first.2 ∙ (ap (λ histories. transcript_of site input.conns ++ journal histories)
+    (one_run _ _ _ _ _ _ _ first.1 second.1) ∙ sym second.2)
