@@ -1,4 +1,5 @@
 //! The state of a colour.
+ghost use Rattle.core.specs.declared.int.u64.TheConstants.{MAX};
 ghost use Rattle.std.specs.Prelude.{◌≡◌, ◌≤◌, ◌-◌, ◌++◌, ◌∷◌, [], length, min};
 
 use mely_app::Fresh;
@@ -12,7 +13,7 @@ pub struct Counter {
     count: u64,
 
     // What the type keeps: the count is of the trail, as far as 64 bits go.
-    ghost counted: { count ≡ min (length log.events) u64.MAX },
+    ghost counted: { count ≡ min (length log.events) MAX },
 }
 
 impl Counter {
@@ -30,7 +31,7 @@ impl Counter {
 
     /// How many events were run.
     pub fn count(&self) -> u64
-        ensures { result ≡ min (length self.now.log.events) u64.MAX }
+        ensures { result ≡ min (length self.now.log.events) MAX }
     {
         self.count
     }
