@@ -1,15 +1,24 @@
 -- What the handlers of the app register.
-use Rattle.std.specs.Prelude.{◌==◌, ◌-◌, ◌<◌, List, [], ◌∷◌, Option, None, nat_lt, if◌then◌else◌}
+use Rattle.std.specs.Prelude.{◌==◌, ◌-◌, List, [], ◌∷◌, Option, None, nat_lt, if◌then◌else◌}
 use Rattle.mely_event.specs.declared.colour.Colour.{Colour}
 use Rattle.mely_event.specs.declared.event.Event.{Event}
 
--- who greets has colour 0, and who hears it colour 1
-abbrev pub greeter : Colour
-greeter = record { 0 = 0 }
+-- what a handler registers: a colour and an event, and no event of this app carries a load
+abbrev pub Put : Type 0
+Put = Colour × Event × Option (Unit {0})
 
-abbrev pub hearer : Colour
-hearer = record { 0 = 1 }
+-- colour 1 is to hear a greeting, by handler 1
+abbrev pub hear : Put
+hear = (record { 0 = 1 }, record { handler = 1; arg = 0 }, None)
 
--- handler 1 hears a greeting, and registers nothing. Handler 0 greets: colour 1 is to hear it, and where the argument isn't 0 colour 0 greets once more, with an argument that is less by one
-abbrev pub greetings_of : Event → List (Colour × Event × Option (Unit {0}))
-greetings_of event = if event.handler == 0 then (hearer, record { handler = 1; arg = 0 }, None) ∷ (if nat_lt 0 event.arg then (greeter, record { handler = 0; arg = event.arg - 1 }, None) ∷ [] else []) else []
+-- colour 0 is to greet, by handler 0, and so many times more
+abbrev pub greet : Event → Put
+greet event = (record { 0 = 0 }, event, None)
+
+-- where the argument isn't 0 colour 0 greets once more, with an argument that is less by one
+abbrev pub once_more : Event → List Put
+once_more event = if nat_lt 0 event.arg then greet (record event { arg = event.arg - 1 }) ∷ [] else []
+
+-- handler 0 greets, and handler 1 hears it and registers nothing
+abbrev pub greetings_of : Event → List Put
+greetings_of event = if event.handler == 0 then hear ∷ once_more event else []

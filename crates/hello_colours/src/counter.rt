@@ -6,7 +6,8 @@ use mely_app::Fresh;
 use mely_event::{Colour, Event, Fits, Memory, Trail, TrailLog};
 use std::alloc::Global;
 
-/// A state that counts the events that were run on it. No other colour can see it, so it needs no lock and no atomic.
+/// A state that counts the events that were run on it. No other colour can see it, so it needs no
+/// lock and no atomic.
 #[derive(Drop)]
 pub struct Counter {
     log: TrailLog,
@@ -37,7 +38,8 @@ impl Counter {
     }
 }
 
-/// What a runtime asks of a state: its colour, its trail, and room for more of it. The log has all three.
+/// What a runtime asks of a state: its colour, its trail, and room for more of it. The log has all
+/// three.
 impl Trail for Counter {
     ghost use Rattle.mely_event.specs.TrailLog.{AreAlike, alike_itself, alike_onward};
     ghost use Rattle.std.proofs.Common.{refl};

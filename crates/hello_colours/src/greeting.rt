@@ -15,6 +15,7 @@ use std::sync::Wait;
 use std::thread::Threads;
 
 const GREET: u8 = 0;
+
 const HEAR: u8 = 1;
 
 /// Who greets has colour 0, and who hears it colour 1.
@@ -47,10 +48,16 @@ impl App for Greeting {
     {
         state.run(event);
         if event.handler == GREET {
-            let hear = Event { handler: HEAR, arg: 0 };
+            let hear = Event {
+                handler: HEAR,
+                arg: 0,
+            };
             outs.put(Colour(1), hear, None);
             if event.arg > 0 {
-                let greet = Event { handler: GREET, arg: event.arg - 1 };
+                let greet = Event {
+                    handler: GREET,
+                    arg: event.arg - 1,
+                };
                 outs.put(Colour(0), greet, None);
             }
         }
@@ -83,6 +90,9 @@ pub fn greet<R: Threads + Wait + Sync>(
     let Ok(setup) = Setup::new(&shape, 2, handlers, 0) else {
         unreachable!()
     };
-    let first = Event { handler: GREET, arg: times - 1 };
+    let first = Event {
+        handler: GREET,
+        arg: times - 1,
+    };
     run_app(rt, alloc, &setup, &Greeting, Colour(0), first, None)
 }

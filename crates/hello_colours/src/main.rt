@@ -1,4 +1,5 @@
-//! `hello_colours TIMES`: one colour greets another, so many times, on two workers. It prints what each of them counted.
+//! `hello_colours TIMES`: one colour greets another, so many times, on two workers, and the program
+//! prints what each of them counted.
 //!
 //! It is the smallest app of the runtime on threads; `docs/FIRST_APP.md` walks it.
 #![tactic(auto)]

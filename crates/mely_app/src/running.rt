@@ -21,12 +21,13 @@ pub struct Ended<S> {
     /// The state of each colour.
     pub states: Vec<S>,
 
-    /// The history of each shard; the entries of a colour stand in that of its number modulo the number of shards.
+    /// The history of each shard; the entries of a colour stand in that of its number modulo the
+    /// number of shards.
     pub histories: Vec<Vec<Entry>>,
 }
 
-/// Runs an app on fresh states, from its first event on, with a thread for each core, until nothing is left. It need not return:
-/// an app may register for ever.
+/// Runs an app on fresh states, from its first event on, with a thread for each core, until nothing
+/// is left. It need not return: an app may register for ever.
 ///
 /// # Errors
 ///
