@@ -1,6 +1,5 @@
 -- What a run of the app leaves.
-use Rattle.core.specs.declared.int.u64.TheConstants.{MAX}
-use Rattle.std.specs.Prelude.{◌≡◌, ◌%◌, ℕ, List, Some, map, length, min, slice_get}
+use Rattle.std.specs.Prelude.{◌≡◌, ◌-◌, ◌%◌, ◌^◌, ℕ, List, Some, map, length, min, slice_get}
 use Rattle.mely_app.specs.declared.running.Ended.{Ended}
 use Rattle.mely_event.specs.declared.colour.Colour.{Colour}
 use Rattle.mely_history.specs.History.{registered_of}
@@ -12,9 +11,10 @@ use Rattle.hello_colours.specs.declared.counter.Counter.{Counter}
 abbrev pub histories_of : Ended Counter → List (List Entry)
 histories_of ended = map (λ history. history.items) ended.histories.items
 
--- as many events were counted as the history says were registered on the colour
+-- as many events were counted as the history says were registered on the colour, as far as 64 bits
+-- go
 abbrev pub Counts : List Entry → Colour → Counter → Type 0
-Counts history c state = state.count ≡ min (length (registered_of history c)) MAX
+Counts history c state = state.count ≡ min (length (registered_of history c)) (2 ^ 64 - 1)
 
 -- there are two colours and two histories, in which nothing runs or waits, and each colour has
 -- counted all that was registered on it

@@ -1,6 +1,5 @@
 //! The state of a colour.
-ghost use Rattle.core.specs.declared.int.u64.TheConstants.{MAX};
-ghost use Rattle.std.specs.Prelude.{◌≡◌, ◌≤◌, ◌-◌, ◌++◌, ◌∷◌, [], length, min};
+ghost use Rattle.std.specs.Prelude.{◌≡◌, ◌≤◌, ◌-◌, ◌^◌, ◌++◌, ◌∷◌, [], length, min};
 
 use mely_app::Fresh;
 use mely_event::{Colour, Event, Fits, Memory, Trail, TrailLog};
@@ -14,7 +13,7 @@ pub struct Counter {
     count: u64,
 
     // What the type keeps: the count is of the trail, as far as 64 bits go.
-    ghost counted: { count ≡ min (length log.events) MAX },
+    ghost counted: { count ≡ min (length log.events) (2 ^ 64 - 1) },
 }
 
 impl Counter {
@@ -32,7 +31,7 @@ impl Counter {
 
     /// How many events were run.
     pub fn count(&self) -> u64
-        ensures { result ≡ min (length self.now.log.events) MAX }
+        ensures { result ≡ min (length self.now.log.events) (2 ^ 64 - 1) }
     {
         self.count
     }

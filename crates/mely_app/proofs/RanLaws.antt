@@ -1,7 +1,7 @@
 -- Where a weave's histories are drained, its parts show that every event was run.
 use Rattle.std.proofs.Common.{◌≡◌, ℕ, List, [], ◌++◌, length, map, take, drop, sym, ◌∙◌, ap, subst}
 use Rattle.std.proofs.lemmas.List.{length-map, append-nil, take-append-drop}
-use Rattle.std.specs.Prelude.{Option, slice_get}
+use Rattle.std.specs.Prelude.{Option}
 use Rattle.mely_event.specs.declared.colour.Colour.{Colour}
 use Rattle.mely_event.specs.declared.event.Event.{Event}
 use Rattle.mely_event.specs.declared.trail.Trail.{Ghosts as TrailWords}

@@ -1,4 +1,4 @@
-use Rattle.std.proofs.Common.{ℕ, List, ◌+◌, ◌++◌, ◌∷◌, [], sym, ◌∙◌, ap, subst, arith, ◌≡◌, ◌≤◌}
+use Rattle.std.proofs.Common.{◌+◌, sym, subst, arith, ◌≡◌}
 use Rattle.mely_history.specs.Setup.{colours_of}
 use Rattle.mely_app.proofs.FreshLaws.{AreFresh, none_fresh, more_fresh, are_first}
 use Rattle.mely_app.proofs.fresh.fresh_states.Goals as goal
