@@ -93,15 +93,33 @@ fn registered(alloc: Global, history: &[Entry], sought: Colour) -> Result<Vec<Ev
     Ok(events)
 }
 
-/// What a run left that met want of memory: each history is legal, nothing is lost, and the events that were registered on a colour
-/// are those of its trail and then those that wait, with their loads. How many wait on colour 1.
-fn left_of(
+/// Of what a run left: how many events wait on colour 1, and how many registrations were lost.
+#[derive(Clone, Copy, Debug, PartialEq, Eq)]
+struct Remains {
+    waiting: usize,
+    lost: usize,
+}
+
+/// How many events a run registered or lost where it all began with one post: that one, and two for each event that ran and
+/// sows.
+fn sown_by(trail: &[Event]) -> usize {
+    let mut count: usize = 1;
+    for event in trail {
+        if event.arg > 0 {
+            count = count.wrapping_add(2);
+        }
+    }
+    count
+}
+
+/// Whatever a run was refused, each history is legal; the events that were registered on a colour are those of its trail and then
+/// those that wait; and those that wait or were lost have their loads.
+fn remains_of(
     rt: &impl Abort,
     alloc: Global,
     setup: &Setup,
     parts: &WeaveParts<Grudging, u8>,
-) -> Result<usize, Fail> {
-    assert!(rt; parts.lost.is_empty());
+) -> Result<Remains, Fail> {
     assert_eq!(rt; (parts.states.len(), parts.queued.len()), (2, 2));
     let mut waiting = 0;
     for (number, (state, queued)) in parts.states.iter().zip(&parts.queued).enumerate() {
@@ -119,7 +137,11 @@ fn left_of(
         assert_eq!(rt; handed, known);
         waiting = queued.len();
     }
-    Ok(waiting)
+    for (_colour, _event, load) in &parts.lost {
+        assert_eq!(rt; *load, Some(7));
+    }
+    let lost = parts.lost.len();
+    Ok(Remains { waiting, lost })
 }
 
 #[test]
@@ -168,7 +190,14 @@ fn a_take_without_memory_puts_the_mark_back_on_its_chain(rt: HostRuntime) -> Res
     assert!(rt; follows(&mut weave, 1, &pushed));
     assert_eq!(rt; weave.chain_at(1, 0), Some(mark));
     assert_eq!(rt; weave.drain(&rt, &Sowing), Drained::Memory);
-    assert_eq!(rt; left_of(&rt, rt.alloc(), &setup, &weave.into_parts())?, 2);
+    let left = remains_of(&rt, rt.alloc(), &setup, &weave.into_parts())?;
+    assert_eq!(rt;
+        left,
+        Remains {
+            waiting: 2,
+            lost: 0
+        }
+    );
     Ok(())
 }
 
@@ -208,16 +237,23 @@ fn a_mark_that_was_put_back_is_as_good_as_before(rt: HostRuntime) -> Result<(), 
     ];
     assert!(rt; follows(&mut weave, 0, &stolen));
     assert_eq!(rt; weave.drain(&rt, &Sowing), Drained::Memory);
-    assert_eq!(rt; left_of(&rt, rt.alloc(), &setup, &weave.into_parts())?, 1);
+    let left = remains_of(&rt, rt.alloc(), &setup, &weave.into_parts())?;
+    assert_eq!(rt;
+        left,
+        Remains {
+            waiting: 1,
+            lost: 0
+        }
+    );
     Ok(())
 }
 
-/// Two threads run what one event sows, and a take of colour 1 is refused.
+/// Two threads run what one event sows, where a take of colour 1 is refused after so many. How it ended, and what remains.
 fn sow<R: AllocGlobal + Threads + Wait + Sync + Abort>(
     rt: &R,
     setup: &Setup,
     granted: u16,
-) -> Result<(), Fail>
+) -> Result<Option<(Drained, Remains)>, Fail>
     requires { IsRow 2 2 setup.now }
 {
     let alloc = rt.alloc();
@@ -225,15 +261,29 @@ fn sow<R: AllocGlobal + Threads + Wait + Sync + Abort>(
         return Err(Fail::from("no states"));
     };
     let begin = (C0, sowing(20), Some(7));
-    match run_crew(rt, alloc, setup, states, begin, &Sowing, &OpenGate) {
-        Ok((weave, drained)) => {
-            assert_eq!(rt; drained, Drained::Memory);
-            let waiting = left_of(rt, alloc, setup, &weave.into_parts())?;
-            assert!(rt; waiting > 0);
+    let (weave, drained) = match run_crew(rt, alloc, setup, states, begin, &Sowing, &OpenGate) {
+        Ok(ran) => ran,
+        Err(refused) => {
+            assert_eq!(rt; (refused.event, refused.load), (sowing(20), Some(7)));
+            return Ok(None);
         }
-        Err(_) => panic!(rt; "nothing was run"),
+    };
+    let parts = weave.into_parts();
+    let left = remains_of(rt, alloc, setup, &parts)?;
+    let mut sown: usize = 0;
+    for state in &parts.states {
+        if state.log.colour() == C0 {
+            sown = sown_by(state.log.trail());
+        }
     }
-    Ok(())
+    let mut known = left.lost;
+    for history in &parts.histories {
+        for colour in [C0, C1] {
+            known = known.wrapping_add(registered(alloc, history, colour)?.len());
+        }
+    }
+    assert_eq!(rt; known, sown);
+    Ok(Some((drained, left)))
 }
 
 #[test]
@@ -241,8 +291,35 @@ fn threads_that_meet_want_of_memory_in_a_take_hand_all_out(rt: HostRuntime) -> R
     for (shards, steal_cost) in [(1, 5), (2, 5), (1, 1_000_000), (2, 1_000_000)] {
         let setup = pair(shards, steal_cost)?;
         for granted in [0, 1, 5] {
-            sow(&rt, &setup, granted)?;
+            match sow(&rt, &setup, granted)? {
+                Some((drained, left)) => {
+                    assert_eq!(rt; (drained, left.lost), (Drained::Memory, 0));
+                    assert!(rt; left.waiting > 0);
+                }
+                None => panic!(rt; "nothing was run"),
+            }
         }
+    }
+    Ok(())
+}
+
+/// Whatever request for memory is refused, in the making of the fleet or in its run: nothing was run, or all that was registered is
+/// handed out, and nothing is lost where all was run.
+#[test]
+fn threads_that_are_refused_memory_hand_all_out(rt: HostRuntime) -> Result<(), Fail> {
+    let setup = pair(2, 5)?;
+    match sow(&rt, &setup, u16::MAX)? {
+        Some((Drained::Empty, left)) => {
+            assert_eq!(rt;
+                left,
+                Remains {
+                    waiting: 0,
+                    lost: 0
+                }
+            );
+        }
+        Some((Drained::Memory, _)) => {}
+        None => {}
     }
     Ok(())
 }
