@@ -5,12 +5,15 @@ each, which the first instructions of a function tell. So its calls can be read 
 there only some of the callers are found.
 """
 import bisect
+import re
 import struct
 import subprocess
 
-# The first instructions of a function that move the stack pointer, or do nothing to it, and by how much.
-PUSHES = {b"\x55": 8, b"\x53": 8, b"\x41\x54": 8, b"\x41\x55": 8, b"\x41\x56": 8, b"\x41\x57": 8}
-OTHERS = {b"\xf3\x0f\x1e\xfa": 0, b"\x48\x89\xe5": 0}
+# The first instructions of a function that push a register, or leave the stack as it is, and by how much they move it.
+MOVES = {b"\x55": 8, b"\x53": 8, b"\x41\x54": 8, b"\x41\x55": 8, b"\x41\x56": 8, b"\x41\x57": 8, b"\xf3\x0f\x1e\xfa": 0, b"\x48\x89\xe5": 0}
+
+# lea -N(%rsp), %r11, and the end of the loop that goes down to there: cmp %r11, %rsp; jne.
+PROBES, PROBED = b"\x4c\x8d\x9c\x24", b"\x49\x3b\xe3\x75"
 
 
 def lines_of(words):
@@ -25,7 +28,12 @@ class Program:
         rows = [line.split(None, 2) for line in lines_of(["nm", "--defined-only", "-n", path])]
         rows = [(int(row[0], 16), row[2]) for row in rows if len(row) == 3 and row[1] in "tT"]
         self.starts = [start for start, _name in rows]
-        self.names = [name.split("::<")[0].split("::{")[0] for _start, name in rows]
+        self.names = [self.plain(name) for _start, name in rows]
+
+    @staticmethod
+    def plain(name):
+        """A function's path, without what its types and impls are for."""
+        return re.sub(r"\+[^:]*", "", name.split("::<")[0].split("::{")[0])
 
     @staticmethod
     def text_of(path):
@@ -48,13 +56,14 @@ class Program:
     def frame_of(self, place):
         """How many bytes a function takes of the stack."""
         at, size = self.starts[place] - self.at, 0
+        if self.code.startswith(PROBES, at):
+            # A large frame is touched page by page first, down to this place, and the rest is taken behind that loop.
+            size = -struct.unpack_from("<i", self.code, at + len(PROBES))[0]
+            at = self.code.index(PROBED, at) + len(PROBED) + 1
         while True:
-            for known in (PUSHES, OTHERS):
-                found = next((it for it in known if self.code.startswith(it, at)), None)
-                if found:
-                    break
+            found = next((it for it in MOVES if self.code.startswith(it, at)), None)
             if found:
-                at, size = at + len(found), size + {**PUSHES, **OTHERS}[found]
+                at, size = at + len(found), size + MOVES[found]
             elif self.code.startswith(b"\x48\x83\xec", at):
                 return size + self.code[at + 3]
             elif self.code.startswith(b"\x48\x81\xec", at):

@@ -11,11 +11,12 @@ seconds is ended and told. Runs on threads make their requests in no fixed order
 this machine's loopback.
 
 With --places it says where the refused requests lay: in a post, a registration, a take, a steal, in which call of `Fleet::new`, or
-in which function of the repository. For this the program must be built by Rattle's own compiler at opt_level 0, as `callers.py`
-says: `sws_main backend=rattle opt_level=0: sws_command` in a copy's crates.txt.
+in which function of the repository. `callers.py` says how the program must be built for this: in `crates/sws_main` by
+`rt run --backend rattle --opt-level 0`.
 
-With --tests each of these tests of a crate's built tests (`crates/NAME/out/NAME_tests`, built so too) is swept instead, and must
-pass wherever the request lay in a call of a function of this name; what a test asks for elsewhere isn't judged.
+With --tests each of these tests of a crate's built tests (`crates/NAME/out/NAME_tests`, by `rt test` with the same options) is swept
+instead, and must pass wherever the request lay in a call of a function of this name, or of one of them where --under stands more
+than once; what a test asks for elsewhere isn't judged.
 """
 import argparse
 import os
@@ -166,7 +167,7 @@ def sweep_test(words, under, made, most):
         names = made.callers()
         if names is None:
             return
-        is_judged = any(name.endswith(under) for name in names)
+        is_judged = any(name.endswith(tuple(under)) for name in names)
         made.note(number, place_of(names) if is_judged else "outside of it", status, status == 0 or not is_judged)
 
 
@@ -206,7 +207,7 @@ def main():
     words.add_argument("--program", default=SWS)
     words.add_argument("--places", action="store_true")
     words.add_argument("--tests")
-    words.add_argument("--under", default="")
+    words.add_argument("--under", action="append", default=[])
     words.add_argument("test", nargs="*")
     given = words.parse_args()
     program = os.path.abspath(given.tests or given.program)
