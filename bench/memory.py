@@ -66,13 +66,14 @@ def ask(port):
     """Asks twice, each time on a connection of its own, as far as the server lets itself be asked."""
     for _ in range(2):
         try:
-            with socket.create_connection(("127.0.0.1", port), timeout=2) as it:
+            with socket.create_connection(("127.0.0.1", port), timeout=5) as it:
                 it.sendall(ASKED)
                 it.shutdown(socket.SHUT_WR)
                 while it.recv(4096):
                     pass
         except OSError:
-            return
+            # The server waits for the other client all the same, if it is there.
+            continue
 
 
 def serve(words, environment):
@@ -84,7 +85,12 @@ def serve(words, environment):
             break
         time.sleep(0.002)
     ask(port)
-    written, _ = child.communicate(timeout=60)
+    try:
+        written, _ = child.communicate(timeout=60)
+    except subprocess.TimeoutExpired:
+        child.kill()
+        child.communicate()
+        raise
     return child.returncode, written
 
 
