@@ -41,7 +41,8 @@ impl App for Passing {
         ensures frame { Unit {0} }
         ensures trail { state.new.log.events ≡ state.old.log.events ++ event ∷ [] }
         ensures spare { state.old.log.spare ≡ state.new.log.spare + 1 }
-        ensures puts { AllByRecursion (FitsIn self.now.colours 1 (λ colour event load. Unit {0})) outs.new }
+        ensures puts { AllByRecursion
+            (FitsIn self.now.colours 1 (λ colour event load. Unit {0})) outs.new }
         ensures few { length outs.new ≤ 2 }
     {
         self.ran.fetch_add(1, Ordering::Relaxed);

@@ -56,7 +56,7 @@ line_ended text before after byte line (Err fault) stands feed says is_line refu
 -- ---- where the text has ended
 
 -- what was refused stays refused with more behind it
-pub refused_more : (shards : ℕ) (text more whole : List ℕ) (fault : TextFault) → Refuses shards text fault → whole ≡ text ++ more → Refuses shards whole fault
+refused_more : (shards : ℕ) (text more whole : List ℕ) (fault : TextFault) → Refuses shards text fault → whole ≡ text ++ more → Refuses shards whole fault
 refused_more shards text more whole Read refuses is = refuses
 refused_more shards text more whole (BadJournal number) refuses is =
     λ later. subst (λ t. IsFirstOutside shards t number) (sym (append_assoc text more later) ∙ ap (λ t. t ++ later) (sym is)) (refuses (more ++ later))
@@ -118,7 +118,7 @@ piece_refused shards (Some whole) (Some left) now count room before fault read t
     found Memory refuses = tt
 
 -- the text has ended
-pub text_ended : (shards : ℕ) (whole left now : Option (List ℕ)) (room : List ℕ) (reader : Reader) (result : Result ℕ TextFault) → HasRead whole left reader → Takes left now End room
+text_ended : (shards : ℕ) (whole left now : Option (List ℕ)) (room : List ℕ) (reader : Reader) (result : Result ℕ TextFault) → HasRead whole left reader → Takes left now End room
     → ((text : List ℕ) → Stands text reader → Finds shards (Some text) result) → Finds shards whole result
 text_ended shards None left now room reader result read takes finds = tt
 text_ended shards (Some whole) None now room reader result read takes finds = absurd read

@@ -153,7 +153,7 @@ entry_walk-count start e left some = absurd (omega arith)
 entry_walk-count (within done last before) e left some = let long = length-append last (e ∷ []) in omega (arith, long)
 
 -- the line of an entry
-pub at_entry : (lines : List (List ℕ)) (line : List ℕ) (before after : Place) (e : Entry) → IsAt lines before → IsLine line → line ≡ entry_line e → IsFit e → 0 < before.left → Moves before after before.begun (before.left - 1) (before.entries + 1)
+at_entry : (lines : List (List ℕ)) (line : List ℕ) (before after : Place) (e : Entry) → IsAt lines before → IsLine line → line ≡ entry_line e → IsFit e → 0 < before.left → Moves before after before.begun (before.left - 1) (before.entries + 1)
     → IsAt (lines ++ line ∷ []) after
 at_entry lines line before after e at is says fit some moves =
     let walk : Walk = at.walk in

@@ -26,11 +26,13 @@ reach reader = 64 * reader.place.number + length reader.line.items
 -- whatever comes behind the text, the line is the first outside
 abbrev pub Refuses : ℕ → List ℕ → TextFault → Type 0
 Refuses shards text Read = ⊥
-Refuses shards text (BadJournal number) = (later : List ℕ) → IsFirstOutside shards (text ++ later) number
+Refuses shards text (BadJournal number) = (later : List ℕ)
+    → IsFirstOutside shards (text ++ later) number
 Refuses shards text Memory = ⊤
 
 -- what was read of the whole text is told, where the text is
 abbrev pub HasRead : Option (List ℕ) → Option (List ℕ) → Reader → Type 0
 HasRead None left reader = left ≡ None
 HasRead (Some whole) None reader = ⊥
-HasRead (Some whole) (Some left) reader = (text : List ℕ) × (whole ≡ text ++ left) × Stands text reader
+HasRead (Some whole) (Some left) reader = (text : List ℕ)
+    × (whole ≡ text ++ left) × Stands text reader

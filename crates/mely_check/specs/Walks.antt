@@ -13,7 +13,8 @@ pub data Walk : Type 0 where
 
 abbrev pub walk_text : Walk → List ℕ
 walk_text start = []
-walk_text (within done last left) = journal done ++ (shard_line (length done) (length last + left) ++ flat_map entry_line last)
+walk_text (within done last left) =
+    journal done ++ (shard_line (length done) (length last + left) ++ flat_map entry_line last)
 
 abbrev pub begun_in : Walk → ℕ
 begun_in start = 0
@@ -29,7 +30,8 @@ count_in (within done last left) = entries_in done + length last
 
 abbrev pub IsFitWalk : Walk → Type 0
 IsFitWalk start = ⊤
-IsFitWalk (within done last left) = AllByRecursion IsFitHistory done × AllByRecursion IsFit last × (length last + left < 2 ^ 64)
+IsFitWalk (within done last left) = AllByRecursion IsFitHistory done × AllByRecursion IsFit last
+    × (length last + left < 2 ^ 64)
 
 -- the whole lines of the text were read, as the place says
 pub record IsAt (lines : List (List ℕ)) (place : Place) : Type 0 where
@@ -44,7 +46,8 @@ pub record IsAt (lines : List (List ℕ)) (place : Place) : Type 0 where
 
 -- the line is no next one: with it the lines begin no journal, or it is one too many
 abbrev pub MayNotStand : List (List ℕ) → List ℕ → Place → Type 0
-MayNotStand lines line place = place.number < line_limit → BeginsJournal place.shards (joined lines ++ line) → ⊥
+MayNotStand lines line place = place.number < line_limit
+    → BeginsJournal place.shards (joined lines ++ line) → ⊥
 
 -- a line was counted: then so many shards have begun, so many entries are left, and so many there were
 pub record Moves (before after : Place) (begun left entries : ℕ) : Type 0 where

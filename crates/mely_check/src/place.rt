@@ -41,7 +41,8 @@ impl Place {
     pub(crate) fn step(&mut self, line: &[u8]) -> bool
         requires { IsLine line.now }
         ensures stands { (lines : List (List ℕ)) → IsAt lines self.old
-            → MatchBool result (IsAt (lines ++ line.now ∷ []) self.new) (MayNotStand lines line.now self.old) }
+            → MatchBool result (IsAt (lines ++ line.now ∷ []) self.new)
+            (MayNotStand lines line.now self.old) }
         ensures shards { self.new.shards ≡ self.old.shards }
         ensures kept { OnFalse result (self.new ≡ self.old) }
         ensures counted { OnTrue result (self.new.number ≡ self.old.number + 1) }
@@ -63,7 +64,8 @@ impl Place {
             ((self.old.left ≡ 0) × (number ≡ self.old.begun) × (self.old.begun < self.old.shards)
             × Moves self.old self.new (self.old.begun + 1) count self.old.entries)
             ((self.new ≡ self.old)
-            × (self.old.left ≡ 0 → number ≡ self.old.begun → self.old.begun < self.old.shards → ⊥)) }
+            × (self.old.left ≡ 0 → number ≡ self.old.begun
+            → self.old.begun < self.old.shards → ⊥)) }
     {
         if self.left > 0 || self.begun == self.shards || number != self.begun {
             return false;

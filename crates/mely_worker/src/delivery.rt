@@ -41,7 +41,8 @@ impl Delivery {
     /// What is to be delivered after a registration on a colour that was answered so.
     pub fn after(colour: Colour, answer: &Registered) -> Delivery
         ensures after { result ≡ delivery_after colour answer.now }
-        ensures may { (setup : Setup) → IsColour setup colour → NamesCore setup answer.now → MayDeliver setup result }
+        ensures may { (setup : Setup) → IsColour setup colour → NamesCore setup answer.now
+            → MayDeliver setup result }
     {
         match *answer {
             Registered::Woke {

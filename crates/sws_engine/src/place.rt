@@ -106,5 +106,6 @@ impl<W: World, T: Talk<W::Link>> Trail for Place<W, T> {
 impl<W: World, T: Talk<W::Link>> Fits<Load<W, W::Link>> for Place<W, T> {
     ghost use Rattle.sws_engine.specs.Loads.{Fit};
 
-    ghost fits_under = { λ frame colour event load. Fit W.World W.Link.Link frame.first colour event load };
+    ghost fits_under = { λ frame colour event load.
+        Fit W.World W.Link.Link frame.first colour event load };
 }

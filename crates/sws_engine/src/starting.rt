@@ -29,7 +29,8 @@ fn fresh_place<W: World + Drop, T: Talk<W::Link> + Drop>(
     total: u16,
 ) -> Result<Place<W, T>, Memory>
     requires { (W.tells world.now).total ≡ total }
-    ensures { IfOk result (λ place. IsFirstPlace T.Talk world.now (T.contents_of hall) number place) }
+    ensures { IfOk result (λ place.
+        IsFirstPlace T.Talk world.now (T.contents_of hall) number place) }
 {
     let trail = Vec::new(alloc);
     let first = Snapshot::of(world);
@@ -81,7 +82,8 @@ pub fn fresh_places<W: World + Drop, T: Talk<W::Link> + Drop>(
 ) -> Result<Vec<Place<W, T>>, Memory>
     requires few { total ≤ 1024 }
     requires total { (W.tells world.now).total ≡ total }
-    ensures { IfOk result (λ places. AreFirstPlaces T.Talk world.now (T.contents_of hall) (total + 2) places.items) }
+    ensures { IfOk result (λ places.
+        AreFirstPlaces T.Talk world.now (T.contents_of hall) (total + 2) places.items) }
 {
     let Ok(mut places) = Vec::with_capacity(alloc, total as usize + 2) else {
         return Err(Memory);
