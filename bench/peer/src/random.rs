@@ -143,8 +143,12 @@ fn answers(all: &All, script: &Script, input: &Path) -> Result<Vec<Vec<u8>>, Str
         fs::write(input, text).map_err(|error| format!("{error}"))?;
         let sent = run(all, input, &words).map_err(|wrong| format!("text {number}: {wrong}"))?;
         if sent != full.bytes {
-            let shown = (String::from_utf8_lossy(text), String::from_utf8_lossy(&full.bytes), String::from_utf8_lossy(&sent));
-            return Err(format!("text {number} is answered otherwise than defined: {:?}, defined {:?}, answered {:?}", shown.0, shown.1, shown.2));
+            let shown =
+                (String::from_utf8_lossy(text), String::from_utf8_lossy(&full.bytes), String::from_utf8_lossy(&sent));
+            return Err(format!(
+                "text {number} is answered otherwise than defined: {:?}, defined {:?}, answered {:?}",
+                shown.0, shown.1, shown.2
+            ));
         }
         written.push(sent);
     }
@@ -170,7 +174,12 @@ fn fault_of(script: &Script, owed: &str, written: &[u8]) -> Option<String> {
     };
     let Some(rest) = written.strip_prefix(owed) else {
         let same = owed.lines().zip(written.lines()).take_while(|(owed, written)| owed == written).count();
-        return Some(format!("line {} is {:?}, owed is {:?}", same + 1, written.lines().nth(same), owed.lines().nth(same)));
+        return Some(format!(
+            "line {} is {:?}, owed is {:?}",
+            same + 1,
+            written.lines().nth(same),
+            owed.lines().nth(same)
+        ));
     };
     match script.kind {
         Kind::Plain => (!rest.is_empty()).then(|| "more than the transcript is printed".to_string()),
@@ -195,7 +204,9 @@ fn try_script(all: &All, number: u64, input: &Path) -> Result<(Script, BTreeMap<
         return Ok((script, ends));
     };
     let kept = |what: &str, bytes: &[u8]| fs::write(all.folder.join(format!("{number}.{what}")), bytes);
-    let _ = kept("script", script.source.as_bytes()).and(kept("owed", owed.as_bytes())).and(kept("written", &written.unwrap_or_default()));
+    let _ = kept("script", script.source.as_bytes())
+        .and(kept("owed", owed.as_bytes()))
+        .and(kept("written", &written.unwrap_or_default()));
     Err(format!("{}: {wrong}", words.join(" ")))
 }
 
@@ -260,19 +271,36 @@ fn main() -> io::Result<()> {
     let all = All { order, folder, site, watch: Watch::default(), next: Mutex::default(), counts: Mutex::default() };
     let began = Instant::now();
     thread::scope(|scope| {
-        let jobs: Vec<_> = (0..all.order.jobs).map(|job| scope.spawn({ let all = &all; move || work(all, job) })).collect();
+        let jobs: Vec<_> = (0..all.order.jobs)
+            .map(|job| {
+                scope.spawn({
+                    let all = &all;
+                    move || work(all, job)
+                })
+            })
+            .collect();
         while !jobs.iter().all(|job| job.is_finished()) {
             all.watch.look();
             thread::sleep(Duration::from_millis(100));
         }
     });
     let counts = all.counts.lock().unwrap();
-    println!("{} scripts, {} connections, {} texts answered, {} seconds", counts.scripts, counts.connections, counts.answers, began.elapsed().as_secs());
+    println!(
+        "{} scripts, {} connections, {} texts answered, {} seconds",
+        counts.scripts,
+        counts.connections,
+        counts.answers,
+        began.elapsed().as_secs()
+    );
     println!("ends {:?}, responses {:?}", counts.ends, counts.codes);
     if counts.wrong.is_empty() {
         println!("nothing was wrong");
         return fs::remove_dir_all(&all.folder);
     }
-    println!("{} scripts went wrong; what was given, owed and written is in {}", counts.wrong.len(), all.folder.display());
+    println!(
+        "{} scripts went wrong; what was given, owed and written is in {}",
+        counts.wrong.len(),
+        all.folder.display()
+    );
     exit(1);
 }

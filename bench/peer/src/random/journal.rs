@@ -48,7 +48,10 @@ fn enter(colours: &mut [Colour], shape: &Shape, words: &[&str]) -> Option<()> {
         }
         "take" => {
             let [_, core, count] = numbers(rest)?;
-            let is_allowed = core == colour.owner && colour.taken.is_none() && count > 0 && count == shape.batch.min(colour.queued());
+            let is_allowed = core == colour.owner
+                && colour.taken.is_none()
+                && count > 0
+                && count == shape.batch.min(colour.queued());
             colour.begun += count;
             colour.taken = Some((core, count));
             is_allowed.then_some(())
@@ -61,7 +64,12 @@ fn enter(colours: &mut [Colour], shape: &Shape, words: &[&str]) -> Option<()> {
         "steal" => {
             let [_, from, to] = numbers(rest)?;
             let is_idle = colour.taken.is_none() && colour.queued() > 0;
-            let is_allowed = number >= PINNED && from == colour.owner && to != from && to < shape.workers && is_idle && colour.worth() > shape.cost as u64;
+            let is_allowed = number >= PINNED
+                && from == colour.owner
+                && to != from
+                && to < shape.workers
+                && is_idle
+                && colour.worth() > shape.cost as u64;
             colour.owner = to;
             is_allowed.then_some(())
         }
@@ -71,7 +79,8 @@ fn enter(colours: &mut [Colour], shape: &Shape, words: &[&str]) -> Option<()> {
 
 /// What is wrong with the journal of a run of so many connections, if anything is.
 pub fn fault_of(journal: &str, shape: &Shape, connections: usize) -> Option<String> {
-    let mut colours: Vec<Colour> = (0..connections + FIRST).map(|number| Colour { owner: number % shape.workers, ..Colour::default() }).collect();
+    let mut colours: Vec<Colour> =
+        (0..connections + FIRST).map(|number| Colour { owner: number % shape.workers, ..Colour::default() }).collect();
     let mut lines = journal.lines();
     for shard in 0..shape.shards {
         let heading = lines.next()?;
@@ -81,7 +90,10 @@ pub fn fault_of(journal: &str, shape: &Shape, connections: usize) -> Option<Stri
         };
         for line in lines.by_ref().take(count) {
             let words: Vec<&str> = line.split(' ').collect();
-            let is_here = words.get(1).and_then(|colour| colour.parse::<usize>().ok()).is_some_and(|colour| colour % shape.shards == shard);
+            let is_here = words
+                .get(1)
+                .and_then(|colour| colour.parse::<usize>().ok())
+                .is_some_and(|colour| colour % shape.shards == shard);
             if !is_here || enter(&mut colours, shape, &words).is_none() {
                 return Some(format!("`{line}` in shard {shard}"));
             }
@@ -94,7 +106,8 @@ pub fn fault_of(journal: &str, shape: &Shape, connections: usize) -> Option<Stri
     if let Some(number) = colours.iter().position(|colour| !is_drained(colour)) {
         return Some(format!("colour {number} isn't drained"));
     }
-    let is_whole = |colour: &Colour| colour.registered.first() == Some(&OPEN) && colour.registered.last() == Some(&CLOSE);
+    let is_whole =
+        |colour: &Colour| colour.registered.first() == Some(&OPEN) && colour.registered.last() == Some(&CLOSE);
     let odd = colours[FIRST..].iter().position(|colour| !is_whole(colour));
     odd.map(|number| format!("connection {number} isn't opened first or closed last"))
 }

@@ -264,7 +264,14 @@ fn answer(site: &Site, request: &Request<'_>, is_last: bool, to: &mut Vec<u8>) -
         return (code, closes);
     }
     let (name, file) = (name.expect("a name"), file.expect("a file"));
-    let whole = Response { code: 200, closes, modified: site.date, range: None, content: Some((content_type(&name), file)), sends_body };
+    let whole = Response {
+        code: 200,
+        closes,
+        modified: site.date,
+        range: None,
+        content: Some((content_type(&name), file)),
+        sends_body,
+    };
     let response = match selected(request, file.len()) {
         _ if is_unmodified(site.date, request) => Response { code: 304, content: None, ..whole },
         Selected::Whole => whole,
@@ -341,7 +348,11 @@ fn bytes_before_stop(connection: &Connection) -> (Vec<u8>, Stop) {
 /// What a scripted connection is to be sent, and how it ends, where the responses to its bytes are these.
 pub fn outcome<'r>(connection: &Connection, text: &[u8], full: &'r [u8], closes: bool) -> (&'r [u8], End) {
     let (bytes, stop) = bytes_before_stop(connection);
-    assert_eq!(bytes, text[..text.len().min(INPUT_LIMIT)], "a connection whose bytes before its stop are another text's");
+    assert_eq!(
+        bytes,
+        text[..text.len().min(INPUT_LIMIT)],
+        "a connection whose bytes before its stop are another text's"
+    );
     if let Some(cut) = connection.cut.filter(|cut| *cut < full.len()) {
         return (&full[..cut], End::Fault);
     }

@@ -40,7 +40,9 @@ impl Script {
     pub fn words(&self) -> Vec<String> {
         let mut words = self.date_words();
         let Shape { workers, shards, batch, cost, group } = &self.shape;
-        for (name, value) in [("workers", workers), ("shards", shards), ("batch", batch), ("cost", cost), ("group", group)] {
+        for (name, value) in
+            [("workers", workers), ("shards", shards), ("batch", batch), ("cost", cost), ("group", group)]
+        {
             words.push(format!("--{name}={value}"));
         }
         match self.kind {
@@ -128,7 +130,9 @@ fn draw_connection(number: usize, (text, full): &(Vec<u8>, Responses), draw: &mu
     let some = draw.between(1, INPUT_LIMIT);
     let step = draw.in_hundred(25).then(|| *draw.of(&[1, 2, 7, 64, 1_000, INPUT_LIMIT, some]));
     let within = draw.below(length + 1);
-    let cut = draw.in_hundred(20).then(|| *draw.of(&[0, 1, length.saturating_sub(1), length, length + 1, within, within, 1_000_000_000]));
+    let cut = draw
+        .in_hundred(20)
+        .then(|| *draw.of(&[0, 1, length.saturating_sub(1), length, length + 1, within, within, 1_000_000_000]));
     let mut connection = Connection { step, cut, items: Vec::new(), text: number };
     push_pieces(&mut connection.items, text, draw);
     push_stop(&mut connection.items, draw);

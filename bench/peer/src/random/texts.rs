@@ -24,10 +24,12 @@ pub fn site_files() -> Vec<(&'static str, Vec<u8>)> {
     ]
 }
 
+#[rustfmt::skip]
 const METHODS: [&str; 16] = [
     "HEAD", "OPTIONS", "POST", "PUT", "DELETE", "PATCH", "TRACE", "CONNECT", "get", "Get", "HEADS", "GE", "PROPFIND", "M-SEARCH", "!#$%&'*+", "G\u{e9}T",
 ];
 
+#[rustfmt::skip]
 const TARGETS: [&str; 44] = [
     "/", "/", "/index.html", "/a/b.txt", "/a/b.txt", "/empty.css", "/a%20b.txt", "/a%20b%2Etxt", "/%2541.html", "/%41.html", "/A.html",
     "/%c3%bc.js", "/\u{fc}.js", "/deep/deeper/", "/deep/deeper", "/deep//deeper/", "/x.PNG", "/x.png", "/.dot", "/noext", "/q%3fx.json",
@@ -35,8 +37,10 @@ const TARGETS: [&str; 44] = [
     "/a/b.txt%00", "/%", "/%4", "/%zz", "/index.html#part", "/?a=b", "http://x/a/b.txt", "HTTP://x", "http://x?/a/b.txt", "https://x/", "*", "x:80", "a/b.txt",
 ];
 
-const VERSIONS: [&str; 9] = ["HTTP/1.0", "HTTP/1.2", "HTTP/2.0", "HTTP/0.9", "http/1.1", "HTTP/1.1 ", "HTTP/1.", "HTTP", ""];
+const VERSIONS: [&str; 9] =
+    ["HTTP/1.0", "HTTP/1.2", "HTTP/2.0", "HTTP/0.9", "http/1.1", "HTTP/1.1 ", "HTTP/1.", "HTTP", ""];
 
+#[rustfmt::skip]
 const FIELDS: [&str; 62] = [
     "Connection: close", "connection: keep-alive", "Connection: Keep-Alive, CLOSE", "Connection:\t close\t,x", "Connection: closed", "Connection: close;q=1",
     "Connection:", "Content-Length: 0", "Content-Length: 000", "Content-Length: 5", "Content-Length:", "Content-Length: 0, 0", "Content-Length: +0",
@@ -128,7 +132,8 @@ fn push_long_head(to: &mut Vec<u8>, draw: &mut Draw) {
 }
 
 fn noise(count: usize, draw: &mut Draw) -> Vec<u8> {
-    let alphabet: &[u8] = *draw.of(&[&b""[..], b"\r\n", b"GET / HTTP/1.1\r\n\r\nHost:x", b"\r\n\t :/%aZ09", b"\0\x7f\x80\xff\n\r G"]);
+    let alphabet: &[u8] =
+        *draw.of(&[&b""[..], b"\r\n", b"GET / HTTP/1.1\r\n\r\nHost:x", b"\r\n\t :/%aZ09", b"\0\x7f\x80\xff\n\r G"]);
     (0..count).map(|_| if alphabet.is_empty() { draw.byte() } else { *draw.of(alphabet) }).collect()
 }
 
