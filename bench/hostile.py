@@ -286,7 +286,7 @@ def silent_clients(site):
             for _ in range(100):
                 ask(server)
             status, told = server.end()
-        is_right = status == 0 and told["idle"] == 100 and 29 < min(ends) and max(ends) < 36
+        is_right = status == 0 and told["idle"] == 100 and 28 < min(ends) and max(ends) < 36
         yield is_right, f"100 clients that say nothing more were given up after {min(ends):.1f} to {max(ends):.1f} s, for which the server used {used:.2f} s of a processor ({told}, {options})"
 
 
