@@ -305,26 +305,30 @@ def dripping_client(site):
 
 
 def takes_nothing(site):
-    """Clients that ask for much and read nothing: how long others wait when these are given up."""
-    for count, options in ((20, ()), (20, ("--workers", "4", "--shards", "4"))):
-        with Server(site, count + 100, *options) as server:
-            clients = [server.connect(room=1) for _ in range(count)]
-            for client in clients:
-                client.sendall(request(b"/page.bin") * 64)
-            began = time.monotonic()
-            slowest, at, asked = 0.0, 0.0, 0
-            while time.monotonic() - began < 33 + count and asked < 100:
-                took = ask(server)[1]
-                asked += 1
-                if took > slowest:
-                    slowest, at = took, time.monotonic() - began
-                time.sleep(0.7)
-            for client in clients:
-                client.close()
-            for _ in range(100 - asked):
-                ask(server)
-            status, told = server.end()
-        yield status == 0 and slowest < 5, f"{count} clients that ask for 64 pages and take nothing: the slowest of {asked} others waited {slowest:.2f} s, {at:.0f} s after ({told}, {options})"
+    """Clients that ask for much and read nothing, so that the server stops anywhere within a response: how long others wait meanwhile, and
+    when these are given up."""
+    count, most = 150, 400
+    with large_site(site) as large:
+        for options in ((), ("--workers", "4", "--shards", "4")):
+            with Server(large, count + most, *options) as server:
+                clients = [server.connect(room=1) for _ in range(count)]
+                for number, client in enumerate(clients):
+                    client.sendall(request(b"/large.bin", b"Range: bytes=0-%d" % (30_000 + 263 * number)) * 64)
+                began = time.monotonic()
+                slowest, at, asked = 0.0, 0.0, 0
+                while time.monotonic() - began < 50 and asked < most:
+                    took = ask(server)[1]
+                    asked += 1
+                    if took > slowest:
+                        slowest, at = took, time.monotonic() - began
+                    time.sleep(0.1)
+                for client in clients:
+                    client.close()
+                for _ in range(most - asked):
+                    ask(server)
+                status, told = server.end()
+            is_right = status == 0 and slowest < 10
+            yield is_right, f"{count} clients that ask for 64 ranges and take nothing: the slowest of {asked} others waited {slowest:.2f} s, {at:.0f} s after ({told}, {options})"
 
 
 def targets(site):
@@ -470,7 +474,7 @@ CASES = [
 
 def make_site():
     folder = tempfile.mkdtemp(prefix="sws-hostile-")
-    for name, body in (("a.txt", b"0123456789"), ("index.html", b"hi\n"), ("page.bin", os.urandom(30_000)), ("sub/index.html", b"sub\n"), (".hidden", b"h")):
+    for name, body in (("a.txt", b"0123456789"), ("index.html", b"hi\n"), ("sub/index.html", b"sub\n"), (".hidden", b"h")):
         path = os.path.join(folder, name)
         os.makedirs(os.path.dirname(path), exist_ok=True)
         with open(path, "wb") as file:
