@@ -17,6 +17,8 @@ mod place;
 mod reader;
 mod reading;
 mod report;
+#[cfg(test)]
+mod tests;
 mod watch;
 
 pub use checking::check_journal;
