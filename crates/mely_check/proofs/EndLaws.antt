@@ -1,8 +1,8 @@
 -- What is found of a text that has ended.
 use Rattle.std.proofs.Common.{◌≡◌, ℕ, zero, suc, ◌+◌, ◌<◌, ◌≤◌, ◌%◌, ◌⊎◌, List, [], ◌∷◌, ◌++◌, Option, None, Some, Result, Ok, Err, length, get_or, take, drop, refl, sym, ap, subst, ◌∙◌, arith, inl, inr, append-nil, length-append}
-use Rattle.std.specs.Prelude.{MatchOption, ⊤}
+use Rattle.std.specs.Prelude.{MatchOption, unwrap_or, ⊤}
 use Rattle.std.specs.List.{slice_get, AllByRecursion}
-use Rattle.std.proofs.lemmas.Bool.{cases_eq, cases_lt}
+use Rattle.std.proofs.lemmas.Bool.{cases_eq, cases_lt, cases_order}
 use Rattle.std.proofs.Math.Seq.{take-append_seam}
 use Rattle.std.proofs.lemmas.Option.{get_or_from_slice_get, slice_get-get_or}
 use Rattle.mely_event.specs.declared.colour.Colour.{Colour}
@@ -22,7 +22,7 @@ use Rattle.sws_report.specs.Journal.{journal, AreSmall}
 use Rattle.sws_report.proofs.JournalUnique.{journal-unique}
 use Rattle.mely_check.specs.Journals.{IsFitHistory, AreFit, IsRead, IsFirstOutside, joined, entries_in, line_limit}
 use Rattle.mely_check.specs.Reports.{all_entries, AreReports, IsReport}
-use Rattle.mely_check.specs.Verdicts.{IsFirstIllegal, IsLeastLeft, IsJournalOf, IsDrainedRun, IsAccepted, IsNotLegal, IsNotDrained, Says, Finds, IsAcceptance, Accepts}
+use Rattle.mely_check.specs.Verdicts.{IsFirstIllegal, IsLeastLeft, IsJournalOf, IsDrainedRun, IsAccepted, IsNotLegal, IsNotDrained, Says, Finds, IsAcceptance, Accepts, AgreesWith, IsExact}
 use Rattle.mely_check.specs.Walks.{Walk, walk_text, histories_in, IsAt}
 use Rattle.mely_check.specs.Judges.{Judges, LegalFrom, own_of, IsWatched, IsJudged, AreDrainedBelow, IsDrainedAt, IsOpenAt}
 use Rattle.mely_check.specs.Readers.{Knows, Ends}
@@ -35,7 +35,7 @@ use Rattle.mely_check.specs.declared.watch.Watch.{Watch}
 use Rattle.mely_check.proofs.WatchLaws.{drained_exactly}
 use Rattle.mely_check.proofs.JudgeLaws.{are_legal, legal_at, length-all}
 use Rattle.mely_check.proofs.ReaderLaws.{IsWhole, walk_whole, stands_of, text_short}
-use Rattle.mely_check.proofs.ExactLaws.{never_outside}
+use Rattle.mely_check.proofs.ExactLaws.{never_outside, outside_once}
 use Rattle.mely_check.proofs.ListLaws.{at_seam}
 use Rattle.mely_check.proofs.WalkLaws.{small_histories}
 
@@ -135,6 +135,15 @@ module _ (setup : Setup) (text : List ℕ) (reader : Reader) (k : Knows setup te
   journal_of = record {
     fit = whole.fit;
     is = k.is ∙ ap (λ t. joined k.lines ++ t) empty ∙ append-nil (joined k.lines) ∙ k.heard.at.is ∙ whole.is;
+    few = (
+        let at = k.heard.at in
+        let lines_are = at.counted in
+        let number = at.number in
+        let high = reader.place.number_in in
+        let begun = at.begun in
+        let many = whole.fit.many in
+        let entries = whole.counted in omega (arith, lines_are, number, high, begun, many, entries, all, same)
+        );
   }
 
   watched : (o : Option ℕ) → o ≡ None → MatchOption o (IsWatched setup (histories_in k.heard.at.walk) reader.judge) (IsFirstIllegal setup (histories_in k.heard.at.walk)) → IsWatched setup (histories_in k.heard.at.walk) reader.judge
@@ -200,21 +209,128 @@ drained_not histories colour drained least = least.left (at histories least.shar
     at (h ∷ hs) zero history all there = subst IsDrained (ap (λ (o : Option (List Entry)). elim o as (λ _. List Entry) [ None ↦ h | Some x ↦ x ]) there) all.0
     at (h ∷ hs) (suc shard) history all there = at hs shard history all.1 there
 
-pub accepts : (setup : Setup) (told : Option (List ℕ)) (found : Result Report CheckFault) → Finds setup told found → Accepts setup told found
-accepts setup None found finds = λ text histories is run few. absurd (cc)
-accepts setup (Some whole) (Ok report) finds = λ text histories is run few. tt
-accepts setup (Some whole) (Err Read) finds = λ text histories is run few. inl refl
-accepts setup (Some whole) (Err (BadJournal line)) finds = λ text histories is run few.
-    let same : whole ≡ text = ap (λ (o : Option (List ℕ)). elim o as (λ _. List ℕ) [ None ↦ whole | Some t ↦ t ]) is in
+journal_not_bad : (setup : Setup) (histories : List (List Entry)) (text : List ℕ) (line : ℕ) → IsJournalOf setup histories text → IsFirstOutside (shape_of setup).shards text line → ⊥
+journal_not_bad setup histories text line is outside =
     let shards_few = setup.shards_in.1 in
-    let many = run.journal_of.fit.many in
-    absurd (never_outside (shape_of setup).shards text (entries_in histories) line (omega arith) (record { histories = histories; fit = run.journal_of.fit; is = run.journal_of.is; counted = refl }) (omega arith) (subst (λ t. IsFirstOutside (shape_of setup).shards t line) same finds))
-accepts setup (Some whole) (Err (NotLegal line)) finds = λ text histories is run few.
-    let same : text ≡ whole = sym (ap (λ (o : Option (List ℕ)). elim o as (λ _. List ℕ) [ None ↦ whole | Some t ↦ t ]) is) in
-    let one = same_histories setup histories finds.histories whole (subst (IsJournalOf setup histories) same run.journal_of) finds.journal_of in
-    absurd (legal_not setup finds.histories line (subst (AreLegal setup) one run.legal) finds.first)
-accepts setup (Some whole) (Err (NotDrained colour)) finds = λ text histories is run few.
-    let same : text ≡ whole = sym (ap (λ (o : Option (List ℕ)). elim o as (λ _. List ℕ) [ None ↦ whole | Some t ↦ t ]) is) in
-    let one = same_histories setup histories finds.histories whole (subst (IsJournalOf setup histories) same run.journal_of) finds.journal_of in
-    absurd (drained_not finds.histories colour (subst (AllByRecursion IsDrained) one run.drained) finds.least)
-accepts setup (Some whole) (Err Memory) finds = λ text histories is run few. inr refl
+    let many = is.fit.many in
+    let few = is.few in
+    never_outside (shape_of setup).shards text (entries_in histories) line (omega arith) (record { histories = histories; fit = is.fit; is = is.is; counted = refl }) (omega arith) outside
+
+legal_run_not : (setup : Setup) (one : List (List Entry)) (text : List ℕ) (line : ℕ) → IsJournalOf setup one text → AreLegal setup one → IsNotLegal setup text line → ⊥
+legal_run_not setup one text line is legal not = legal_not setup not.histories line (subst (AreLegal setup) (same_histories setup one not.histories text is not.journal_of) legal) not.first
+
+drained_run_not : (setup : Setup) (one : List (List Entry)) (text : List ℕ) (colour : ℕ) → IsJournalOf setup one text → AllByRecursion IsDrained one → IsNotDrained setup text colour → ⊥
+drained_run_not setup one text colour is drained not = drained_not not.histories colour (subst (AllByRecursion IsDrained) (same_histories setup one not.histories text is not.journal_of) drained) not.least
+
+accepts_text : (setup : Setup) (text : List ℕ) (histories : List (List Entry)) (found : Result Report CheckFault) → Says setup text found → IsDrainedRun setup histories text → IsAcceptance found
+accepts_text setup text histories (Ok report) says run = tt
+accepts_text setup text histories (Err Read) says run = inl refl
+accepts_text setup text histories (Err (BadJournal line)) says run = absurd (journal_not_bad setup histories text line run.journal_of says)
+accepts_text setup text histories (Err (NotLegal line)) says run = absurd (legal_run_not setup histories text line run.journal_of run.legal says)
+accepts_text setup text histories (Err (NotDrained colour)) says run = absurd (drained_run_not setup histories text colour run.journal_of run.drained says)
+accepts_text setup text histories (Err Memory) says run = inr refl
+
+told_text : (setup : Setup) (told : Option (List ℕ)) (text : List ℕ) (found : Result Report CheckFault) → told ≡ Some text → Finds setup told found → Says setup text found
+told_text setup told text found is finds = subst (λ o. Finds setup o found) is finds
+
+pub accepts : (setup : Setup) (told : Option (List ℕ)) (found : Result Report CheckFault) → Finds setup told found → Accepts setup told found
+accepts setup told found finds text histories is run = accepts_text setup text histories found (told_text setup told text found is finds) run
+
+-- ---- each text has one answer
+
+-- the entry at a place stands in what is before a later one
+record Inside (front : List Entry) (e : Entry) (place : ℕ) (whole : List (List Entry)) : Type 0 where
+  pub history : List Entry
+  pub there : slice_get whole place ≡ Some history
+  pub at : slice_get history (length front) ≡ Some e
+  pub before : take (length front) history ≡ front
+
+inside_front : (front : List Entry) (e : Entry) (behind front' : List Entry) (e' : Entry) (behind' : List Entry) → front ++ e ∷ behind ≡ front' ++ e' ∷ behind' → length front < length front' → (slice_get front' (length front) ≡ Some e) × (take (length front) front' ≡ front)
+inside_front [] e behind [] e' behind' same less = absurd (omega arith)
+inside_front [] e behind (x ∷ front') e' behind' same less = (let first : x ≡ e = cc in ap (λ y. Some y) first, refl)
+inside_front (x ∷ front) e behind [] e' behind' same less = absurd (omega arith)
+inside_front (x ∷ front) e behind (y ∷ front') e' behind' same less =
+    let first : y ≡ x = cc in
+    let rest : front ++ e ∷ behind ≡ front' ++ e' ∷ behind' = cc in
+    let tail = inside_front front e behind front' e' behind' rest (omega arith) in
+    (tail.0, ap (λ t. y ∷ t) tail.1 ∙ ap (λ z. z ∷ front) first)
+
+inside : (b : List (List Entry)) (front : List Entry) (e : Entry) (behind : List Entry) (more b' : List (List Entry)) (front' : List Entry) (e' : Entry) (behind' : List Entry) (more' : List (List Entry))
+    → b ++ (front ++ e ∷ behind) ∷ more ≡ b' ++ (front' ++ e' ∷ behind') ∷ more' → length b + entries_in b + length front < length b' + entries_in b' + length front' → Inside front e (length b) (b' ++ front' ∷ [])
+inside [] front e behind more [] front' e' behind' more' same less =
+    let first : front ++ e ∷ behind ≡ front' ++ e' ∷ behind' = cc in
+    let found = inside_front front e behind front' e' behind' first (omega arith) in
+    record { history = front'; there = refl; at = found.0; before = found.1 }
+inside [] front e behind more (h ∷ b') front' e' behind' more' same less =
+    let first : front ++ e ∷ behind ≡ h = cc in
+    record {
+      history = h;
+      there = refl;
+      at = ap (λ t. slice_get t (length front)) (sym first) ∙ at_seam front behind e;
+      before = ap (take (length front)) (sym first) ∙ take-append_seam front (e ∷ behind);
+    }
+inside (h ∷ b) front e behind more [] front' e' behind' more' same less =
+    let first : h ≡ front' ++ e' ∷ behind' = cc in
+    absurd (let long = ap (λ t. length t) first in omega (arith, long, length-append front' (e' ∷ behind')))
+inside (h ∷ b) front e behind more (h' ∷ b') front' e' behind' more' same less =
+    let first : h ≡ h' = cc in
+    let rest : b ++ (front ++ e ∷ behind) ∷ more ≡ b' ++ (front' ++ e' ∷ behind') ∷ more' = cc in
+    let long = ap (λ t. length t) first in
+    let tail = inside b front e behind more b' front' e' behind' more' rest (omega (arith, long)) in
+    record { history = tail.history; there = tail.there; at = tail.at; before = tail.before }
+
+holds_at : {X : Type 0} (P : X → Type 0) (xs : List X) (k : ℕ) (x : X) → AllByRecursion P xs → slice_get xs k ≡ Some x → P x
+holds_at P [] k x all there = absurd (cc)
+holds_at P (y ∷ xs) zero x all there = subst P (ap (λ o. unwrap_or o y) there) all.0
+holds_at P (y ∷ xs) (suc k) x all there = holds_at P xs k x all.1 there
+
+not_earlier : (setup : Setup) (histories : List (List Entry)) (one other : ℕ) → IsFirstIllegal setup histories one → IsFirstIllegal setup histories other → one < other → ⊥
+not_earlier setup histories one other f g less =
+    let a = f.counted in
+    let b = g.counted in
+    let i = inside f.before f.front f.entry f.behind f.more g.before g.front g.entry g.behind g.more (sym f.is ∙ g.is) (omega (arith, a, b)) in
+    f.fault (holds_at (λ x. (colour_of x).0 % (shape_of setup).shards ≡ length f.before) i.history (length f.front) f.entry (g.legal.of_shard (length f.before) i.history i.there) i.at)
+    (subst (λ h. IsAllowed setup h f.entry) i.before (g.legal.legal (length f.before) i.history i.there (length f.front) f.entry i.at))
+
+one_line : (setup : Setup) (histories : List (List Entry)) (one other : ℕ) → IsFirstIllegal setup histories one → IsFirstIllegal setup histories other → one ≡ other
+one_line setup histories one other f g = elim (cases_order one other) [
+  | inl same ↦ same
+  | inr differ ↦ elim differ [ inl less ↦ absurd (not_earlier setup histories one other f g less) | inr more ↦ absurd (not_earlier setup histories other one g f more) ]
+]
+
+not_less : (histories : List (List Entry)) (one other : ℕ) → IsLeastLeft histories one → IsLeastLeft histories other → one < other → ⊥
+not_less histories one other a b less = a.left (holds_at (λ h. IsDrainedOf h (record { 0 = one })) histories a.shard a.history (b.least (record { 0 = one }) less) a.there)
+
+one_colour : (histories : List (List Entry)) (one other : ℕ) → IsLeastLeft histories one → IsLeastLeft histories other → one ≡ other
+one_colour histories one other a b = elim (cases_order one other) [
+  | inl same ↦ same
+  | inr differ ↦ elim differ [ inl less ↦ absurd (not_less histories one other a b less) | inr more ↦ absurd (not_less histories other one b a more) ]
+]
+
+agrees : (setup : Setup) (text : List ℕ) (right found : Result Report CheckFault) → Says setup text right → Says setup text found → AgreesWith right found
+agrees setup text (Ok report) found right says = accepts_text setup text right.histories found says right.run
+agrees setup text (Err Read) found right says = tt
+agrees setup text (Err Memory) found right says = tt
+agrees setup text (Err (BadJournal line)) (Ok report) right says = journal_not_bad setup says.histories text line says.run.journal_of right
+agrees setup text (Err (BadJournal line)) (Err Read) right says = inr (inl refl)
+agrees setup text (Err (BadJournal line)) (Err (BadJournal other)) right says = inl (ap BadJournal (outside_once (shape_of setup).shards text other line says right))
+agrees setup text (Err (BadJournal line)) (Err (NotLegal other)) right says = absurd (journal_not_bad setup says.histories text line says.journal_of right)
+agrees setup text (Err (BadJournal line)) (Err (NotDrained other)) right says = absurd (journal_not_bad setup says.histories text line says.journal_of right)
+agrees setup text (Err (BadJournal line)) (Err Memory) right says = inr (inr refl)
+agrees setup text (Err (NotLegal line)) (Ok report) right says = legal_run_not setup says.histories text line says.run.journal_of says.run.legal right
+agrees setup text (Err (NotLegal line)) (Err Read) right says = inr (inl refl)
+agrees setup text (Err (NotLegal line)) (Err (BadJournal other)) right says = absurd (journal_not_bad setup right.histories text other right.journal_of says)
+agrees setup text (Err (NotLegal line)) (Err (NotLegal other)) right says =
+    inl (ap NotLegal (one_line setup right.histories other line (subst (λ h. IsFirstIllegal setup h other) (same_histories setup says.histories right.histories text says.journal_of right.journal_of) says.first) right.first))
+agrees setup text (Err (NotLegal line)) (Err (NotDrained other)) right says = absurd (legal_run_not setup says.histories text line says.journal_of says.legal right)
+agrees setup text (Err (NotLegal line)) (Err Memory) right says = inr (inr refl)
+agrees setup text (Err (NotDrained colour)) (Ok report) right says = drained_run_not setup says.histories text colour says.run.journal_of says.run.drained right
+agrees setup text (Err (NotDrained colour)) (Err Read) right says = inr (inl refl)
+agrees setup text (Err (NotDrained colour)) (Err (BadJournal other)) right says = absurd (journal_not_bad setup right.histories text other right.journal_of says)
+agrees setup text (Err (NotDrained colour)) (Err (NotLegal other)) right says = absurd (legal_run_not setup right.histories text other right.journal_of right.legal says)
+agrees setup text (Err (NotDrained colour)) (Err (NotDrained other)) right says =
+    inl (ap NotDrained (one_colour right.histories other colour (subst (λ h. IsLeastLeft h other) (same_histories setup says.histories right.histories text says.journal_of right.journal_of) says.least) right.least))
+agrees setup text (Err (NotDrained colour)) (Err Memory) right says = inr (inr refl)
+
+pub exact : (setup : Setup) (told : Option (List ℕ)) (found : Result Report CheckFault) → Finds setup told found → IsExact setup told found
+exact setup told found finds text right is says = agrees setup text right found says (told_text setup told text found is finds)

@@ -37,10 +37,11 @@ pub record IsLeastLeft (histories : List (List Entry)) (colour : ℕ) : Type 0 w
 
 -- ---- what a text is
 
--- it is the journal of these histories
+-- it is the journal of these histories, in fewer lines than the limit
 pub record IsJournalOf (setup : Setup) (histories : List (List Entry)) (text : List ℕ) : Type 0 where
   pub fit : AreFit (shape_of setup).shards histories
   pub is : text ≡ journal histories
+  pub few : length histories + entries_in histories < line_limit
 
 -- it is the journal of these histories, which are legal and drained
 pub record IsDrainedRun (setup : Setup) (histories : List (List Entry)) (text : List ℕ) : Type 0 where
@@ -85,6 +86,26 @@ Finds setup (Some text) found = Says setup text found
 abbrev pub IsAcceptance : Result Report CheckFault → Type 0
 IsAcceptance found = MatchResult found (λ _. ⊤) (λ fault. (fault ≡ Read) ⊎ (fault ≡ Memory))
 
--- where the text is told and is the journal of a legal and drained run, in fewer lines than the limit, it is accepted
+-- where the text is told and is the journal of a legal and drained run, it is accepted
 abbrev pub Accepts : Setup → Option (List ℕ) → Result Report CheckFault → Type 0
-Accepts setup told found = (text : List ℕ) (histories : List (List Entry)) → told ≡ Some text → IsDrainedRun setup histories text → length histories + entries_in histories < line_limit → IsAcceptance found
+Accepts setup told found =
+    (text : List ℕ) (histories : List (List Entry)) → told ≡ Some text → IsDrainedRun setup histories text
+    → IsAcceptance found
+
+-- an answer is this one of the three faults of a text, unless the reading failed or there was no memory
+abbrev pub IsFault : CheckFault → Result Report CheckFault → Type 0
+IsFault fault found = MatchResult found (λ _. ⊥) (λ other. (other ≡ fault) ⊎ (other ≡ Read) ⊎ (other ≡ Memory))
+
+-- it is what is so of the text, if that says anything
+abbrev pub AgreesWith : Result Report CheckFault → Result Report CheckFault → Type 0
+AgreesWith (Ok report) found = IsAcceptance found
+AgreesWith (Err Read) found = ⊤
+AgreesWith (Err (BadJournal line)) found = IsFault (BadJournal line) found
+AgreesWith (Err (NotLegal line)) found = IsFault (NotLegal line) found
+AgreesWith (Err (NotDrained colour)) found = IsFault (NotDrained colour) found
+AgreesWith (Err Memory) found = ⊤
+
+-- where the text is told, the answer is the one that is so of it, whichever that is
+abbrev pub IsExact : Setup → Option (List ℕ) → Result Report CheckFault → Type 0
+IsExact setup told found =
+    (text : List ℕ) (right : Result Report CheckFault) → told ≡ Some text → Says setup text right → AgreesWith right found

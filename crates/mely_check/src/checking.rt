@@ -2,7 +2,7 @@
 ghost use Rattle.std.specs.Prelude.{◌≡◌, ◌≢◌, ◌+◌, ◌≤◌, ◌++◌, ℕ, List, length, OnOk, IfErr, Err, MatchResult};
 ghost use Rattle.sws_link.specs.Counts.{HasCause};
 ghost use Rattle.mely_history.specs.declared.setup.Setup.{Setup as SetupValue};
-ghost use Rattle.mely_check.specs.Verdicts.{Finds, Accepts};
+ghost use Rattle.mely_check.specs.Verdicts.{Finds, Accepts, IsExact};
 ghost use Rattle.mely_check.specs.Readers.{Stands, IsOpen, Refuses, Knows, reach};
 
 use crate::fault::CheckFault;
@@ -33,6 +33,7 @@ pub fn check_journal<R: Source>(
 ) -> Result<Report, CheckFault>
     ensures finds { Finds setup.now (R.left source.old) result }
     ensures accepts { Accepts setup.now (R.left source.old) result }
+    ensures exact { IsExact setup.now (R.left source.old) result }
     ensures cause { HasCause (R.faults source.old) (R.faults source.new)
         (result ≡ Err CheckFault.Read) }
 {
