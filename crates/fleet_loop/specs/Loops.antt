@@ -16,7 +16,8 @@ pub record IsLoop (count : ℕ) (setup : Setup) : Type 0 where
 
 -- each of these are passes of the fleet
 pub record AreSeats {V F : Type 0} {g : _} (kept_frame : V → ShardFrame F) (fleet : FleetOf V Entry (ShardFrame F)) (seats : List (PassesOf V Entry (ShardFrame F) g)) : Type 0 where
-  pub each : (k : ℕ) (own : PassesOf V Entry (ShardFrame F) g) → slice_get seats k ≡ Some own → ArePasses kept_frame fleet own
+  pub each : (k : ℕ) (own : PassesOf V Entry (ShardFrame F) g) → slice_get seats k ≡ Some own
+      → ArePasses kept_frame fleet own
 
 -- a core may work with these passes in the fleet of this setup
 pub record MayWorkHere {V F : Type 0} {g : _} (kept_frame : V → ShardFrame F) (colours : ℕ) (setup : Setup) (fleet : FleetOf V Entry (ShardFrame F)) (own : PassesOf V Entry (ShardFrame F) g) : Type 0 where

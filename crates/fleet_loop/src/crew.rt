@@ -82,7 +82,8 @@ fn work_one<R: Wait>(
     passes: &mut Passes<Tally, u8>,
     app: &Passing,
 ) -> Option<Worked>
-    requires { MayWorkHere (shard_frame ⟦<Tally as Trail>⟧.frame_of) app.now.colours setup.now fleet.now passes.old }
+    requires { MayWorkHere (shard_frame ⟦<Tally as Trail>⟧.frame_of) app.now.colours setup.now
+        fleet.now passes.old }
 {
     let core = passes.number();
     if core >= setup.cores() {
@@ -122,7 +123,8 @@ fn work_all<R: Threads + Wait + Sync>(
         seats,
         threads,
         &|_, own: &mut Passes<Tally, u8>|
-            requires { MayWorkHere (shard_frame (λ s. tt)) app.now.colours setup.now fleet.now own.now }
+            requires { MayWorkHere (shard_frame (λ s. tt)) app.now.colours
+                setup.now fleet.now own.now }
         {
             drop(work_one(rt, alloc, fleet, setup, own, app));
         },

@@ -89,10 +89,6 @@ may_onward t fleet own old new e may next colour core count trail coloured frame
       room = omega (arith, shorter, room, spare);
     }
 
--- what is owed of a turn whose events were all run
-pub owed_spent : {S P F : Type 0} {g : _} (t : TrailWords S F) (fleet : FleetOf (KeptContents S P) Entry (ShardFrame F)) (own : PassesOf (KeptContents S P) Entry (ShardFrame F) g) (turn : Taken S P) → MayFinish t fleet own turn → turn.events ≡ [] → owed_by fleet own turn.colour turn.core turn.count (t.trail_of turn.state)
-owed_spent t fleet own turn may spent = subst (λ es. owed_by fleet own turn.colour turn.core turn.count es) (ap (λ es. t.trail_of turn.state ++ events_of es) spent ∙ append-nil (t.trail_of turn.state)) may.owed
-
 -- a caller at first
 pub first_caller : {S P F : Type 0} {g : _} (t : TrailWords S F) (fits : F → Colour → Event → Option P → Type 0) (fleet : FleetOf (KeptContents S P) Entry (ShardFrame F)) (n : ℕ) (own : PassesOf (KeptContents S P) Entry (ShardFrame F) g) (worker : Option (Rest P)) → AreFirstPasses (shard_frame t.frame_of) fleet n own → (own.number < (shape_of fleet.setup).cores → worker ≡ Some (first_rest fleet.setup own.number)) → IsCaller t.frame_of fits fleet n own worker
 first_caller t fits fleet n own worker first is = record {

@@ -29,7 +29,8 @@ pub record AreCallers {V F : Type 0} {g : _} (kept_frame : V → ShardFrame F) (
   pub of_setup : fleet.setup ≡ setup
   pub of_count : fleet.passes ≡ count
   pub many : length all ≡ count
-  pub each : (n : ℕ) (own : PassesOf V Entry (ShardFrame F) g) → slice_get all n ≡ Some own → AreFirstPasses kept_frame fleet n own
+  pub each : (n : ℕ) (own : PassesOf V Entry (ShardFrame F) g) → slice_get all n ≡ Some own
+      → AreFirstPasses kept_frame fleet n own
 
 -- the caller of this number: its passes, and where it is a core its worker at rest
 pub record IsCaller {S P F : Type 0} {g : _} (frame_of : S → F) (fits : F → Colour → Event → Option P → Type 0) (fleet : FleetOf (KeptContents S P) Entry (ShardFrame F)) (n : ℕ) (own : PassesOf (KeptContents S P) Entry (ShardFrame F) g) (worker : Option (Rest P)) : Type 0 where
@@ -40,7 +41,8 @@ pub record IsCaller {S P F : Type 0} {g : _} (frame_of : S → F) (fits : F → 
 -- the turn may be finished with these passes once its events were run
 pub record MayFinish {S P F : Type 0} {g : _} (t : TrailWords S F) (fleet : FleetOf (KeptContents S P) Entry (ShardFrame F)) (own : PassesOf (KeptContents S P) Entry (ShardFrame F) g) (turn : Taken S P) : Type 0 where
   pub colour : IsColour fleet.setup turn.colour
-  pub owed : owed_by fleet own turn.colour turn.core turn.count (t.trail_of turn.state ++ events_of turn.events)
+  pub owed : owed_by fleet own turn.colour turn.core turn.count (t.trail_of turn.state
+      ++ events_of turn.events)
   pub coloured : t.colour_of turn.state ≡ turn.colour
   pub framed : t.frame_of turn.state ≡ frame_in (shard_frame t.frame_of) fleet
   pub room : length turn.events ≤ t.spare_of turn.state

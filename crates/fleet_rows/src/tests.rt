@@ -41,7 +41,8 @@ fn fleet_of(
     requires colours { colours_of setup.now ≡ colours }
     requires few { (shape_of setup.now).cores + outsiders ≤ 65535 }
     ensures { let callers = (shape_of setup.now).cores + outsiders in IfOk result (λ opened.
-        AreCallers (shard_frame ⟦<Tally as Trail>⟧.frame_of) setup.now callers opened.0 opened.1.items) }
+        AreCallers (shard_frame ⟦<Tally as Trail>⟧.frame_of) setup.now callers
+        opened.0 opened.1.items) }
 {
     let Ok(states) = blank_states(alloc, colours) else {
         return Err(Fail::from("no states"));

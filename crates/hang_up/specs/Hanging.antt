@@ -37,7 +37,13 @@ is_waiting_by None (suc more) = true
 is_waiting_by (Some end) waits = false
 
 abbrev pub hang_view : Hanging → TalkView
-hang_view s = record { pending = s.pending; waiting = is_waiting_by s.end s.waits; end = s.end; read = s.read; written = 0 }
+hang_view s = record {
+  pending = s.pending;
+  waiting = is_waiting_by s.end s.waits;
+  end = s.end;
+  read = s.read;
+  written = 0;
+}
 
 -- ---- its steps
 
@@ -81,7 +87,8 @@ module _ {L : Type 0} (x : LinkWords L) (before after : Hanging) where
   StepsFrom next.Wait link now = (after ≡ before) × (now ≡ link)
 
 abbrev pub Steps : {L : Type 0} → LinkWords L → HangUpState L → HangUpState L → Type 0
-Steps x before after = StepsFrom x before.standing after.standing before.standing.pending before.link after.link
+Steps x before after =
+    StepsFrom x before.standing after.standing before.standing.pending before.link after.link
 
 -- where it stands as it may
 abbrev pub IsReadyTo : Next → Hanging → Type 0
@@ -139,7 +146,8 @@ unfoldable pub course_from : ℕ → ℕ → List Item → Course
 course_from zero waits items = record { events = []; end = ending.Idle }
 course_from (suc more) waits items =
     let said = read_of 16 items in
-    tried (try_of waits) (course_after said.answer (nat_le 30 (waits + 1)) (course_from more (waits + 1) said.items))
+    tried (try_of waits) (course_after said.answer (nat_le 30 (waits + 1))
+    (course_from more (waits + 1) said.items))
 
 abbrev pub whole_course : Script → Course
 whole_course script = course_from 30 0 script.items
@@ -176,7 +184,8 @@ told_by x None = None
 told_by x (Some link) = x.tells link
 
 abbrev pub rest_left : {L : Type 0} → LinkWords L → HangUpState L → Option (List Handler)
-rest_left x s = option_map (λ script. (course_of s.standing script).events) (answers_to_come (told_by x s.link))
+rest_left x s = option_map (λ script. (course_of s.standing script).events)
+    (answers_to_come (told_by x s.link))
 
 -- ---- what it has run
 
@@ -197,7 +206,8 @@ pub record Follows (script now : Script) (trail : List Handler) (s : Hanging) : 
 
 abbrev pub FollowsTold : Option Script → Option Script → List Handler → Hanging → Type 0
 FollowsTold None now trail s = now ≡ None
-FollowsTold (Some script) now trail s = (left : Script) × (now ≡ Some left) × Follows script left trail s
+FollowsTold (Some script) now trail s = (left : Script) × (now ≡ Some left)
+    × Follows script left trail s
 
 pub record HasRunOver {L : Type 0} (x : LinkWords L) (first : L) (trail : List Handler) (s : Hanging) (now : L) : Type 0 where
   pub ready : IsReadyTo s.pending s
@@ -212,7 +222,8 @@ pub record HasRunOver {L : Type 0} (x : LinkWords L) (first : L) (trail : List H
   pub leads : Exchanges x.tells x.is_shut x.faults x.waits calls first now
   pub read : s.read ≡ taken_in calls
   pub wrote : 0 ≡ written_in calls
-  pub follows : FollowsTold (answers_to_come (x.tells first)) (answers_to_come (x.tells now)) trail s
+  pub follows : FollowsTold (answers_to_come (x.tells first))
+      (answers_to_come (x.tells now)) trail s
 
 abbrev pub HasRunBy : {L : Type 0} → LinkWords L → L → List Handler → Hanging → Option L → Type 0
 HasRunBy x first trail s None = ⊥

@@ -41,7 +41,8 @@ impl<L: Link> Model for HangUp<L> {
 
     ghost view = { λ talk. record { standing = shown talk.waiting; link = talk.link } };
 
-    ghost invariant = { λ talk. IsSound L.Link (record { standing = shown talk.waiting; link = talk.link }) };
+    ghost invariant = { λ talk.
+        IsSound L.Link (record { standing = shown talk.waiting; link = talk.link }) };
 }
 
 impl<L: Link + Drop> HangUp<L> {
@@ -64,7 +65,8 @@ impl<L: Link + Drop> HangUp<L> {
     pub fn open(&mut self, link: L) -> Result<Next, L>
         requires fresh { IsFresh (L.tells link) }
         requires not_shut { L.is_shut link ≡ false }
-        ensures opens { OpensTalk (λ (talk : HangUpState L). talk.link) (λ talk. hang_view talk.standing) self.old link result self.new }
+        ensures opens { OpensTalk (λ (talk : HangUpState L). talk.link) (λ talk.
+            hang_view talk.standing) self.old link result self.new }
         ensures runs { IfOk result (λ _. HasRun L.Link link (open_link ∷ []) self.new) }
     {
         if self.link.is_some() {
@@ -78,8 +80,11 @@ impl<L: Link + Drop> HangUp<L> {
     /// Does the pending step. An end that is known stays.
     pub fn step(&mut self) -> Next
         ensures steps { Steps L.Link self.old self.new }
-        ensures told { result ≡ told_by (is_waiting_by self.new.standing.end self.new.standing.waits) self.new.standing.pending }
-        ensures ended { (end : End) → self.old.standing.end ≡ Some end → self.new.standing.end ≡ Some end }
+        ensures told { result
+            ≡ told_by (is_waiting_by self.new.standing.end self.new.standing.waits)
+            self.new.standing.pending }
+        ensures ended { (end : End) → self.old.standing.end ≡ Some end
+            → self.new.standing.end ≡ Some end }
     {
         step_over(&mut self.waiting, &mut self.link);
         told(&self.waiting)
@@ -132,7 +137,8 @@ impl<L: Link + Drop> HangUp<L> {
 /// Does the pending step.
 fn step_over<L: Link>(waiting: &mut Waiting, link: &mut Option<L>)
     requires { IsSound L.Link (record { standing = shown waiting.old; link = link.old }) }
-    ensures { StepsFrom L.Link (shown waiting.old) (shown waiting.new) waiting.old.pending link.old link.new }
+    ensures { StepsFrom L.Link (shown waiting.old) (shown waiting.new)
+        waiting.old.pending link.old link.new }
 {
     match (waiting.pending, link) {
         (Next::Read, Some(link)) => read_step(waiting, link),
@@ -184,7 +190,8 @@ fn close_step<L: Link>(waiting: &mut Waiting, link: &mut L)
 
 /// What a step answers that leaves this.
 fn told(waiting: &Waiting) -> Next
-    ensures { result ≡ told_by (is_waiting_by waiting.now.end waiting.now.waits) waiting.now.pending }
+    ensures { result ≡ told_by (is_waiting_by waiting.now.end waiting.now.waits)
+        waiting.now.pending }
 {
     if waiting.end.is_none() && waiting.waits > 0 {
         return Next::Wait;

@@ -58,7 +58,8 @@ fn pass_from_threads<R: Threads + Wait + Sync>(
     count: u64,
 )
     requires threads { 0 < threads }
-    requires passes { All (λ p. IsPassOf ⟦<Board as Kept>⟧.frame_of lock.now p × IsOutside p) passes.old }
+    requires passes { All (λ p. IsPassOf ⟦<Board as Kept>⟧.frame_of lock.now p
+        × IsOutside p) passes.old }
 {
     thread::for_each_mut(
         rt,
@@ -66,7 +67,8 @@ fn pass_from_threads<R: Threads + Wait + Sync>(
         threads,
         &|_, pass: &mut Pass<Board>|
             requires { IsPassOf (λ (b : Board). tt) lock.now pass.now × IsOutside pass.now }
-            ensures { IsPassOf (λ (b : Board). tt) lock.entry.now pass.exit.now × IsOutside pass.exit.now }
+            ensures { IsPassOf (λ (b : Board). tt) lock.entry.now pass.exit.now
+                × IsOutside pass.exit.now }
         { pass_through(rt, lock, pass, count) },
     );
 }

@@ -17,7 +17,7 @@ before_feed (b ∷ a) [] x y none is = absurd (none.0 (head_is b 10 (a ++ x) y i
 before_feed (b ∷ a) (c ∷ f) x y none is = let rest = before_feed a f x y none.1 (tail_is b c (a ++ x) (f ++ 10 ∷ y) is) in omega arith
 
 -- a line that is longer than those bytes
-pub longer_line : (a x line later : List ℕ) → HasNoFeed a → IsLine line → a ++ x ≡ line ++ later → length a < length line
+longer_line : (a x line later : List ℕ) → HasNoFeed a → IsLine line → a ++ x ≡ line ++ later → length a < length line
 longer_line a x line later none is same =
     let whole : a ++ x ≡ is.front ++ 10 ∷ later = same ∙ ap (λ t. t ++ later) is.is ∙ append_assoc is.front (10 ∷ []) later in
     let front = before_feed a is.front x later none whole in
@@ -32,7 +32,7 @@ no_line rest line later none is same =
     omega (arith, long, all, length-append line later)
 
 -- behind the lines that were read, bytes without a LF end no journal, unless all was read and they are none
-pub unended_text : (lines : List (List ℕ)) (place : Place) (rest : List ℕ) → place.shards < 65536 → place.begun ≤ place.shards → IsAt lines place → HasNoFeed rest → (place.left ≡ 0 → place.begun ≡ place.shards → rest ≡ [] → ⊥)
+unended_text : (lines : List (List ℕ)) (place : Place) (rest : List ℕ) → place.shards < 65536 → place.begun ≤ place.shards → IsAt lines place → HasNoFeed rest → (place.left ≡ 0 → place.begun ≡ place.shards → rest ≡ [] → ⊥)
     → IsJournal place.shards (joined lines ++ rest) → ⊥
 unended_text lines place rest few begun at none not_whole journal_is =
     let next = goes_behind lines place rest few begun at journal_is in

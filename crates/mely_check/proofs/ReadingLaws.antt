@@ -39,7 +39,7 @@ early [] d rest ends high e = cc
 early (c ∷ x) d rest ends high e = let same = head_is c d x rest e in omega arith
 
 -- two texts up to their first lesser byte are the same
-pub high_split : (a b x y : List ℕ) → IsHigh a → IsHigh b → IsBehind x → IsBehind y → a ++ x ≡ b ++ y → (a ≡ b) × (x ≡ y)
+high_split : (a b x y : List ℕ) → IsHigh a → IsHigh b → IsBehind x → IsBehind y → a ++ x ≡ b ++ y → (a ≡ b) × (x ≡ y)
 high_split [] [] x y high_a high_b ends_x ends_y e = (refl, e)
 high_split [] (d ∷ b) x y high_a high_b ends_x ends_y e = absurd (early x d (b ++ y) ends_x high_b.0 e)
 high_split (c ∷ a) [] x y high_a high_b ends_x ends_y e = absurd (early y c (a ++ x) ends_y high_a.0 (sym e))
@@ -81,7 +81,7 @@ pub last_is : (text rest last : List ℕ) (first a high : ℕ) → first ≤ hig
 last_is text rest last first a high few few_a small ends ends' read is = rest_is text rest last first a (omega arith) (omega arith) ends ends' read is
 
 -- what stands behind the word of a shard
-pub shard_rest : (number count : ℕ) → shard_line number count ≡ codes "shard" ++ (spaced number ++ (spaced count ++ 10 ∷ []))
+shard_rest : (number count : ℕ) → shard_line number count ≡ codes "shard" ++ (spaced number ++ (spaced count ++ 10 ∷ []))
 shard_rest number count = simp append_assoc
 
 pub cancel : (word a b : List ℕ) → word ++ a ≡ word ++ b → a ≡ b

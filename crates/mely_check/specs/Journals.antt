@@ -7,7 +7,8 @@ use Rattle.sws_report.specs.Journal.{journal}
 
 -- the numbers of an entry are within their ranges
 abbrev pub IsFit : Entry → Type 0
-IsFit (Reg colour event by) = (colour.0 < 65536) × (event.handler < 256) × (event.arg < 65536) × (by < 65536)
+IsFit (Reg colour event by) = (colour.0 < 65536) × (event.handler < 256)
+    × (event.arg < 65536) × (by < 65536)
 IsFit (Take colour core count) = (colour.0 < 65536) × (core < 65536) × (count < 65536)
 IsFit (Fin colour core count) = (colour.0 < 65536) × (core < 65536) × (count < 65536)
 IsFit (Steal colour from to) = (colour.0 < 65536) × (from < 65536) × (to < 65536)
@@ -65,7 +66,8 @@ pub record IsFirstOutside (shards : ℕ) (text : List ℕ) (number : ℕ) : Type
   pub counted : number ≡ length lines + 1
   pub within : length lines < line_limit
   pub begin : BeginsJournal shards (joined lines)
-  pub outside : (line later : List ℕ) → IsLine line → rest ≡ line ++ later → number < line_limit → BeginsJournal shards (joined lines ++ line) → ⊥
+  pub outside : (line later : List ℕ) → IsLine line → rest ≡ line ++ later → number < line_limit
+      → BeginsJournal shards (joined lines ++ line) → ⊥
   pub unended : HasNoFeed rest → IsJournal shards text → ⊥
 
 -- ---- what is found of a text

@@ -23,7 +23,8 @@ use Rattle.mely_check.specs.declared.watch.Watch.{Watch}
 -- of so many colours nothing was heard
 pub record AreBlank (setup : Setup) (colours : ℕ) (watches : List Watch) : Type 0 where
   pub many : length watches ≡ colours
-  pub each : (c : Colour) (watch : Watch) → slice_get watches c.0 ≡ Some watch → Tells setup (account_of setup [] c) watch
+  pub each : (c : Colour) (watch : Watch) → slice_get watches c.0 ≡ Some watch
+      → Tells setup (account_of setup [] c) watch
 
 -- the entry is of a colour that there is, of the last of so many shards, and by what is kept of the colour it may follow
 pub record MayHear (judge : Judge) (begun : ℕ) (entry : Entry) : Type 0 where
@@ -34,7 +35,8 @@ pub record MayHear (judge : Judge) (begun : ℕ) (entry : Entry) : Type 0 where
 
 -- two reports in one
 abbrev pub plus : CoreReport → CoreReport → CoreReport
-plus report more = record { ran = report.ran + more.ran; stolen_in = report.stolen_in + more.stolen_in; stolen_out = report.stolen_out + more.stolen_out }
+plus report more = record { ran = report.ran + more.ran; stolen_in = report.stolen_in
+    + more.stolen_in; stolen_out = report.stolen_out + more.stolen_out }
 
 -- the sums fit their types
 pub record HasRoom (report : CoreReport) (ran stolen_in stolen_out : ℕ) : Type 0 where
@@ -45,7 +47,9 @@ pub record HasRoom (report : CoreReport) (ran stolen_in stolen_out : ℕ) : Type
 -- a report was added to that of a core, and where the sums fit their types, they are exact
 pub record AddsTo (before : List CoreReport) (core : ℕ) (more : CoreReport) (after : List CoreReport) : Type 0 where
   pub many : length after ≡ length before
-  pub own : (report : CoreReport) → slice_get before core ≡ Some report → HasRoom report more.ran more.stolen_in more.stolen_out → slice_get after core ≡ Some (plus report more)
+  pub own : (report : CoreReport) → slice_get before core ≡ Some report
+      → HasRoom report more.ran more.stolen_in more.stolen_out
+      → slice_get after core ≡ Some (plus report more)
   pub others : (other : ℕ) → other ≢ core → slice_get after other ≡ slice_get before other
 
 -- a core's report with one more entry
@@ -59,7 +63,8 @@ counted core entry report = record {
 -- an entry was counted for each core, exactly where the sums are far from the ends of their types
 pub record Counts (before : List CoreReport) (entry : Entry) (after : List CoreReport) : Type 0 where
   pub many : length after ≡ length before
-  pub each : (core : ℕ) (report : CoreReport) → slice_get before core ≡ Some report → HasRoom report 65535 1 1 → slice_get after core ≡ Some (counted core entry report)
+  pub each : (core : ℕ) (report : CoreReport) → slice_get before core ≡ Some report
+      → HasRoom report 65535 1 1 → slice_get after core ≡ Some (counted core entry report)
 
 -- the entry was heard: what is kept of its colour went on, and of no other, and it was counted
 pub record Adds (before : Judge) (entry : Entry) (after : Judge) : Type 0 where
@@ -76,7 +81,8 @@ pub record Adds (before : Judge) (entry : Entry) (after : Judge) : Type 0 where
 abbrev pub Hears : Judge → ℕ → ℕ → Entry → Judge → Type 0
 Hears before begun line entry after =
     MatchOption before.fault
-    ((MayHear before begun entry × Adds before entry after) ⊎ ((MayHear before begun entry → ⊥) × (after ≡ record before { fault = Some line })))
+    ((MayHear before begun entry × Adds before entry after)
+        ⊎ ((MayHear before begun entry → ⊥) × (after ≡ record before { fault = Some line })))
     (λ _. after ≡ before)
 
 -- what comes of a line
@@ -86,7 +92,8 @@ HearsLine before begun number (said_line.Entry entry) after = Hears before begun
 
 -- nothing of the colour runs or waits
 abbrev pub IsDrainedAt : List Watch → ℕ → Type 0
-IsDrainedAt watches colour = (watch : Watch) → slice_get watches colour ≡ Some watch → (watch.running ≡ None) × (watch.queued.items ≡ [])
+IsDrainedAt watches colour = (watch : Watch) → slice_get watches colour ≡ Some watch
+    → (watch.running ≡ None) × (watch.queued.items ≡ [])
 
 -- something of it does
 pub record IsOpenAt (watches : List Watch) (colour : ℕ) : Type 0 where
@@ -104,11 +111,13 @@ IsFirstOpen watches colours (Some colour) = AreDrainedBelow watches colour × Is
 
 -- what a judge says at the end
 abbrev pub Judges : Judge → Result (Unit {0}) CheckFault → Type 0
-Judges judge (Ok _) = (judge.fault ≡ None) × AreDrainedBelow judge.watches.items (colours_of judge.setup)
+Judges judge (Ok _) = (judge.fault ≡ None)
+    × AreDrainedBelow judge.watches.items (colours_of judge.setup)
 Judges judge (Err Read) = ⊥
 Judges judge (Err (BadJournal line)) = ⊥
 Judges judge (Err (NotLegal line)) = judge.fault ≡ Some line
-Judges judge (Err (NotDrained colour)) = (judge.fault ≡ None) × AreDrainedBelow judge.watches.items colour × IsOpenAt judge.watches.items colour
+Judges judge (Err (NotDrained colour)) = (judge.fault ≡ None)
+    × AreDrainedBelow judge.watches.items colour × IsOpenAt judge.watches.items colour
 Judges judge (Err Memory) = ⊥
 
 -- ---- what is kept tells what was heard
@@ -116,7 +125,8 @@ Judges judge (Err Memory) = ⊥
 -- each history is legal, and of its shard, from this number on
 abbrev pub LegalFrom : Setup → ℕ → List (List Entry) → Type 0
 LegalFrom setup number [] = ⊤
-LegalFrom setup number (history ∷ histories) = IsLegal setup history × IsOfShard setup number history × LegalFrom setup (number + 1) histories
+LegalFrom setup number (history ∷ histories) = IsLegal setup history
+    × IsOfShard setup number history × LegalFrom setup (number + 1) histories
 
 -- the history of a colour's shard
 abbrev pub own_of : Setup → List (List Entry) → Colour → List Entry
@@ -128,9 +138,11 @@ pub record IsWatched (setup : Setup) (histories : List (List Entry)) (judge : Ju
   pub legal : LegalFrom setup 0 histories
   pub fit : AllByRecursion IsFit (all_entries histories)
   pub many : length judge.watches.items ≡ colours_of setup
-  pub watched : (c : Colour) (watch : Watch) → slice_get judge.watches.items c.0 ≡ Some watch → Tells setup (account_of setup (own_of setup histories c) c) watch
+  pub watched : (c : Colour) (watch : Watch) → slice_get judge.watches.items c.0 ≡ Some watch
+      → Tells setup (account_of setup (own_of setup histories c) c) watch
   pub reports : AreReports setup (all_entries histories) judge.cores.items
 
 -- it is so; or the fault is the line of the first entry that isn't allowed
 abbrev pub IsJudged : Setup → List (List Entry) → Judge → Type 0
-IsJudged setup histories judge = MatchOption judge.fault (IsWatched setup histories judge) (IsFirstIllegal setup histories)
+IsJudged setup histories judge =
+    MatchOption judge.fault (IsWatched setup histories judge) (IsFirstIllegal setup histories)

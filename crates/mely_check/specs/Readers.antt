@@ -32,7 +32,8 @@ reach reader = 64 * reader.place.number + length reader.line.items
 -- whatever comes behind the text, the line is the first outside
 abbrev pub Refuses : ℕ → List ℕ → CheckFault → Type 0
 Refuses shards text Read = ⊥
-Refuses shards text (BadJournal number) = (later : List ℕ) → IsFirstOutside shards (text ++ later) number
+Refuses shards text (BadJournal number) = (later : List ℕ)
+    → IsFirstOutside shards (text ++ later) number
 Refuses shards text (NotLegal number) = ⊥
 Refuses shards text (NotDrained colour) = ⊥
 Refuses shards text Memory = ⊤
@@ -62,9 +63,11 @@ pub record Knows (setup : Setup) (text : List ℕ) (reader : Reader) : Type 0 wh
 abbrev pub HasRead : Setup → Option (List ℕ) → Option (List ℕ) → Reader → Type 0
 HasRead setup None left reader = left ≡ None
 HasRead setup (Some whole) None reader = ⊥
-HasRead setup (Some whole) (Some left) reader = (text : List ℕ) × (whole ≡ text ++ left) × Knows setup text reader
+HasRead setup (Some whole) (Some left) reader = (text : List ℕ) × (whole ≡ text ++ left)
+    × Knows setup text reader
 
 -- what is said of a text that ends here: it is accepted with the sums that were counted, or what is wrong
 abbrev pub Ends : Setup → List ℕ → Reader → Result (Unit {0}) CheckFault → Type 0
-Ends setup text reader (Ok _) = (report : Report) → report.entries ≡ reader.place.entries → report.cores.items ≡ reader.judge.cores.items → IsAccepted setup text report
+Ends setup text reader (Ok _) = (report : Report) → report.entries ≡ reader.place.entries
+    → report.cores.items ≡ reader.judge.cores.items → IsAccepted setup text report
 Ends setup text reader (Err fault) = Says setup text (Err fault)

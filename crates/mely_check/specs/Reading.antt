@@ -18,7 +18,8 @@ IsBehind (byte ∷ rest) = byte < 48
 
 -- a line says an entry, or begins a shard
 abbrev pub Says : List ℕ → Line → Type 0
-Says text (line.Shard number count) = (text ≡ shard_line number count) × (number < 65536) × (count < 2 ^ 64)
+Says text (line.Shard number count) = (text ≡ shard_line number count)
+    × (number < 65536) × (count < 2 ^ 64)
 Says text (line.Entry entry) = (text ≡ entry_line entry) × IsFit entry
 
 -- what was read of a line, or that it says nothing
@@ -28,5 +29,6 @@ ReadsLine text read = MatchOption read ((says : Line) → Says text says → ⊥
 -- what was read at the front of a text: a space and a number, up to what stands behind it
 abbrev pub ReadsField : ℕ → List ℕ → Option (ℕ × List ℕ) → Type 0
 ReadsField high text read =
-    MatchOption read ((n : ℕ) (rest : List ℕ) → n ≤ high → IsBehind rest → text ≡ spaced n ++ rest → ⊥)
+    MatchOption read ((n : ℕ) (rest : List ℕ) → n ≤ high → IsBehind rest
+    → text ≡ spaced n ++ rest → ⊥)
     (λ found. (found.0 ≤ high) × IsBehind found.1 × (text ≡ spaced found.0 ++ found.1))

@@ -31,7 +31,8 @@ loses core (Steal colour from to) = from == core
 
 -- what a core ran and stole, by these entries
 abbrev pub core_report : ℕ → List Entry → CoreReport
-core_report core entries = record { ran = sum_by (finished_by core) entries; stolen_in = count_by (steals core) entries; stolen_out = count_by (loses core) entries }
+core_report core entries = record { ran = sum_by (finished_by core) entries;
+    stolen_in = count_by (steals core) entries; stolen_out = count_by (loses core) entries }
 
 -- the entries of all shards
 abbrev pub all_entries : List (List Entry) → List Entry
@@ -40,7 +41,8 @@ all_entries histories = flat_map (λ history. history) histories
 -- for each core what it ran and stole
 pub record AreReports (setup : Setup) (entries : List Entry) (reports : List CoreReport) : Type 0 where
   pub many : length reports ≡ (shape_of setup).cores
-  pub each : (core : ℕ) → core < (shape_of setup).cores → slice_get reports core ≡ Some (core_report core entries)
+  pub each : (core : ℕ) → core < (shape_of setup).cores
+      → slice_get reports core ≡ Some (core_report core entries)
 
 -- how many entries the histories have, and what each core ran and stole
 pub record IsReport (setup : Setup) (histories : List (List Entry)) (report : Report) : Type 0 where

@@ -25,7 +25,8 @@ pub record IsFirstIllegal (setup : Setup) (histories : List (List Entry)) (line 
   pub is : histories ≡ before ++ (front ++ entry ∷ behind) ∷ more
   pub counted : line ≡ length before + 1 + entries_in before + length front + 1
   pub legal : AreLegal setup (before ++ front ∷ [])
-  pub fault : (colour_of entry).0 % (shape_of setup).shards ≡ length before → IsAllowed setup front entry → ⊥
+  pub fault : (colour_of entry).0 % (shape_of setup).shards ≡ length before
+      → IsAllowed setup front entry → ⊥
 
 -- The least colour that runs or has something queued.
 pub record IsLeastLeft (histories : List (List Entry)) (colour : ℕ) : Type 0 where
@@ -89,12 +90,14 @@ IsAcceptance found = MatchResult found (λ _. ⊤) (λ fault. (fault ≡ Read) �
 -- where the text is told and is the journal of a legal and drained run, it is accepted
 abbrev pub Accepts : Setup → Option (List ℕ) → Result Report CheckFault → Type 0
 Accepts setup told found =
-    (text : List ℕ) (histories : List (List Entry)) → told ≡ Some text → IsDrainedRun setup histories text
+    (text : List ℕ) (histories : List (List Entry)) → told ≡ Some text
+        → IsDrainedRun setup histories text
     → IsAcceptance found
 
 -- an answer is this one of the three faults of a text, unless the reading failed or there was no memory
 abbrev pub IsFault : CheckFault → Result Report CheckFault → Type 0
-IsFault fault found = MatchResult found (λ _. ⊥) (λ other. (other ≡ fault) ⊎ (other ≡ Read) ⊎ (other ≡ Memory))
+IsFault fault found = MatchResult found (λ _. ⊥) (λ other. (other ≡ fault)
+    ⊎ (other ≡ Read) ⊎ (other ≡ Memory))
 
 -- it is what is so of the text, if that says anything
 abbrev pub AgreesWith : Result Report CheckFault → Result Report CheckFault → Type 0
@@ -108,4 +111,5 @@ AgreesWith (Err Memory) found = ⊤
 -- where the text is told, the answer is the one that is so of it, whichever that is
 abbrev pub IsExact : Setup → Option (List ℕ) → Result Report CheckFault → Type 0
 IsExact setup told found =
-    (text : List ℕ) (right : Result Report CheckFault) → told ≡ Some text → Says setup text right → AgreesWith right found
+    (text : List ℕ) (right : Result Report CheckFault) → told ≡ Some text → Says setup text right
+        → AgreesWith right found

@@ -15,7 +15,8 @@ pub data Walk : Type 0 where
 
 abbrev pub walk_text : Walk → List ℕ
 walk_text start = []
-walk_text (within done last left) = journal done ++ (shard_line (length done) (length last + left) ++ flat_map entry_line last)
+walk_text (within done last left) =
+    journal done ++ (shard_line (length done) (length last + left) ++ flat_map entry_line last)
 
 abbrev pub begun_in : Walk → ℕ
 begun_in start = 0
@@ -36,7 +37,8 @@ histories_in (within done last left) = done ++ last ∷ []
 
 abbrev pub IsFitWalk : Walk → Type 0
 IsFitWalk start = ⊤
-IsFitWalk (within done last left) = AllByRecursion IsFitHistory done × AllByRecursion IsFit last × (length last + left < 2 ^ 64)
+IsFitWalk (within done last left) = AllByRecursion IsFitHistory done × AllByRecursion IsFit last
+    × (length last + left < 2 ^ 64)
 
 -- the numbers of a line's entry are within their ranges
 abbrev pub IsFitLine : Line → Type 0
@@ -57,13 +59,16 @@ pub record IsAt (lines : List (List ℕ)) (place : Place) : Type 0 where
 
 -- the line is no next one: with it the lines begin no journal, or it is one too many
 abbrev pub MayNotStand : List (List ℕ) → List ℕ → Place → Type 0
-MayNotStand lines line place = place.number < line_limit → BeginsJournal place.shards (joined lines ++ line) → ⊥
+MayNotStand lines line place = place.number < line_limit
+    → BeginsJournal place.shards (joined lines ++ line) → ⊥
 
 -- what a line says was read: the histories go on by it
 abbrev pub GoesOn : Walk → Line → Walk → Type 0
-GoesOn before (said_line.Shard number count) after = histories_in after ≡ histories_in before ++ [] ∷ []
+GoesOn before (said_line.Shard number count) after = histories_in after
+    ≡ histories_in before ++ [] ∷ []
 GoesOn start (said_line.Entry entry) after = ⊥
-GoesOn (within done last left) (said_line.Entry entry) after = histories_in after ≡ done ++ (last ++ entry ∷ []) ∷ []
+GoesOn (within done last left) (said_line.Entry entry) after = histories_in after
+    ≡ done ++ (last ++ entry ∷ []) ∷ []
 
 -- the line is a next one, and says this
 pub record MayStand (lines : List (List ℕ)) (line : List ℕ) (before : Place) (at : IsAt lines before) (after : Place) (said : Line) : Type 0 where

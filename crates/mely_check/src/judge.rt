@@ -92,8 +92,10 @@ impl Judge {
     pub(crate) fn new(alloc: Global, setup: &Setup) -> Result<Judge, AllocError>
         ensures setup { IfOk result (λ judge. judge.setup ≡ setup.now) }
         ensures fault { IfOk result (λ judge. judge.fault ≡ None) }
-        ensures watches { IfOk result (λ judge. AreBlank setup.now (colours_of setup.now) judge.watches.items) }
-        ensures cores { IfOk result (λ judge. judge.cores.items ≡ replicate (shape_of setup.now).cores NOTHING) }
+        ensures watches { IfOk result (λ judge.
+            AreBlank setup.now (colours_of setup.now) judge.watches.items) }
+        ensures cores { IfOk result (λ judge. judge.cores.items
+            ≡ replicate (shape_of setup.now).cores NOTHING) }
     {
         Ok(Judge {
             setup: *setup,

@@ -85,7 +85,8 @@ impl Place {
             ((self.old.left ≡ 0) × (number ≡ self.old.begun) × (self.old.begun < self.old.shards)
             × Moves self.old self.new (self.old.begun + 1) count self.old.entries)
             ((self.new ≡ self.old)
-            × (self.old.left ≡ 0 → number ≡ self.old.begun → self.old.begun < self.old.shards → ⊥)) }
+            × (self.old.left ≡ 0 → number ≡ self.old.begun
+            → self.old.begun < self.old.shards → ⊥)) }
     {
         if self.left > 0 || self.begun == self.shards || number != self.begun {
             return false;

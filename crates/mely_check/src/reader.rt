@@ -84,7 +84,8 @@ impl Reader {
             (Stops lines self.old.line.items self.old.place) }
         ensures hears { (setup : SetupValue) (lines : List (List ℕ))
             → IsHeard setup lines self.old.place self.old.judge
-            → OnOk result (IsHeard setup (lines ++ self.old.line.items ∷ []) self.new.place self.new.judge) }
+            → OnOk result (IsHeard setup (lines ++ self.old.line.items ∷ [])
+            self.new.place self.new.judge) }
         ensures empty { OnOk result (self.new.line.items ≡ []) }
         ensures counted { OnOk result (self.new.place.number ≡ self.old.place.number + 1) }
         ensures sound { IfErr result (λ fault. fault ≢ CheckFault.Read) }

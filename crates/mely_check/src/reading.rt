@@ -40,8 +40,10 @@ pub(crate) fn read_line(line: &[u8]) -> Option<Line>
 /// The number of a shard that begins with this line, and how many entries it has.
 fn read_shard(line: &[u8]) -> Option<(u16, u64)>
     ensures { MatchOption result
-        ((number count : ℕ) → number < 65536 → count < 2 ^ 64 → line.now ≡ shard_line number count → ⊥)
-        (λ found. (found.0 < 65536) × (found.1 < 2 ^ 64) × (line.now ≡ shard_line found.0 found.1)) }
+        ((number count : ℕ) → number < 65536 → count < 2 ^ 64
+        → line.now ≡ shard_line number count → ⊥)
+        (λ found. (found.0 < 65536) × (found.1 < 2 ^ 64)
+        × (line.now ≡ shard_line found.0 found.1)) }
 {
     let rest = behind(line, b"shard")?;
     let (number, rest) = field(rest, 65_535)?;
@@ -54,7 +56,8 @@ fn read_shard(line: &[u8]) -> Option<(u16, u64)>
 
 /// The entry that a line says.
 fn read_entry(line: &[u8]) -> Option<HistoryEntry>
-    ensures { MatchOption result ((entry : EntryValue) → IsFit entry → line.now ≡ entry_line entry → ⊥)
+    ensures { MatchOption result ((entry : EntryValue) → IsFit entry
+        → line.now ≡ entry_line entry → ⊥)
         (λ entry. IsFit entry × (line.now ≡ entry_line entry)) }
 {
     if let Some(rest) = behind(line, b"reg") {

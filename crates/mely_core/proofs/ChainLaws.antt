@@ -22,14 +22,14 @@ abbrev pub AreSame : ℕ → ℕ → List Mark → List Mark → Type 0
 AreSame cost pinned chain worthy = (c : Colour) → mark_of c worthy ≡ if_worthy cost pinned (mark_of c chain)
 
 -- the mark that was pushed is the mark of its colour
-pub mark_of-push_same : (m : Mark) (c : Colour) (xs : List Mark) → c.0 ≡ m.colour.0 → mark_of c xs ≡ None → mark_of c (xs ++ m ∷ []) ≡ Some m
+mark_of-push_same : (m : Mark) (c : Colour) (xs : List Mark) → c.0 ≡ m.colour.0 → mark_of c xs ≡ None → mark_of c (xs ++ m ∷ []) ≡ Some m
 mark_of-push_same m c xs e h =
     mark_of-append c xs (m ∷ [])
     ∙ (ap (λ o. option_or o (mark_of c (m ∷ []))) h
     ∙ cond-true (is_of c m) (Some m) None (eq-eqb m.colour.0 c.0 (sym e)))
 
 -- after a mark of a new colour
-pub same-push : (cost pinned : ℕ) (m : Mark) (chain worthy : List Mark) → AreSame cost pinned chain worthy → mark_of m.colour chain ≡ None → AreSame cost pinned (chain ++ m ∷ []) (entered cost pinned m worthy)
+same-push : (cost pinned : ℕ) (m : Mark) (chain worthy : List Mark) → AreSame cost pinned chain worthy → mark_of m.colour chain ≡ None → AreSame cost pinned (chain ++ m ∷ []) (entered cost pinned m worthy)
 same-push cost pinned m chain worthy same none c = elim (cases_eq c.0 m.colour.0) [
   | inl e ↦
       let absent : mark_of c chain ≡ None = mark_of-same c m.colour chain e ∙ none in
@@ -39,14 +39,14 @@ same-push cost pinned m chain worthy same none c = elim (cases_eq c.0 m.colour.0
 ]
 
 -- without a colour
-pub same-without : (cost pinned : ℕ) (d : Colour) (chain worthy : List Mark) → AreSame cost pinned chain worthy → AreSame cost pinned (without d chain) (without d worthy)
+same-without : (cost pinned : ℕ) (d : Colour) (chain worthy : List Mark) → AreSame cost pinned chain worthy → AreSame cost pinned (without d chain) (without d worthy)
 same-without cost pinned d chain worthy same c = elim (cases_eq c.0 d.0) [
   | inl e ↦ mark_of-without_same c d worthy e ∙ sym (ap (if_worthy cost pinned) (mark_of-without_same c d chain e))
   | inr ne ↦ mark_of-without_other c d worthy ne ∙ (same c ∙ sym (ap (if_worthy cost pinned) (mark_of-without_other c d chain ne)))
 ]
 
 -- after the mark of a colour became another
-pub same-told : (cost pinned : ℕ) (new old : Mark) (chain worthy : List Mark) → AreSame cost pinned chain worthy → All (λ m. cost < m.worth) worthy → All (λ m. pinned ≤ m.colour.0) worthy → mark_of new.colour chain ≡ Some old → AreSame cost pinned (replaced new chain) (changed cost pinned new worthy)
+same-told : (cost pinned : ℕ) (new old : Mark) (chain worthy : List Mark) → AreSame cost pinned chain worthy → All (λ m. cost < m.worth) worthy → All (λ m. pinned ≤ m.colour.0) worthy → mark_of new.colour chain ≡ Some old → AreSame cost pinned (replaced new chain) (changed cost pinned new worthy)
 same-told cost pinned new old chain worthy same all loose there c = elim (cases_eq c.0 new.colour.0) [
   | inl e ↦
       mark_of-changed_same cost pinned new c worthy e all loose
@@ -71,7 +71,7 @@ if_worthy-some cost pinned (Some x) m h = elim (cases_Bool (is_worthy cost pinne
   | inr f ↦ absurd (none-some m (sym (cond-false (is_worthy cost pinned x) (Some x) None f) ∙ h))
 ]
 
-pub if_worthy-none : (cost pinned : ℕ) (m : Mark) → if_worthy cost pinned (Some m) ≡ None → pinned ≤ m.colour.0 → m.worth ≤ cost
+if_worthy-none : (cost pinned : ℕ) (m : Mark) → if_worthy cost pinned (Some m) ≡ None → pinned ≤ m.colour.0 → m.worth ≤ cost
 if_worthy-none cost pinned m h loose = elim (cases_Bool (ltb cost m.worth)) [
   | inl t ↦ absurd (none-some m (sym h ∙ cond-true (is_worthy cost pinned m) (Some m) None (worthy-from cost pinned m loose (ltb-true cost m.worth t))))
   | inr f ↦ ltb-false cost m.worth f
@@ -98,7 +98,7 @@ no-pick cost pinned chain worthy m same one all h =
     omega arith
 
 -- a chain and its stealing queue with a mark more, without a colour, and with a mark replaced
-pub hold-push : (m : Mark) (chain worthy : List Mark) (n cost pinned : ℕ) → HoldTogether (record { chain = chain; worthy = worthy; colours = n; cost = cost; pinned = pinned }) → m.colour.0 < n → mark_of m.colour chain ≡ None
+hold-push : (m : Mark) (chain worthy : List Mark) (n cost pinned : ℕ) → HoldTogether (record { chain = chain; worthy = worthy; colours = n; cost = cost; pinned = pinned }) → m.colour.0 < n → mark_of m.colour chain ≡ None
     → HoldTogether (record { chain = chain ++ m ∷ []; worthy = entered cost pinned m worthy; colours = n; cost = cost; pinned = pinned })
 hold-push m chain worthy n cost pinned held lt none =
     let more = AreApart-push chain n m (record { below = held.below; apart = held.apart }) lt none in
@@ -109,13 +109,13 @@ hold-push m chain worthy n cost pinned held lt none =
       same = same-push cost pinned m chain worthy held.same none;
     }
 
-pub hold-without : (c : Colour) (chain worthy : List Mark) (n cost pinned : ℕ) → HoldTogether (record { chain = chain; worthy = worthy; colours = n; cost = cost; pinned = pinned })
+hold-without : (c : Colour) (chain worthy : List Mark) (n cost pinned : ℕ) → HoldTogether (record { chain = chain; worthy = worthy; colours = n; cost = cost; pinned = pinned })
     → HoldTogether (record { chain = without c chain; worthy = without c worthy; colours = n; cost = cost; pinned = pinned })
 hold-without c chain worthy n cost pinned held =
     let less = AreApart-without c chain n (record { below = held.below; apart = held.apart }) in
     record { below = less.below; apart = less.apart; worthy = AreWorthy-without c worthy n cost pinned held.worthy; same = same-without cost pinned c chain worthy held.same }
 
-pub hold-told : (new old : Mark) (chain worthy : List Mark) (n cost pinned : ℕ) → HoldTogether (record { chain = chain; worthy = worthy; colours = n; cost = cost; pinned = pinned }) → new.colour.0 < n → mark_of new.colour chain ≡ Some old
+hold-told : (new old : Mark) (chain worthy : List Mark) (n cost pinned : ℕ) → HoldTogether (record { chain = chain; worthy = worthy; colours = n; cost = cost; pinned = pinned }) → new.colour.0 < n → mark_of new.colour chain ≡ Some old
     → HoldTogether (record { chain = replaced new chain; worthy = changed cost pinned new worthy; colours = n; cost = cost; pinned = pinned })
 hold-told new old chain worthy n cost pinned held lt there =
     let put = AreApart-replaced new chain n (record { below = held.below; apart = held.apart }) in
@@ -150,7 +150,7 @@ pub none-out : (t : Told) (c : Colour) (l : List ℕ) → mark_of c (marks_by t 
 none-out t c l h = elim (cases_Bool (is_in l c.0)) [ inl t' ↦ absurd (none-some (mark_in t c.0) (sym h ∙ mark_of-in t c l t')) | inr f ↦ f ]
 
 -- without a colour, with one more, and with the mark of one written
-pub without-by : (t : Told) (c : Colour) (l : List ℕ) → without c (marks_by t l) ≡ marks_by t (dropped c.0 l)
+without-by : (t : Told) (c : Colour) (l : List ℕ) → without c (marks_by t l) ≡ marks_by t (dropped c.0 l)
 without-by t c [] = refl
 without-by t c (x ∷ l) = elim (cases_eq c.0 x) [
   | inl e ↦
@@ -167,12 +167,12 @@ stay-by t u m (x ∷ l) sets off =
     let parts = or_parts (eqb m.colour.0 x) (is_in l m.colour.0) off in
     ap (λ k. k ∷ marks_by u l) (sets.others x (eqb-false m.colour.0 x parts.0)) ∙ ap (λ ys. mark_in t x ∷ ys) (stay-by t u m l sets parts.1)
 
-pub push-by : (t u : Told) (m : Mark) (l : List ℕ) → SetsMark m t u → is_in l m.colour.0 ≡ false → marks_by u (l ++ m.colour.0 ∷ []) ≡ marks_by t l ++ m ∷ []
+push-by : (t u : Told) (m : Mark) (l : List ℕ) → SetsMark m t u → is_in l m.colour.0 ≡ false → marks_by u (l ++ m.colour.0 ∷ []) ≡ marks_by t l ++ m ∷ []
 push-by t u m l sets off =
     map-append (λ (x : ℕ). mark_in u x) l (m.colour.0 ∷ [])
     ∙ (ap (λ ys. ys ++ mark_in u m.colour.0 ∷ []) (stay-by t u m l sets off) ∙ ap (λ k. marks_by t l ++ k ∷ []) sets.here)
 
-pub told-by : (t u : Told) (m : Mark) (l : List ℕ) → SetsMark m t u → marks_by u l ≡ replaced m (marks_by t l)
+told-by : (t u : Told) (m : Mark) (l : List ℕ) → SetsMark m t u → marks_by u l ≡ replaced m (marks_by t l)
 told-by t u m [] sets = refl
 told-by t u m (x ∷ l) sets =
     let here : mark_in u x ≡ cond (eqb x m.colour.0) m (mark_in t x) = elim (cases_eq m.colour.0 x) [

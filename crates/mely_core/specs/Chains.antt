@@ -27,7 +27,13 @@ chain_of colours table = record {
 
 -- no marks, and these numbers
 abbrev pub empty_core : ℕ → ℕ → ℕ → Chain
-empty_core colours cost pinned = record { chain = []; worthy = []; colours = colours; cost = cost; pinned = pinned }
+empty_core colours cost pinned = record {
+  chain = [];
+  worthy = [];
+  colours = colours;
+  cost = cost;
+  pinned = pinned;
+}
 
 -- the numbers with which the queue was made stay
 pub record KeepsNumbers (old new : Chain) : Type 0 where
@@ -45,14 +51,21 @@ if_worthy cost pinned (Some mark) = if is_worthy cost pinned mark then Some mark
 pub record HoldTogether (core : Chain) : Type 0 where
   pub below : All (λ mark. mark.colour.0 < core.colours) core.chain
   pub apart : IsOneEach core.chain
-  pub worthy : AreWorthy (record { marks = core.worthy; colours = core.colours; cost = core.cost; pinned = core.pinned })
-  pub same : (colour : Colour) → mark_of colour core.worthy ≡ if_worthy core.cost core.pinned (mark_of colour core.chain)
+  pub worthy : AreWorthy (record {
+    marks = core.worthy;
+    colours = core.colours;
+    cost = core.cost;
+    pinned = core.pinned;
+  })
+  pub same : (colour : Colour) → mark_of colour core.worthy
+      ≡ if_worthy core.cost core.pinned (mark_of colour core.chain)
 
 -- the mark after a report of a worth, which only raises it: nothing where the report is of another period, so of another number
 -- of started events
 abbrev pub raised : ℕ → ℕ → Option Mark → Option Mark
 raised started worth None = None
-raised started worth (Some mark) = if mark.started == started then Some (record mark { worth = max mark.worth worth }) else None
+raised started worth (Some mark) =
+    if mark.started == started then Some (record mark { worth = max mark.worth worth }) else None
 
 -- what a report on a colour makes of the colour's mark in a chain
 abbrev pub told_of : Colour → ℕ → ℕ → List Mark → Option Mark

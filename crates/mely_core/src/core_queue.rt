@@ -31,7 +31,8 @@ impl Model for CoreQueue {
 
     ghost view = { λ q. chain_of q.chain.list q.worthy };
 
-    ghost invariant = { λ q. HoldTogether (chain_of q.chain.list q.worthy) × (q.chain.colours ≡ q.worthy.colours) };
+    ghost invariant = { λ q. HoldTogether (chain_of q.chain.list q.worthy)
+        × (q.chain.colours ≡ q.worthy.colours) };
 }
 
 impl CoreQueue {

@@ -18,4 +18,5 @@ weight_of rows handler = (row_at rows handler).0 / (row_at rows handler).1
 
 -- why rows make no table, the first cause first
 abbrev pub fault_in : List (ℕ × ℕ) → Option TableFault
-fault_in rows = if nat_lt 32 (length rows) then Some (TooMany (length rows)) else option_map (λ handler. ZeroPenalty handler) (position (λ row. row.1 == 0) rows)
+fault_in rows = if nat_lt 32 (length rows) then Some (TooMany (length rows)) else option_map
+    (λ handler. ZeroPenalty handler) (position (λ row. row.1 == 0) rows)

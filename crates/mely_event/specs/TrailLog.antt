@@ -17,9 +17,15 @@ pub record AreAlike {S R : Type 0} (log_of : S → TrailLogState) (rest_of : S �
   pub rest : rest_of s ≡ rest_of t
 
 -- a state is the same as itself
-pub alike_itself : {S R : Type 0} {log_of : S → TrailLogState} {rest_of : S → R} (s : S) → AreAlike log_of rest_of s s
+pub alike_itself : {S R : Type 0} {log_of : S → TrailLogState} {rest_of : S → R} (s : S)
+    → AreAlike log_of rest_of s s
 alike_itself s = record { events = refl; colour = refl; rest = refl }
 
 -- what is the same as the same is the same
-pub alike_onward : {S R : Type 0} {log_of : S → TrailLogState} {rest_of : S → R} {r s t : S} → AreAlike log_of rest_of r s → AreAlike log_of rest_of s t → AreAlike log_of rest_of r t
-alike_onward one other = record { events = one.events ∙ other.events; colour = one.colour ∙ other.colour; rest = one.rest ∙ other.rest }
+pub alike_onward : {S R : Type 0} {log_of : S → TrailLogState} {rest_of : S → R} {r s t : S}
+    → AreAlike log_of rest_of r s → AreAlike log_of rest_of s t → AreAlike log_of rest_of r t
+alike_onward one other = record {
+  events = one.events ∙ other.events;
+  colour = one.colour ∙ other.colour;
+  rest = one.rest ∙ other.rest;
+}

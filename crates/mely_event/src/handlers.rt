@@ -39,7 +39,8 @@ impl Handlers {
     /// `TooMany` exactly where there are more than 32 rows, else `ZeroPenalty` exactly where a row
     /// has penalty 0, with the number of the first such row. It takes no memory.
     pub fn new(rows: &[(u32, u32)]) -> Result<Handlers, TableFault>
-        ensures made { IfOk result (λ table. (fault_in rows.now ≡ None) × (rows_of table ≡ rows.now)) }
+        ensures made { IfOk result (λ table. (fault_in rows.now ≡ None)
+            × (rows_of table ≡ rows.now)) }
         ensures refused { IfErr result (λ fault. fault_in rows.now ≡ Some fault) }
     {
         if let Some(fault) = find_fault(rows) {

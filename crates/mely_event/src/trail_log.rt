@@ -77,7 +77,11 @@ impl Model for TrailLog {
 
     ghost use Rattle.std.specs.Prelude.{vec_len, vec_capacity, ◌-◌};
 
-    ghost view = { λ log. record { colour = log.colour; events = log.events.items; spare = vec_capacity log.events - vec_len log.events } };
+    ghost view = { λ log. record {
+      colour = log.colour;
+      events = log.events.items;
+      spare = vec_capacity log.events - vec_len log.events;
+    } };
 }
 
 impl TrailLog {
@@ -104,7 +108,10 @@ impl TrailLog {
     /// them by [`Trail::reserve`].
     pub fn push(&mut self, event: Event)
         requires { 1 ≤ self.old.spare }
-        ensures { self.new ≡ record self.old { events = self.old.events ++ event ∷ []; spare = self.old.spare - 1 } }
+        ensures { self.new ≡ record self.old {
+          events = self.old.events ++ event ∷ [];
+          spare = self.old.spare - 1;
+        } }
     {
         self.events.push_reserved(event);
     }

@@ -27,7 +27,7 @@ one_longer [] x = refl
 one_longer (y ∷ xs) x = ap suc (one_longer xs x)
 
 -- a column with what one more row has at its place
-pub column_grow : {A : Type 0} (rows : List (List A)) (k : ℕ) (column : List A) (row : List A) (x : A) → IsColumn rows k column → slice_get row k ≡ Some x → IsColumn (rows ++ row ∷ []) k (column ++ x ∷ [])
+column_grow : {A : Type 0} (rows : List (List A)) (k : ℕ) (column : List A) (row : List A) (x : A) → IsColumn rows k column → slice_get row k ≡ Some x → IsColumn (rows ++ row ∷ []) k (column ++ x ∷ [])
 column_grow rows k column row x is at = record {
   many = one_longer column x ∙ ap suc is.many ∙ sym (one_longer rows row);
   each = both_push (λ _ r y. slice_get r k ≡ Some y) rows column row x (length rows) refl is.many is.each at;

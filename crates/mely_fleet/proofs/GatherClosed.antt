@@ -41,7 +41,7 @@ use Rattle.std.proofs.lemmas.Bool.{cases_lt, cases_eq}
 use Rattle.std.proofs.Math.Seq.{drop-append_seam, take-append_seam}
 
 -- what a pass of a row has seen
-pub front_at : {V N F : Type 0} {g : _} (row : List (Pass V N F g)) (k : ℕ) (pass : Pass V N F g) → slice_get row k ≡ Some pass → get_or (fronts row) k [] ≡ front pass
+front_at : {V N F : Type 0} {g : _} (row : List (Pass V N F g)) (k : ℕ) (pass : Pass V N F g) → slice_get row k ≡ Some pass → get_or (fronts row) k [] ≡ front pass
 front_at row k pass is = get_or_from_slice_get (fronts row) k (front pass) [] (slice_get-map (λ p. front p) row k ∙ ap (option_map (λ p. front p)) is)
 
 module _ {S P F : Type 0} {g : _} (t : TrailWords S F) (setup : Setup) (frame : F) (k : ℕ) (lock : Ticketed (KeptContents S P) Entry (ShardFrame F)) (column : List (Pass (KeptContents S P) Entry (ShardFrame F) g)) (kept : KeptContents S P) (has : Contents S P) where

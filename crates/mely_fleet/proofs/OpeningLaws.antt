@@ -70,11 +70,6 @@ module _ {V N F : Type 0} {g : _} (frame_of : V → F) (locks : List (Ticketed V
 pub at_seam : {A : Type 0} (xs : List A) (y : A) (rest : List A) → slice_get (xs ++ y ∷ rest) (length xs) ≡ Some y
 at_seam xs y rest = slice_get-get_or (xs ++ y ∷ rest) (length xs) y (let many : length (xs ++ y ∷ rest) ≡ length xs + length (y ∷ rest) = length-append xs (y ∷ rest) in omega (arith, many)) ∙ ap (λ x. Some x) (get_or-append_seam xs y rest y)
 
--- what stands at one place of two lists, one of which is mapped from the other
-pub mapped_at : {A B : Type 0} (f : A → B) (xs : List A) (ys : List B) → map f xs ≡ ys → (n : ℕ) (x : A) (y : B) → slice_get ys n ≡ Some y → slice_get xs n ≡ Some x → f x ≡ y
-mapped_at f xs ys same n x y at_y at_x =
-    let both : Some (f x) ≡ Some y = sym (slice_get-map f xs n ∙ ap (option_map f) at_x) ∙ ap (λ l. slice_get l n) same ∙ at_y in cc
-
 -- one number more, of those that fit in two bytes
 pub number_onward : {A : Type 0} (number : ℕ) (before : List A) (here : A) (rest all : List A) → number ≡ length before → before ++ here ∷ rest ≡ all → length all ≤ 65535 → (number + 1) % 65536 ≡ length (before ++ here ∷ [])
 number_onward number before here rest all is split few =

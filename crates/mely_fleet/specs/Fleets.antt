@@ -25,12 +25,15 @@ first_of_some [] none = absurd (omega arith)
 first_of_some (x ∷ xs) some = x
 
 -- a setup has a shard, so a fleet has a lock
-pub has_lock : {V F : Type 0} (fleet : FleetOf V Entry (ShardFrame F)) → 0 < length fleet.shards.items
-has_lock fleet = let many = fleet.a_lock_for_each_shard in let some = fleet.setup.shards_in.0 in omega (arith, many, some)
+pub has_lock : {V F : Type 0} (fleet : FleetOf V Entry (ShardFrame F))
+    → 0 < length fleet.shards.items
+has_lock fleet = let many = fleet.a_lock_for_each_shard in let some = fleet.setup.shards_in.0 in
+    omega (arith, many, some)
 
 -- the frame of the states: that of the first shard
 abbrev pub frame_in : {V F : Type 0} → (V → ShardFrame F) → FleetOf V Entry (ShardFrame F) → F
-frame_in kept_frame fleet = (kept_frame (first_value (first_of_some fleet.shards.items (has_lock fleet)))).states
+frame_in kept_frame fleet =
+    (kept_frame (first_value (first_of_some fleet.shards.items (has_lock fleet)))).states
 
 -- what stays the same of a shard of a setup
 abbrev pub frame_for : {F : Type 0} → Setup → F → ℕ → ShardFrame F
@@ -38,35 +41,55 @@ frame_for setup frame shard = record { setup = setup; shard = shard; states = fr
 
 -- and of a chain
 abbrev pub chain_frame_for : Setup → ChainFrame
-chain_frame_for setup = record { colours = colours_of setup; cost = (shape_of setup).steal_cost; pinned = pinned_of setup }
+chain_frame_for setup = record {
+  colours = colours_of setup;
+  cost = (shape_of setup).steal_cost;
+  pinned = pinned_of setup;
+}
 
 -- the passes are passes of this fleet, and outside
 pub record ArePasses {V F : Type 0} {g : _} (kept_frame : V → ShardFrame F) (fleet : FleetOf V Entry (ShardFrame F)) (passes : PassesOf V Entry (ShardFrame F) g) : Type 0 where
   pub of_shards : ArePassesOf kept_frame fleet.shards.items passes.number passes.shards.items
   pub of_chains : ArePassesOf chain_frame fleet.chains.items passes.number passes.chains.items
-  pub shards_framed : AreFramed kept_frame (frame_for fleet.setup (frame_in kept_frame fleet)) fleet.shards.items
+  pub shards_framed : AreFramed kept_frame (frame_for fleet.setup (frame_in kept_frame fleet))
+      fleet.shards.items
   pub chains_framed : AreFramed chain_frame (λ _. chain_frame_for fleet.setup) fleet.chains.items
 
 -- the passes have the same number, and have seen the same of the chains
-abbrev pub KeepChains : {V F : Type 0} {g : _} → PassesOf V Entry (ShardFrame F) g → PassesOf V Entry (ShardFrame F) g → Type 0
+abbrev pub KeepChains : {V F : Type 0} {g : _} → PassesOf V Entry (ShardFrame F) g
+    → PassesOf V Entry (ShardFrame F) g → Type 0
 KeepChains before after = (after.number ≡ before.number) × (after.chains ≡ before.chains)
 
 -- the passes have the same number, and have seen the same of the shards
-abbrev pub KeepShards : {V F : Type 0} {g : _} → PassesOf V Entry (ShardFrame F) g → PassesOf V Entry (ShardFrame F) g → Type 0
+abbrev pub KeepShards : {V F : Type 0} {g : _} → PassesOf V Entry (ShardFrame F) g
+    → PassesOf V Entry (ShardFrame F) g → Type 0
 KeepShards before after = (after.number ≡ before.number) × (after.shards ≡ before.shards)
 
 -- a call with these passes on one shard of a fleet
-abbrev pub SeesOn : {V F : Type 0} {g : _} → FleetOf V Entry (ShardFrame F) → ℕ → PassesOf V Entry (ShardFrame F) g → PassesOf V Entry (ShardFrame F) g → (Setup → ℕ → List Entry → List Entry → Type 0) → Type 0
-SeesOn fleet shard before after Does = SeesAt fleet.setup before.number shard (fronts before.shards.items) (fronts after.shards.items) (Does fleet.setup before.number)
+abbrev pub SeesOn : {V F : Type 0} {g : _} → FleetOf V Entry (ShardFrame F) → ℕ
+    → PassesOf V Entry (ShardFrame F) g → PassesOf V Entry (ShardFrame F) g
+    → (Setup → ℕ → List Entry → List Entry → Type 0) → Type 0
+SeesOn fleet shard before after Does =
+    SeesAt fleet.setup before.number shard (fronts before.shards.items) (fronts after.shards.items)
+    (Does fleet.setup before.number)
 
 -- a call with these passes on the chain of a core of a fleet
-abbrev pub ReachesOn : {V F : Type 0} {g : _} → FleetOf V Entry (ShardFrame F) → ℕ → PassesOf V Entry (ShardFrame F) g → PassesOf V Entry (ShardFrame F) g → (ChainFrame → ℕ → List (ℕ × ChainNote) → List (ℕ × ChainNote) → Type 0) → Type 0
-ReachesOn fleet core before after Does = ReachesChain before.number core (fronts before.chains.items) (fronts after.chains.items) (Does (chain_frame_for fleet.setup) before.number)
+abbrev pub ReachesOn : {V F : Type 0} {g : _} → FleetOf V Entry (ShardFrame F) → ℕ
+    → PassesOf V Entry (ShardFrame F) g → PassesOf V Entry (ShardFrame F) g
+    → (ChainFrame → ℕ → List (ℕ × ChainNote) → List (ℕ × ChainNote) → Type 0) → Type 0
+ReachesOn fleet core before after Does =
+    ReachesChain before.number core (fronts before.chains.items) (fronts after.chains.items)
+    (Does (chain_frame_for fleet.setup) before.number)
 
 -- a delivery with these passes
-abbrev pub DeliversOn : {V F : Type 0} {g : _} → FleetOf V Entry (ShardFrame F) → Delivery → PassesOf V Entry (ShardFrame F) g → PassesOf V Entry (ShardFrame F) g → Type 0
-DeliversOn fleet delivery before after = DeliversAt (chain_frame_for fleet.setup) before.number delivery (fronts before.chains.items) (fronts after.chains.items)
+abbrev pub DeliversOn : {V F : Type 0} {g : _} → FleetOf V Entry (ShardFrame F) → Delivery
+    → PassesOf V Entry (ShardFrame F) g → PassesOf V Entry (ShardFrame F) g → Type 0
+DeliversOn fleet delivery before after =
+    DeliversAt (chain_frame_for fleet.setup) before.number delivery (fronts before.chains.items)
+    (fronts after.chains.items)
 
 -- by what these passes have seen, a finish is owed of a turn of this colour, core and count, whose state is to have this trail
-abbrev pub owed_by : {V F : Type 0} {g : _} → FleetOf V Entry (ShardFrame F) → PassesOf V Entry (ShardFrame F) g → Colour → ℕ → ℕ → List Event → Type 0
-owed_by fleet passes c core count trail = IsOwed passes.number (front_for fleet.setup (fronts passes.shards.items) c) c core count trail
+abbrev pub owed_by : {V F : Type 0} {g : _} → FleetOf V Entry (ShardFrame F)
+    → PassesOf V Entry (ShardFrame F) g → Colour → ℕ → ℕ → List Event → Type 0
+owed_by fleet passes c core count trail =
+    IsOwed passes.number (front_for fleet.setup (fronts passes.shards.items) c) c core count trail

@@ -23,7 +23,11 @@ HaveFrame frame f states = (i : ℕ) (state : _) → slice_get states i ≡ Some
 
 -- what stays the same of a shard behind its lock
 abbrev pub shard_frame : {S P F : Type 0} → (S → F) → KeptContents S P → ShardFrame F
-shard_frame frame kept = record { setup = kept.has.setup; shard = kept.has.shard; states = frame kept.sample }
+shard_frame frame kept = record {
+  setup = kept.has.setup;
+  shard = kept.has.shard;
+  states = frame kept.sample;
+}
 
 -- what a chain behind its lock has, and the changes that were made of it, each with the number of the pass that made it
 pub record KeptMarks : Type 0 where
@@ -41,18 +45,31 @@ chain_frame kept = numbers_of kept.has
 -- a chain after a report, where that found its mark
 abbrev pub after_report : Chain → Option Mark → Chain
 after_report queue None = queue
-after_report queue (Some told) = record queue { chain = replaced told queue.chain; worthy = changed queue.cost queue.pinned told queue.worthy }
+after_report queue (Some told) = record queue {
+  chain = replaced told queue.chain;
+  worthy = changed queue.cost queue.pinned told queue.worthy;
+}
 
 -- what a change makes of a chain
 abbrev pub after_change : Chain → ChainNote → Chain
-after_change queue (Pushed mark) = record queue { chain = queue.chain ++ mark ∷ []; worthy = entered queue.cost queue.pinned mark queue.worthy }
-after_change queue (Popped mark) = record queue { chain = drop 1 queue.chain; worthy = without mark.colour queue.worthy }
-after_change queue (Retold c started worth) = after_report queue (told_of c started worth queue.chain)
-after_change queue (Picked mark) = record queue { chain = without mark.colour queue.chain; worthy = without mark.colour queue.worthy }
+after_change queue (Pushed mark) = record queue {
+  chain = queue.chain ++ mark ∷ [];
+  worthy = entered queue.cost queue.pinned mark queue.worthy;
+}
+after_change queue (Popped mark) =
+    record queue { chain = drop 1 queue.chain; worthy = without mark.colour queue.worthy }
+after_change queue (Retold c started worth) =
+    after_report queue (told_of c started worth queue.chain)
+after_change queue (Picked mark) = record queue {
+  chain = without mark.colour queue.chain;
+  worthy = without mark.colour queue.worthy;
+}
 
 -- the chain of these numbers after these changes, by which it is what it is
 abbrev pub chain_after : ChainFrame → List (ℕ × ChainNote) → Chain
-chain_after of changes = fold (λ queue change. after_change queue change.1) (empty_core of.colours of.cost of.pinned) changes
+chain_after of changes =
+    fold (λ queue change. after_change queue change.1)
+    (empty_core of.colours of.cost of.pinned) changes
 
 -- the colour is one of the shard with this frame
 pub record IsColourOf {F : Type 0} (of : ShardFrame F) (c : Colour) : Type 0 where

@@ -15,17 +15,21 @@ abbrev pub MayEnter : {V N F : Type 0} {g : _} → (V → F) → Ticketed V N F 
 MayEnter frame_of lock pass = IsPassOf frame_of lock pass × IsOutside pass
 
 -- the pass went in and came out again
-abbrev pub HasLeft : {V N F : Type 0} {g : _} → (V → F) → Ticketed V N F → Pass V N F g → Pass V N F g → Type 0
-HasLeft frame_of lock before after = IsPassOf frame_of lock after × IsOutside after × (after.number ≡ before.number)
+abbrev pub HasLeft : {V N F : Type 0} {g : _} → (V → F) → Ticketed V N F → Pass V N F g
+    → Pass V N F g → Type 0
+HasLeft frame_of lock before after = IsPassOf frame_of lock after × IsOutside after
+    × (after.number ≡ before.number)
 
 -- one pass for each lock, in order, all of one number
 pub record ArePassesOf {V N F : Type 0} {g : _} (frame_of : V → F) (locks : List (Ticketed V N F)) (n : ℕ) (passes : List (Pass V N F g)) : Type 0 where
   pub many : length passes ≡ length locks
-  pub each : (k : ℕ) (lock : Ticketed V N F) (pass : Pass V N F g) → slice_get locks k ≡ Some lock → slice_get passes k ≡ Some pass → IsPassAt frame_of lock n pass
+  pub each : (k : ℕ) (lock : Ticketed V N F) (pass : Pass V N F g) → slice_get locks k ≡ Some lock
+      → slice_get passes k ≡ Some pass → IsPassAt frame_of lock n pass
 
 -- the value of each lock has the frame of its place
 abbrev pub AreFramed : {V N F : Type 0} → (V → F) → (ℕ → F) → List (Ticketed V N F) → Type 0
-AreFramed {V} {N} {F} frame_of frame_at locks = (k : ℕ) (lock : Ticketed V N F) → slice_get locks k ≡ Some lock → frame_of (first_value lock) ≡ frame_at k
+AreFramed {V} {N} {F} frame_of frame_at locks = (k : ℕ) (lock : Ticketed V N F)
+    → slice_get locks k ≡ Some lock → frame_of (first_value lock) ≡ frame_at k
 
 -- what passes have seen, lock by lock
 abbrev pub fronts : {V N F : Type 0} {g : _} → List (Pass V N F g) → List (List N)
@@ -33,4 +37,5 @@ fronts passes = map (λ pass. front pass) passes
 
 -- each lock was made with so many passes
 abbrev pub HavePasses : {V N F : Type 0} → ℕ → List (Ticketed V N F) → Type 0
-HavePasses {V} {N} {F} passes locks = (k : ℕ) (lock : Ticketed V N F) → slice_get locks k ≡ Some lock → lock.passes ≡ passes
+HavePasses {V} {N} {F} passes locks = (k : ℕ) (lock : Ticketed V N F)
+    → slice_get locks k ≡ Some lock → lock.passes ≡ passes

@@ -20,7 +20,8 @@ pub record MaySit {S P F : Type 0} {g : _} (frame_of : S → F) (fits : F → Co
   pub finished : HasFinishedBut (standpoint (shard_frame frame_of) fleet own) None
   pub rest : Rest P
   pub rested : worker ≡ Some rest
-  pub may : MayGatherWorker {S = S} fits fleet.setup (frame_in (shard_frame frame_of) fleet) own.number (woken rest)
+  pub may : MayGatherWorker {S = S} fits fleet.setup (frame_in (shard_frame frame_of) fleet)
+      own.number (woken rest)
 
 -- the same of the core of this number
 pub record IsSeatOf {S P F : Type 0} {g : _} (frame_of : S → F) (fits : F → Colour → Event → Option P → Type 0) (fleet : FleetOf (KeptContents S P) Entry (ShardFrame F)) (n : ℕ) (own : PassesOf (KeptContents S P) Entry (ShardFrame F) g) (worker : Option (Rest P)) : Type 0 where

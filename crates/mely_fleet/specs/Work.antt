@@ -33,25 +33,46 @@ pub record Standpoint (F : Type 0) : Type 0 where
   pub chains : List (List (ℕ × ChainNote))
 
 -- where the caller with these passes stands
-abbrev pub standpoint : {V F : Type 0} {g : _} → (V → ShardFrame F) → FleetOf V Entry (ShardFrame F) → PassesOf V Entry (ShardFrame F) g → Standpoint F
-standpoint kept_frame fleet passes = record { setup = fleet.setup; number = passes.number; frame = frame_in kept_frame fleet; fronts = fronts passes.shards.items; chains = fronts passes.chains.items }
+abbrev pub standpoint : {V F : Type 0} {g : _} → (V → ShardFrame F) → FleetOf V Entry (ShardFrame F)
+    → PassesOf V Entry (ShardFrame F) g → Standpoint F
+standpoint kept_frame fleet passes = record {
+  setup = fleet.setup;
+  number = passes.number;
+  frame = frame_in kept_frame fleet;
+  fronts = fronts passes.shards.items;
+  chains =
+      fronts passes.chains.items;
+}
 
 -- what the worker of a core may call, by what it has seen: each call on a shard stands at its point in the shard's history, and each call on a chain at its point in the chain's
-abbrev pub words : {S P F : Type 0} → TrailWords S F → (F → Colour → Event → Option P → Type 0) → AccessWords (Standpoint F) S P F
+abbrev pub words : {S P F : Type 0} → TrailWords S F → (F → Colour → Event → Option P → Type 0)
+    → AccessWords (Standpoint F) S P F
 words t fits = record {
   setup_of = λ a. a.setup;
   core_of = λ a. a.number;
   frame_of = λ a. a.frame;
   owes = λ a c core count trail. IsOwed a.number (front_for a.setup a.fronts c) c core count trail;
   keeps = λ a b. Unit {0};
-  registers = λ a c event load answer b. SeesAt a.setup a.number (shard_of a.setup c) a.fronts b.fronts (RegistersAt a.setup a.number c event load answer);
-  takes = λ a c answer b. SeesAt a.setup a.number (shard_of a.setup c) a.fronts b.fronts (TakesAt t fits a.setup a.frame a.number c answer);
-  finishes = λ a turn answer b. SeesAt a.setup a.number (shard_of a.setup turn.colour) a.fronts b.fronts (FinishesAt a.setup a.number turn.colour turn.count answer);
-  steals = λ a c answer b. SeesAt a.setup a.number (shard_of a.setup c) a.fronts b.fronts (StealsAt a.setup a.number c answer);
-  pushes = λ a core mark answer b. (b.fronts ≡ a.fronts) × ReachesChain a.number core a.chains b.chains (PushesAt (chain_frame_for a.setup) a.number mark answer);
-  pops = λ a answer b. (b.fronts ≡ a.fronts) × ReachesChain a.number a.number a.chains b.chains (PopsAt (chain_frame_for a.setup) a.number answer);
-  retells = λ a core c started worth found b. (b.fronts ≡ a.fronts) × ReachesChain a.number core a.chains b.chains (RetellsAt (chain_frame_for a.setup) a.number c started worth found);
-  picks = λ a core answer b. (b.fronts ≡ a.fronts) × ReachesChain a.number core a.chains b.chains (PicksAt (chain_frame_for a.setup) a.number answer);
+  registers = λ a c event load answer b. SeesAt a.setup a.number (shard_of a.setup c) a.fronts
+      b.fronts (RegistersAt a.setup a.number c event load answer);
+  takes = λ a c answer b. SeesAt a.setup a.number (shard_of a.setup c) a.fronts b.fronts
+      (TakesAt t fits a.setup a.frame a.number c answer);
+  finishes = λ a turn answer b. SeesAt a.setup a.number (shard_of a.setup turn.colour) a.fronts
+      b.fronts (FinishesAt a.setup a.number turn.colour turn.count answer);
+  steals = λ a c answer b. SeesAt a.setup a.number (shard_of a.setup c) a.fronts b.fronts
+      (StealsAt a.setup a.number c answer);
+  pushes = λ a core mark answer b. (b.fronts ≡ a.fronts)
+      × ReachesChain a.number core a.chains b.chains
+      (PushesAt (chain_frame_for a.setup) a.number mark answer);
+  pops = λ a answer b. (b.fronts ≡ a.fronts)
+      × ReachesChain a.number a.number a.chains b.chains
+      (PopsAt (chain_frame_for a.setup) a.number answer);
+  retells = λ a core c started worth found b. (b.fronts ≡ a.fronts)
+      × ReachesChain a.number core a.chains b.chains (RetellsAt (chain_frame_for a.setup) a.number
+      c started worth found);
+  picks = λ a core answer b. (b.fronts ≡ a.fronts)
+      × ReachesChain a.number core a.chains b.chains
+      (PicksAt (chain_frame_for a.setup) a.number answer);
 }
 
 -- more was seen, or as much
@@ -64,7 +85,9 @@ SeesAllDrained a = (k : ℕ) → k < (shape_of a.setup).shards → IsDrained (fr
 
 -- each take of the caller has its finish, but that of the colour that runs
 abbrev pub HasFinishedBut : {F : Type 0} → Standpoint F → Option Colour → Type 0
-HasFinishedBut a running = (c : Colour) (core count : ℕ) → last_change a.number c (front_for a.setup a.fronts c) ≡ Some (Take c core count) → running ≡ Some c
+HasFinishedBut a running = (c : Colour) (core count : ℕ)
+    → last_change a.number c (front_for a.setup a.fronts c) ≡ Some (Take c core count)
+    → running ≡ Some c
 
 -- each take of the worker's core has its finish, but that of the worker's turn
 abbrev pub HasFinished : {S P F : Type 0} → Standpoint F → WorkerView S P → Type 0
@@ -76,9 +99,16 @@ pub record WorksOn {S P F : Type 0} (a : Standpoint F) (w : WorkerView S P) (b :
   pub finished : HasFinished a w → HasFinished b v
 
 -- the worker may make a step with these passes
-abbrev pub MayWork : {S P F : Type 0} {g : _} → TrailWords S F → (F → Colour → Event → Option P → Type 0) → FleetOf (KeptContents S P) Entry (ShardFrame F) → PassesOf (KeptContents S P) Entry (ShardFrame F) g → WorkerView S P → Type 0
-MayWork t fits fleet passes w = MayStepAt t fits (words t fits) (standpoint (shard_frame t.frame_of) fleet passes) w
+abbrev pub MayWork : {S P F : Type 0} {g : _} → TrailWords S F
+    → (F → Colour → Event → Option P → Type 0) → FleetOf (KeptContents S P) Entry (ShardFrame F)
+    → PassesOf (KeptContents S P) Entry (ShardFrame F) g → WorkerView S P → Type 0
+MayWork t fits fleet passes w =
+    MayStepAt t fits (words t fits) (standpoint (shard_frame t.frame_of) fleet passes) w
 
 -- what the worker does with these passes
-abbrev pub Works : {S P F : Type 0} {g : _} → (S → F) → FleetOf (KeptContents S P) Entry (ShardFrame F) → PassesOf (KeptContents S P) Entry (ShardFrame F) g → WorkerView S P → PassesOf (KeptContents S P) Entry (ShardFrame F) g → WorkerView S P → Type 0
-Works frame_of fleet before w after v = WorksOn (standpoint (shard_frame frame_of) fleet before) w (standpoint (shard_frame frame_of) fleet after) v
+abbrev pub Works : {S P F : Type 0} {g : _} → (S → F)
+    → FleetOf (KeptContents S P) Entry (ShardFrame F)
+    → PassesOf (KeptContents S P) Entry (ShardFrame F) g → WorkerView S P
+    → PassesOf (KeptContents S P) Entry (ShardFrame F) g → WorkerView S P → Type 0
+Works frame_of fleet before w after v = WorksOn (standpoint (shard_frame frame_of) fleet before) w
+    (standpoint (shard_frame frame_of) fleet after) v

@@ -2,13 +2,20 @@
 use mely_event::Memory;
 use mely_worker::Made;
 use std::alloc::Global;
-use std::hint;
 use std::sync::atomic::{AtomicBool, AtomicU64, Ordering};
 use std::sync::{Condvar, Mutex, Wait};
+use std::{hint, thread};
 
 /// How many looks at chains in a row find nothing before a worker goes to sleep: some tens of microseconds, where waking it again
 /// costs ten.
 const LOOKS: u32 = 500;
+
+/// How many whole hunts in a row find nothing before a worker gives up a fleet whose workers haven't all begun, and after how many
+/// of them it lets another thread have the processor: a tenth of a second in all on a machine at rest, and some seconds on one
+/// where many threads wait for a processor.
+const PATIENCE: u32 = 1_000_000;
+
+const HUNTS_A_YIELD: u32 = 1_000;
 
 /// What one worker writes, and whoever wakes it.
 #[derive(Drop)]
@@ -36,6 +43,9 @@ pub(crate) struct Watch {
 
     /// Where it said that it is about to sleep: how often it had been woken before.
     rings: Option<u64>,
+
+    /// After how many hunts in a row it would have slept, had all workers begun.
+    vain: u32,
 }
 
 impl Watch {
@@ -44,6 +54,7 @@ impl Watch {
         Watch {
             misses: 0,
             rings: None,
+            vain: 0,
         }
     }
 
@@ -62,6 +73,9 @@ impl Watch {
 #[derive(Drop)]
 pub(crate) struct Bell {
     stopped: AtomicBool,
+
+    /// How often a worker began to work.
+    begun: AtomicU64,
 
     /// How many workers sleep or are about to, and nobody has come to wake them.
     sleepers: AtomicU64,
@@ -86,6 +100,7 @@ impl Bell {
         }
         Ok(Bell {
             stopped: AtomicBool::new(false),
+            begun: AtomicU64::new(0),
             sleepers: AtomicU64::new(0),
             beds,
         })
@@ -137,7 +152,18 @@ impl Bell {
         idled == woken
     }
 
-    /// Whether a worker met want of memory.
+    /// A worker begins.
+    pub(crate) fn begin(&self) {
+        self.begun.fetch_add(1, Ordering::SeqCst);
+    }
+
+    /// Whether so many workers began as there are cores.
+    fn is_manned(&self) -> bool {
+        let cores = self.beds.len().saturating_sub(1) as u64;
+        self.begun.load(Ordering::SeqCst) >= cores
+    }
+
+    /// Whether a worker met want of memory, or gave up.
     pub(crate) fn is_stopped(&self) -> bool {
         self.stopped.load(Ordering::SeqCst)
     }
@@ -206,6 +232,7 @@ impl Bell {
             }
             _ => {
                 watch.misses = 0;
+                watch.vain = 0;
                 self.rise(number, watch);
             }
         }
@@ -224,19 +251,27 @@ impl Bell {
     }
 
     /// A worker found nothing in a whole hunt. It goes on for a while. Then it says that it is about to sleep, and hunts once more:
-    /// whatever comes into its chain from then on wakes it. Where it finds nothing again it sleeps.
-    pub(crate) fn rest<R: Wait>(&self, rt: &R, number: u16, watch: &mut Watch) {
+    /// whatever comes into its chain from then on wakes it. Where it finds nothing again it sleeps; but where not all workers have
+    /// begun, one that never will can leave it asleep for good, so it hunts on. Whether it gives up.
+    pub(crate) fn rest<R: Wait>(&self, rt: &R, number: u16, watch: &mut Watch) -> bool {
         if watch.misses < LOOKS {
-            return;
+            return false;
         }
         let Some(bed) = self.bed(number) else {
-            return;
+            return false;
         };
         match watch.rings {
             None => {
                 watch.rings = Some(*bed.rings.lock(rt));
                 bed.asleep.store(true, Ordering::SeqCst);
                 self.sleepers.fetch_add(1, Ordering::SeqCst);
+            }
+            Some(_) if !self.is_manned() => {
+                watch.vain = watch.vain.saturating_add(1);
+                if watch.vain.is_multiple_of(HUNTS_A_YIELD) {
+                    thread::yield_now();
+                }
+                return watch.vain >= PATIENCE;
             }
             Some(seen) => {
                 let rings = bed
@@ -247,5 +282,6 @@ impl Bell {
                 watch.misses = 0;
             }
         }
+        false
     }
 }

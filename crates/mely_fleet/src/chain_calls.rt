@@ -18,10 +18,13 @@ fn enter_with_room<'a, R: Wait>(
     pass: &mut Pass<KeptChain>,
 ) -> Held<'a, KeptChain>
     requires { MayEnter chain_frame lock.now pass.old }
-    ensures pass { IsPassOf chain_frame lock.now pass.new × IsInside pass.new × (pass.new.number ≡ pass.old.number) }
-    ensures point { OthersSince (λ change. change.0) pass.old.number (front pass.old) (front pass.new) }
+    ensures pass { IsPassOf chain_frame lock.now pass.new × IsInside pass.new
+        × (pass.new.number ≡ pass.old.number) }
+    ensures point { OthersSince (λ change. change.0) pass.old.number
+        (front pass.old) (front pass.new) }
     ensures seen { front pass.new ≡ result.value.changes }
-    ensures held { (result.lock.now ≡ lock.now) × (chain_frame result.value ≡ chain_frame (first_value lock.now)) }
+    ensures held { (result.lock.now ≡ lock.now)
+        × (chain_frame result.value ≡ chain_frame (first_value lock.now)) }
     ensures room { length result.value.changes + 1 < 2 ^ 64 }
 {
     let mut held = lock.enter(rt, pass);

@@ -46,8 +46,10 @@ impl<S: Fits<P> + Drop, P: Drop> FleetOf<KeptShard<S, P>> {
             AtEach (λ core w. MayGatherWorker S.fits_under self.setup frame core w) workers.items }
         ensures setup { result.setup ≡ self.setup }
         ensures workers { result.workers ≡ workers.items }
-        ensures histories { AtEach (λ k has. IsClosedOver self.passes k passes.items has.history) result.shards }
-        ensures left { AtEach (λ k has. IsLeftByOthers self.setup k passes.items has.history) result.shards }
+        ensures histories { AtEach (λ k has.
+            IsClosedOver self.passes k passes.items has.history) result.shards }
+        ensures left { AtEach (λ k has.
+            IsLeftByOthers self.setup k passes.items has.history) result.shards }
         ensures shards { let frame = frame_in (shard_frame S.frame_of) self in
             AtEach (λ k has. MayGatherShard S.Trail self.setup frame k has) result.shards }
         ensures chains { AreChainedAnew result.setup result.shards result.chains }

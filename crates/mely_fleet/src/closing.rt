@@ -20,9 +20,11 @@ pub(crate) fn hand_in<V: Kept>(row: Vec<Pass<V>>, columns: &mut Vec<Vec<Pass<V>>
         (slice_index_or columns.new.items k d).items
         ≡ (slice_index_or columns.old.items k d).items ++ slice_index_or row.items k p ∷ [] }
     ensures len { (k : ℕ) (d : _) → k < length columns.old.items →
-        vec_len (slice_index_or columns.new.items k d) ≡ vec_len (slice_index_or columns.old.items k d) + 1 }
+        vec_len (slice_index_or columns.new.items k d)
+        ≡ vec_len (slice_index_or columns.old.items k d) + 1 }
     ensures capacity { (k : ℕ) (d : _) → k < length columns.old.items →
-        vec_capacity (slice_index_or columns.new.items k d) ≡ vec_capacity (slice_index_or columns.old.items k d) }
+        vec_capacity (slice_index_or columns.new.items k d)
+        ≡ vec_capacity (slice_index_or columns.old.items k d) }
 {
     let mut row = row;
     'hand: while let Some(pass) = row.pop() {

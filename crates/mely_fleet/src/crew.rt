@@ -59,9 +59,12 @@ fn make_crew<S: Fits<P> + Drop, P: Drop>(
     ensures callers { IfOk result (λ crew. crew.fleet.passes ≡ (shape_of setup.now).cores + 1) }
     ensures cores { IfOk result (λ crew. length crew.seats.items ≡ (shape_of setup.now).cores) }
     ensures seats { IfOk result (λ crew. AtEach
-        (λ n seat. IsSeatOf S.frame_of S.fits_under crew.fleet n seat.passes seat.worker) crew.seats.items) }
-    ensures outside { IfOk result (λ crew. IsOutsider (shard_frame S.frame_of) crew.fleet crew.outside) }
-    ensures room { IfOk result (λ crew. (crew.room.setup ≡ setup.now) × (crew.room.passes ≡ (shape_of setup.now).cores + 1)) }
+        (λ n seat. IsSeatOf S.frame_of S.fits_under crew.fleet n seat.passes seat.worker)
+        crew.seats.items) }
+    ensures outside { IfOk result (λ crew.
+        IsOutsider (shard_frame S.frame_of) crew.fleet crew.outside) }
+    ensures room { IfOk result (λ crew. (crew.room.setup ≡ setup.now)
+        × (crew.room.passes ≡ (shape_of setup.now).cores + 1)) }
     ensures outsiders { IfOk result (λ crew. (crew.outsiders.items ≡ [])
         × ((shape_of setup.now).cores + 1 ≤ vec_capacity crew.outsiders)) }
     ensures rested { IfOk result (λ crew. (crew.rested.items ≡ [])
@@ -98,10 +101,12 @@ fn work_all<
     A: App<State = S, Load = P> + Sync,
     G: Gate + Sync,
 >(rt: &R, fleet: &Fleet<S, P>, seats: &mut [Seat<S, P>], app: &A, gate: &G)
-    requires seats { AtEach (λ n seat. IsSeatOf S.frame_of S.fits_under fleet.now n seat.passes seat.worker) seats.old }
+    requires seats { AtEach (λ n seat.
+        IsSeatOf S.frame_of S.fits_under fleet.now n seat.passes seat.worker) seats.old }
     requires served { let frame = frame_in (shard_frame S.frame_of) fleet.now in
         AppServes A.App fleet.now.setup frame app.now }
-    ensures { AtEach (λ n seat. IsSeatOf S.frame_of S.fits_under fleet.now n seat.passes seat.worker) seats.new }
+    ensures { AtEach (λ n seat.
+        IsSeatOf S.frame_of S.fits_under fleet.now n seat.passes seat.worker) seats.new }
 {
     let threads = seats.len();
     if threads == 0 {
@@ -112,8 +117,10 @@ fn work_all<
         seats,
         threads,
         &|number, seat: &mut Seat<S, P>|
-            requires seat { IsSeatOf S.frame_of S.fits_under fleet.now number seat.now.passes seat.now.worker }
-            requires served { AppServes A.App fleet.now.setup (frame_in (shard_frame S.frame_of) fleet.now) app.now }
+            requires seat { IsSeatOf S.frame_of S.fits_under fleet.now number
+                seat.now.passes seat.now.worker }
+            requires served { AppServes A.App fleet.now.setup
+                (frame_in (shard_frame S.frame_of) fleet.now) app.now }
             ensures { IsSeatOf S.frame_of S.fits_under fleet.entry.now number
                 seat.exit.now.passes seat.exit.now.worker }
         {

@@ -37,8 +37,10 @@ pub(crate) fn lock_all<V: Kept + Drop>(
     ensures many { IfOk result (λ r. length r.1.items ≡ passes) }
     ensures rows { IfOk result (λ r. (n : ℕ) (d : _) → n < passes →
         IsFirstRow V.frame_of r.0.items n (slice_index_or r.1.items n d).items) }
-    ensures frames { IfOk result (λ r. (k : ℕ) (lock : _) (value : _) → slice_get r.0.items k ≡ Some lock
-        → slice_get values.items k ≡ Some value → V.frame_of (first_value lock) ≡ V.frame_of value) }
+    ensures frames { IfOk result (λ r. (k : ℕ) (lock : _) (value : _)
+        → slice_get r.0.items k ≡ Some lock
+        → slice_get values.items k ≡ Some value
+        → V.frame_of (first_value lock) ≡ V.frame_of value) }
     ensures dealt { IfOk result (λ r. HavePasses passes r.0.items) }
 {
     let mut rows = Vec::new(alloc);

@@ -259,7 +259,8 @@ impl<S: Fits<P>, P> FleetOf<KeptShard<S, P>> {
         ensures passes { ArePasses (shard_frame S.frame_of) self.now passes.new }
         ensures same { KeepChains passes.old passes.new }
         ensures sees { SeesOn self.now shard passes.old passes.new (λ setup n. LooksAt) }
-        ensures drained { IsTrue result → IsDrained (front_in (fronts passes.new.shards.items) shard) }
+        ensures drained { IsTrue result
+            → IsDrained (front_in (fronts passes.new.shards.items) shard) }
     {
         let place = shard as usize;
         look_at(rt, &self.shards[place], &mut passes.shards[place])
@@ -278,7 +279,8 @@ impl<S: Fits<P>, P> FleetOf<KeptShard<S, P>> {
         requires colour { IsColour self.now.setup mark.colour }
         ensures passes { ArePasses (shard_frame S.frame_of) self.now passes.new }
         ensures same { KeepShards passes.old passes.new }
-        ensures reaches { ReachesOn self.now core passes.old passes.new (λ of n. PushesAt of n mark result) }
+        ensures reaches { ReachesOn self.now core passes.old passes.new (λ of n.
+            PushesAt of n mark result) }
     {
         let place = core as usize;
         let is_worthy = self.is_worthy(mark.colour, mark.worth);
@@ -299,7 +301,8 @@ impl<S: Fits<P>, P> FleetOf<KeptShard<S, P>> {
         requires core { IsCore self.now.setup core }
         ensures passes { ArePasses (shard_frame S.frame_of) self.now passes.new }
         ensures same { KeepShards passes.old passes.new }
-        ensures reaches { ReachesOn self.now core passes.old passes.new (λ of n. PopsAt of n result) }
+        ensures reaches { ReachesOn self.now core passes.old passes.new
+            (λ of n. PopsAt of n result) }
         ensures mark { IfSome result (λ mark. IsColour self.now.setup mark.colour) }
     {
         let place = core as usize;
@@ -344,7 +347,8 @@ impl<S: Fits<P>, P> FleetOf<KeptShard<S, P>> {
         requires core { IsCore self.now.setup core }
         ensures passes { ArePasses (shard_frame S.frame_of) self.now passes.new }
         ensures same { KeepShards passes.old passes.new }
-        ensures reaches { ReachesOn self.now core passes.old passes.new (λ of n. PicksAt of n result) }
+        ensures reaches { ReachesOn self.now core passes.old passes.new (λ of n.
+            PicksAt of n result) }
         ensures mark { IfSome result (λ mark. IsColour self.now.setup mark.colour) }
     {
         let place = core as usize;

@@ -102,7 +102,8 @@ impl KeptChain {
         requires colour { mark.colour.0 < self.old.has.colours }
         requires room { length self.old.changes + 1 < 2 ^ 64 }
         ensures frame { chain_frame self.new ≡ chain_frame self.old }
-        ensures does { PushesAt (chain_frame self.old) by mark result self.old.changes self.new.changes }
+        ensures does { PushesAt (chain_frame self.old) by mark result
+            self.old.changes self.new.changes }
     {
         self.queue.push(mark)?;
         self.log = self.log.and(&by, &ChainNote::Pushed(mark));

@@ -35,7 +35,8 @@ impl<S: Fits<P>, P> Model for KeptShard<S, P> {
 
     ghost view = { λ k. record { has = k.shard.value; sample = k.sample.value.value } };
 
-    ghost invariant = { λ k. HaveFrame S.frame_of (S.frame_of k.sample.value.value) (givens k.shard.value) };
+    ghost invariant = { λ k.
+        HaveFrame S.frame_of (S.frame_of k.sample.value.value) (givens k.shard.value) };
 }
 
 impl<S: Fits<P>, P> Kept for KeptShard<S, P> {
@@ -140,7 +141,8 @@ impl<S: Fits<P>, P> KeptShard<S, P> {
         P: Drop,
         requires own { IsColourOf (shard_frame S.frame_of self.old) turn.colour }
         requires spent { turn.events ≡ [] }
-        requires owed { (front : List Entry) × OthersSince pass_of turn.core front self.old.has.history
+        requires owed { (front : List Entry)
+            × OthersSince pass_of turn.core front self.old.has.history
             × IsOwed turn.core front turn.colour turn.core turn.count (S.trail_of turn.state) }
         requires coloured { S.colour_of turn.state ≡ turn.colour }
         requires framed { S.frame_of turn.state ≡ S.frame_of self.old.sample }

@@ -29,8 +29,10 @@ fn keep_shards<S: Fits<P> + Drop, P: Drop>(
     requires { let frame = S.frame_of given.now.value in
         AtEach (λ k has. HaveFrame S.frame_of frame (givens has)) shards.items }
     ensures many { IfOk result (λ kept. length kept.items ≡ length shards.items) }
-    ensures each { IfOk result (λ kept. (k : ℕ) (has : _) (one : _) → slice_get shards.items k ≡ Some has
-        → slice_get kept.items k ≡ Some one → one ≡ record { has = has; sample = given.now.value }) }
+    ensures each { IfOk result (λ kept. (k : ℕ) (has : _) (one : _)
+        → slice_get shards.items k ≡ Some has
+        → slice_get kept.items k ≡ Some one
+        → one ≡ record { has = has; sample = given.now.value }) }
 {
     let mut kept = Vec::with_capacity(alloc, shards.len())?;
     'shards: for shard in shards {
@@ -42,9 +44,11 @@ fn keep_shards<S: Fits<P> + Drop, P: Drop>(
 
 /// The chains as their locks keep them.
 fn keep_chains(alloc: Global, chains: Vec<CoreQueue>) -> Result<Vec<KeptChain>, Memory>
-    requires { AtEach (λ k queue. queue ≡ empty_core queue.colours queue.cost queue.pinned) chains.items }
+    requires { AtEach (λ k queue. queue
+        ≡ empty_core queue.colours queue.cost queue.pinned) chains.items }
     ensures many { IfOk result (λ kept. length kept.items ≡ length chains.items) }
-    ensures each { IfOk result (λ kept. (k : ℕ) (queue : _) (one : _) → slice_get chains.items k ≡ Some queue
+    ensures each { IfOk result (λ kept. (k : ℕ) (queue : _) (one : _)
+        → slice_get chains.items k ≡ Some queue
         → slice_get kept.items k ≡ Some one → one ≡ record { has = queue; changes = [] }) }
 {
     let mut kept = Vec::with_capacity(alloc, chains.len())?;
@@ -65,9 +69,11 @@ fn pair_up<V: Kept + Drop>(
     requires few { length shard_rows.items ≤ 65535 }
     ensures many { IfOk result (λ all. length all.items ≡ length shard_rows.items) }
     ensures numbers { IfOk result (λ all. AtEach (λ n passes. passes.number ≡ n) all.items) }
-    ensures shards { IfOk result (λ all. (n : ℕ) (row : _) (passes : _) → slice_get shard_rows.items n ≡ Some row
+    ensures shards { IfOk result (λ all. (n : ℕ) (row : _) (passes : _)
+        → slice_get shard_rows.items n ≡ Some row
         → slice_get all.items n ≡ Some passes → passes.shards ≡ row) }
-    ensures chains { IfOk result (λ all. (n : ℕ) (row : _) (passes : _) → slice_get chain_rows.items n ≡ Some row
+    ensures chains { IfOk result (λ all. (n : ℕ) (row : _) (passes : _)
+        → slice_get chain_rows.items n ≡ Some row
         → slice_get all.items n ≡ Some passes → passes.chains ≡ row) }
 {
     let mut all = Vec::with_capacity(alloc, shard_rows.len())?;
@@ -120,7 +126,8 @@ impl<S: Fits<P> + Drop, P: Drop> FleetOf<KeptShard<S, P>> {
         requires first { AreFirst S.Trail setup.now states.items }
         requires few { (shape_of setup.now).cores + outsiders ≤ 65535 }
         ensures { let callers = (shape_of setup.now).cores + outsiders in
-            IfOk result (λ opened. IsOpened (shard_frame S.frame_of) S.frame_of setup.now states.items callers
+            IfOk result (λ opened.
+            IsOpened (shard_frame S.frame_of) S.frame_of setup.now states.items callers
             opened.0 opened.1.items) }
     {
         let cores = setup.cores();

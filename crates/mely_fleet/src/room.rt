@@ -33,12 +33,16 @@ pub struct RoomOf<S: Fits<P>, P, V: Kept> {
     ghost for_weave: { weave ≡ setup },
     ghost for_shards: { (shards.items ≡ []) × ((shape_of setup).shards ≤ vec_capacity shards) },
     ghost for_chains: { (chains.items ≡ []) × ((shape_of setup).cores ≤ vec_capacity chains) },
-    ghost for_kept_shards: { (kept_shards.items ≡ []) × ((shape_of setup).shards ≤ vec_capacity kept_shards) },
-    ghost for_kept_chains: { (kept_chains.items ≡ []) × ((shape_of setup).cores ≤ vec_capacity kept_chains) },
+    ghost for_kept_shards: { (kept_shards.items ≡ [])
+        × ((shape_of setup).shards ≤ vec_capacity kept_shards) },
+    ghost for_kept_chains: { (kept_chains.items ≡ [])
+        × ((shape_of setup).cores ≤ vec_capacity kept_chains) },
     ghost column_for_each_shard: { length shard_columns.items ≡ (shape_of setup).shards },
     ghost column_for_each_core: { length chain_columns.items ≡ (shape_of setup).cores },
-    ghost for_shard_passes: { AreFilled (λ list. list.items) vec_len vec_capacity [] passes shard_columns.items },
-    ghost for_chain_passes: { AreFilled (λ list. list.items) vec_len vec_capacity [] passes chain_columns.items },
+    ghost for_shard_passes: { AreFilled (λ list. list.items) vec_len vec_capacity [] passes
+        shard_columns.items },
+    ghost for_chain_passes: { AreFilled (λ list. list.items) vec_len vec_capacity [] passes
+        chain_columns.items },
 }
 
 /// Room for all that closing a [`Fleet`](crate::Fleet) takes, made beforehand.
@@ -55,7 +59,8 @@ impl<S: Fits<P> + Drop, P: Drop> RoomOf<S, P, KeptShard<S, P>> {
     pub fn new(alloc: Global, setup: &Setup, outsiders: u16) -> Result<Room<S, P>, Memory>
         requires few { (shape_of setup.now).cores + outsiders ≤ 65535 }
         ensures setup { IfOk result (λ room. room.setup ≡ setup.now) }
-        ensures passes { IfOk result (λ room. room.passes ≡ (shape_of setup.now).cores + outsiders) }
+        ensures passes { IfOk result (λ room. room.passes
+            ≡ (shape_of setup.now).cores + outsiders) }
     {
         let passes = setup.cores() + outsiders;
         let shards = setup.shards() as usize;

@@ -44,9 +44,11 @@ fn seat_all<V: Kept + Drop, P: Drop>(
 ) -> Result<Vec<SeatOf<V, Option<Rested<P>>>>, Memory>
     requires as_many { length rested.items ≡ length passes.items }
     ensures many { IfOk result (λ seats. length seats.items ≡ length passes.items) }
-    ensures passes { IfOk result (λ seats. (n : ℕ) (own : _) (seat : _) → slice_get passes.items n ≡ Some own
+    ensures passes { IfOk result (λ seats. (n : ℕ) (own : _) (seat : _)
+        → slice_get passes.items n ≡ Some own
         → slice_get seats.items n ≡ Some seat → seat.passes ≡ own) }
-    ensures workers { IfOk result (λ seats. (n : ℕ) (rest : _) (seat : _) → slice_get rested.items n ≡ Some rest
+    ensures workers { IfOk result (λ seats. (n : ℕ) (rest : _) (seat : _)
+        → slice_get rested.items n ≡ Some rest
         → slice_get seats.items n ≡ Some seat → seat.worker ≡ Some rest) }
 {
     let mut seats = Vec::with_capacity(alloc, passes.len())?;
@@ -72,10 +74,12 @@ impl<S: Fits<P> + Drop, P: Drop> FleetOf<KeptShard<S, P>> {
     /// There was no memory: the passes are dropped.
     pub fn seats(&self, alloc: Global, passes: Vec<Passes<S, P>>) -> Result<Vec<Seat<S, P>>, Memory>
         requires many { length passes.items ≡ (shape_of self.now.setup).cores }
-        requires first { AtEach (λ n own. AreFirstPasses (shard_frame S.frame_of) self.now n own) passes.items }
+        requires first { AtEach (λ n own.
+            AreFirstPasses (shard_frame S.frame_of) self.now n own) passes.items }
         ensures many { IfOk result (λ seats. length seats.items ≡ (shape_of self.now.setup).cores) }
         ensures each { IfOk result (λ seats.
-            AtEach (λ n seat. IsSeatOf S.frame_of S.fits_under self.now n seat.passes seat.worker) seats.items) }
+            AtEach (λ n seat. IsSeatOf S.frame_of S.fits_under self.now n seat.passes seat.worker)
+            seats.items) }
     {
         let rested = rested_of(alloc, &self.setup)?;
         let seats = seat_all(alloc, passes, rested)?;
@@ -122,7 +126,8 @@ fn leave_all<V: Kept + Drop, P: Drop>(
     requires room { vec_len passes + length seats.items ≤ vec_capacity passes }
     requires rested_room { length seats.items ≤ vec_capacity rested }
     ensures passes { result.0.items ≡ passes.items ++ map (λ seat. seat.passes) seats.items }
-    ensures rested { map (λ rest. Some rest) result.1.items ≡ map (λ seat. seat.worker) seats.items }
+    ensures rested { map (λ rest. Some rest) result.1.items
+        ≡ map (λ seat. seat.worker) seats.items }
 {
     let mut passes = passes;
     let mut rested = rested;
@@ -169,15 +174,18 @@ impl<S: Fits<P> + Drop, P: Drop> FleetOf<KeptShard<S, P>> {
         requires of_passes { room.passes ≡ self.passes }
         requires cores { length seats.items ≡ (shape_of self.setup).cores }
         requires all { length outsiders.items + length seats.items ≡ self.passes }
-        requires seats { AtEach (λ n seat. IsSeatOf S.frame_of S.fits_under self n seat.passes seat.worker) seats.items }
-        requires outsiders { AtEach (λ n own. IsOutsider (shard_frame S.frame_of) self own) outsiders.items }
+        requires seats { AtEach (λ n seat.
+            IsSeatOf S.frame_of S.fits_under self n seat.passes seat.worker) seats.items }
+        requires outsiders { AtEach (λ n own.
+            IsOutsider (shard_frame S.frame_of) self own) outsiders.items }
         requires callers_room { vec_len outsiders + length seats.items ≤ vec_capacity outsiders }
         requires none_rested { rested.items ≡ [] }
         requires rested_room { length seats.items ≤ vec_capacity rested }
         requires no_workers { workers.items ≡ [] }
         requires workers_room { length seats.items ≤ vec_capacity workers }
         ensures setup { result.setup ≡ self.setup }
-        ensures histories { let callers = outsiders.items ++ map (λ seat. seat.passes) seats.items in
+        ensures histories { let callers = outsiders.items ++ map (λ seat.
+            seat.passes) seats.items in
             AtEach (λ k has. IsClosedOver self.passes k callers has.history) result.shards }
         ensures left { let callers = outsiders.items ++ map (λ seat. seat.passes) seats.items in
             AtEach (λ k has. IsLeftByOthers self.setup k callers has.history) result.shards }
@@ -210,19 +218,25 @@ impl<S: Fits<P> + Drop, P: Drop> FleetOf<KeptShard<S, P>> {
         requires of_passes { room.passes ≡ self.passes }
         requires cores { length seats.items ≡ (shape_of self.setup).cores }
         requires all { length outsiders.items + length seats.items ≡ self.passes }
-        requires seats { AtEach (λ n seat. IsSeatOf S.frame_of S.fits_under self n seat.passes seat.worker) seats.items }
-        requires outsiders { AtEach (λ n own. IsOutsider (shard_frame S.frame_of) self own) outsiders.items }
+        requires seats { AtEach (λ n seat.
+            IsSeatOf S.frame_of S.fits_under self n seat.passes seat.worker) seats.items }
+        requires outsiders { AtEach (λ n own.
+            IsOutsider (shard_frame S.frame_of) self own) outsiders.items }
         ensures setup { IfOk result (λ weave. weave.setup ≡ self.setup) }
-        ensures histories { let callers = outsiders.items ++ map (λ seat. seat.passes) seats.items in
+        ensures histories { let callers = outsiders.items ++ map (λ seat.
+            seat.passes) seats.items in
             IfOk result (λ weave. AtEach
             (λ k has. IsClosedOver self.passes k callers has.history) weave.shards) }
         ensures left { let callers = outsiders.items ++ map (λ seat. seat.passes) seats.items in
             IfOk result (λ weave. AtEach
             (λ k has. IsLeftByOthers self.setup k callers has.history) weave.shards) }
-        ensures free { IfOk result (λ weave. AtEach (λ core w. IsTrue (is_free w.phase)) weave.workers) }
+        ensures free { IfOk result (λ weave.
+            AtEach (λ core w. IsTrue (is_free w.phase)) weave.workers) }
         ensures workers { let rested = map (λ seat. seat.worker) seats.items in
-            IfOk result (λ weave. map (λ w. Some w) weave.workers ≡ map (λ rest. option_map (λ r. woken r) rest) rested) }
-        ensures chains { IfOk result (λ weave. AreChainedAnew weave.setup weave.shards weave.chains) }
+            IfOk result (λ weave. map (λ w. Some w) weave.workers
+            ≡ map (λ rest. option_map (λ r. woken r) rest) rested) }
+        ensures chains { IfOk result (λ weave.
+            AreChainedAnew weave.setup weave.shards weave.chains) }
         ensures stands { IfOk result (λ weave. StandsWell S.Trail S.fits_under weave) }
     {
         let mut callers = outsiders;

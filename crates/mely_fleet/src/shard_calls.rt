@@ -29,7 +29,8 @@ pub(crate) fn register_at<S: Fits<P>, P, R: Wait>(
     requires fit { S.fits_under (S.frame_of (first_value lock.now).sample) colour event load }
     ensures pass { IsPassOf (shard_frame S.frame_of) lock.now pass.new × IsOutside pass.new
         × (pass.new.number ≡ pass.old.number) }
-    ensures seen { IsSeen (first_value lock.now).has.setup pass.old.number (front pass.old) (front pass.new)
+    ensures seen { IsSeen (first_value lock.now).has.setup pass.old.number
+        (front pass.old) (front pass.new)
         (RegistersAt (first_value lock.now).has.setup pass.old.number colour event load result) }
 {
     let mut held = lock.enter(rt, pass);
@@ -50,7 +51,8 @@ pub(crate) fn take_at<S: Fits<P>, P, R: Wait>(
     requires own { IsColourOf (shard_frame S.frame_of (first_value lock.now)) colour }
     ensures pass { IsPassOf (shard_frame S.frame_of) lock.now pass.new × IsOutside pass.new
         × (pass.new.number ≡ pass.old.number) }
-    ensures seen { IsSeen (first_value lock.now).has.setup pass.old.number (front pass.old) (front pass.new)
+    ensures seen { IsSeen (first_value lock.now).has.setup pass.old.number
+        (front pass.old) (front pass.new)
         (TakesAt S.Trail S.fits_under (first_value lock.now).has.setup
         (S.frame_of (first_value lock.now).sample) pass.old.number colour result) }
 {
@@ -77,7 +79,8 @@ pub(crate) fn finish_at<S: Fits<P> + Drop, P: Drop, R: Wait>(
     requires framed { S.frame_of turn.state ≡ S.frame_of (first_value lock.now).sample }
     ensures pass { IsPassOf (shard_frame S.frame_of) lock.now pass.new × IsOutside pass.new
         × (pass.new.number ≡ pass.old.number) }
-    ensures seen { IsSeen (first_value lock.now).has.setup pass.old.number (front pass.old) (front pass.new)
+    ensures seen { IsSeen (first_value lock.now).has.setup pass.old.number
+        (front pass.old) (front pass.new)
         (FinishesAt (first_value lock.now).has.setup pass.old.number turn.colour turn.count result) }
 {
     let mut held = lock.enter(rt, pass);
@@ -98,7 +101,8 @@ pub(crate) fn steal_at<S: Fits<P>, P, R: Wait>(
     requires core { pass.old.number < (shape_of (first_value lock.now).has.setup).cores }
     ensures pass { IsPassOf (shard_frame S.frame_of) lock.now pass.new × IsOutside pass.new
         × (pass.new.number ≡ pass.old.number) }
-    ensures seen { IsSeen (first_value lock.now).has.setup pass.old.number (front pass.old) (front pass.new)
+    ensures seen { IsSeen (first_value lock.now).has.setup pass.old.number
+        (front pass.old) (front pass.new)
         (StealsAt (first_value lock.now).has.setup pass.old.number colour result) }
 {
     let mut held = lock.enter(rt, pass);
@@ -118,7 +122,8 @@ pub(crate) fn reserve_at<S: Fits<P>, P, R: Wait>(
     requires pass { IsPassOf (shard_frame S.frame_of) lock.now pass.old × IsOutside pass.old }
     ensures pass { IsPassOf (shard_frame S.frame_of) lock.now pass.new × IsOutside pass.new
         × (pass.new.number ≡ pass.old.number) }
-    ensures seen { IsSeen (first_value lock.now).has.setup pass.old.number (front pass.old) (front pass.new)
+    ensures seen { IsSeen (first_value lock.now).has.setup pass.old.number
+        (front pass.old) (front pass.new)
         LooksAt }
 {
     let mut held = lock.enter(rt, pass);
@@ -136,7 +141,8 @@ pub(crate) fn look_at<S: Fits<P>, P, R: Wait>(
     requires pass { IsPassOf (shard_frame S.frame_of) lock.now pass.old × IsOutside pass.old }
     ensures pass { IsPassOf (shard_frame S.frame_of) lock.now pass.new × IsOutside pass.new
         × (pass.new.number ≡ pass.old.number) }
-    ensures seen { IsSeen (first_value lock.now).has.setup pass.old.number (front pass.old) (front pass.new)
+    ensures seen { IsSeen (first_value lock.now).has.setup pass.old.number
+        (front pass.old) (front pass.new)
         LooksAt }
     ensures drained { IsTrue result ↔ IsDrained (front pass.new) }
 {

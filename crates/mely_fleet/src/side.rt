@@ -39,7 +39,8 @@ impl<'a, S: Fits<P> + Drop, P: Drop, R: Wait> Access<S, P> for Side<'a, S, P, R>
 
     ghost owes = { λ a c core count trail. owed_by a.fleet.now a.passes.now c core count trail };
 
-    ghost keeps = { λ a b. (b.passes.ghost_name ≡ a.passes.ghost_name) × (b.fleet.now ≡ a.fleet.now) };
+    ghost keeps = { λ a b. (b.passes.ghost_name ≡ a.passes.ghost_name)
+        × (b.fleet.now ≡ a.fleet.now) };
 
     ghost registers = { λ a c event load answer b.
         SeesOn a.fleet.now (shard_of a.fleet.now.setup c) a.passes.now b.passes.now
@@ -47,7 +48,8 @@ impl<'a, S: Fits<P> + Drop, P: Drop, R: Wait> Access<S, P> for Side<'a, S, P, R>
 
     ghost takes = { λ a c answer b.
         SeesOn a.fleet.now (shard_of a.fleet.now.setup c) a.passes.now b.passes.now
-        (λ setup n. TakesAt S.Trail S.fits_under setup (frame_in (shard_frame S.frame_of) a.fleet.now) n c answer) };
+        (λ setup n. TakesAt S.Trail S.fits_under setup
+        (frame_in (shard_frame S.frame_of) a.fleet.now) n c answer) };
 
     ghost finishes = { λ a turn answer b.
         SeesOn a.fleet.now (shard_of a.fleet.now.setup turn.colour) a.passes.now b.passes.now
@@ -59,15 +61,18 @@ impl<'a, S: Fits<P> + Drop, P: Drop, R: Wait> Access<S, P> for Side<'a, S, P, R>
 
     ghost pushes = { λ a core mark answer b.
         (fronts b.passes.now.shards.items ≡ fronts a.passes.now.shards.items)
-        × ReachesOn a.fleet.now core a.passes.now b.passes.now (λ of n. PushesAt of n mark answer) };
+        × ReachesOn a.fleet.now core a.passes.now b.passes.now (λ of n.
+        PushesAt of n mark answer) };
 
     ghost pops = { λ a answer b.
         (fronts b.passes.now.shards.items ≡ fronts a.passes.now.shards.items)
-        × ReachesOn a.fleet.now a.passes.now.number a.passes.now b.passes.now (λ of n. PopsAt of n answer) };
+        × ReachesOn a.fleet.now a.passes.now.number a.passes.now b.passes.now (λ of n.
+        PopsAt of n answer) };
 
     ghost retells = { λ a core c started worth found b.
         (fronts b.passes.now.shards.items ≡ fronts a.passes.now.shards.items)
-        × ReachesOn a.fleet.now core a.passes.now b.passes.now (λ of n. RetellsAt of n c started worth found) };
+        × ReachesOn a.fleet.now core a.passes.now b.passes.now (λ of n.
+        RetellsAt of n c started worth found) };
 
     ghost picks = { λ a core answer b.
         (fronts b.passes.now.shards.items ≡ fronts a.passes.now.shards.items)
@@ -88,12 +93,14 @@ impl<'a, S: Fits<P> + Drop, P: Drop, R: Wait> Access<S, P> for Side<'a, S, P, R>
         ensures called { let before = self.old in
             SeesOn before.fleet.now (shard_of before.fleet.now.setup colour) before.passes.now self.new.passes.now
             (λ setup n. RegistersAt setup n colour event load result) }
-        ensures answer { MatchResult result (NamesCore self.old.fleet.now.setup) (GivesBack event load) }
+        ensures answer { MatchResult result (NamesCore self.old.fleet.now.setup)
+            (GivesBack event load) }
         ensures stays { Stays (λ a. a.fleet.now.setup) (λ a. a.passes.now.number)
             (λ a. frame_in (shard_frame S.frame_of) a.fleet.now) self.old self.new }
         ensures kept { (self.new.passes.ghost_name ≡ self.old.passes.ghost_name)
             × (self.new.fleet.now ≡ self.old.fleet.now) }
-        ensures owed { StillOwes (λ a c core count trail. owed_by a.fleet.now a.passes.now c core count trail)
+        ensures owed { StillOwes (λ a c core count trail.
+            owed_by a.fleet.now a.passes.now c core count trail)
             self.old self.new }
     {
         self.fleet
@@ -107,7 +114,8 @@ impl<'a, S: Fits<P> + Drop, P: Drop, R: Wait> Access<S, P> for Side<'a, S, P, R>
     fn finish(&mut self, turn: Turn<S, P>) -> After
         requires spent { IsSpent S.Trail (λ a. a.fleet.now.setup)
             (λ a. frame_in (shard_frame S.frame_of) a.fleet.now)
-            (λ a c core count trail. owed_by a.fleet.now a.passes.now c core count trail) self.old turn }
+            (λ a c core count trail.
+            owed_by a.fleet.now a.passes.now c core count trail) self.old turn }
         ensures called { let before = self.old in
             SeesOn before.fleet.now (shard_of before.fleet.now.setup turn.colour) before.passes.now self.new.passes.now
             (λ setup n. FinishesAt setup n turn.colour turn.count result) }

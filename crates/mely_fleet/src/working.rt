@@ -21,7 +21,7 @@ pub enum Worked {
     /// Nothing runs and nothing is queued, by what the worker's passes have seen of each shard.
     Quiet,
 
-    /// Some worker met want of memory.
+    /// Some worker met want of memory, or waited in vain for one that never began, as the machine refused it a thread.
     Memory,
 }
 
@@ -29,7 +29,8 @@ impl<S: Fits<P> + Drop, P: Drop> FleetOf<KeptShard<S, P>> {
     /// Lets the worker of the core of these passes work until nothing is left to do.
     ///
     /// It makes one step after another, and waits while it finds nothing. Where a worker is halted all come to an end: each ends
-    /// its turn and puts back the mark in its hand. That it returns isn't promised.
+    /// its turn and puts back the mark in its hand. So they do where one finds nothing to do for a while, a tenth of a second or
+    /// more, and another hasn't begun: let all begin at once. That it returns isn't promised.
     pub fn work<R: Wait, A: App<State = S, Load = P>, G: Gate>(
         &self,
         rt: &R,
@@ -52,6 +53,7 @@ impl<S: Fits<P> + Drop, P: Drop> FleetOf<KeptShard<S, P>> {
             result ≡ Worked.Quiet → SeesAllDrained seen }
     {
         let mut watch = Watch::new();
+        self.bell.begin();
         'steps: for _ in rt.forever() {
             if let Some(worked) = self.pause(rt, worker, passes, &mut watch) {
                 return worked;
@@ -63,8 +65,8 @@ impl<S: Fits<P> + Drop, P: Drop> FleetOf<KeptShard<S, P>> {
     }
 
     /// What a worker does between two steps: nothing, unless it is free. Then it comes to an end where some worker is halted;
-    /// and where it found nothing in a whole hunt, it looks whether everything is finished, or waits. How its work ended, if it
-    /// did.
+    /// and where it found nothing in a whole hunt, it looks whether everything is finished, or waits, or gives up. How its work
+    /// ended, if it did.
     fn pause<R: Wait>(
         &self,
         rt: &R,
@@ -99,7 +101,10 @@ impl<S: Fits<P> + Drop, P: Drop> FleetOf<KeptShard<S, P>> {
             }
             return None;
         }
-        self.bell.rest(rt, passes.number, watch);
+        if self.bell.rest(rt, passes.number, watch) {
+            self.bell.stop(rt, passes.number, watch);
+            return Some(Worked::Memory);
+        }
         None
     }
 

@@ -45,7 +45,7 @@ with_own c s (Fin colour core count) is = rw (eq-eqb colour.0 c.0 is, append-nil
 with_own c s (Steal colour from to) is = rw (eq-eqb colour.0 c.0 is, append-nil s.registered, add-zero s.begun, add-zero s.ended) refl
 
 -- an entry of another colour
-pub with_other : (c : Colour) (s : Account) (entry : Entry) → ((colour_of entry).0 ≡ c.0 → ⊥) → account_with c s entry ≡ s
+with_other : (c : Colour) (s : Account) (entry : Entry) → ((colour_of entry).0 ≡ c.0 → ⊥) → account_with c s entry ≡ s
 with_other c s (Reg colour event by) ne = rw (ne_eqb colour.0 c.0 ne, append-nil s.registered, add-zero s.begun, add-zero s.ended) refl
 with_other c s (Take colour core count) ne = rw (ne_eqb colour.0 c.0 ne, append-nil s.registered, add-zero s.begun, add-zero s.ended) refl
 with_other c s (Fin colour core count) ne = rw (ne_eqb colour.0 c.0 ne, append-nil s.registered, add-zero s.begun, add-zero s.ended) refl

@@ -107,14 +107,6 @@ occurs_before history n c last there (at, entry, is, own) =
     inr (ap (λ e. (colour_of e).0) which ∙ own))
     (split_below at n found.0)
 
--- before the first entry nothing is judged
-pub judged_none : (setup : Setup) (history : List Entry) → IsJudged setup history 0 (length history)
-judged_none setup history = record {
-  within = omega arith;
-  fault = λ lt. absurd (omega (arith, lt));
-  allowed = λ at entry lt is (place, other, there, own). let found = slice_get_from_take history 0 place other there in let low = found.0 in absurd (omega (arith, low));
-}
-
 -- the colour of the next entry was judged before
 pub judged_same : (setup : Setup) (history : List Entry) (n limit : ℕ) (last : Entry) → slice_get history n ≡ Some last → HasColour (colour_of last) (take n history) → IsJudged setup history n limit → IsJudged setup history (n + 1) limit
 judged_same setup history n limit last there (place, other, stands, same) judged = record {

@@ -92,11 +92,3 @@ running_on_owner setup history c legal runs = ⊎_elim
     (λ (rest : begun_of history c ≡ ended_of history c). absurd (omega (arith, rest, runs)))
     (λ (on : IsOnTurn (account_of setup history c)). on)
     (sound setup history legal c).turn
-
--- where nothing runs or waits, all that was registered was run
-pub ran_where_drained : (setup : Setup) (history : List Entry) (c : Colour) → IsLegal setup history → IsDrainedOf history c → ran_of history c ≡ registered_of history c
-ran_where_drained setup history c legal drained =
-    let within = begun_within setup history c legal in
-    let none : length (registered_of history c) - begun_of history c ≡ 0 = sym (length-drop (begun_of history c) (registered_of history c)) ∙ ap length drained.none_queued in
-    let whole : ended_of history c ≡ length (registered_of history c) = let rest = drained.at_rest in omega (arith, within, none, rest) in
-    ap (λ n. take n (registered_of history c)) whole ∙ take-length (registered_of history c)

@@ -23,7 +23,7 @@ slice_get_from_take xs n i x is =
     (low, high, slice_get-get_or xs i x high ∙ ap (λ y. Some y) (sym (get_or-take n xs i x low) ∙ get_or_from_slice_get (take n xs) i x x is))
 
 -- each beginning of a legal history is legal
-pub legal_beginning : (setup : Setup) (history : List Entry) (n : ℕ) → IsLegal setup history → IsLegal setup (take n history)
+legal_beginning : (setup : Setup) (history : List Entry) (n : ℕ) → IsLegal setup history → IsLegal setup (take n history)
 legal_beginning setup history n legal at entry is =
     let found = slice_get_from_take history n at entry is in
     let low : at ≤ n = omega arith in
@@ -37,7 +37,7 @@ legal_below setup history n each at entry is =
     rw (take-take at n history low) (each at entry found.0 found.2)
 
 -- what may follow below n
-pub allowed_below : (setup : Setup) (history : List Entry) (n : ℕ) → IsLegal setup (take n history) → (at : ℕ) (entry : Entry) → at < n → slice_get history at ≡ Some entry → IsAllowed setup (take at history) entry
+allowed_below : (setup : Setup) (history : List Entry) (n : ℕ) → IsLegal setup (take n history) → (at : ℕ) (entry : Entry) → at < n → slice_get history at ≡ Some entry → IsAllowed setup (take at history) entry
 allowed_below setup history n legal at entry lt is =
     let within : at < length history = slice_get_within history at entry is in
     let low : at ≤ n = omega arith in
@@ -45,7 +45,7 @@ allowed_below setup history n legal at entry lt is =
     rw (take-take at n history low) at (legal at entry here)
 
 -- a beginning of a history goes on by the next entry
-pub legal_further : (setup : Setup) (history : List Entry) (n : ℕ) (entry : Entry) → IsLegal setup (take n history) → slice_get history n ≡ Some entry → IsAllowed setup (take n history) entry → IsLegal setup (take (n + 1) history)
+legal_further : (setup : Setup) (history : List Entry) (n : ℕ) (entry : Entry) → IsLegal setup (take n history) → slice_get history n ≡ Some entry → IsAllowed setup (take n history) entry → IsLegal setup (take (n + 1) history)
 legal_further setup history n entry legal is may =
     legal_below setup history (n + 1) (λ at other lt there.
     ⊎_elim (λ (less : at < n). allowed_below setup history n legal at other less there)

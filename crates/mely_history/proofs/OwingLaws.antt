@@ -37,7 +37,7 @@ Holds n c s = (core count : ℕ) → s.change ≡ Some (Take c core count) → (
 abbrev pub says_more : ℕ → Colour → Says → Entry → Says
 says_more n c s entry = record { change = option_or (change_on n c entry) s.change; last = option_or (take_on c entry) s.last; begun = s.begun + taken_on c entry; ended = s.ended + finished_on c entry }
 
-pub says-more : (setup : Setup) (n : ℕ) (c : Colour) (history : List Entry) (entry : Entry) → says n c (history ++ entry ∷ []) ≡ says_more n c (says n c history) entry
+says-more : (setup : Setup) (n : ℕ) (c : Colour) (history : List Entry) (entry : Entry) → says n c (history ++ entry ∷ []) ≡ says_more n c (says n c history) entry
 says-more setup n c history entry =
     let with = account-with setup history entry c in
     rw (fold-append (λ found e. option_or (change_on n c e) found) None history (entry ∷ []), ap (λ (s : Account). s.last) with, ap (λ (s : Account). s.begun) with, ap (λ (s : Account). s.ended) with) refl

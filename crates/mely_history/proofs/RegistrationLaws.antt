@@ -25,7 +25,7 @@ pub sum_by-drop-append : {X : Type 0} (f : X → ℕ) (xs : List X) (n : ℕ) (x
 sum_by-drop-append f xs n x le = rw (drop-append-le n xs (x ∷ []) le, sum_by-append f (drop n xs) (x ∷ [])) (grind arith)
 
 -- the registrations among the first entries, and those behind
-pub registered-split : (entries : List Entry) (i : ℕ) (c : Colour) → registered_of entries c ≡ registered_of (take i entries) c ++ registered_of (drop i entries) c
+registered-split : (entries : List Entry) (i : ℕ) (c : Colour) → registered_of entries c ≡ registered_of (take i entries) c ++ registered_of (drop i entries) c
 registered-split entries i c = ap (λ es. registered_of es c) (sym (take-append-drop i entries)) ∙ filter_map-append (registration_on c) (take i entries) (drop i entries)
 
 -- what stands behind the first ones of a prefix, and is as many, are the next ones

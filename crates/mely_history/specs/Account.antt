@@ -15,11 +15,21 @@ pub record Account : Type 0 where
   pub last : Option (ℕ × ℕ)
 
 abbrev pub account_of : Setup → List Entry → Colour → Account
-account_of setup history c = record { registered = registered_of history c; begun = begun_of history c; ended = ended_of history c; owner = owner_of setup history c; last = last_take history c }
+account_of setup history c = record {
+  registered = registered_of history c;
+  begun = begun_of history c;
+  ended = ended_of history c;
+  owner = owner_of setup history c;
+  last = last_take history c;
+}
 
 -- what it says after one more entry of the colour
 abbrev pub next_account : Account → Entry → Account
-next_account account (Reg colour event by) = record account { registered = account.registered ++ event ∷ [] }
-next_account account (Take colour core count) = record account { begun = account.begun + count; last = Some (core, count) }
+next_account account (Reg colour event by) =
+    record account { registered = account.registered ++ event ∷ [] }
+next_account account (Take colour core count) = record account {
+  begun = account.begun + count;
+  last = Some (core, count);
+}
 next_account account (Fin colour core count) = record account { ended = account.ended + count }
 next_account account (Steal colour from to) = record account { owner = to }

@@ -13,10 +13,16 @@ IsTakeAt history c at core count = slice_get history at ≡ Some (Take c core co
 
 pub record FollowOneAnother (history : List Entry) (c : Colour) : Type 0 where
   -- between two takes there is the finish of the first
-  pub finished_before : (i j core count core' count' : ℕ) → i < j → IsTakeAt history c i core count → IsTakeAt history c j core' count' → (at : ℕ) × (i < at) × (at < j) × (slice_get history at ≡ Some (Fin c core count))
+  pub finished_before : (i j core count core' count' : ℕ) → i < j → IsTakeAt history c i core count
+      → IsTakeAt history c j core' count' → (at : ℕ) × (i < at) × (at < j)
+      × (slice_get history at ≡ Some (Fin c core count))
   -- a batch has some event, and all its events were registered before it was taken
-  pub registered_before : (i core count : ℕ) → IsTakeAt history c i core count → (0 < count) × (begun_of (take i history) c + count ≤ length (registered_of (take i history) c))
+  pub registered_before : (i core count : ℕ) → IsTakeAt history c i core count → (0 < count)
+      × (begun_of (take i history) c + count ≤ length (registered_of (take i history) c))
   -- no event is in two batches: each begins where those before it end, or later
-  pub apart : (i j core count core' count' : ℕ) → i < j → IsTakeAt history c i core count → IsTakeAt history c j core' count' → begun_of (take i history) c + count ≤ begun_of (take j history) c
+  pub apart : (i j core count core' count' : ℕ) → i < j → IsTakeAt history c i core count
+      → IsTakeAt history c j core' count' → begun_of (take i history) c + count
+      ≤ begun_of (take j history) c
   -- the events that were run are the first ones that were registered, as many as were finished
-  pub run_in_order : (rest : List Event) × (registered_of history c ≡ ran_of history c ++ rest) × (length (ran_of history c) ≡ ended_of history c)
+  pub run_in_order : (rest : List Event) × (registered_of history c ≡ ran_of history c ++ rest)
+      × (length (ran_of history c) ≡ ended_of history c)

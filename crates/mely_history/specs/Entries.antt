@@ -62,6 +62,9 @@ thief_on c (Steal colour from to) = if colour.0 == c.0 then Some to else None
 -- the take, finish or steal of a colour by a pass
 abbrev pub change_on : ℕ → Colour → Entry → Option Entry
 change_on pass c (Reg colour event by) = None
-change_on pass c (Take colour core count) = if (core == pass) && (colour.0 == c.0) then Some (Take c core count) else None
-change_on pass c (Fin colour core count) = if (core == pass) && (colour.0 == c.0) then Some (Fin c core count) else None
-change_on pass c (Steal colour from to) = if (to == pass) && (colour.0 == c.0) then Some (Steal c from to) else None
+change_on pass c (Take colour core count) =
+    if (core == pass) && (colour.0 == c.0) then Some (Take c core count) else None
+change_on pass c (Fin colour core count) =
+    if (core == pass) && (colour.0 == c.0) then Some (Fin c core count) else None
+change_on pass c (Steal colour from to) =
+    if (to == pass) && (colour.0 == c.0) then Some (Steal c from to) else None

@@ -28,7 +28,8 @@ last_take history c = fold (λ found entry. option_or (take_on c entry) found) N
 
 -- the core that stole it last; where none did, the core that it began on
 abbrev pub owner_of : Setup → List Entry → Colour → ℕ
-owner_of setup history c = fold (λ core entry. unwrap_or (thief_on c entry) core) (c.0 % (shape_of setup).cores) history
+owner_of setup history c =
+    fold (λ core entry. unwrap_or (thief_on c entry) core) (c.0 % (shape_of setup).cores) history
 
 -- its events that wait: those registered, without the first ones, which were taken
 abbrev pub queued_of : List Entry → Colour → List Event

@@ -11,7 +11,8 @@ use Rattle.mely_history.specs.declared.entry.Entry.{Entry}
 
 -- of each core, its pass has seen so many entries of the history: all that it made itself are among them, and in them nothing runs or waits
 pub record HaveDrainedFronts (setup : Setup) (history : List Entry) (seen : ℕ → ℕ) : Type 0 where
-  pub own : (core : ℕ) → core < (shape_of setup).cores → entries_by core (drop (seen core) history) ≡ []
+  pub own : (core : ℕ) → core < (shape_of setup).cores
+      → entries_by core (drop (seen core) history) ≡ []
   pub drained : (core : ℕ) → core < (shape_of setup).cores → IsDrained (take (seen core) history)
 
 -- the core has seen the most
@@ -22,4 +23,5 @@ pub record HasSeenMost (setup : Setup) (seen : ℕ → ℕ) (core : ℕ) : Type 
 -- what waits was registered behind this place, and all behind it was made by passes that are no core's
 pub record IsLeftOver (setup : Setup) (history : List Entry) (place : ℕ) : Type 0 where
   pub behind : (c : Colour) → queued_of history c ≡ registered_of (drop place history) c
-  pub by_others : AllByRecursion (λ entry. (shape_of setup).cores ≤ pass_of entry) (drop place history)
+  pub by_others : AllByRecursion (λ entry. (shape_of setup).cores
+      ≤ pass_of entry) (drop place history)

@@ -56,16 +56,20 @@ IsAllowed setup history (Steal c from to) = MaySteal setup history c from to
 
 -- each entry may follow the entries before it
 abbrev pub IsLegal : Setup → List Entry → Type 0
-IsLegal setup history = (at : ℕ) (entry : Entry) → slice_get history at ≡ Some entry → IsAllowed setup (take at history) entry
+IsLegal setup history = (at : ℕ) (entry : Entry) → slice_get history at ≡ Some entry
+    → IsAllowed setup (take at history) entry
 
 -- each entry is of a colour of the shard
 abbrev pub IsOfShard : Setup → ℕ → List Entry → Type 0
-IsOfShard setup shard history = AllByRecursion (λ entry. (colour_of entry).0 % (shape_of setup).shards ≡ shard) history
+IsOfShard setup shard history =
+    AllByRecursion (λ entry. (colour_of entry).0 % (shape_of setup).shards ≡ shard) history
 
 -- a list of histories, one a shard
 pub record AreLegal (setup : Setup) (histories : List (List Entry)) : Type 0 where
-  pub legal : (shard : ℕ) (history : List Entry) → slice_get histories shard ≡ Some history → IsLegal setup history
-  pub of_shard : (shard : ℕ) (history : List Entry) → slice_get histories shard ≡ Some history → IsOfShard setup shard history
+  pub legal : (shard : ℕ) (history : List Entry) → slice_get histories shard ≡ Some history
+      → IsLegal setup history
+  pub of_shard : (shard : ℕ) (history : List Entry) → slice_get histories shard ≡ Some history
+      → IsOfShard setup shard history
 
 -- nothing of the colour runs or waits
 pub record IsDrainedOf (history : List Entry) (c : Colour) : Type 0 where

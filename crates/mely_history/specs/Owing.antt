@@ -11,7 +11,8 @@ use Rattle.mely_history.specs.declared.entry.Entry.TheVariants.{Take, Fin}
 
 -- the last take, finish or steal of a colour by a pass
 abbrev pub last_change : ℕ → Colour → List Entry → Option Entry
-last_change pass c history = fold (λ found entry. option_or (change_on pass c entry) found) None history
+last_change pass c history =
+    fold (λ found entry. option_or (change_on pass c entry) found) None history
 
 -- by the front that the pass has seen, its last change of the colour is this take, and the trail has the events that were begun
 pub record IsOwed (pass : ℕ) (front : List Entry) (c : Colour) (core count : ℕ) (trail : List Event) : Type 0 where
@@ -21,4 +22,5 @@ pub record IsOwed (pass : ℕ) (front : List Entry) (c : Colour) (core count : �
 
 -- the entry is a finish of the colour by the pass
 abbrev pub IsOwnFinish : ℕ → Colour → Entry → Type 0
-IsOwnFinish pass c entry = (core : ℕ) × (count : ℕ) × (change_on pass c entry ≡ Some (Fin c core count))
+IsOwnFinish pass c entry = (core : ℕ) × (count : ℕ)
+    × (change_on pass c entry ≡ Some (Fin c core count))

@@ -32,4 +32,5 @@ first_out_of_range shape colours pinned =
     if is_between 1 shape.batch 1000 then
     if is_between 1 shape.group 64 then
     if nat_le pinned colours then None
-    else Some (OutOfRange 6) else Some (OutOfRange 5) else Some (OutOfRange 4) else Some (OutOfRange 3) else Some (OutOfRange 2) else Some (OutOfRange 1)
+    else Some (OutOfRange 6) else Some (OutOfRange 5) else Some (OutOfRange 4) else Some
+    (OutOfRange 3) else Some (OutOfRange 2) else Some (OutOfRange 1)

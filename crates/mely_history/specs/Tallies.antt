@@ -18,7 +18,8 @@ pub record Tells (setup : Setup) (entries : List Entry) (c : Colour) (tally : Ta
   pub registered : tally.registered ≡ length (registered_of entries c)
   pub begun : tally.begun ≡ begun_of entries c
   pub ended : tally.ended ≡ ended_of entries c
-  pub worth : tally.worth ≡ sum_by (weight setup) (drop (begun_of entries c) (registered_of entries c))
+  pub worth : tally.worth
+      ≡ sum_by (weight setup) (drop (begun_of entries c) (registered_of entries c))
   pub front : length (registered_of (take tally.front entries) c) ≡ tally.begun
   pub front_within : tally.front ≤ length entries
   pub begun_within : tally.begun ≤ tally.registered
@@ -29,12 +30,20 @@ pub record Tells (setup : Setup) (entries : List Entry) (c : Colour) (tally : Ta
 -- by these numbers the entry may follow
 abbrev pub Allows : Setup → Tally → Entry → Type 0
 Allows setup tally (Reg c event by) = MayRegister setup c event
-Allows setup tally (Take c core count) = (core ≡ tally.owner) × (tally.begun ≡ tally.ended) × (tally.begun < tally.registered) × (count ≡ min (shape_of setup).batch (tally.registered - tally.begun))
-Allows setup tally (Fin c core count) = (tally.last ≡ Some (core, count)) × (tally.begun ≡ tally.ended + count)
-Allows setup tally (Steal c from to) = (from ≡ tally.owner) × (to ≢ from) × (to < (shape_of setup).cores) × (tally.begun ≡ tally.ended) × (tally.begun < tally.registered) × ((shape_of setup).steal_cost < tally.worth) × (pinned_of setup ≤ c.0)
+Allows setup tally (Take c core count) = (core ≡ tally.owner) × (tally.begun ≡ tally.ended)
+    × (tally.begun < tally.registered)
+    × (count ≡ min (shape_of setup).batch (tally.registered - tally.begun))
+Allows setup tally (Fin c core count) = (tally.last ≡ Some (core, count))
+    × (tally.begun ≡ tally.ended + count)
+Allows setup tally (Steal c from to) = (from ≡ tally.owner) × (to ≢ from)
+    × (to < (shape_of setup).cores) × (tally.begun ≡ tally.ended) × (tally.begun < tally.registered)
+    × ((shape_of setup).steal_cost < tally.worth) × (pinned_of setup ≤ c.0)
 
 -- the walk passed over this many registrations of the colour, of this weight
 pub record PassesOver (setup : Setup) (entries : List Entry) (c : Colour) (from count place weight_sum : ℕ) : Type 0 where
   pub within : place ≤ length entries
-  pub passed : length (registered_of (take place entries) c) ≡ length (registered_of (take from entries) c) + count
-  pub weighed : weight_sum ≡ sum_by (weight setup) (take count (drop (length (registered_of (take from entries) c)) (registered_of entries c)))
+  pub passed : length (registered_of (take place entries) c)
+      ≡ length (registered_of (take from entries) c) + count
+  pub weighed : weight_sum
+      ≡ sum_by (weight setup)
+      (take count (drop (length (registered_of (take from entries) c)) (registered_of entries c)))

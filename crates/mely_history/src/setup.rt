@@ -43,7 +43,8 @@ impl Setup {
         ensures colours { IfOk result (λ setup. colours_of setup ≡ colours) }
         ensures handlers { IfOk result (λ setup. handlers_of setup ≡ handlers) }
         ensures pinned { IfOk result (λ setup. pinned_of setup ≡ pinned) }
-        ensures refused { IfErr result (λ fault. first_out_of_range shape.now colours pinned ≡ Some fault) }
+        ensures refused { IfErr result (λ fault. first_out_of_range shape.now colours pinned
+            ≡ Some fault) }
     {
         if shape.cores < 1 || shape.cores > 64 {
             return Err(SetupFault::OutOfRange { field: 1 });

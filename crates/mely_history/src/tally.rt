@@ -56,7 +56,8 @@ fn pass_over(
     count: u16,
 ) -> (usize, u128)
     requires within { from ≤ length entries.now }
-    requires there { length (registered_of (take from entries.now) colour) + count ≤ length (registered_of entries.now colour) }
+    requires there { length (registered_of (take from entries.now) colour) + count
+        ≤ length (registered_of entries.now colour) }
     ensures { PassesOver setup.now entries.now colour from count result.0 result.1 }
 {
     let mut passed = 0u16;
@@ -91,7 +92,8 @@ impl Tally {
 
     /// Whether the colour rests, with something queued.
     fn is_ready(&self) -> bool
-        ensures { IsTrue result ↔ ((self.now.begun ≡ self.now.ended) × (self.now.begun < self.now.registered)) }
+        ensures { IsTrue result ↔ ((self.now.begun ≡ self.now.ended)
+            × (self.now.begun < self.now.registered)) }
     {
         self.begun == self.ended && self.begun < self.registered
     }

@@ -48,7 +48,8 @@ module _ {W N F : Type 0} where
   pub record TellsHistory (history_of : W → List N) (history : List N) (s : State (Option W) (View N F)) : Type 0 where
     pub counted : slice_index s.words 1 ≡ length history
     pub home : IsOpen s → (x : W) → IsHome x s → history_of x ≡ history
-    pub inside : EachAt (λ _ v. v.inside ≡ true → AllByRecursion (λ c. c.front ≡ history) v.claims) s.views
+    pub inside : EachAt (λ _ v. v.inside ≡ true
+        → AllByRecursion (λ c. c.front ≡ history) v.claims) s.views
 
   -- the fifth part: each claim has the frame that the value had when the lock was made, and the value at home has it
   pub record KeepsFrame (frame_of : W → F) (frame : F) (s : State (Option W) (View N F)) : Type 0 where

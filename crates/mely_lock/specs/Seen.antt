@@ -9,12 +9,15 @@ module _ {N : Type 0} (pass_of : N → ℕ) where
 
   -- the history begins with the front, and since then others than the pass n made notes: a call of that pass stands at such a point
   abbrev pub OthersSince : ℕ → List N → List N → Type 0
-  OthersSince n front history = (between : List N) × (history ≡ front ++ between) × (notes_of n between ≡ [])
+  OthersSince n front history = (between : List N) × (history ≡ front ++ between)
+      × (notes_of n between ≡ [])
 
   -- the history is the front, or has one note more, of the pass n
   abbrev pub GrewByAtMostOne : ℕ → List N → List N → Type 0
-  GrewByAtMostOne n front history = (history ≡ front) ⊎ ((note : N) × (history ≡ front ++ note ∷ []) × (pass_of note ≡ n))
+  GrewByAtMostOne n front history = (history ≡ front)
+      ⊎ ((note : N) × (history ≡ front ++ note ∷ []) × (pass_of note ≡ n))
 
   -- the same, where `grown` says which
   abbrev pub GrewIf : Bool → ℕ → List N → List N → Type 0
-  GrewIf grown n front history = (grown ≡ true → (note : N) × (history ≡ front ++ note ∷ []) × (pass_of note ≡ n)) × (grown ≡ false → history ≡ front)
+  GrewIf grown n front history = (grown ≡ true → (note : N) × (history ≡ front ++ note ∷ [])
+      × (pass_of note ≡ n)) × (grown ≡ false → history ≡ front)

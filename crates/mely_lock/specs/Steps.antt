@@ -44,7 +44,8 @@ module _ {W N F : Type 0} where
 
   -- after a note: the pass has seen the history of the value in its hand
   abbrev pub Noted : (W → List N) → Seat W N F → Seat W N F → Type 0
-  Noted history_of m m' = (c : Claim N F) (x : W) → m ≡ holding c (Some x) → m' ≡ holding (having_seen c (history_of x)) (Some x)
+  Noted history_of m m' = (c : Claim N F) (x : W) → m ≡ holding c (Some x)
+      → m' ≡ holding (having_seen c (history_of x)) (Some x)
 
   -- after leaving: the pass is outside
   abbrev pub Left : Seat W N F → Seat W N F → Type 0
@@ -52,7 +53,8 @@ module _ {W N F : Type 0} where
 
   -- the value x was put back, a note made if it had grown, and the pass left
   abbrev pub Leaves : (W → List N) → Seat W N F → W → Seat W N F → Type 0
-  Leaves history_of m x m' = (c : Claim N F) → m ≡ holding c None → m' ≡ waiting (having_seen c (history_of x))
+  Leaves history_of m x m' = (c : Claim N F) → m ≡ holding c None
+      → m' ≡ waiting (having_seen c (history_of x))
 
 module _ {W N F : Type 0} (history_of : W → List N) (pass_of : N → ℕ) (frame_of : W → F) where
   -- the value is one that the pass may find: its history goes on from what the pass had seen, and its frame is the old one
@@ -61,11 +63,13 @@ module _ {W N F : Type 0} (history_of : W → List N) (pass_of : N → ℕ) (fra
 
   -- after a try that found this number in word 0: refused, unless that was 0; else inside, with the slot and all seen
   abbrev pub Tried : Seat W N F → ℕ → Seat W N F → Type 0
-  Tried m found m' = (found ≢ 0 → m' ≡ m) × (found ≡ 0 → (c : Claim N F) → m ≡ waiting c → (x : W) × (m' ≡ holding (having_seen c (history_of x)) (Some x)) × Meets c x)
+  Tried m found m' = (found ≢ 0 → m' ≡ m) × (found ≡ 0 → (c : Claim N F) → m ≡ waiting c → (x : W)
+      × (m' ≡ holding (having_seen c (history_of x)) (Some x)) × Meets c x)
 
   -- the pass came in, and took the value x out of the slot
   abbrev pub Enters : Seat W N F → W → Seat W N F → Type 0
-  Enters m x m' = (c : Claim N F) → m ≡ waiting c → (m' ≡ holding (having_seen c (history_of x)) None) × Meets c x
+  Enters m x m' = (c : Claim N F) → m ≡ waiting c
+      → (m' ≡ holding (having_seen c (history_of x)) None) × Meets c x
 
   -- the lock was closed with a seat of these claims, which are those of all passes: the value x goes on from each
   pub record Closes (frame : F) (passes : ℕ) (claims : List (Claim N F)) (x : W) : Type 0 where

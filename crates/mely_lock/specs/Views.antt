@@ -46,7 +46,8 @@ module _ {N F : Type 0} where
 
   -- one of these claims is of this number, and has this front
   abbrev pub HasClaim : List (Claim N F) → ℕ → List N → Type 0
-  HasClaim claims n front = (k : ℕ) × (c : Claim N F) × (get_elem? claims k ≡ some c) × (c.number ≡ n) × (c.front ≡ front)
+  HasClaim claims n front = (k : ℕ) × (c : Claim N F) × (get_elem? claims k ≡ some c)
+      × (c.number ≡ n) × (c.front ≡ front)
 
   -- the number, the front and the frame of the first claim, which is a pass's only one
   abbrev pub head_number : List (Claim N F) → ℕ

@@ -30,7 +30,8 @@ module _ {V N F : Type 0} where
 
     -- the pass is one of this lock's
     abbrev pub IsPassOf : (V → F) → Ticketed V N F → Pass V N F g → Type 0
-    IsPassOf frame_of lock pass = (pass.place.table_id ≡ lock_id lock) × (told_frame pass ≡ Some (frame_of (first_value lock)))
+    IsPassOf frame_of lock pass = (pass.place.table_id ≡ lock_id lock)
+        × (told_frame pass ≡ Some (frame_of (first_value lock)))
 
     -- the pass is outside, and has no value in its hand
     abbrev pub IsOutside : Pass V N F g → Type 0

@@ -14,12 +14,15 @@ use mely_event::Kept;
 /// A seat that is outside, with the claims of all these passes.
 pub(crate) fn gather<V: Kept>(room: &Room<V>, passes: Vec<Pass<V>>) -> Place<V>
     requires size { 0 < room.now.shared.table_id.words }
-    requires each { (k : ℕ) (p : _) → get_elem? passes.items k ≡ some p → (p.place.table_id ≡ room.now.shared.table_id) × IsOutside p }
+    requires each { (k : ℕ) (p : _) → get_elem? passes.items k ≡ some p
+        → (p.place.table_id ≡ room.now.shared.table_id) × IsOutside p }
     ensures table { result.table_id ≡ room.now.shared.table_id }
     ensures outside { result.me.0.inside ≡ false }
     ensures many { length result.me.0.claims ≡ length passes.items }
-    ensures shares { (n : ℕ) → shares_of n result.me.0.claims ≡ count_by (λ p. p.number == n) passes.items }
-    ensures each { (k : ℕ) (p : _) → get_elem? passes.items k ≡ some p → HasClaim result.me.0.claims p.number (front p) }
+    ensures shares { (n : ℕ) → shares_of n result.me.0.claims
+        ≡ count_by (λ p. p.number == n) passes.items }
+    ensures each { (k : ℕ) (p : _) → get_elem? passes.items k ≡ some p
+        → HasClaim result.me.0.claims p.number (front p) }
 {
     let mut passes = passes;
     let (_, mut seat) = room.shared.load_new_seat::<Sitting>(0);
@@ -40,7 +43,8 @@ pub(crate) fn take_back<V: Kept>(room: Room<V>, seat: Place<V>) -> V
     requires slot { room.shared.table_id.slots ≡ 1 }
     requires outside { seat.me.0.inside ≡ false }
     requires all { length seat.me.0.claims ≡ room.shared.key.passes }
-    ensures { Closes V.history_of V.pass_of V.frame_of (V.frame_of room.shared.key.value.value) room.shared.key.passes seat.me.0.claims result }
+    ensures { Closes V.history_of V.pass_of V.frame_of (V.frame_of room.shared.key.value.value)
+        room.shared.key.passes seat.me.0.claims result }
 {
     let mut closed = room.close_with(seat);
     let slot = closed.take(0);

@@ -18,10 +18,14 @@ pub(crate) fn deal<V: Kept>(
     rest: &mut Place<V>,
     passes: u16,
 ) -> Result<Vec<Pass<V>>, Memory>
-    requires table { (rest.old.table_id ≡ room.now.shared.table_id) × (0 < room.now.shared.table_id.words) }
-    requires first { rest.old.me ≡ (first_view passes (V.frame_of room.now.shared.key.value.value), []) }
+    requires table { (rest.old.table_id ≡ room.now.shared.table_id)
+        × (0 < room.now.shared.table_id.words) }
+    requires first { rest.old.me
+        ≡ (first_view passes (V.frame_of room.now.shared.key.value.value), []) }
     ensures count { IfOk result (λ r. length r.items ≡ passes) }
-    ensures each { IfOk result (λ r. (k : ℕ) (p : _) → get_elem? r.items k ≡ some p → (p.number ≡ k) × (front p ≡ []) × IsOutside p × (p.place.table_id ≡ room.now.shared.table_id) × (told_frame p ≡ Some (V.frame_of room.now.shared.key.value.value))) }
+    ensures each { IfOk result (λ r. (k : ℕ) (p : _) → get_elem? r.items k ≡ some p → (p.number ≡ k)
+        × (front p ≡ []) × IsOutside p × (p.place.table_id ≡ room.now.shared.table_id)
+        × (told_frame p ≡ Some (V.frame_of room.now.shared.key.value.value))) }
 {
     let mut dealt = Vec::new(alloc);
     for number in 0..passes {

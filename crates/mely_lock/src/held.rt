@@ -26,8 +26,10 @@ impl<V: Kept> Held<'_, V> {
     pub fn leave(self, pass: &mut Pass<V>)
         requires pass { IsPassOf V.frame_of self.lock.now pass.old × IsInside pass.old }
         requires frame { V.frame_of self.value ≡ V.frame_of (first_value self.lock.now) }
-        requires history { GrewByAtMostOne V.pass_of pass.old.number (front pass.old) (V.history_of self.value) }
-        ensures pass { IsPassOf V.frame_of self.entry.lock.now pass.new × IsOutside pass.new × (pass.new.number ≡ pass.old.number) }
+        requires history { GrewByAtMostOne V.pass_of pass.old.number (front pass.old)
+            (V.history_of self.value) }
+        ensures pass { IsPassOf V.frame_of self.entry.lock.now pass.new × IsOutside pass.new
+            × (pass.new.number ≡ pass.old.number) }
         ensures seen { front pass.new ≡ V.history_of self.entry.value }
     {
         let Held {

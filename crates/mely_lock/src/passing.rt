@@ -24,10 +24,12 @@ impl<V: Kept> Ticketed<V> {
     /// Goes in if nobody is inside, and takes the value out.
     fn try_enter(&self, place: &mut Place<V>, number: u16) -> Option<V>
         requires table { place.old.table_id ≡ lock_id self.now }
-        requires outside { (c : Claim V.Note V.Frame) × (place.old.me ≡ waiting c) × (c.number ≡ number) }
+        requires outside { (c : Claim V.Note V.Frame) × (place.old.me ≡ waiting c)
+            × (c.number ≡ number) }
         ensures table { place.new.table_id ≡ place.old.table_id }
         ensures refused { IfNone result (place.new.me ≡ place.old.me) }
-        ensures entered { IfSome result (λ x. Enters V.history_of V.pass_of V.frame_of place.old.me x place.new.me) }
+        ensures entered { IfSome result (λ x.
+            Enters V.history_of V.pass_of V.frame_of place.old.me x place.new.me) }
     {
         let shared = &self.room.shared;
         let ticket = u64::from(number) + 1;
@@ -41,10 +43,12 @@ impl<V: Kept> Ticketed<V> {
     /// Tries a while without sleeping, since who is inside mostly leaves soon.
     fn spin_in(&self, place: &mut Place<V>, number: u16) -> Option<V>
         requires table { place.old.table_id ≡ lock_id self.now }
-        requires outside { (c : Claim V.Note V.Frame) × (place.old.me ≡ waiting c) × (c.number ≡ number) }
+        requires outside { (c : Claim V.Note V.Frame) × (place.old.me ≡ waiting c)
+            × (c.number ≡ number) }
         ensures table { place.new.table_id ≡ place.old.table_id }
         ensures refused { IfNone result (place.new.me ≡ place.old.me) }
-        ensures entered { IfSome result (λ x. Enters V.history_of V.pass_of V.frame_of place.old.me x place.new.me) }
+        ensures entered { IfSome result (λ x.
+            Enters V.history_of V.pass_of V.frame_of place.old.me x place.new.me) }
     {
         for _ in 0..SPINS {
             // A look is cheaper than a try that is refused, which takes the word's line of memory from who is inside.
@@ -69,9 +73,11 @@ impl<V: Kept> Ticketed<V> {
     /// Tries until nobody else is inside, and sleeps between two tries.
     fn wait_in<R: Wait>(&self, rt: &R, place: &mut Place<V>, number: u16) -> V
         requires table { place.old.table_id ≡ lock_id self.now }
-        requires outside { (c : Claim V.Note V.Frame) × (place.old.me ≡ waiting c) × (c.number ≡ number) }
+        requires outside { (c : Claim V.Note V.Frame) × (place.old.me ≡ waiting c)
+            × (c.number ≡ number) }
         ensures table { place.new.table_id ≡ place.old.table_id }
-        ensures entered { Enters V.history_of V.pass_of V.frame_of place.old.me result place.new.me }
+        ensures entered { Enters V.history_of V.pass_of V.frame_of
+            place.old.me result place.new.me }
     {
         for _ in rt.forever() {
             // It is counted before it looks: who leaves after the look finds it counted, and wakes it.
@@ -91,9 +97,11 @@ impl<V: Kept> Ticketed<V> {
     /// Tries until nobody else is inside.
     pub(crate) fn go_in<R: Wait>(&self, rt: &R, place: &mut Place<V>, number: u16) -> V
         requires table { place.old.table_id ≡ lock_id self.now }
-        requires outside { (c : Claim V.Note V.Frame) × (place.old.me ≡ waiting c) × (c.number ≡ number) }
+        requires outside { (c : Claim V.Note V.Frame) × (place.old.me ≡ waiting c)
+            × (c.number ≡ number) }
         ensures table { place.new.table_id ≡ place.old.table_id }
-        ensures entered { Enters V.history_of V.pass_of V.frame_of place.old.me result place.new.me }
+        ensures entered { Enters V.history_of V.pass_of V.frame_of
+            place.old.me result place.new.me }
     {
         match self.spin_in(place, number) {
             Some(value) => value,
@@ -111,7 +119,9 @@ impl<V: Kept> Ticketed<V> {
     /// Puts the value back, makes a note if its history has grown, and goes out.
     pub(crate) fn put_back(&self, place: &mut Place<V>, value: V, grown: bool)
         requires table { place.old.table_id ≡ lock_id self.now }
-        requires inside { (c : Claim V.Note V.Frame) × (place.old.me ≡ holding c None) × (V.frame_of value ≡ c.frame) × GrewIf V.pass_of grown c.number c.front (V.history_of value) }
+        requires inside { (c : Claim V.Note V.Frame) × (place.old.me ≡ holding c None)
+            × (V.frame_of value ≡ c.frame)
+            × GrewIf V.pass_of grown c.number c.front (V.history_of value) }
         requires fits { length (V.history_of value) < 2 ^ 64 }
         ensures table { place.new.table_id ≡ place.old.table_id }
         ensures left { Leaves V.history_of place.old.me value place.new.me }

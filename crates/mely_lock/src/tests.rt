@@ -53,7 +53,8 @@ impl Diary {
 
     fn add(&mut self, pass: u16, turn: u64) -> Result<(), Memory>
         ensures ink { self.new.ink ≡ self.old.ink }
-        ensures ok { OnOk result (self.new.lines.items ≡ self.old.lines.items ++ record { pass = pass; turn = turn } ∷ []) }
+        ensures ok { OnOk result (self.new.lines.items
+            ≡ self.old.lines.items ++ record { pass = pass; turn = turn } ∷ []) }
         ensures err { OnErr result (self.new.lines.items ≡ self.old.lines.items) }
     {
         self.lines.push(Line { pass, turn })?;
@@ -69,9 +70,13 @@ fn write<R: Wait>(
     turn: u64,
 ) -> Result<(), Memory>
     requires { IsPassOf ⟦<Diary as Kept>⟧.frame_of lock.now pass.old × IsOutside pass.old }
-    ensures pass { IsPassOf ⟦<Diary as Kept>⟧.frame_of lock.now pass.new × IsOutside pass.new × (pass.new.number ≡ pass.old.number) }
-    ensures ok { OnOk result ((point : List Line) × OthersSince ⟦<Diary as Kept>⟧.pass_of pass.old.number (front pass.old) point × (front pass.new ≡ point ++ record { pass = pass.old.number; turn = turn } ∷ [])) }
-    ensures err { OnErr result (OthersSince ⟦<Diary as Kept>⟧.pass_of pass.old.number (front pass.old) (front pass.new)) }
+    ensures pass { IsPassOf ⟦<Diary as Kept>⟧.frame_of lock.now pass.new × IsOutside pass.new
+        × (pass.new.number ≡ pass.old.number) }
+    ensures ok { OnOk result ((point : List Line)
+        × OthersSince ⟦<Diary as Kept>⟧.pass_of pass.old.number (front pass.old) point
+        × (front pass.new ≡ point ++ record { pass = pass.old.number; turn = turn } ∷ [])) }
+    ensures err { OnErr result (OthersSince ⟦<Diary as Kept>⟧.pass_of pass.old.number
+        (front pass.old) (front pass.new)) }
 {
     let mut held = lock.enter(rt, pass);
     let number = pass.number();
@@ -83,7 +88,8 @@ fn write<R: Wait>(
 /// Goes in, looks how many lines there are and goes out.
 fn look<R: Wait>(rt: &R, lock: &Ticketed<Diary>, pass: &mut Pass<Diary>) -> u64
     requires { IsPassOf ⟦<Diary as Kept>⟧.frame_of lock.now pass.old × IsOutside pass.old }
-    ensures pass { IsPassOf ⟦<Diary as Kept>⟧.frame_of lock.now pass.new × IsOutside pass.new × (pass.new.number ≡ pass.old.number) }
+    ensures pass { IsPassOf ⟦<Diary as Kept>⟧.frame_of lock.now pass.new × IsOutside pass.new
+        × (pass.new.number ≡ pass.old.number) }
     ensures all { result ≡ length (front pass.new) }
 {
     let mut held = lock.enter(rt, pass);
@@ -110,7 +116,8 @@ fn a_pass_finds_what_another_has_noted(rt: HostRuntime) -> Result<(), Fail> {
 /// Writes as many lines, one after another.
 fn write_many<R: Wait>(rt: &R, lock: &Ticketed<Diary>, pass: &mut Pass<Diary>, count: u64)
     requires { IsPassOf ⟦<Diary as Kept>⟧.frame_of lock.now pass.old × IsOutside pass.old }
-    ensures { IsPassOf ⟦<Diary as Kept>⟧.frame_of lock.now pass.new × IsOutside pass.new × (pass.new.number ≡ pass.old.number) }
+    ensures { IsPassOf ⟦<Diary as Kept>⟧.frame_of lock.now pass.new × IsOutside pass.new
+        × (pass.new.number ≡ pass.old.number) }
 {
     for turn in 0..count {
         let _ = write(rt, lock, pass, turn);
@@ -126,8 +133,10 @@ fn write_from_threads<R: Threads + Wait + Sync>(
     count: u64,
 )
     requires threads { 0 < threads }
-    requires passes { All (λ p. IsPassOf ⟦<Diary as Kept>⟧.frame_of lock.now p × IsOutside p) passes.old }
-    ensures passes { All (λ p. IsPassOf ⟦<Diary as Kept>⟧.frame_of lock.now p × IsOutside p) passes.new }
+    requires passes { All (λ p. IsPassOf ⟦<Diary as Kept>⟧.frame_of lock.now p
+        × IsOutside p) passes.old }
+    ensures passes { All (λ p. IsPassOf ⟦<Diary as Kept>⟧.frame_of lock.now p
+        × IsOutside p) passes.new }
     ensures many { length passes.new ≡ length passes.old }
 {
     thread::for_each_mut(
@@ -136,7 +145,8 @@ fn write_from_threads<R: Threads + Wait + Sync>(
         threads,
         &|_, pass: &mut Pass<Diary>|
             requires { IsPassOf (λ (d : Diary). d.ink) lock.now pass.now × IsOutside pass.now }
-            ensures { IsPassOf (λ (d : Diary). d.ink) lock.entry.now pass.exit.now × IsOutside pass.exit.now }
+            ensures { IsPassOf (λ (d : Diary). d.ink) lock.entry.now pass.exit.now
+                × IsOutside pass.exit.now }
         { write_many(rt, lock, pass, count) },
     );
 }

@@ -44,8 +44,10 @@ impl<V: Kept + Drop> Ticketed<V> {
         requires empty { V.history_of value ≡ [] }
         ensures frame { IfOk result (λ r. V.frame_of (first_value r.0) ≡ V.frame_of value) }
         ensures count { IfOk result (λ r. (r.0.passes ≡ passes) × (length r.1.items ≡ passes)) }
-        ensures each { IfOk result (λ r. All (λ p. IsPassOf V.frame_of r.0 p × IsOutside p × (front p ≡ [])) r.1.items) }
-        ensures numbers { IfOk result (λ r. (n : ℕ) (p : _) → n < passes → (slice_index_or r.1.items n p).number ≡ n) }
+        ensures each { IfOk result (λ r. All (λ p. IsPassOf V.frame_of r.0 p × IsOutside p
+            × (front p ≡ [])) r.1.items) }
+        ensures numbers { IfOk result (λ r. (n : ℕ) (p : _) → n < passes
+            → (slice_index_or r.1.items n p).number ≡ n) }
     {
         let about = About {
             value: Snapshot::of(&value),
@@ -87,10 +89,12 @@ impl<V: Kept> Ticketed<V> {
     /// memory. Between two tries it may sleep until somebody leaves. Nothing is promised of when it comes in, or who is first.
     pub fn enter<'a, R: Wait>(&'a self, rt: &R, pass: &mut Pass<V>) -> Held<'a, V>
         requires { IsPassOf V.frame_of self.now pass.old × IsOutside pass.old }
-        ensures pass { IsPassOf V.frame_of self.now pass.new × IsInside pass.new × (pass.new.number ≡ pass.old.number) }
+        ensures pass { IsPassOf V.frame_of self.now pass.new × IsInside pass.new
+            × (pass.new.number ≡ pass.old.number) }
         ensures point { OthersSince V.pass_of pass.old.number (front pass.old) (front pass.new) }
         ensures seen { front pass.new ≡ V.history_of result.value }
-        ensures held { (result.lock.now ≡ self.now) × (V.frame_of result.value ≡ V.frame_of (first_value self.now)) }
+        ensures held { (result.lock.now ≡ self.now)
+            × (V.frame_of result.value ≡ V.frame_of (first_value self.now)) }
     {
         let value = self.go_in(rt, &mut pass.place, pass.number);
         pass.seen = value.notes();
@@ -110,10 +114,13 @@ impl<V: Kept> Ticketed<V> {
         requires all { length passes.items ≡ self.passes }
         requires each { All (λ p. IsPassOf V.frame_of self p × IsOutside p) passes.items }
         ensures frame { V.frame_of result ≡ V.frame_of (first_value self) }
-        ensures fronts { All (λ p. OthersSince V.pass_of p.number (front p) (V.history_of result)) passes.items }
-        ensures own { All (λ p. notes_of V.pass_of p.number (V.history_of result) ≡ own V.pass_of p) passes.items }
+        ensures fronts { All (λ p.
+            OthersSince V.pass_of p.number (front p) (V.history_of result)) passes.items }
+        ensures own { All (λ p. notes_of V.pass_of p.number (V.history_of result)
+            ≡ own V.pass_of p) passes.items }
         ensures numbers { (n : ℕ) → n < self.passes → Any (λ p. p.number ≡ n) passes.items }
-        ensures strangers { (n : ℕ) → self.passes ≤ n → notes_of V.pass_of n (V.history_of result) ≡ [] }
+        ensures strangers { (n : ℕ) → self.passes ≤ n
+            → notes_of V.pass_of n (V.history_of result) ≡ [] }
     {
         let Ticketed {
             room,

@@ -14,7 +14,8 @@ impl<V: Kept> TableRule<Option<V>, View<V::Note, V::Frame>, About<V>> for Ticket
     ghost use Rattle.mely_lock.specs.Rule.{Locked};
     ghost use Rattle.mely_lock.specs.Views.{first_view};
 
-    ghost holds = { λ about. Locked V.history_of V.pass_of V.frame_of (V.frame_of about.value.value) about.passes };
+    ghost holds = { λ about.
+        Locked V.history_of V.pass_of V.frame_of (V.frame_of about.value.value) about.passes };
 
     ghost first = { λ about. first_view about.passes (V.frame_of about.value.value) };
 }

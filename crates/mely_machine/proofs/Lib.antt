@@ -1,2 +1,2 @@
 mod Rows
-mod OneRun
+pub mod OneRun

@@ -19,12 +19,16 @@ module _ (cost : ℕ) where
 
   -- a mark takes the place of another in this step: in its class it is since now, or where the other was of that class since when that was
   abbrev pub in_place_of : Listed → ℕ → Mark → Listed
-  in_place_of old now mark = record { mark = mark; since = if class old == class_of mark.worth cost then old.since else now }
+  in_place_of old now mark = record {
+    mark = mark;
+    since = if class old == class_of mark.worth cost then old.since else now;
+  }
 
   -- a report of what a colour is worth comes in this step: it raises the mark of its colour, where that is of the same period, and no other mark
   abbrev pub hears : ℕ → Colour → ℕ → ℕ → Listed → Listed
   hears now colour started worth l =
-      if is_of colour l.mark && (l.mark.started == started) then in_place_of l now (record l.mark { worth = max l.mark.worth worth }) else l
+      if is_of colour l.mark && (l.mark.started == started) then in_place_of l now
+      (record l.mark { worth = max l.mark.worth worth }) else l
 
   -- the marks that may be stolen: those of colours that aren't pinned, and worth more than a steal costs
   abbrev pub to_steal : ℕ → List Listed → List Listed
@@ -36,7 +40,8 @@ module _ (cost : ℕ) where
 
   -- the mark that a thief takes: of those that may be stolen, the one before which none goes
   abbrev pub first_to_steal : ℕ → List Listed → Option Listed
-  first_to_steal pinned list = let able = to_steal pinned list in find (λ l. not (list_any (λ other. goes_before other l) able)) able
+  first_to_steal pinned list = let able = to_steal pinned list in
+      find (λ l. not (list_any (λ other. goes_before other l) able)) able
 
 -- the marks of the other colours
 abbrev pub without_colour : Colour → List Listed → List Listed

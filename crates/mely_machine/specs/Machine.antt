@@ -23,7 +23,8 @@ pub data Doing : Type 0 where
   Picked : (mark : Mark) → Doing
   Landing : (mark : Mark) → Doing
   Pushing : (to : ℕ) (mark : Mark) → Doing
-  Turning : (colour : Colour) (count : ℕ) (left : List Event) (hand : Delivery) (puts : List (Colour × Event)) → Doing
+  Turning : (colour : Colour) (count : ℕ) (left : List Event) (hand : Delivery)
+      (puts : List (Colour × Event)) → Doing
 
 -- a history for each shard, a list of marks and a worker for each core, what the app is, and how many steps were made
 pub record Machine (X : Type 0) : Type 0 where
@@ -42,7 +43,8 @@ module _ {X : Type 0} where
 
   -- an entry enters the history of a shard, at its end
   abbrev pub enters : ℕ → Entry → Machine X → Machine X
-  enters shard entry m = record m { histories = slice_set m.histories shard (history_at m shard ++ entry ∷ []) }
+  enters shard entry m =
+      record m { histories = slice_set m.histories shard (history_at m shard ++ entry ∷ []) }
 
   -- the list of a core becomes another
   abbrev pub lists_at : ℕ → List Listed → Machine X → Machine X

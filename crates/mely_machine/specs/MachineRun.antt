@@ -53,7 +53,8 @@ module _ {X : Type 0} (rules : Rules) where
   unfoldable pub post : Colour → Event → Machine X → Machine X
   post c event m =
       let registered = noted rules (Reg c event rules.shape.cores) m in
-      let after = delivers (delivery_by rules (history_for rules m c) (history_for rules registered c) c) registered in
+      let after = delivers (delivery_by rules (history_for rules m c)
+      (history_for rules registered c) c) registered in
       record after { made = after.made + 1 }
 
   module _ (act : Acts X) where
@@ -81,5 +82,6 @@ module _ {X : Type 0} (rules : Rules) where
     -- a whole run: an event is posted, the steps of a schedule are made, and a drain ends; the histories are those that stand then
     pub record RunsTo (app : X) (first : Colour × Event) (schedule : List (ℕ × ℕ)) (histories : List (List Entry)) : Type 0 where
       pub end : Machine X
-      pub drains : DrainsTo (steps (spelled_out schedule) (post first.0 first.1 (first_machine rules app))) end
+      pub drains : DrainsTo
+          (steps (spelled_out schedule) (post first.0 first.1 (first_machine rules app))) end
       pub told : histories ≡ end.histories

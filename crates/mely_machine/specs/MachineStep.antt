@@ -17,11 +17,13 @@ module _ (rules : Rules) where
   -- what is to be delivered after a registration on a colour that rests: where nothing of it waited before, its mark, to its owner; where something did, a report, to its owner
   abbrev pub delivery_at_rest : List Event → List Entry → Colour → Delivery
   delivery_at_rest [] after c = PushMark (owner_by rules after c) (mark_by rules after c)
-  delivery_at_rest (event ∷ queued) after c = Report (owner_by rules after c) c (begun_of after c) (worth_by rules after c)
+  delivery_at_rest (event ∷ queued) after c =
+      Report (owner_by rules after c) c (begun_of after c) (worth_by rules after c)
 
   -- and after any registration, by the history before it and after it: nothing, where the colour runs
   abbrev pub delivery_by : List Entry → List Entry → Colour → Delivery
-  delivery_by before after c = if nat_lt (ended_of before c) (begun_of before c) then Nothing else delivery_at_rest (queued_of before c) after c
+  delivery_by before after c = if nat_lt (ended_of before c) (begun_of before c) then Nothing else
+      delivery_at_rest (queued_of before c) after c
 
   -- what a worker is at when its turn has ended, by what waits of the colour: where something does, its mark goes back on the own list
   abbrev pub doing_after : ℕ → List Entry → Colour → List Event → Doing
@@ -46,7 +48,8 @@ module _ (rules : Rules) where
 
   -- a report on a colour reaches the list of a core
   abbrev pub reports : {X : Type 0} → ℕ → Colour → ℕ → ℕ → Machine X → Machine X
-  reports to c started worth m = lists_at to (map (hears rules.shape.steal_cost m.made c started worth) (list_at m to)) m
+  reports to c started worth m =
+      lists_at to (map (hears rules.shape.steal_cost m.made c started worth) (list_at m to)) m
 
   module _ (core : ℕ) {X : Type 0} where
     -- Free, at the own list: its front is popped; where there is none, the hunt goes on
@@ -57,11 +60,15 @@ module _ (rules : Rules) where
     -- Free, at a victim: a mark is picked; where there is none, the hunt goes on
     abbrev pub step_pick : Machine X → ℕ → ℕ → Option Listed → Machine X
     step_pick m place victim None = turns_to core (Free (place_after core place)) m
-    step_pick m place victim (Some l) = turns_to core (Picked l.mark) (lists_at victim (without_colour l.mark.colour (list_at m victim)) m)
+    step_pick m place victim (Some l) =
+        turns_to core (Picked l.mark)
+        (lists_at victim (without_colour l.mark.colour (list_at m victim)) m)
 
     abbrev pub step_hunt : Machine X → ℕ → Option ℕ → Machine X
     step_hunt m place None = m
-    step_hunt m place (Some victim) = step_pick m place victim (first_to_steal rules.shape.steal_cost rules.pinned (list_at m victim))
+    step_hunt m place (Some victim) =
+        step_pick m place victim
+        (first_to_steal rules.shape.steal_cost rules.pinned (list_at m victim))
 
     abbrev pub step_free : Machine X → ℕ → Machine X
     step_free m zero = step_pop m (list_at m core)
@@ -83,17 +90,21 @@ module _ (rules : Rules) where
     abbrev pub step_finish : Machine X → Colour → ℕ → Machine X
     step_finish m c count =
         let after = noted (Fin c core count) m in
-        turns_to core (doing_after core (history_for after c) c (queued_of (history_for after c) c)) after
+        turns_to core (doing_after core (history_for after c) c
+        (queued_of (history_for after c) c)) after
 
     -- Turning, with something left to register: the first of it is
-    abbrev pub step_register : Machine X → Colour → ℕ → List Event → Colour × Event → List (Colour × Event) → Machine X
+    abbrev pub step_register : Machine X → Colour → ℕ → List Event → Colour × Event
+        → List (Colour × Event) → Machine X
     step_register m c count left put puts =
         let after = noted (Reg put.0 put.1 core) m in
-        turns_to core (Turning c count left (delivery_by (history_for m put.0) (history_for after put.0) put.0) puts) after
+        turns_to core (Turning c count left
+        (delivery_by (history_for m put.0) (history_for after put.0) put.0) puts) after
 
     -- Turning, with an event left: its handler was run
     abbrev pub step_run : Machine X → Colour → ℕ → List Event → Acted X → Machine X
-    step_run m c count left acted = turns_to core (Turning c count left Nothing acted.puts) (record m { app = acted.becomes })
+    step_run m c count left acted =
+        turns_to core (Turning c count left Nothing acted.puts) (record m { app = acted.becomes })
 
     module _ (act : Acts X) where
       abbrev pub step_turn : Machine X → Colour → ℕ → List Event → Machine X
@@ -105,16 +116,20 @@ module _ (rules : Rules) where
       step_puts m c count left (put ∷ puts) = step_register m c count left put puts
 
       -- Turning: what is in hand goes to its core first
-      abbrev pub step_turning : Machine X → Colour → ℕ → List Event → Delivery → List (Colour × Event) → Machine X
-      step_turning m c count left (PushMark to mark) puts = turns_to core (Turning c count left Nothing puts) (pushes to mark m)
-      step_turning m c count left (Report to colour started worth) puts = turns_to core (Turning c count left Nothing puts) (reports to colour started worth m)
+      abbrev pub step_turning : Machine X → Colour → ℕ → List Event → Delivery
+          → List (Colour × Event) → Machine X
+      step_turning m c count left (PushMark to mark) puts =
+          turns_to core (Turning c count left Nothing puts) (pushes to mark m)
+      step_turning m c count left (Report to colour started worth) puts =
+          turns_to core (Turning c count left Nothing puts) (reports to colour started worth m)
       step_turning m c count left Nothing puts = step_puts m c count left puts
 
       -- the line that applies, by what the worker is at
       abbrev pub step_from : Machine X → Doing → Machine X
       step_from m (Turning c count left hand puts) = step_turning m c count left hand puts
       step_from m (Pushing to mark) = turns_to core (Free 0) (pushes to mark m)
-      step_from m (Popped mark) = step_take m mark.colour (queued_of (history_for m mark.colour) mark.colour)
+      step_from m (Popped mark) =
+          step_take m mark.colour (queued_of (history_for m mark.colour) mark.colour)
       step_from m (Picked mark) = step_steal m mark.colour
       step_from m (Landing mark) = turns_to core (Free 0) (pushes core mark m)
       step_from m (Free place) = step_free m place
@@ -125,4 +140,5 @@ module _ (rules : Rules) where
 
 -- a step of a core
 unfoldable pub step : {X : Type 0} → Rules → Acts X → ℕ → Machine X → Machine X
-step rules act core m = let after = step_of rules core act m (slice_get m.workers core) in record after { made = after.made + 1 }
+step rules act core m = let after = step_of rules core act m (slice_get m.workers core) in
+    record after { made = after.made + 1 }

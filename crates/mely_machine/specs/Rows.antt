@@ -44,15 +44,21 @@ after rules posts schedule = steps rules sends (spelled_out schedule) (posted ru
 
 -- the histories after so many rounds and one more, and whether nothing was left before that one and after it
 abbrev pub drained : Rules → ℕ → Machine (Unit {0}) → List (List Entry) × Bool × Bool
-drained rules n m = ((rounds rules sends (n + 1) m).histories, is_quiet (rounds rules sends n m), is_quiet (rounds rules sends (n + 1) m))
+drained rules n m = (
+  (rounds rules sends (n + 1) m).histories,
+  is_quiet (rounds rules sends n m),
+  is_quiet (rounds rules sends (n + 1) m),
+)
 
 -- a colour that is taken between a registration on it and the report of it
 abbrev pub late : Machine (Unit {0})
-late = after (small 2 1 15 0) ((col 0, event 1 1) ∷ (col 1, event 0 0) ∷ []) ((0, 4) ∷ (1, 5) ∷ (0, 4) ∷ [])
+late = after (small 2 1 15 0) ((col 0, event 1 1) ∷ (col 1, event 0 0) ∷ [])
+    ((0, 4) ∷ (1, 5) ∷ (0, 4) ∷ [])
 
 -- a registration between a finish and the push of the mark
 abbrev pub between : Machine (Unit {0})
-between = after (small 2 1 15 0) ((col 1, event 0 0) ∷ (col 1, event 0 0) ∷ (col 0, event 1 1) ∷ []) ((1, 4) ∷ (0, 4) ∷ (0, 1) ∷ (1, 1) ∷ [])
+between = after (small 2 1 15 0) ((col 1, event 0 0) ∷ (col 1, event 0 0) ∷ (col 0, event 1 1) ∷ [])
+    ((1, 4) ∷ (0, 4) ∷ (0, 1) ∷ (1, 1) ∷ [])
 
 -- ten events of a colour
 abbrev pub ten : ℕ → List (Colour × Event)
@@ -69,27 +75,48 @@ left_after (Some l) list = without_colour l.mark.colour list
 
 abbrev pub picks : ℕ → ℕ → List Listed → List ℕ
 picks zero cost list = []
-picks (suc n) cost list = let found = first_to_steal cost 0 list in colour_taken found ++ picks n cost (left_after found list)
+picks (suc n) cost list = let found = first_to_steal cost 0 list in
+    colour_taken found ++ picks n cost (left_after found list)
 
 -- four marks at a cost of 20, pushed one after another, and two reports on colour 0, of which the second is of another period
 abbrev pub four : List Listed
 four =
     map (hears 20 5 (col 0) 1 90) (map (hears 20 4 (col 0) 0 45)
-    (record { mark = mark 0 0 30; since = 0 } ∷ record { mark = mark 1 0 20; since = 1 } ∷ record { mark = mark 2 0 50; since = 2 } ∷ record { mark = mark 3 0 90; since = 3 } ∷ []))
+    (record { mark = mark 0 0 30; since = 0 } ∷ record { mark = mark 1 0 20; since = 1 }
+    ∷ record { mark = mark 2 0 50; since = 2 } ∷ record { mark = mark 3 0 90; since = 3 } ∷ []))
 
 pub record WorkedRows : Type 0 where
   -- the highest class first; within a class the mark that is longer in it, though another was pushed before it; and none of class 0
   pub picked : picks 4 20 four ≡ 3 ∷ 2 ∷ 0 ∷ []
   -- the report of an earlier period comes too late, and raises no mark
-  pub late_report : late.histories ≡ (Reg (col 0) (event 1 1) 2 ∷ Reg (col 1) (event 0 0) 2 ∷ Take (col 0) 0 1 ∷ Reg (col 1) (event 0 0) 0 ∷ Take (col 1) 1 1 ∷ Fin (col 1) 1 1 ∷ Fin (col 0) 0 1 ∷ []) ∷ []
+  pub late_report : late.histories
+      ≡ (Reg (col 0) (event 1 1) 2 ∷ Reg (col 1) (event 0 0) 2 ∷ Take (col 0) 0 1
+      ∷ Reg (col 1) (event 0 0) 0 ∷ Take (col 1) 1 1 ∷ Fin (col 1) 1 1 ∷ Fin (col 0) 0 1 ∷ []) ∷ []
   pub late_mark : late.lists ≡ [] ∷ (record { mark = mark 1 1 10; since = 10 } ∷ []) ∷ []
   -- the mark that is pushed says less than the colour is worth
   pub unheard : between.lists ≡ [] ∷ (record { mark = mark 1 1 10; since = 12 } ∷ []) ∷ []
   -- on one core, batches of ten events and of one: the colours take turns
   pub batch_of_ten : drained (small 1 10 15 0) 25 (posted (small 1 10 15 0) (ten 0 ++ ten 2))
-      ≡ ((map (λ p. Reg p.0 p.1 1) (ten 0 ++ ten 2) ++ Take (col 0) 0 10 ∷ Fin (col 0) 0 10 ∷ Take (col 2) 0 10 ∷ Fin (col 2) 0 10 ∷ []) ∷ [], false, true)
+      ≡ (
+        (map (λ p. Reg p.0 p.1 1) (ten 0 ++ ten 2) ++ Take (col 0) 0 10 ∷ Fin (col 0) 0 10
+            ∷ Take (col 2) 0 10 ∷ Fin (col 2) 0 10 ∷ []) ∷ [],
+        false,
+        true,
+      )
   pub batch_of_one : drained (small 1 1 15 0) 97 (posted (small 1 1 15 0) (ten 0 ++ ten 2))
-      ≡ ((map (λ p. Reg p.0 p.1 1) (ten 0 ++ ten 2) ++ flat_map (λ c. Take (col c) 0 1 ∷ Fin (col c) 0 1 ∷ []) (flat_map (λ (n : ℕ). 0 ∷ 2 ∷ []) (replicate 10 0))) ∷ [], false, true)
+      ≡ (
+        (map (λ p. Reg p.0 p.1 1) (ten 0 ++ ten 2) ++ flat_map (λ c.
+            Take (col c) 0 1 ∷ Fin (col c) 0 1 ∷ []) (flat_map (λ (n : ℕ).
+            0 ∷ 2 ∷ []) (replicate 10 0))) ∷ [],
+        false,
+        true,
+      )
   -- a pinned colour stays on its core, and a thief takes the other
-  pub pinned_stays : drained (small 2 1 5 1) 3 (after (small 2 1 5 1) ((col 0, event 0 0) ∷ (col 2, event 0 0) ∷ []) ((1, 4) ∷ []))
-      ≡ ((Reg (col 0) (event 0 0) 2 ∷ Reg (col 2) (event 0 0) 2 ∷ Steal (col 2) 0 1 ∷ Take (col 0) 0 1 ∷ Take (col 2) 1 1 ∷ Fin (col 0) 0 1 ∷ Fin (col 2) 1 1 ∷ []) ∷ [], false, true)
+  pub pinned_stays : drained (small 2 1 5 1) 3
+      (after (small 2 1 5 1) ((col 0, event 0 0) ∷ (col 2, event 0 0) ∷ []) ((1, 4) ∷ []))
+      ≡ (
+        (Reg (col 0) (event 0 0) 2 ∷ Reg (col 2) (event 0 0) 2 ∷ Steal (col 2) 0 1 ∷ Take (col 0) 0
+            1 ∷ Take (col 2) 1 1 ∷ Fin (col 0) 0 1 ∷ Fin (col 2) 1 1 ∷ []) ∷ [],
+        false,
+        true,
+      )

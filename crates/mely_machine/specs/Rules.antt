@@ -18,7 +18,11 @@ pub record Rules : Type 0 where
 
 -- the rules that a setup says; a setup has more in it than it says, so that only rules are the same wherever they say the same
 abbrev pub rules_of : Setup → Rules
-rules_of setup = record { shape = shape_of setup; rows = rows_of (handlers_of setup); pinned = pinned_of setup }
+rules_of setup = record {
+  shape = shape_of setup;
+  rows = rows_of (handlers_of setup);
+  pinned = pinned_of setup;
+}
 
 module _ (rules : Rules) where
   -- the shard of a colour
@@ -27,7 +31,8 @@ module _ (rules : Rules) where
 
   -- the owner of a colour by a history: the core that stole it last; where none did, the core that it began on
   abbrev pub owner_by : List Entry → Colour → ℕ
-  owner_by history c = fold (λ core entry. unwrap_or (thief_on c entry) core) (c.0 % rules.shape.cores) history
+  owner_by history c =
+      fold (λ core entry. unwrap_or (thief_on c entry) core) (c.0 % rules.shape.cores) history
 
   -- its time left: the weights of what waits of it
   abbrev pub worth_by : List Entry → Colour → ℕ
@@ -35,9 +40,15 @@ module _ (rules : Rules) where
 
   -- its mark
   abbrev pub mark_by : List Entry → Colour → Mark
-  mark_by history c = record { colour = c; started = begun_of history c; worth = worth_by history c }
+  mark_by history c = record {
+    colour = c;
+    started = begun_of history c;
+    worth = worth_by history c;
+  }
 
 -- owner and worth by the rules of a setup are those that a history has for the setup
 pub record IsRuledBy (setup : Setup) : Type 0 where
-  pub owner : (history : List Entry) (c : Colour) → owner_by (rules_of setup) history c ≡ owner_of setup history c
-  pub worth : (history : List Entry) (c : Colour) → worth_by (rules_of setup) history c ≡ worth_of setup history c
+  pub owner : (history : List Entry) (c : Colour) → owner_by (rules_of setup) history c
+      ≡ owner_of setup history c
+  pub worth : (history : List Entry) (c : Colour) → worth_by (rules_of setup) history c
+      ≡ worth_of setup history c

@@ -15,11 +15,18 @@ registered_in q = q.started + length q.events
 
 -- one more event at the back
 abbrev pub pushed : {P : Type 0} → Waiting P → Event → Option P → ℕ → Waiting P
-pushed q event load weight = record q { events = q.events ++ (event, load) ∷ []; weights = q.weights ++ weight ∷ [] }
+pushed q event load weight = record q {
+  events = q.events ++ (event, load) ∷ [];
+  weights = q.weights ++ weight ∷ [];
+}
 
 -- the first ones were started
 abbrev pub taken : {P : Type 0} → Waiting P → ℕ → Waiting P
-taken q count = record q { events = drop count q.events; weights = drop count q.weights; started = q.started + count }
+taken q count = record q {
+  events = drop count q.events;
+  weights = drop count q.weights;
+  started = q.started + count;
+}
 
 -- so many of those that were started were finished
 abbrev pub finished_by : {P : Type 0} → Waiting P → ℕ → Waiting P

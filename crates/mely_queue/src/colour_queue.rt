@@ -57,9 +57,15 @@ impl<P> Model for ColourQueue<P> {
     ghost use Rattle.std.specs.Prelude.{◌≡◌, ◌≤◌, ◌<◌, ◌+◌, ◌^◌, length, sum};
     ghost use Rattle.mely_queue.specs.Kept.{IsKept};
 
-    ghost view = { λ q. record { events = q.events.items; weights = q.weights.items; started = q.started; finished = q.finished } };
+    ghost view = { λ q. record {
+      events = q.events.items;
+      weights = q.weights.items;
+      started = q.started;
+      finished = q.finished;
+    } };
 
-    ghost invariant = { λ q. IsKept q.events.items q.weights.items q.started q.finished q.time_left };
+    ghost invariant = { λ q.
+        IsKept q.events.items q.weights.items q.started q.finished q.time_left };
 }
 
 impl<P> ColourQueue<P> {
@@ -153,7 +159,8 @@ impl<P> ColourQueue<P> {
     pub fn take_up_to(&mut self, batch: u16) -> Result<Vec<(Event, Option<P>)>, Memory>
         requires { 1 ≤ batch }
         ensures first { IfOk result (λ events. events.items ≡ take batch self.old.events) }
-        ensures rest { OnOk result (self.new ≡ taken self.old (min batch (length self.old.events))) }
+        ensures rest { OnOk result (self.new
+            ≡ taken self.old (min batch (length self.old.events))) }
         ensures err { OnErr result (self.new ≡ self.old) }
     {
         let count = self.count_in(batch);
@@ -179,7 +186,8 @@ impl<P> ColourQueue<P> {
         requires some { 1 ≤ batch }
         requires empty { first.old.items ≡ [] }
         ensures first { OnOk result (first.new.items ≡ take batch self.old.events) }
-        ensures rest { OnOk result (self.new ≡ taken self.old (min batch (length self.old.events))) }
+        ensures rest { OnOk result (self.new
+            ≡ taken self.old (min batch (length self.old.events))) }
         ensures err { OnErr result (self.new ≡ self.old) }
         ensures none { OnErr result (first.new.items ≡ []) }
     {

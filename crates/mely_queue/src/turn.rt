@@ -30,7 +30,14 @@ impl<S, P> Model for Turn<S, P> {
 
     ghost use Rattle.std.specs.Prelude.{reverse};
 
-    ghost view = { λ t. record { colour = t.colour; core = t.core; count = t.count; state = t.state; given = t.given.value; events = reverse t.events.items } };
+    ghost view = { λ t. record {
+      colour = t.colour;
+      core = t.core;
+      count = t.count;
+      state = t.state;
+      given = t.given.value;
+      events = reverse t.events.items;
+    } };
 }
 
 impl<S: Fits<P>, P> Turn<S, P> {
@@ -42,7 +49,14 @@ impl<S: Fits<P>, P> Turn<S, P> {
         requires few { length events.items ≤ 1000 }
         requires of_colour { S.colour_of state ≡ colour }
         requires fit { EachFits (S.fits_under (S.frame_of state) colour) events.items }
-        ensures { result ≡ record { colour = colour; core = core; count = length events.items; state = state; given = state; events = events.items } }
+        ensures { result ≡ record {
+          colour = colour;
+          core = core;
+          count = length events.items;
+          state = state;
+          given = state;
+          events = events.items;
+        } }
     {
         let count = events.len() as u16;
         let given = Snapshot::of(&state);
@@ -93,7 +107,8 @@ impl<S, P> Turn<S, P> {
 
     /// Hands out the next event with its load, in the order in which they were taken, and nothing where none is left.
     pub fn next(&mut self) -> Option<(Event, Option<P>)>
-        ensures next { MatchOption result ((self.old.events ≡ []) × (self.new ≡ self.old)) (λ first. self.old.events ≡ first ∷ self.new.events) }
+        ensures next { MatchOption result ((self.old.events ≡ []) × (self.new ≡ self.old)) (λ first.
+            self.old.events ≡ first ∷ self.new.events) }
         ensures rest { self.new ≡ record self.old { events = self.new.events } }
     {
         self.events.pop()
@@ -101,7 +116,8 @@ impl<S, P> Turn<S, P> {
 
     /// The state, for the handler of an event to read and write.
     pub fn state(&mut self) -> &mut S
-        ensures* writes_back { sem 𝓛 (Lends (the_row S.row P.row) S.row self.entry result (λ state. record self.old { state = state })) }
+        ensures* writes_back { sem 𝓛 (Lends (the_row S.row P.row) S.row self.entry result (λ state.
+            record self.old { state = state })) }
         ensures value { result.now ≡ self.old.state }
     {
         &mut self.state

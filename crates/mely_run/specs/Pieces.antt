@@ -34,7 +34,8 @@ of_lane c lane = of_state c lane.state ++ map (λ e. coming c e.0 e.1) lane.even
 
 abbrev pub of_lanes : {S P : Type 0} → Setup → ℕ → ℕ → List (Lane S P) → List (Piece S P)
 of_lanes setup shard place [] = []
-of_lanes setup shard place (lane ∷ lanes) = of_lane (colour_at setup shard place) lane ++ of_lanes setup shard (place + 1) lanes
+of_lanes setup shard place (lane ∷ lanes) =
+    of_lane (colour_at setup shard place) lane ++ of_lanes setup shard (place + 1) lanes
 
 abbrev pub of_shard : {S P : Type 0} → Contents S P → List (Piece S P)
 of_shard has = of_lanes has.setup has.shard 0 has.lanes
@@ -49,7 +50,9 @@ of_phase (at.Popped mark) = []
 of_phase (at.Picked mark victim) = []
 of_phase (at.Landing mark) = []
 of_phase (at.Pushing to mark) = []
-of_phase (at.Turning turn hand puts) = kept turn.colour turn.state ∷ (map (λ e. coming turn.colour e.0 e.1) turn.events ++ map of_put puts)
+of_phase (at.Turning turn hand puts) =
+    kept turn.colour turn.state
+    ∷ (map (λ e. coming turn.colour e.0 e.1) turn.events ++ map of_put puts)
 
 abbrev pub of_worker : {S P : Type 0} → WorkerView S P → List (Piece S P)
 of_worker w = of_phase w.phase
@@ -64,10 +67,19 @@ kept_from n (state ∷ states) = kept (record { 0 = n }) state ∷ kept_from (n 
 
 -- An app is told by a function: where what it has agrees with what it is by the function, a handler registers what the function says, and what the app has then agrees again, unless the handler left its state spoilt, as by want of memory. Nothing of it depends on where a piece is, or on the room of a state, and a spoilt state stays so.
 pub record IsTold {S P F R X : Type 0} (t : TrailWords S F) (fits : F → Colour → Event → Option P → Type 0) (y : AppWords R P S F) (app : R) (frame : F) (act : Acts X) (Agrees : X → List (Piece S P) → Type 0) (spoilt : S → Bool) : Type 0 where
-  pub moved : (x : X) (some others : List (Piece S P)) → IsPermutation some others → Agrees x some → Agrees x others
-  pub roomier : (x : X) (c : Colour) (state roomy : S) (rest : List (Piece S P)) → t.alike state roomy → Agrees x (kept c state ∷ rest) → Agrees x (kept c roomy ∷ rest)
-  pub runs : (x : X) (c : Colour) (event : Event) (load : Option P) (state after : S) (puts : List (Colour × Event × Option P)) (rest : List (Piece S P)) → t.colour_of state ≡ c → t.frame_of state ≡ frame → fits frame c event load
-      → Agrees x (kept c state ∷ coming c event load ∷ rest) → y.runs app state event load after puts → spoilt after ≡ false
-      → (without_loads puts ≡ (act x c event).puts) × Agrees (act x c event).becomes (kept c after ∷ (map of_put puts ++ rest))
-  pub spoilt_roomier : (state roomy : S) → t.alike state roomy → spoilt state ≡ true → spoilt roomy ≡ true
-  pub spoilt_after : (state after : S) (event : Event) (load : Option P) (puts : List (Colour × Event × Option P)) → y.runs app state event load after puts → spoilt state ≡ true → spoilt after ≡ true
+  pub moved : (x : X) (some others : List (Piece S P)) → IsPermutation some others
+      → Agrees x some → Agrees x others
+  pub roomier : (x : X) (c : Colour) (state roomy : S) (rest : List (Piece S P))
+      → t.alike state roomy → Agrees x (kept c state ∷ rest) → Agrees x (kept c roomy ∷ rest)
+  pub runs : (x : X) (c : Colour) (event : Event) (load : Option P) (state after : S)
+      (puts : List (Colour × Event × Option P)) (rest : List (Piece S P)) → t.colour_of state ≡ c
+      → t.frame_of state ≡ frame → fits frame c event load
+      → Agrees x (kept c state ∷ coming c event load ∷ rest)
+      → y.runs app state event load after puts → spoilt after ≡ false
+      → (without_loads puts ≡ (act x c event).puts)
+      × Agrees (act x c event).becomes (kept c after ∷ (map of_put puts ++ rest))
+  pub spoilt_roomier : (state roomy : S) → t.alike state roomy
+      → spoilt state ≡ true → spoilt roomy ≡ true
+  pub spoilt_after : (state after : S) (event : Event) (load : Option P) (puts : List (Colour
+      × Event × Option P)) → y.runs app state event load after puts
+      → spoilt state ≡ true → spoilt after ≡ true

@@ -44,4 +44,5 @@ module _ {S P F : Type 0} (t : TrailWords S F) (fits : F → Colour → Event �
       pub begun : IsBegun setup states c event load posted
       pub out : IsRunOut posted schedule end
       pub told : histories ≡ map (λ has. has.history) end.shards
-      pub states_left : AreByColour (λ lane. lane.state) end.setup end.shards (map (λ state. Some state) left)
+      pub states_left : AreByColour (λ lane. lane.state) end.setup end.shards
+          (map (λ state. Some state) left)

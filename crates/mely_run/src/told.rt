@@ -41,9 +41,11 @@ pub trait Told: App {
 /// The law of this crate, for contracts alone: where what the app has at first, and the event that is posted, agree with what
 /// it is, a run of a weave after which no state is spoilt writes the histories that the machine writes. A call does nothing.
 pub fn a_run_is_the_machines<S: Fits<P>, P, R: Told<State = S, Load = P>>()
-    ensures { (app : R) (setup : Setup) (states : List S) (c : Colour) (event : Event) (load : Option P)
+    ensures { (app : R) (setup : Setup) (states : List S) (c : Colour)
+        (event : Event) (load : Option P)
         (schedule : List (ℕ × ℕ)) (histories : List (List Entry)) (left : List S) (x : R.Is)
-        → IsWholeRun S.Trail S.fits_under R.App app setup states c event load schedule histories left
+        → IsWholeRun S.Trail S.fits_under R.App app setup states c event load
+        schedule histories left
         → R.agrees app x (coming c event load ∷ kept_from 0 states)
         → All (λ state. R.spoilt app state ≡ false) left
         → RunsTo (rules_of setup) (R.acts app) x (c, event) schedule histories }

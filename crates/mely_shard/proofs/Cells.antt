@@ -29,7 +29,7 @@ pub same_or_not : (i j : ℕ) → (i ≡ j) ⊎ (i ≡ j → ⊥)
 same_or_not i j = ⊎_elim (λ (less : i < j). inr (λ e. omega arith)) (λ (more : j ≤ i). ⊎_elim (λ (less : j < i). inr (λ e. omega arith)) (λ (le : i ≤ j). inl (omega arith)) (cases_lt j i)) (cases_lt i j)
 
 -- the colours of two places differ
-pub colours_differ : (setup : Setup) (shard i j : ℕ) → (i ≡ j → ⊥) → (colour_at setup shard i).0 ≡ (colour_at setup shard j).0 → ⊥
+colours_differ : (setup : Setup) (shard i j : ℕ) → (i ≡ j → ⊥) → (colour_at setup shard i).0 ≡ (colour_at setup shard j).0 → ⊥
 colours_differ setup shard i j ne e =
     let g = (shape_of setup).shards in
     let positive : 0 < g = omega (arith, setup.shards_in.0) in

@@ -18,7 +18,7 @@ use Rattle.mely_shard.specs.Kept.{IsFirstCell, AreFirstCells, IsKeptShard, CellS
 use Rattle.mely_shard.proofs.Registering.{colour_at-place}
 
 -- what stands in a list with one more at its end stood there, or is the last
-pub slice_get-push : {X : Type 0} (xs : List X) (x y : X) (i : ℕ) → slice_get (xs ++ x ∷ []) i ≡ Some y → (slice_get xs i ≡ Some y) ⊎ ((i ≡ length xs) × (x ≡ y))
+slice_get-push : {X : Type 0} (xs : List X) (x y : X) (i : ℕ) → slice_get (xs ++ x ∷ []) i ≡ Some y → (slice_get xs i ≡ Some y) ⊎ ((i ≡ length xs) × (x ≡ y))
 slice_get-push [] x y zero is = let same : x ≡ y = cc in inr (refl, same)
 slice_get-push [] x y (suc i) is = inl is
 slice_get-push (z ∷ xs) x y zero is = inl is

@@ -14,10 +14,6 @@ use Rattle.mely_history.proofs.LegalAccounts.{begun_within}
 use Rattle.mely_queue.specs.Taken.{Taken, EachFits}
 use Rattle.mely_shard.specs.Contents.{Contents, IsOwn, KeepsFrame, TurnStands}
 
--- a colour of the shard is one after each call
-pub own_stays : {S P : Type 0} (old new : Contents S P) (c : Colour) → KeepsFrame old new → IsOwn old c → IsOwn new c
-own_stays old new c frame own = record { there = rw (frame.same_setup) own.there; here = rw (frame.same_setup, frame.same_shard) own.here }
-
 module _ {S P F : Type 0} {t : TrailWords S F} {fits : F → Colour → Event → Option P → Type 0} {old new : Contents S P} {turn : Taken S P} (stays : KeepsFrame old new) where
   -- a turn stands where the history is the same
   pub turn_stays : new.history ≡ old.history → TurnStands t fits old turn → TurnStands t fits new turn

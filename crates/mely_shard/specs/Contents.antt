@@ -48,9 +48,11 @@ colour_at setup shard i = record { 0 = i * (shape_of setup).shards + shard }
 pub record AreFirstStates {S F : Type 0} (t : TrailWords S F) (setup : Setup) (shard : ℕ) (states : List S) : Type 0 where
   pub all : (i : ℕ) → (colour_at setup shard i).0 < colours_of setup → i < length states
   pub only : (i : ℕ) → i < length states → (colour_at setup shard i).0 < colours_of setup
-  pub coloured : (i : ℕ) (state : S) → slice_get states i ≡ Some state → t.colour_of state ≡ colour_at setup shard i
+  pub coloured : (i : ℕ) (state : S) → slice_get states i ≡ Some state
+      → t.colour_of state ≡ colour_at setup shard i
   pub untouched : (i : ℕ) (state : S) → slice_get states i ≡ Some state → t.trail_of state ≡ []
-  pub one_frame : (i j : ℕ) (s u : S) → slice_get states i ≡ Some s → slice_get states j ≡ Some u → t.frame_of s ≡ t.frame_of u
+  pub one_frame : (i j : ℕ) (s u : S) → slice_get states i ≡ Some s → slice_get states j ≡ Some u
+      → t.frame_of s ≡ t.frame_of u
 
 -- what a shard has at first
 pub record IsFirst {S P : Type 0} (setup : Setup) (shard : ℕ) (states : List S) (has : Contents S P) : Type 0 where
@@ -114,20 +116,28 @@ pub record Appends {S P : Type 0} (old new : Contents S P) (entry : Entry) (c : 
 pub record Registers {S P : Type 0} (old new : Contents S P) (c : Colour) (event : Event) (load : Option P) (by : ℕ) : Type 0 where
   pub before : Lane S P
   pub was : lane_at old c ≡ Some before
-  pub after : Appends old new (Reg c event by) c (record before { events = before.events ++ (event, load) ∷ [] })
+  pub after : Appends old new (Reg c event by) c
+      (record before { events = before.events ++ (event, load) ∷ [] })
 
 -- what the reply to a registration says
 abbrev pub RegisteredAs : Setup → List Entry → List Entry → Colour → Registered → Type 0
-RegisteredAs setup old new c (Running core) = IsRunning old c × ((count : ℕ) × (last_take old c ≡ Some (core, count)))
-RegisteredAs setup old new c (Woke core started left) = (begun_of old c ≡ ended_of old c) × (queued_of old c ≡ []) × (core ≡ owner_of setup new c) × (started ≡ begun_of new c) × (left ≡ worth_of setup new c)
-RegisteredAs setup old new c (Told core started left) = (begun_of old c ≡ ended_of old c) × (0 < length (queued_of old c)) × (core ≡ owner_of setup new c) × (started ≡ begun_of new c) × (left ≡ worth_of setup new c)
+RegisteredAs setup old new c (Running core) = IsRunning old c
+    × ((count : ℕ) × (last_take old c ≡ Some (core, count)))
+RegisteredAs setup old new c (Woke core started left) = (begun_of old c ≡ ended_of old c)
+    × (queued_of old c ≡ []) × (core ≡ owner_of setup new c) × (started ≡ begun_of new c)
+    × (left ≡ worth_of setup new c)
+RegisteredAs setup old new c (Told core started left) = (begun_of old c ≡ ended_of old c)
+    × (0 < length (queued_of old c)) × (core ≡ owner_of setup new c) × (started ≡ begun_of new c)
+    × (left ≡ worth_of setup new c)
 
 -- a turn of a shard: its colour runs on it, the events that were run on its state and those that it holds are all that were begun, its state is of the colour and has the shard's frame, and each event that it holds fits its load
 pub record TurnStands {S P F : Type 0} (t : TrailWords S F) (fits : F → Colour → Event → Option P → Type 0) (has : Contents S P) (turn : Taken S P) : Type 0 where
   pub away : IsRunningOn has.history turn.colour turn.core turn.count
-  pub trailed : t.trail_of turn.state ++ map (λ e. e.0) turn.events ≡ take (begun_of has.history turn.colour) (registered_of has.history turn.colour)
+  pub trailed : t.trail_of turn.state ++ map (λ e. e.0) turn.events
+      ≡ take (begun_of has.history turn.colour) (registered_of has.history turn.colour)
   pub coloured : t.colour_of turn.state ≡ turn.colour
-  pub framed : (i : ℕ) (given : S) → slice_get (givens has) i ≡ Some given → t.frame_of turn.state ≡ t.frame_of given
+  pub framed : (i : ℕ) (given : S) → slice_get (givens has) i ≡ Some given
+      → t.frame_of turn.state ≡ t.frame_of given
   pub fit : EachFits (fits (t.frame_of turn.state) turn.colour) turn.events
 
 -- the state and the first events are moved out into a turn
@@ -139,8 +149,18 @@ pub record Takes {S P F : Type 0} (t : TrailWords S F) (old new : Contents S P) 
   pub allowed : MayTake old.setup old.history c core turn.count
   pub alike : IsRoomier t home turn.state
   pub room : turn.count ≤ t.spare_of turn.state
-  pub made : turn ≡ record { colour = c; core = core; count = turn.count; state = turn.state; given = turn.state; events = take turn.count before.events }
-  pub after : Appends old new (Take c core turn.count) c (record before { state = None; events = drop turn.count before.events })
+  pub made : turn ≡ record {
+    colour = c;
+    core = core;
+    count = turn.count;
+    state = turn.state;
+    given = turn.state;
+    events = take turn.count before.events;
+  }
+  pub after : Appends old new (Take c core turn.count) c (record before {
+    state = None;
+    events = drop turn.count before.events;
+  })
 
 -- the same but for the spare of the state
 pub record IsLaneAlike {S P : Type 0} (Alike : S → S → Type 0) (old new : Lane S P) : Type 0 where
@@ -154,30 +174,40 @@ pub record KeepsStates {S P F : Type 0} (t : TrailWords S F) (old new : Contents
   pub same_shard : new.shard ≡ old.shard
   pub history : new.history ≡ old.history
   pub many : length new.lanes ≡ length old.lanes
-  pub lanes : (i : ℕ) (d : Lane S P) → i < length old.lanes → IsLaneAlike (IsRoomier t) (slice_index_or old.lanes i d) (slice_index_or new.lanes i d)
+  pub lanes : (i : ℕ) (d : Lane S P) → i < length old.lanes
+      → IsLaneAlike (IsRoomier t) (slice_index_or old.lanes i d) (slice_index_or new.lanes i d)
 
 -- why nothing is taken
 abbrev pub NoTakeAs : Setup → List Entry → Colour → ℕ → NoTake → Type 0
-NoTakeAs setup history c core (Elsewhere k) = (core ≢ owner_of setup history c) × (k ≡ owner_of setup history c)
-NoTakeAs setup history c core (Busy k) = (core ≡ owner_of setup history c) × IsRunning history c × ((count : ℕ) × (last_take history c ≡ Some (k, count)))
-NoTakeAs setup history c core (Empty n) = (core ≡ owner_of setup history c) × (begun_of history c ≡ ended_of history c) × (queued_of history c ≡ []) × (n ≡ length (registered_of history c))
+NoTakeAs setup history c core (Elsewhere k) = (core ≢ owner_of setup history c)
+    × (k ≡ owner_of setup history c)
+NoTakeAs setup history c core (Busy k) = (core ≡ owner_of setup history c) × IsRunning history c
+    × ((count : ℕ) × (last_take history c ≡ Some (k, count)))
+NoTakeAs setup history c core (Empty n) = (core ≡ owner_of setup history c)
+    × (begun_of history c ≡ ended_of history c) × (queued_of history c ≡ [])
+    × (n ≡ length (registered_of history c))
 NoTakeAs setup history c core Memory = (core ≡ owner_of setup history c) × IsReady history c
 
 -- the state of the turn comes home
 pub record Finishes {S P : Type 0} (old new : Contents S P) (turn : Taken S P) : Type 0 where
   pub before : Lane S P
   pub was : lane_at old turn.colour ≡ Some before
-  pub after : Appends old new (Fin turn.colour turn.core turn.count) turn.colour (record before { state = Some turn.state })
+  pub after : Appends old new (Fin turn.colour turn.core turn.count) turn.colour
+      (record before { state = Some turn.state })
 
 -- what is left
 abbrev pub AfterAs : Setup → List Entry → Colour → After → Type 0
-AfterAs setup history c (More started left) = (0 < length (queued_of history c)) × (started ≡ begun_of history c) × (left ≡ worth_of setup history c)
+AfterAs setup history c (More started left) = (0 < length (queued_of history c))
+    × (started ≡ begun_of history c) × (left ≡ worth_of setup history c)
 AfterAs setup history c Idle = queued_of history c ≡ []
 
 -- where the state of a colour is, and what it has
-abbrev pub HomeStands : {S F : Type 0} → TrailWords S F → List Entry → Colour → S → Option S → Type 0
+abbrev pub HomeStands : {S F : Type 0} → TrailWords S F → List Entry → Colour
+    → S → Option S → Type 0
 HomeStands t history c given None = IsRunning history c
-HomeStands t history c given (Some state) = (begun_of history c ≡ ended_of history c) × (t.trail_of state ≡ ran_of history c) × (t.colour_of state ≡ c) × (t.frame_of state ≡ t.frame_of given)
+HomeStands t history c given (Some state) = (begun_of history c ≡ ended_of history c)
+    × (t.trail_of state ≡ ran_of history c) × (t.colour_of state ≡ c)
+    × (t.frame_of state ≡ t.frame_of given)
 
 -- a lane has what the history says of its colour
 pub record LaneStands {S P F : Type 0} (t : TrailWords S F) (fits : F → Colour → Event → Option P → Type 0) (history : List Entry) (c : Colour) (lane : Lane S P) : Type 0 where
@@ -191,15 +221,19 @@ pub record IsKept {S P F : Type 0} (t : TrailWords S F) (fits : F → Colour →
   pub numbered : has.shard < (shape_of has.setup).shards
   pub of_shard : IsOfShard has.setup has.shard has.history
   pub found : (c : Colour) → IsOwn has c → place has.setup c < length has.lanes
-  pub only : (i : ℕ) → i < length has.lanes → (colour_at has.setup has.shard i).0 < colours_of has.setup
-  pub one_frame : (i j : ℕ) (a b : Lane S P) → slice_get has.lanes i ≡ Some a → slice_get has.lanes j ≡ Some b → t.frame_of a.given ≡ t.frame_of b.given
-  pub each : (c : Colour) (lane : Lane S P) → IsOwn has c → lane_at has c ≡ Some lane → LaneStands t fits has.history c lane
+  pub only : (i : ℕ) → i < length has.lanes → (colour_at has.setup has.shard i).0
+      < colours_of has.setup
+  pub one_frame : (i j : ℕ) (a b : Lane S P) → slice_get has.lanes i ≡ Some a
+      → slice_get has.lanes j ≡ Some b → t.frame_of a.given ≡ t.frame_of b.given
+  pub each : (c : Colour) (lane : Lane S P) → IsOwn has c → lane_at has c ≡ Some lane
+      → LaneStands t fits has.history c lane
   pub within_limit : length has.history + running_in has + has.spare ≤ MOST_ENTRIES
 
 -- what is told of a ready colour; nothing where it runs or nothing is queued
 abbrev pub ReadyAs : Setup → List Entry → Colour → Option (ℕ × ℕ × ℕ) → Type 0
 ReadyAs setup history c None = ¬ IsReady history c
-ReadyAs setup history c (Some told) = IsReady history c × (told.0 ≡ owner_of setup history c) × (told.1 ≡ begun_of history c) × (told.2 ≡ worth_of setup history c)
+ReadyAs setup history c (Some told) = IsReady history c × (told.0 ≡ owner_of setup history c)
+    × (told.1 ≡ begun_of history c) × (told.2 ≡ worth_of setup history c)
 
 -- the owner is another, and all else stays
 pub record Steals {S P : Type 0} (old new : Contents S P) (c : Colour) (to : ℕ) (stolen : Stolen) : Type 0 where
@@ -215,10 +249,18 @@ pub record Steals {S P : Type 0} (old new : Contents S P) (c : Colour) (to : ℕ
 abbrev pub NoStealAs : Setup → List Entry → Colour → ℕ → NoSteal → Type 0
 NoStealAs setup history c to (Pinned colour) = (c.0 < pinned_of setup) × (colour ≡ c)
 NoStealAs setup history c to Own = (pinned_of setup ≤ c.0) × (to ≡ owner_of setup history c)
-NoStealAs setup history c to (steals.Busy k) = (pinned_of setup ≤ c.0) × (to ≢ owner_of setup history c) × IsRunning history c × ((count : ℕ) × (last_take history c ≡ Some (k, count)))
-NoStealAs setup history c to (steals.Empty n) = (pinned_of setup ≤ c.0) × (to ≢ owner_of setup history c) × (begun_of history c ≡ ended_of history c) × (queued_of history c ≡ []) × (n ≡ length (registered_of history c))
-NoStealAs setup history c to (Cheap left) = (pinned_of setup ≤ c.0) × (to ≢ owner_of setup history c) × IsReady history c × (left ≡ worth_of setup history c) × (left ≤ (shape_of setup).steal_cost)
-NoStealAs setup history c to steals.Memory = (pinned_of setup ≤ c.0) × (to ≢ owner_of setup history c) × IsReady history c × ((shape_of setup).steal_cost < worth_of setup history c)
+NoStealAs setup history c to (steals.Busy k) = (pinned_of setup ≤ c.0)
+    × (to ≢ owner_of setup history c) × IsRunning history c
+    × ((count : ℕ) × (last_take history c ≡ Some (k, count)))
+NoStealAs setup history c to (steals.Empty n) = (pinned_of setup ≤ c.0)
+    × (to ≢ owner_of setup history c) × (begun_of history c ≡ ended_of history c)
+    × (queued_of history c ≡ []) × (n ≡ length (registered_of history c))
+NoStealAs setup history c to (Cheap left) = (pinned_of setup ≤ c.0)
+    × (to ≢ owner_of setup history c) × IsReady history c × (left ≡ worth_of setup history c)
+    × (left ≤ (shape_of setup).steal_cost)
+NoStealAs setup history c to steals.Memory = (pinned_of setup ≤ c.0)
+    × (to ≢ owner_of setup history c) × IsReady history c
+    × ((shape_of setup).steal_cost < worth_of setup history c)
 
 -- each event that was registered on the colour is, once, among those that were run, those of the turn that is out, or those that wait with their loads, and in that order
 pub record StandsOnce {S P : Type 0} (has : Contents S P) (c : Colour) (lane : Lane S P) : Type 0 where

@@ -23,9 +23,13 @@ abbrev pub is_away : {S P : Type 0} → Cell S P → Bool
 is_away cell = is_none cell.home
 
 -- a state away, or at home
-abbrev pub StateStands : {S F : Type 0} → TrailWords S F → Colour → S → Account → ℕ → ℕ → Option S → Type 0
-StateStands t c given s core count None = (s.last ≡ Some (core, count)) × (s.begun ≡ s.ended + count) × (0 < count)
-StateStands t c given s core count (Some state) = (s.begun ≡ s.ended) × (t.trail_of state ≡ take s.ended s.registered) × (t.colour_of state ≡ c) × (t.frame_of state ≡ t.frame_of given)
+abbrev pub StateStands : {S F : Type 0} → TrailWords S F → Colour → S → Account → ℕ
+    → ℕ → Option S → Type 0
+StateStands t c given s core count None = (s.last ≡ Some (core, count))
+    × (s.begun ≡ s.ended + count) × (0 < count)
+StateStands t c given s core count (Some state) = (s.begun ≡ s.ended)
+    × (t.trail_of state ≡ take s.ended s.registered) × (t.colour_of state ≡ c)
+    × (t.frame_of state ≡ t.frame_of given)
 
 -- a cell has what the history says of its colour
 pub record CellStands {S P F : Type 0} (t : TrailWords S F) (fits : F → Colour → Event → Option P → Type 0) (setup : Setup) (c : Colour) (s : Account) (cell : Cell S P) : Type 0 where
@@ -54,7 +58,9 @@ pub record IsFirstCell {S P : Type 0} (setup : Setup) (c : ℕ) (state : S) (cel
 
 -- the cells of the first states of a shard
 abbrev pub AreFirstCells : {S P : Type 0} → Setup → ℕ → List S → List (Cell S P) → Type 0
-AreFirstCells {S} {P} setup shard states cells = (i : ℕ) (state : S) (cell : Cell S P) → slice_get states i ≡ Some state → slice_get cells i ≡ Some cell → IsFirstCell setup (colour_at setup shard i).0 state cell
+AreFirstCells {S} {P} setup shard states cells = (i : ℕ) (state : S) (cell : Cell S P)
+    → slice_get states i ≡ Some state → slice_get cells i ≡ Some cell
+    → IsFirstCell setup (colour_at setup shard i).0 state cell
 
 -- each state is at home
 abbrev pub AreAtHome : {S P : Type 0} → List (Cell S P) → Type 0
@@ -68,11 +74,16 @@ most_of capacity = min capacity MOST_ENTRIES
 pub record IsKeptShard {S P F : Type 0} (t : TrailWords S F) (fits : F → Colour → Event → Option P → Type 0) (setup : Setup) (shard : ℕ) (history : List Entry) (cells : List (Cell S P)) (running capacity : ℕ) : Type 0 where
   pub legal : IsLegal setup history
   pub numbered : shard < (shape_of setup).shards
-  pub whole : (c : ℕ) → c < colours_of setup → c % (shape_of setup).shards ≡ shard → c / (shape_of setup).shards < length cells
+  pub whole : (c : ℕ) → c < colours_of setup → c % (shape_of setup).shards ≡ shard
+      → c / (shape_of setup).shards < length cells
   pub only : (i : ℕ) → i < length cells → (colour_at setup shard i).0 < colours_of setup
-  pub each : (i : ℕ) (d : Cell S P) → i < length cells → CellStands t fits setup (colour_at setup shard i) (account_of setup history (colour_at setup shard i)) (slice_index_or cells i d)
+  pub each : (i : ℕ) (d : Cell S P) → i < length cells
+      → CellStands t fits setup (colour_at setup shard i)
+      (account_of setup history (colour_at setup shard i)) (slice_index_or cells i d)
   pub own : AllByRecursion (λ entry. (colour_of entry).0 % (shape_of setup).shards ≡ shard) history
-  pub frames : (i j : ℕ) (d : Cell S P) → i < length cells → j < length cells → t.frame_of (slice_index_or cells i d).given.value ≡ t.frame_of (slice_index_or cells j d).given.value
+  pub frames : (i j : ℕ) (d : Cell S P) → i < length cells → j < length cells
+      → t.frame_of (slice_index_or cells i d).given.value
+      ≡ t.frame_of (slice_index_or cells j d).given.value
   pub counted : running ≡ count_by is_away cells
   pub room : length history + running ≤ capacity
   pub limited : capacity ≤ MOST_ENTRIES

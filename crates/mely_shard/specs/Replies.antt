@@ -34,7 +34,8 @@ no_take_of cell core =
 
 -- what is left after a finish
 abbrev pub after_of : {S P : Type 0} → Cell S P → After
-after_of cell = if nat_lt 0 (length cell.queue.events) then More cell.queue.started (sum cell.queue.weights) else Idle
+after_of cell = if nat_lt 0 (length cell.queue.events) then More cell.queue.started
+    (sum cell.queue.weights) else Idle
 
 -- the state and the first events are moved out
 pub record CellTakes {S P F : Type 0} (t : TrailWords S F) (old new : Cell S P) (colour : Colour) (core batch : ℕ) (turn : Taken S P) : Type 0 where
@@ -42,8 +43,21 @@ pub record CellTakes {S P F : Type 0} (t : TrailWords S F) (old new : Cell S P) 
   pub was : old.home ≡ Some home
   pub alike : IsRoomier t home turn.state
   pub room : min batch (length old.queue.events) ≤ t.spare_of turn.state
-  pub made : turn ≡ record { colour = colour; core = core; count = min batch (length old.queue.events); state = turn.state; given = turn.state; events = take batch old.queue.events }
-  pub left : new ≡ record old { queue = taken old.queue (min batch (length old.queue.events)); home = None; core = core; count = min batch (length old.queue.events) }
+  pub made : turn ≡ record {
+    colour = colour;
+    core = core;
+    count = min batch (length old.queue.events);
+    state = turn.state;
+    given = turn.state;
+    events =
+        take batch old.queue.events;
+  }
+  pub left : new ≡ record old {
+    queue = taken old.queue (min batch (length old.queue.events));
+    home = None;
+    core = core;
+    count = min batch (length old.queue.events);
+  }
 
 -- only the spare of the state at home may be greater
 pub record CellKeepsState {S P F : Type 0} (t : TrailWords S F) (old new : Cell S P) : Type 0 where
@@ -67,4 +81,5 @@ abbrev pub cell_is_drained : {S P : Type 0} → Cell S P → Bool
 cell_is_drained cell = is_some cell.home && (length cell.queue.events == 0)
 
 abbrev pub ready_of : {S P : Type 0} → Cell S P → Option (ℕ × ℕ × ℕ)
-ready_of cell = if is_some cell.home && nat_lt 0 (length cell.queue.events) then Some (cell.owner, cell.queue.started, sum cell.queue.weights) else None
+ready_of cell = if is_some cell.home && nat_lt 0 (length cell.queue.events) then Some
+    (cell.owner, cell.queue.started, sum cell.queue.weights) else None

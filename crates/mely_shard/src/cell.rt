@@ -30,6 +30,7 @@ impl<S, P> Cell<S, P> {
     ghost use Rattle.mely_queue.specs.Waiting.{finished_by};
 
     /// Adds an event at the back, and answers what a registration found.
+    #[inline(always)]
     pub(crate) fn register(
         &mut self,
         event: Event,
@@ -37,8 +38,10 @@ impl<S, P> Cell<S, P> {
         weight: u32,
     ) -> Result<Registered, Unregistered<P>>
         requires { registered_in self.old.queue < 2 ^ 64 - 1 }
-        ensures ok { OnOk result (self.new ≡ record self.old { queue = pushed self.old.queue event load weight }) }
-        ensures reply { IfOk result (λ reply. reply ≡ reply_of self.new (nat_lt 0 (length self.old.queue.events))) }
+        ensures ok { OnOk result (self.new
+            ≡ record self.old { queue = pushed self.old.queue event load weight }) }
+        ensures reply { IfOk result (λ reply. reply
+            ≡ reply_of self.new (nat_lt 0 (length self.old.queue.events))) }
         ensures err { OnErr result (self.new ≡ self.old) }
         ensures back { IfErr result (λ refused. (refused.event ≡ event) × (refused.load ≡ load)) }
     {
@@ -136,7 +139,8 @@ impl<S, P> Cell<S, P> {
     where
         S: Drop,
         requires { self.old.queue.finished + count ≤ self.old.queue.started }
-        ensures cell { self.new ≡ record self.old { queue = finished_by self.old.queue count; home = Some state } }
+        ensures cell { self.new
+            ≡ record self.old { queue = finished_by self.old.queue count; home = Some state } }
         ensures reply { result ≡ after_of self.old }
     {
         self.queue.finish(count);
@@ -167,11 +171,14 @@ impl<S: Fits<P>, P> Cell<S, P> {
         alloc: Global,
     ) -> Result<Turn<S, P>, Memory>
         requires emptied { emptied.old.items ≡ [] }
-        requires home { IsSomeAnd self.old.home (λ state. (S.colour_of state ≡ colour) × (S.frame_of state ≡ S.frame_of self.old.given.value)) }
+        requires home { IsSomeAnd self.old.home (λ state. (S.colour_of state ≡ colour)
+            × (S.frame_of state ≡ S.frame_of self.old.given.value)) }
         requires batch { (1 ≤ batch) × (batch ≤ 1000) }
         requires waiting { 0 < length self.old.queue.events }
-        requires fit { EachFits (S.fits_under (S.frame_of self.old.given.value) colour) self.old.queue.events }
-        ensures ok { IfOk result (λ turn. CellTakes S.Trail self.old self.new colour core batch turn) }
+        requires fit { EachFits (S.fits_under (S.frame_of self.old.given.value) colour)
+            self.old.queue.events }
+        ensures ok { IfOk result (λ turn.
+            CellTakes S.Trail self.old self.new colour core batch turn) }
         ensures err { OnErr result (CellKeepsState S.Trail self.old self.new) }
         ensures emptied { emptied.new.items ≡ [] }
     {
@@ -215,7 +222,8 @@ pub(crate) fn cells_of<S: Drop, P: Drop>(
     states: Vec<S>,
 ) -> Result<Vec<Cell<S, P>>, Memory>
     requires numbered { shard < (shape_of setup.now).shards }
-    requires few { (i : ℕ) → i < length states.items → (colour_at setup.now shard i).0 < colours_of setup.now }
+    requires few { (i : ℕ) → i < length states.items → (colour_at setup.now shard i).0
+        < colours_of setup.now }
     ensures many { IfOk result (λ cells. length cells.items ≡ length states.items) }
     ensures first { IfOk result (λ cells. AreFirstCells setup.now shard states.items cells.items) }
 {
@@ -247,8 +255,11 @@ pub(crate) fn take_apart<S: Drop, P: Drop>(
     requires at_home { AreAtHome cells.items }
     requires states { vec_len states.old + length cells.items ≤ vec_capacity states.old }
     requires queues { vec_len queues.old + length cells.items ≤ vec_capacity queues.old }
-    ensures states { map (λ state. Some state) states.new.items ≡ map (λ state. Some state) states.old.items ++ map (λ cell. cell.home) cells.items }
-    ensures queues { map (λ queue. queue.items) queues.new.items ≡ map (λ queue. queue.items) queues.old.items ++ map (λ cell. cell.queue.events) cells.items }
+    ensures states { map (λ state. Some state) states.new.items
+        ≡ map (λ state. Some state) states.old.items ++ map (λ cell. cell.home) cells.items }
+    ensures queues { map (λ queue. queue.items) queues.new.items
+        ≡ map (λ queue. queue.items) queues.old.items ++ map (λ cell.
+        cell.queue.events) cells.items }
 {
     for cell in cells {
         let Cell { queue, home, .. } = cell;

@@ -16,8 +16,10 @@ pub const MOST_ENTRIES: usize = 134_217_728;
 /// Makes room in a history for this many entries more, where they stay within the limit.
 pub(crate) fn make_room(history: &mut Vec<Entry>, more: usize) -> Result<(), Memory>
     requires { length history.old.items ≤ MOST_ENTRIES }
-    ensures room { OnOk result (length history.new.items + more ≤ most_of (vec_capacity history.new)) }
-    ensures full { OnErr result (most_of (vec_capacity history.old) < length history.old.items + more) }
+    ensures room { OnOk result (length history.new.items + more
+        ≤ most_of (vec_capacity history.new)) }
+    ensures full { OnErr result (most_of (vec_capacity history.old)
+        < length history.old.items + more) }
     ensures not_lower { vec_capacity history.old ≤ vec_capacity history.new }
     ensures same { history.new.items ≡ history.old.items }
 {

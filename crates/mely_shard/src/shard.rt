@@ -50,9 +50,20 @@ impl<S: Fits<P>, P> Model for Shard<S, P> {
     ghost use Rattle.std.specs.Prelude.{map, length, vec_len, vec_capacity, ◌≡◌, ◌+◌, ◌-◌, []};
     ghost use Rattle.mely_shard.specs.Kept.{lane_of, most_of, IsKeptShard, HasRoom};
 
-    ghost view = { λ s. record { setup = s.setup; shard = s.shard; history = s.history.items; lanes = map lane_of s.cells.items; spare = most_of (vec_capacity s.history) - (length s.history.items + s.running) } };
+    ghost view = { λ s. record {
+      setup = s.setup;
+      shard = s.shard;
+      history = s.history.items;
+      lanes = map lane_of s.cells.items;
+      spare =
+          most_of (vec_capacity s.history) - (length s.history.items + s.running);
+    } };
 
-    ghost invariant = { λ s. IsKeptShard S.Trail S.fits_under s.setup s.shard s.history.items s.cells.items s.running (most_of (vec_capacity s.history)) × HasRoom (vec_len s.states) (vec_capacity s.states) (vec_len s.queues) (vec_capacity s.queues) (length s.cells.items) × (s.emptied.items ≡ []) };
+    ghost invariant = { λ s.
+        IsKeptShard S.Trail S.fits_under s.setup s.shard s.history.items s.cells.items s.running
+        (most_of (vec_capacity s.history))
+        × HasRoom (vec_len s.states) (vec_capacity s.states) (vec_len s.queues)
+        (vec_capacity s.queues) (length s.cells.items) × (s.emptied.items ≡ []) };
 }
 
 impl<S: Fits<P>, P> Shard<S, P> {
@@ -113,8 +124,10 @@ impl<S: Fits<P>, P> Shard<S, P> {
         P: Drop,
         requires { (c : Colour) → IsOwn self c → ¬ IsRunning self.history c }
         ensures history { result.0.items ≡ self.history }
-        ensures states { map (λ state. Some state) result.1.items ≡ map (λ lane. lane.state) self.lanes }
-        ensures queues { map (λ queue. queue.items) result.2.items ≡ map (λ lane. lane.events) self.lanes }
+        ensures states { map (λ state. Some state) result.1.items
+            ≡ map (λ lane. lane.state) self.lanes }
+        ensures queues { map (λ queue. queue.items) result.2.items
+            ≡ map (λ lane. lane.events) self.lanes }
     {
         let Shard {
             history,
@@ -149,6 +162,8 @@ impl<S: Fits<P>, P> Shard<S, P> {
     ///
     /// There was no memory, or the history is at its limit: the event and its load are handed back,
     /// and the shard is as it was, but for a greater spare.
+    // Inlined, its answer isn't written out for the caller to read again.
+    #[inline(always)]
     pub fn register(
         &mut self,
         colour: Colour,
@@ -158,9 +173,11 @@ impl<S: Fits<P>, P> Shard<S, P> {
     ) -> Result<Registered, Unregistered<P>>
         requires own { IsOwn self.old colour }
         requires may { MayRegister self.old.setup colour event }
-        requires fit { (lane : _) → lane_at self.old colour ≡ Some lane → S.fits_under (S.frame_of lane.given) colour event load }
+        requires fit { (lane : _) → lane_at self.old colour ≡ Some lane
+            → S.fits_under (S.frame_of lane.given) colour event load }
         ensures ok { IfOk result (λ _. Registers self.old self.new colour event load by) }
-        ensures reply { IfOk result (λ reply. RegisteredAs self.old.setup self.old.history self.new.history colour reply) }
+        ensures reply { IfOk result (λ reply.
+            RegisteredAs self.old.setup self.old.history self.new.history colour reply) }
         ensures err { OnErr result (HasSameContents self.old self.new) }
         ensures spare_left { self.old.spare ≤ self.new.spare + 1 }
         ensures spare_stays { OnErr result (self.old.spare ≤ self.new.spare) }
@@ -194,7 +211,8 @@ impl<S: Fits<P>, P> Shard<S, P> {
         ensures err { OnErr result (KeepsStates S.Trail self.old self.new) }
         ensures spare_left { self.old.spare ≤ self.new.spare + 2 }
         ensures spare_stays { OnErr result (self.old.spare ≤ self.new.spare) }
-        ensures refusal { IfErr result (λ refusal. NoTakeAs self.old.setup self.old.history colour core refusal) }
+        ensures refusal { IfErr result (λ refusal.
+            NoTakeAs self.old.setup self.old.history colour core refusal) }
         ensures kept { IsKept S.Trail S.fits_under self.new }
         ensures frame { KeepsFrame self.old self.new }
     {
@@ -271,7 +289,8 @@ impl<S: Fits<P>, P> Shard<S, P> {
     /// The state of a colour, where it does not run.
     pub fn state(&self, colour: Colour) -> Option<&S>
         requires { IsOwn self.now colour }
-        ensures { (lane : _) → lane_at self.now colour ≡ Some lane → option_copied result ≡ lane.state }
+        ensures { (lane : _) → lane_at self.now colour ≡ Some lane
+            → option_copied result ≡ lane.state }
     {
         let place = (colour.0 / self.setup.shards()) as usize;
         self.cells[place].home.as_ref()
@@ -300,7 +319,8 @@ impl<S: Fits<P>, P> Shard<S, P> {
         requires core { to < (shape_of self.old.setup).cores }
         ensures ok { IfOk result (λ stolen. Steals self.old self.new colour to stolen) }
         ensures err { OnErr result (HasSameContents self.old self.new) }
-        ensures refusal { IfErr result (λ refusal. NoStealAs self.old.setup self.old.history colour to refusal) }
+        ensures refusal { IfErr result (λ refusal.
+            NoStealAs self.old.setup self.old.history colour to refusal) }
         ensures spare { 1 ≤ self.old.spare → IfErr result (λ refusal. refusal ≢ NoSteal.Memory) }
         ensures spare_left { self.old.spare ≤ self.new.spare + 1 }
         ensures spare_stays { OnErr result (self.old.spare ≤ self.new.spare) }
@@ -335,7 +355,8 @@ impl<S: Fits<P>, P> Shard<S, P> {
     /// not, each event that was registered on a colour is, once, among those that were run, those of
     /// the turn that is out, or those that are queued with their loads. A call does nothing.
     pub fn events_stand_once(&self)
-        ensures { (c : Colour) (lane : _) → IsOwn self.now c → lane_at self.now c ≡ Some lane → StandsOnce self.now c lane }
+        ensures { (c : Colour) (lane : _) → IsOwn self.now c → lane_at self.now c ≡ Some lane
+            → StandsOnce self.now c lane }
     {
         let _history = self.history();
     }

@@ -59,7 +59,10 @@ impl Tally {
     /// Runs an event.
     fn run(&mut self, event: Event, load: Option<u32>)
         requires { 1 ≤ self.old.log.spare }
-        ensures { self.new.log ≡ record self.old.log { events = self.old.log.events ++ event ∷ []; spare = self.old.log.spare - 1 } }
+        ensures { self.new.log ≡ record self.old.log {
+          events = self.old.log.events ++ event ∷ [];
+          spare = self.old.log.spare - 1;
+        } }
     {
         self.log.push(event);
         self.total = self.total.wrapping_add(u64::from(load.unwrap_or(0)));
@@ -79,7 +82,8 @@ fn blank(alloc: Global, colour: u16) -> Tally
 /// Runs what a turn has, and takes its state home.
 fn run_and_finish(shard: &mut Shard<Tally, u32>, mut turn: Turn<Tally, u32>) -> After
     requires own { IsOwn shard.old turn.colour }
-    requires stands { TurnStands ⟦<Tally as Trail>⟧ ⟦<Tally as Fits<u32>>⟧.fits_under shard.old turn }
+    requires stands { TurnStands ⟦<Tally as Trail>⟧
+        ⟦<Tally as Fits<u32>>⟧.fits_under shard.old turn }
     requires room { length turn.events ≤ ⟦<Tally as Trail>⟧.spare_of turn.state }
     ensures { KeepsFrame shard.old shard.new }
 {
@@ -169,10 +173,12 @@ fn register_meanwhile(
 ) -> Option<Registered>
     requires is { IsExample shard.old }
     requires colour { colour < 4 }
-    requires stands { TurnStands ⟦<Tally as Trail>⟧ ⟦<Tally as Fits<u32>>⟧.fits_under shard.old turn.now }
+    requires stands { TurnStands ⟦<Tally as Trail>⟧
+        ⟦<Tally as Fits<u32>>⟧.fits_under shard.old turn.now }
     ensures is { IsExample shard.new }
     ensures frame { KeepsFrame shard.old shard.new }
-    ensures stands { TurnStands ⟦<Tally as Trail>⟧ ⟦<Tally as Fits<u32>>⟧.fits_under shard.new turn.now }
+    ensures stands { TurnStands ⟦<Tally as Trail>⟧
+        ⟦<Tally as Fits<u32>>⟧.fits_under shard.new turn.now }
 {
     let _history = shard.history();
     let event = Event { handler: 0, arg: 0 };
@@ -186,10 +192,12 @@ fn register_meanwhile(
 fn take_meanwhile(shard: &mut Shard<Tally, u32>, turn: &Turn<Tally, u32>) -> Option<NoTake>
     requires is { IsExample shard.old }
     requires own { IsOwn shard.old turn.now.colour }
-    requires stands { TurnStands ⟦<Tally as Trail>⟧ ⟦<Tally as Fits<u32>>⟧.fits_under shard.old turn.now }
+    requires stands { TurnStands ⟦<Tally as Trail>⟧
+        ⟦<Tally as Fits<u32>>⟧.fits_under shard.old turn.now }
     ensures is { IsExample shard.new }
     ensures frame { KeepsFrame shard.old shard.new }
-    ensures stands { TurnStands ⟦<Tally as Trail>⟧ ⟦<Tally as Fits<u32>>⟧.fits_under shard.new turn.now }
+    ensures stands { TurnStands ⟦<Tally as Trail>⟧
+        ⟦<Tally as Fits<u32>>⟧.fits_under shard.new turn.now }
 {
     match shard.take(turn.colour(), 0) {
         Err(refusal) => Some(refusal),
@@ -201,10 +209,12 @@ fn take_meanwhile(shard: &mut Shard<Tally, u32>, turn: &Turn<Tally, u32>) -> Opt
 fn steal_meanwhile(shard: &mut Shard<Tally, u32>, turn: &Turn<Tally, u32>) -> Option<NoSteal>
     requires is { IsExample shard.old }
     requires own { IsOwn shard.old turn.now.colour }
-    requires stands { TurnStands ⟦<Tally as Trail>⟧ ⟦<Tally as Fits<u32>>⟧.fits_under shard.old turn.now }
+    requires stands { TurnStands ⟦<Tally as Trail>⟧
+        ⟦<Tally as Fits<u32>>⟧.fits_under shard.old turn.now }
     ensures is { IsExample shard.new }
     ensures frame { KeepsFrame shard.old shard.new }
-    ensures stands { TurnStands ⟦<Tally as Trail>⟧ ⟦<Tally as Fits<u32>>⟧.fits_under shard.new turn.now }
+    ensures stands { TurnStands ⟦<Tally as Trail>⟧
+        ⟦<Tally as Fits<u32>>⟧.fits_under shard.new turn.now }
 {
     match shard.steal(turn.colour(), 1) {
         Err(refusal) => Some(refusal),

@@ -28,7 +28,7 @@ through n x (z ∷ zs) ys before behind =
     ap (placed n z) (through n x zs ys before.1 behind)
     ∙ cond-false (ltb (n z.colour) (n x.colour)) (z ∷ x ∷ by_number n (zs ++ ys)) (x ∷ placed n z (by_number n (zs ++ ys))) (le-ltb (n z.colour) (n x.colour) (let lt : n x.colour < n z.colour = before.0 in omega arith))
 
-pub least-filter : (n : ℕ → ℕ) (p : Ranked → Bool) (x : Ranked) (xs : List Ranked) → IsLeast n x xs → IsLeast n x (filter p xs)
+least-filter : (n : ℕ → ℕ) (p : Ranked → Bool) (x : Ranked) (xs : List Ranked) → IsLeast n x xs → IsLeast n x (filter p xs)
 least-filter n p x [] least = tt
 least-filter n p x (y ∷ ys) least = cond_both (p y) (y ∷ filter p ys) (filter p ys) (IsLeast n x) (λ t. (least.0, least-filter n p x ys least.1)) (λ f. least-filter n p x ys least.1)
 
@@ -47,7 +47,7 @@ class-later k x xs ne = cond-false (eqb x.class k) (x ∷ of_class k xs) (of_cla
 abbrev pub three-of : (ℕ → ℕ) → List Ranked → List Ranked → List Ranked → List Ranked
 three-of n xs ys zs = by_number n (xs ++ (ys ++ zs))
 
-pub by-classes : (n : ℕ → ℕ) (g : List Ranked) → IsAscending n g → AreClassed g → three-of n (of_class 1 g) (of_class 2 g) (of_class 3 g) ≡ g
+by-classes : (n : ℕ → ℕ) (g : List Ranked) → IsAscending n g → AreClassed g → three-of n (of_class 1 g) (of_class 2 g) (of_class 3 g) ≡ g
 by-classes n [] up classed = refl
 by-classes n (x ∷ g) up classed =
     let rest = by-classes n g up.1 classed.1 in
@@ -84,7 +84,7 @@ merged-is n g one two three m =
 pub class-push : (k : ℕ) (g : List Ranked) (r : Ranked) → of_class k (g ++ r ∷ []) ≡ of_class k g ++ of_class k (r ∷ [])
 class-push k g r = filter-append (λ e. e.class == k) g (r ∷ [])
 
-pub least-push : (n m : ℕ → ℕ) (x : Ranked) (g : List Ranked) (r : Ranked) → m x.colour ≡ n x.colour → IsLeast n x g → ((y : ℕ) → has_entry y g ≡ true → m y ≡ n y) → n x.colour < m r.colour → IsLeast m x (g ++ r ∷ [])
+least-push : (n m : ℕ → ℕ) (x : Ranked) (g : List Ranked) (r : Ranked) → m x.colour ≡ n x.colour → IsLeast n x g → ((y : ℕ) → has_entry y g ≡ true → m y ≡ n y) → n x.colour < m r.colour → IsLeast m x (g ++ r ∷ [])
 least-push n m x [] r here least same lt = (rw here lt, tt)
 least-push n m x (y ∷ g) r here least same lt =
     let there = same y.colour (or_left (eqb y.colour y.colour) (has_entry y.colour g) (eq-eqb y.colour y.colour refl)) in

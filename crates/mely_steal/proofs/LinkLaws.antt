@@ -13,7 +13,7 @@ pub in-later : (x y : ℕ) (xs : List ℕ) → is_in xs x ≡ true → is_in (y 
 in-later x y xs h = or_right (eqb x y) (is_in xs x) h
 
 -- what is in a list is its first place, or in the rest
-pub in-cases : (x y : ℕ) (xs : List ℕ) → is_in (y ∷ xs) x ≡ true → (x ≡ y) ⊎ (is_in xs x ≡ true)
+in-cases : (x y : ℕ) (xs : List ℕ) → is_in (y ∷ xs) x ≡ true → (x ≡ y) ⊎ (is_in xs x ≡ true)
 in-cases x y xs h = elim (or_cases (eqb x y) (is_in xs x) h) [ inl e ↦ inl (eqb-true x y e) | inr l ↦ inr l ]
 
 pub in-other : (x y : ℕ) (xs : List ℕ) → (x ≡ y → ⊥) → is_in (y ∷ xs) x ≡ is_in xs x
@@ -28,7 +28,7 @@ pub not-in : (x y : ℕ) (xs : List ℕ) → is_in xs x ≡ false → is_in xs y
 not-in x y xs off on e = both_ways (is_in xs x) off (ap (is_in xs) e ∙ on)
 
 -- neighbours stay joined where the links of the list stay
-pub frame-from : (a b c d : ℕ → ℕ) (x : ℕ) (xs : List ℕ) → c x ≡ a x → ((y : ℕ) → is_in xs y ≡ true → (c y ≡ a y) × (d y ≡ b y)) → AreJoinedFrom a b x xs → AreJoinedFrom c d x xs
+frame-from : (a b c d : ℕ → ℕ) (x : ℕ) (xs : List ℕ) → c x ≡ a x → ((y : ℕ) → is_in xs y ≡ true → (c y ≡ a y) × (d y ≡ b y)) → AreJoinedFrom a b x xs → AreJoinedFrom c d x xs
 frame-from a b c d x [] e same j = tt
 frame-from a b c d x (y ∷ ys) e same j =
     let here = same y (in-here y ys) in

@@ -57,7 +57,7 @@ mark_of-without_other c d (x ∷ xs) ne = elim (cases_Bool (is_of d x)) [
 ]
 
 -- a colour that has no mark has none in a part of the list
-pub none-without : (c d : Colour) (xs : List Mark) → mark_of c xs ≡ None → mark_of c (without d xs) ≡ None
+none-without : (c d : Colour) (xs : List Mark) → mark_of c xs ≡ None → mark_of c (without d xs) ≡ None
 none-without c d xs h = elim (cases_eq c.0 d.0) [
   | inl e ↦ mark_of-without_same c d xs e
   | inr ne ↦ mark_of-without_other c d xs ne ∙ h
@@ -75,7 +75,7 @@ pub replaced-colour : (new x : Mark) → (cond (is_of new.colour x) new x).colou
 replaced-colour new x = cond_both (is_of new.colour x) new x (λ m. m.colour.0 ≡ x.colour.0) (λ t. sym (eqb-true x.colour.0 new.colour.0 t)) (λ f. refl)
 
 -- a colour that has no mark has none after a replacement
-pub none-replaced : (new : Mark) (c : Colour) (xs : List Mark) → mark_of c xs ≡ None → mark_of c (replaced new xs) ≡ None
+none-replaced : (new : Mark) (c : Colour) (xs : List Mark) → mark_of c xs ≡ None → mark_of c (replaced new xs) ≡ None
 none-replaced new c [] h = refl
 none-replaced new c (x ∷ xs) h =
     let parts = none-parts c x xs h in
@@ -111,7 +111,7 @@ mark_of-replaced_same new old c (x ∷ xs) e h = elim (cases_Bool (is_of new.col
 ]
 
 -- at most one mark a colour, after a mark of a new colour
-pub IsOneEach-push : (xs : List Mark) (m : Mark) → IsOneEach xs → mark_of m.colour xs ≡ None → IsOneEach (xs ++ m ∷ [])
+IsOneEach-push : (xs : List Mark) (m : Mark) → IsOneEach xs → mark_of m.colour xs ≡ None → IsOneEach (xs ++ m ∷ [])
 IsOneEach-push [] m one h = (refl, tt)
 IsOneEach-push (x ∷ xs) m one h =
     let parts = none-parts m.colour x xs h in
@@ -121,14 +121,14 @@ IsOneEach-push (x ∷ xs) m one h =
     )
 
 -- and in a part of the list
-pub IsOneEach-without : (c : Colour) (xs : List Mark) → IsOneEach xs → IsOneEach (without c xs)
+IsOneEach-without : (c : Colour) (xs : List Mark) → IsOneEach xs → IsOneEach (without c xs)
 IsOneEach-without c [] one = tt
 IsOneEach-without c (x ∷ xs) one = cond_both (not (is_of c x)) (x ∷ without c xs) (without c xs) IsOneEach
     (λ t. (none-without x.colour c xs one.0, IsOneEach-without c xs one.1))
     (λ f. IsOneEach-without c xs one.1)
 
 -- and after a replacement
-pub IsOneEach-replaced : (new : Mark) (xs : List Mark) → IsOneEach xs → IsOneEach (replaced new xs)
+IsOneEach-replaced : (new : Mark) (xs : List Mark) → IsOneEach xs → IsOneEach (replaced new xs)
 IsOneEach-replaced new [] one = tt
 IsOneEach-replaced new (x ∷ xs) one =
     let r : Mark = cond (is_of new.colour x) new x in

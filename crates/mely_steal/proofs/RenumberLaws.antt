@@ -39,11 +39,11 @@ counted-least : (n : ℕ → ℕ) (x : Ranked) (i : ℕ) (g : List Ranked) → n
 counted-least n x i [] lt c = tt
 counted-least n x i (y ∷ g) lt c = let at : n y.colour ≡ i = c.0 in (omega arith, counted-least n x (suc i) g (omega arith) c.1)
 
-pub counted-up : (n : ℕ → ℕ) (i : ℕ) (g : List Ranked) → AreCounted n i g → IsAscending n g
+counted-up : (n : ℕ → ℕ) (i : ℕ) (g : List Ranked) → AreCounted n i g → IsAscending n g
 counted-up n i [] c = tt
 counted-up n i (x ∷ g) c = let at : n x.colour ≡ i = c.0 in (counted-least n x (suc i) g (omega arith) c.1, counted-up n (suc i) g c.1)
 
-pub counted-below : (n : ℕ → ℕ) (i next : ℕ) (g : List Ranked) → i + length g ≤ next → AreCounted n i g → AreBelow n next g
+counted-below : (n : ℕ → ℕ) (i next : ℕ) (g : List Ranked) → i + length g ≤ next → AreCounted n i g → AreBelow n next g
 counted-below n i next [] le c = tt
 counted-below n i next (x ∷ g) le c = let at : n x.colour ≡ i = c.0 in (omega arith, counted-below n (suc i) next g (omega arith) c.1)
 
@@ -94,7 +94,7 @@ behind-absent n (y ∷ b) x g up =
     (or_from (eqb y.colour x.colour) (has_entry x.colour b) (ne_eqb y.colour x.colour (λ e. let same : n y.colour ≡ n x.colour = ap n e in absurd (omega arith))) rest.0, rest.1)
 
 -- the entries of all classes together
-pub length-classes : (g : List Ranked) → AreClassed g → length g ≡ length (of_class 1 g) + (length (of_class 2 g) + length (of_class 3 g))
+length-classes : (g : List Ranked) → AreClassed g → length g ≡ length (of_class 1 g) + (length (of_class 2 g) + length (of_class 3 g))
 length-classes [] classed = refl
 length-classes (x ∷ g) classed =
     let rest = length-classes g classed.1 in

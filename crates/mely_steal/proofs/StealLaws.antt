@@ -49,7 +49,7 @@ find-All p P (x ∷ xs) m all h = elim (cases_Bool (p x)) [
 ]
 
 -- and it is the mark of its colour, where each colour has one
-pub find-mark_of : (p : Mark → Bool) (xs : List Mark) (m : Mark) → IsOneEach xs → find p xs ≡ Some m → mark_of m.colour xs ≡ Some m
+find-mark_of : (p : Mark → Bool) (xs : List Mark) (m : Mark) → IsOneEach xs → find p xs ≡ Some m → mark_of m.colour xs ≡ Some m
 find-mark_of p [] m one h = absurd (none-some m h)
 find-mark_of p (x ∷ xs) m one h = elim (cases_Bool (p x)) [
   | inl t ↦
@@ -62,19 +62,19 @@ find-mark_of p (x ∷ xs) m one h = elim (cases_Bool (p x)) [
 ]
 
 -- where none passes, the first doesn't
-pub find-none_head : (p : Mark → Bool) (x : Mark) (xs : List Mark) → find p (x ∷ xs) ≡ None → p x ≡ true → ⊥
+find-none_head : (p : Mark → Bool) (x : Mark) (xs : List Mark) → find p (x ∷ xs) ≡ None → p x ≡ true → ⊥
 find-none_head p x xs h t = none-some x (sym h ∙ cond-true (p x) (Some x) (find p xs) t)
 
-pub option_or-some : (a b : Option Mark) (m : Mark) → option_or a b ≡ Some m → (a ≡ Some m) ⊎ (b ≡ Some m)
+option_or-some : (a b : Option Mark) (m : Mark) → option_or a b ≡ Some m → (a ≡ Some m) ⊎ (b ≡ Some m)
 option_or-some None b m h = inr h
 option_or-some (Some x) b m h = inl h
 
-pub option_or-none : (a b : Option Mark) → option_or a b ≡ None → (a ≡ None) × (b ≡ None)
+option_or-none : (a b : Option Mark) → option_or a b ≡ None → (a ≡ None) × (b ≡ None)
 option_or-none None b h = (refl, h)
 option_or-none (Some x) b h = absurd (none-some x (sym h))
 
 -- a pick is the first of its class
-pub pick_of-find : (cost : ℕ) (xs : List Mark) (m : Mark) → pick_of cost xs ≡ Some m → (class : ℕ) × (first_of cost class xs ≡ Some m)
+pick_of-find : (cost : ℕ) (xs : List Mark) (m : Mark) → pick_of cost xs ≡ Some m → (class : ℕ) × (first_of cost class xs ≡ Some m)
 pick_of-find cost xs m h = elim (option_or-some (option_or (first_of cost 3 xs) (first_of cost 2 xs)) (first_of cost 1 xs) m h) [
   | inl higher ↦ elim (option_or-some (first_of cost 3 xs) (first_of cost 2 xs) m higher) [ inl three ↦ (3, three) | inr two ↦ (2, two) ]
   | inr one ↦ (1, one)
@@ -105,7 +105,7 @@ pick_of-none cost (x ∷ xs) all h =
     ]
 
 -- a list of worthy marks, with one more, one less, and one replaced
-pub AreWorthy-push : (xs : List Mark) (n cost pinned : ℕ) (m : Mark) → AreWorthy (record { marks = xs; colours = n; cost = cost; pinned = pinned }) → m.colour.0 < n → mark_of m.colour xs ≡ None → pinned ≤ m.colour.0 → cost < m.worth
+AreWorthy-push : (xs : List Mark) (n cost pinned : ℕ) (m : Mark) → AreWorthy (record { marks = xs; colours = n; cost = cost; pinned = pinned }) → m.colour.0 < n → mark_of m.colour xs ≡ None → pinned ≤ m.colour.0 → cost < m.worth
     → AreWorthy (record { marks = xs ++ m ∷ []; colours = n; cost = cost; pinned = pinned })
 AreWorthy-push xs n cost pinned m kept lt none loose worth =
     let more = AreApart-push xs n m (record { below = kept.below; apart = kept.apart }) lt none in
@@ -116,7 +116,7 @@ AreWorthy-without c xs n cost pinned kept =
     let less = AreApart-without c xs n (record { below = kept.below; apart = kept.apart }) in
     record { below = less.below; apart = less.apart; worthy = All-filter (λ m. not (is_of c m)) (λ x. cost < x.worth) xs kept.worthy; loose = All-filter (λ m. not (is_of c m)) (λ x. pinned ≤ x.colour.0) xs kept.loose }
 
-pub AreWorthy-replaced : (new : Mark) (xs : List Mark) (n cost pinned : ℕ) → AreWorthy (record { marks = xs; colours = n; cost = cost; pinned = pinned }) → cost < new.worth → AreWorthy (record { marks = replaced new xs; colours = n; cost = cost; pinned = pinned })
+AreWorthy-replaced : (new : Mark) (xs : List Mark) (n cost pinned : ℕ) → AreWorthy (record { marks = xs; colours = n; cost = cost; pinned = pinned }) → cost < new.worth → AreWorthy (record { marks = replaced new xs; colours = n; cost = cost; pinned = pinned })
 AreWorthy-replaced new xs n cost pinned kept worth =
     let put = AreApart-replaced new xs n (record { below = kept.below; apart = kept.apart }) in
     let P : Mark → Type 0 = λ m. cost < m.worth in
@@ -153,7 +153,7 @@ keeps_class-loose cost pinned new xs all h =
     omega arith
 
 -- a pinned colour has no mark, so a list without it is the list
-pub absent-pinned : (pinned : ℕ) (c : Colour) (xs : List Mark) → All (λ m. pinned ≤ m.colour.0) xs → c.0 < pinned → mark_of c xs ≡ None
+absent-pinned : (pinned : ℕ) (c : Colour) (xs : List Mark) → All (λ m. pinned ≤ m.colour.0) xs → c.0 < pinned → mark_of c xs ≡ None
 absent-pinned pinned c [] all lt = refl
 absent-pinned pinned c (x ∷ xs) all lt =
     let P : Mark → Type 0 = λ m. pinned ≤ m.colour.0 in
@@ -175,7 +175,7 @@ mark_of-entered_same cost pinned new c xs e h = elim (cases_Bool (is_worthy cost
   | inr f ↦ ap (mark_of c) (cond-false (is_worthy cost pinned new) (xs ++ new ∷ []) xs f) ∙ (h ∙ sym (cond-false (is_worthy cost pinned new) (Some new) None f))
 ]
 
-pub option_or-nothing : (o : Option Mark) → option_or o None ≡ o
+option_or-nothing : (o : Option Mark) → option_or o None ≡ o
 option_or-nothing None = refl
 option_or-nothing (Some x) = refl
 

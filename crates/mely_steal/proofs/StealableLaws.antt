@@ -18,13 +18,8 @@ use Rattle.mely_steal.proofs.TableMarks.{mark_of-entries, without-entries, marks
 abbrev pub stealing_class : ℕ → ℕ → Mark → ℕ
 stealing_class cost pinned m = cond (is_worthy cost pinned m) (class_of m.worth cost) 0
 
-pub class_of-most : (worth cost : ℕ) → class_of worth cost ≤ 3
-class_of-most worth cost = cond_both (leb worth cost) 0 (cond (leb worth (2 * cost)) 1 (cond (leb worth (4 * cost)) 2 3)) (λ n. n ≤ 3) (λ t. omega arith)
-    (λ f. cond_both (leb worth (2 * cost)) 1 (cond (leb worth (4 * cost)) 2 3) (λ n. n ≤ 3) (λ t. omega arith)
-    (λ f. cond_both (leb worth (4 * cost)) 2 3 (λ n. n ≤ 3) (λ t. omega arith) (λ f. omega arith)))
-
 -- a mark that may be stolen has a class
-pub stealing-some : (cost pinned : ℕ) (m : Mark) → is_worthy cost pinned m ≡ true → (stealing_class cost pinned m ≡ class_of m.worth cost) × (0 < class_of m.worth cost)
+stealing-some : (cost pinned : ℕ) (m : Mark) → is_worthy cost pinned m ≡ true → (stealing_class cost pinned m ≡ class_of m.worth cost) × (0 < class_of m.worth cost)
 stealing-some cost pinned m w = (cond-true (is_worthy cost pinned m) (class_of m.worth cost) 0 w, worthy-class_of m.worth cost (worthy-parts cost pinned m w).1)
 
 -- a colour that has no mark yet enters

@@ -8,7 +8,7 @@ use Rattle.mely_steal.specs.Links.{list_at, before_at, after_at, followed, liste
 use Rattle.mely_steal.proofs.LinkLaws.{in-later, in-other, in-append, not-in, frame, follow-frame, follow-from, length-followed, last-in, before-in, after-in, join-from, last-append, distinct-append, in-dropped, gone-dropped, dropped-first, dropped-later, distinct-dropped, length-dropped, unlink-from, unlink-first, last-dropped_last, last-dropped_other, length-distinct}
 
 -- a list stays strung where the links of its places stay, and the same places say that they are in it
-pub strung-frame : (j : ℕ) (L M : List Link) (e : Ends) → length M ≡ length L
+strung-frame : (j : ℕ) (L M : List Link) (e : Ends) → length M ≡ length L
     → ((y : ℕ) → y < length L → list_at L y ≡ j → (after_at M y ≡ after_at L y) × (before_at M y ≡ before_at L y))
     → ((y : ℕ) → y < length L → (list_at M y == j) ≡ (list_at L y == j)) → IsStrung j L e → (listed M e ≡ listed L e) × IsStrung j M e
 strung-frame j L M e long same lists s =

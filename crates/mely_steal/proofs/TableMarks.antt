@@ -45,7 +45,7 @@ marks-replaced old new m (x ∷ g) sets =
     ap (λ k. k ∷ marks_of new g) here ∙ ap (λ ys. cond (eqb x.colour m.colour.0) m (mark_in old x.colour) ∷ ys) (marks-replaced old new m g sets)
 
 -- the first mark of a class is that of the first entry of the class
-pub first-entries : (cost k : ℕ) (t : Told) (g : List Ranked) → AreOfClass cost t g → first_of cost k (marks_of t g) ≡ option_map (λ e. mark_in t e.colour) (find (λ e. e.class == k) g)
+first-entries : (cost k : ℕ) (t : Told) (g : List Ranked) → AreOfClass cost t g → first_of cost k (marks_of t g) ≡ option_map (λ e. mark_in t e.colour) (find (λ e. e.class == k) g)
 first-entries cost k t [] classed = refl
 first-entries cost k t (x ∷ g) classed =
     ap (λ n. cond (eqb n k) (Some (mark_in t x.colour)) (first_of cost k (marks_of t g))) (sym classed.0)

@@ -28,15 +28,18 @@ abbrev pub has_entry : ℕ → List Ranked → Bool
 has_entry colour entries = list_any (λ entry. entry.colour == colour) entries
 
 abbrev pub class_in : ℕ → List Ranked → ℕ
-class_in colour entries = option_map_or (λ entry. entry.class) (find (λ entry. entry.colour == colour) entries) 0
+class_in colour entries =
+    option_map_or (λ entry. entry.class) (find (λ entry. entry.colour == colour) entries) 0
 
 -- the entries once a colour that has none entered a class, which is none where it is 0
 abbrev pub joined_by : ℕ → ℕ → List Ranked → List Ranked
-joined_by class colour entries = if class == 0 then entries else entries ++ record { colour = colour; class = class } ∷ []
+joined_by class colour entries =
+    if class == 0 then entries else entries ++ record { colour = colour; class = class } ∷ []
 
 -- the entries once a colour was moved to a class
 abbrev pub moved_to : ℕ → ℕ → List Ranked → List Ranked
-moved_to class colour entries = if class_in colour entries == class then entries else joined_by class colour (gone colour entries)
+moved_to class colour entries = if class_in colour entries == class then entries else joined_by
+    class colour (gone colour entries)
 
 -- these colours are of the class
 abbrev pub ranked : ℕ → List ℕ → List Ranked
@@ -45,7 +48,8 @@ ranked class colours = map (λ colour. record { colour = colour; class = class }
 -- an entry put before the first that has a greater number, and entries by their numbers
 abbrev pub placed : (ℕ → ℕ) → Ranked → List Ranked → List Ranked
 placed number entry [] = entry ∷ []
-placed number entry (next ∷ entries) = if nat_lt (number entry.colour) (number next.colour) then entry ∷ next ∷ entries else next ∷ placed number entry entries
+placed number entry (next ∷ entries) = if nat_lt (number entry.colour) (number next.colour) then
+    entry ∷ next ∷ entries else next ∷ placed number entry entries
 
 abbrev pub by_number : (ℕ → ℕ) → List Ranked → List Ranked
 by_number number [] = []
@@ -58,7 +62,8 @@ merged number one two three = by_number number (ranked 1 one ++ (ranked 2 two ++
 -- the number of the entry is below those of the others
 abbrev pub IsLeast : (ℕ → ℕ) → Ranked → List Ranked → Type 0
 IsLeast number entry [] = Unit {0}
-IsLeast number entry (next ∷ entries) = (number entry.colour < number next.colour) × IsLeast number entry entries
+IsLeast number entry (next ∷ entries) = (number entry.colour < number next.colour)
+    × IsLeast number entry entries
 
 -- the numbers rise
 abbrev pub IsAscending : (ℕ → ℕ) → List Ranked → Type 0
@@ -68,7 +73,8 @@ IsAscending number (entry ∷ entries) = IsLeast number entry entries × IsAscen
 -- the entries are in classes 1 to 3
 abbrev pub AreClassed : List Ranked → Type 0
 AreClassed [] = Unit {0}
-AreClassed (entry ∷ entries) = ((entry.class ≡ 1) ⊎ ((entry.class ≡ 2) ⊎ (entry.class ≡ 3))) × AreClassed entries
+AreClassed (entry ∷ entries) = ((entry.class ≡ 1) ⊎ ((entry.class ≡ 2) ⊎ (entry.class ≡ 3)))
+    × AreClassed entries
 
 -- the entries by their numbers, of which these are the classes
 pub record IsMerged (number : ℕ → ℕ) (entries : List Ranked) (one two three : List ℕ) : Type 0 where
@@ -92,7 +98,8 @@ ends_at ends place = slice_index_or ends place no_ends
 
 -- the one list of a table of links with the ends of three lists, and numbers
 abbrev pub entries_of : List Link → List Ends → List ℕ → List Ranked
-entries_of links ends numbers = merged (number_at numbers) (listed links (ends_at ends 0)) (listed links (ends_at ends 1)) (listed links (ends_at ends 2))
+entries_of links ends numbers = merged (number_at numbers) (listed links (ends_at ends 0))
+    (listed links (ends_at ends 1)) (listed links (ends_at ends 2))
 
 -- the entries are the same by other numbers
 abbrev pub KeepsEntries : List Link → List Ends → List ℕ → List ℕ → Type 0
@@ -113,15 +120,21 @@ pub record StandInOrder (links : List Link) (ends : List Ends) (numbers : List �
   pub one : IsStrung 1 links (ends_at ends 0)
   pub two : IsStrung 2 links (ends_at ends 1)
   pub three : IsStrung 3 links (ends_at ends 2)
-  pub merge : IsMerged (number_at numbers) (entries_of links ends numbers) (listed links (ends_at ends 0)) (listed links (ends_at ends 1)) (listed links (ends_at ends 2))
+  pub merge : IsMerged (number_at numbers) (entries_of links ends numbers)
+      (listed links (ends_at ends 0)) (listed links (ends_at ends 1))
+      (listed links (ends_at ends 2))
   pub below : AreBelow (number_at numbers) next (entries_of links ends numbers)
 
 -- the first place of each list that isn't empty has a number
 abbrev pub HasNumbers : List Ends → List ℕ → Type 0
-HasNumbers ends numbers = (class : ℕ) → class < length ends → (ends_at ends class).len ≢ 0 → (ends_at ends class).first < length numbers
+HasNumbers ends numbers = (class : ℕ) → class < length ends → (ends_at ends class).len ≢ 0
+    → (ends_at ends class).first < length numbers
 
 -- this one of two lists isn't empty where one of them isn't, and its first place then has the smallest number
 pub record IsOlder (ends : List Ends) (numbers : List ℕ) (one other older : ℕ) : Type 0 where
   pub is : (older ≡ one) ⊎ (older ≡ other)
-  pub before_one : (ends_at ends one).len ≢ 0 → ((ends_at ends older).len ≢ 0) × (number_at numbers (ends_at ends older).first ≤ number_at numbers (ends_at ends one).first)
-  pub before_other : (ends_at ends other).len ≢ 0 → ((ends_at ends older).len ≢ 0) × (number_at numbers (ends_at ends older).first ≤ number_at numbers (ends_at ends other).first)
+  pub before_one : (ends_at ends one).len ≢ 0 → ((ends_at ends older).len ≢ 0)
+      × (number_at numbers (ends_at ends older).first ≤ number_at numbers (ends_at ends one).first)
+  pub before_other : (ends_at ends other).len ≢ 0 → ((ends_at ends older).len ≢ 0)
+      × (number_at numbers (ends_at ends older).first
+      ≤ number_at numbers (ends_at ends other).first)

@@ -52,7 +52,8 @@ LastIs last (place ∷ places) = last_from place places ≡ last
 -- of each two neighbours the first names the second as the one behind it, and the second the first as the one before it
 abbrev pub AreJoinedFrom : (ℕ → ℕ) → (ℕ → ℕ) → ℕ → List ℕ → Type 0
 AreJoinedFrom after before place [] = Unit {0}
-AreJoinedFrom after before place (next ∷ places) = (after place ≡ next) × (before next ≡ place) × AreJoinedFrom after before next places
+AreJoinedFrom after before place (next ∷ places) = (after place ≡ next) × (before next ≡ place)
+    × AreJoinedFrom after before next places
 
 abbrev pub AreJoined : (ℕ → ℕ) → (ℕ → ℕ) → List ℕ → Type 0
 AreJoined after before [] = Unit {0}
@@ -65,7 +66,8 @@ pub record IsStrung (number : ℕ) (links : List Link) (ends : Ends) : Type 0 wh
   pub last : LastIs ends.last (listed links ends)
   pub apart : AreDistinct (listed links ends)
   pub below : (place : ℕ) → is_in (listed links ends) place ≡ true → place < length links
-  pub exact : (place : ℕ) → place < length links → is_in (listed links ends) place ≡ (list_at links place == number)
+  pub exact : (place : ℕ) → place < length links → is_in (listed links ends) place
+      ≡ (list_at links place == number)
 
 -- all places but this one are in the lists that they were in
 pub record MovesOnly (place list : ℕ) (old new : List Link) : Type 0 where
@@ -75,7 +77,8 @@ pub record MovesOnly (place list : ℕ) (old new : List Link) : Type 0 where
 
 -- every list but the one of this number stays
 abbrev pub SparesOthers : ℕ → List Link → List Link → Type 0
-SparesOthers number old new = (other : ℕ) (ends : Ends) → 0 < other → (other ≡ number → ⊥) → IsStrung other old ends → (listed new ends ≡ listed old ends) × IsStrung other new ends
+SparesOthers number old new = (other : ℕ) (ends : Ends) → 0 < other → (other ≡ number → ⊥)
+    → IsStrung other old ends → (listed new ends ≡ listed old ends) × IsStrung other new ends
 
 -- one place's link behind it is written, and nothing else
 pub record SetsAfter (place after : ℕ) (old new : List Link) : Type 0 where
@@ -112,7 +115,8 @@ pub record JoinsBehind (place : ℕ) (link : Link) (first : ℕ) (old new : List
   pub lists : (other : ℕ) → list_at new other ≡ list_at old other
   pub befores : (other : ℕ) → before_at new other ≡ before_at old other
   pub here : (first ≡ place → ⊥) → after_at new link.before ≡ link.after
-  pub others : (other : ℕ) → ((first ≡ place) ⊎ (link.before ≡ other → ⊥)) → after_at new other ≡ after_at old other
+  pub others : (other : ℕ) → ((first ≡ place) ⊎ (link.before ≡ other → ⊥))
+      → after_at new other ≡ after_at old other
 
 -- the place behind a place has the one before it as its own, and where there is none behind, the list ends before it
 pub record JoinsBefore (place : ℕ) (link : Link) (last : ℕ) (old new : List Link) : Type 0 where
@@ -120,4 +124,5 @@ pub record JoinsBefore (place : ℕ) (link : Link) (last : ℕ) (old new : List 
   pub lists : (other : ℕ) → list_at new other ≡ list_at old other
   pub afters : (other : ℕ) → after_at new other ≡ after_at old other
   pub here : (last ≡ place → ⊥) → before_at new link.after ≡ link.before
-  pub others : (other : ℕ) → ((last ≡ place) ⊎ (link.after ≡ other → ⊥)) → before_at new other ≡ before_at old other
+  pub others : (other : ℕ) → ((last ≡ place) ⊎ (link.after ≡ other → ⊥))
+      → before_at new other ≡ before_at old other

@@ -15,7 +15,8 @@ pub record Worthy : Type 0 where
 
 -- no marks, and these numbers
 abbrev pub empty_worthy : ℕ → ℕ → ℕ → Worthy
-empty_worthy colours cost pinned = record { marks = []; colours = colours; cost = cost; pinned = pinned }
+empty_worthy colours cost pinned =
+    record { marks = []; colours = colours; cost = cost; pinned = pinned }
 
 -- the mark may be stolen: its colour isn't pinned, and its time left pays for a steal, so its class isn't 0
 abbrev pub is_worthy : ℕ → ℕ → Mark → Bool
@@ -34,11 +35,14 @@ entered cost pinned mark marks = if is_worthy cost pinned mark then marks ++ mar
 
 -- the mark of this colour is of the same class
 abbrev pub keeps_class : ℕ → Mark → List Mark → Bool
-keeps_class cost new marks = option_map_or (λ old. class_of old.worth cost == class_of new.worth cost) (mark_of new.colour marks) false
+keeps_class cost new marks =
+    option_map_or (λ old. class_of old.worth cost == class_of new.worth cost)
+    (mark_of new.colour marks) false
 
 -- the marks after the mark of a colour became this one: it keeps its place within its class, and enters a class that it wasn't in
 abbrev pub changed : ℕ → ℕ → Mark → List Mark → List Mark
-changed cost pinned new marks = if keeps_class cost new marks then replaced new marks else entered cost pinned new (without new.colour marks)
+changed cost pinned new marks = if keeps_class cost new marks then replaced new marks else entered
+    cost pinned new (without new.colour marks)
 
 -- the first mark of a class
 abbrev pub first_of : ℕ → ℕ → List Mark → Option Mark
@@ -46,4 +50,5 @@ first_of cost class marks = find (λ mark. class_of mark.worth cost == class) ma
 
 -- the mark that a thief takes: the first of the highest class that has one
 abbrev pub pick_of : ℕ → List Mark → Option Mark
-pick_of cost marks = option_or (option_or (first_of cost 3 marks) (first_of cost 2 marks)) (first_of cost 1 marks)
+pick_of cost marks =
+    option_or (option_or (first_of cost 3 marks) (first_of cost 2 marks)) (first_of cost 1 marks)

@@ -12,7 +12,11 @@ pub record Told : Type 0 where
 
 -- the mark of a colour
 abbrev pub mark_in : Told → ℕ → Mark
-mark_in told colour = record { colour = record { 0 = colour }; started = slice_index told.started colour; worth = slice_index told.worth colour }
+mark_in told colour = record {
+  colour = record { 0 = colour };
+  started = slice_index told.started colour;
+  worth = slice_index told.worth colour;
+}
 
 -- one colour's mark is written, and nothing else
 pub record SetsMark (mark : Mark) (old new : Told) : Type 0 where
@@ -35,12 +39,18 @@ pub record Stealable : Type 0 where
 
 -- the marks that may be stolen, in the order in which each entered its class
 abbrev pub worthy_of : Stealable → Worthy
-worthy_of table = record { marks = marks_of table.told table.entries; colours = table.colours; cost = table.cost; pinned = table.pinned }
+worthy_of table = record {
+  marks = marks_of table.told table.entries;
+  colours = table.colours;
+  cost = table.cost;
+  pinned = table.pinned;
+}
 
 -- each entry is in the class of its mark
 abbrev pub AreOfClass : ℕ → Told → List Ranked → Type 0
 AreOfClass cost told [] = Unit {0}
-AreOfClass cost told (entry ∷ entries) = (entry.class ≡ class_of (mark_in told entry.colour).worth cost) × AreOfClass cost told entries
+AreOfClass cost told (entry ∷ entries) =
+    (entry.class ≡ class_of (mark_in told entry.colour).worth cost) × AreOfClass cost told entries
 
 -- what the table keeps: its entries are of colours that may be stolen, each in the class of its mark
 pub record AreStealable (table : Stealable) : Type 0 where

@@ -105,7 +105,8 @@ impl Model for StealTable {
       colours = t.colours;
       cost = t.cost;
       pinned = t.pinned;
-    }) × (length t.marks.started ≡ min t.colours 65536) × (t.classes.places ≡ min t.colours 65536) };
+    }) × (length t.marks.started ≡ min t.colours 65536)
+        × (t.classes.places ≡ min t.colours 65536) };
 }
 
 impl StealTable {

@@ -24,7 +24,8 @@ IgnoresSpare {S} t f = (a b : S) → t.alike a b → f a ≡ f b
 
 -- states and events only change their places, but for the spare of a state
 pub record OnlyMoves {S P F : Type 0} (t : TrailWords S F) (before after : Loom S P) : Type 0 where
-  pub states : (f : S → ℕ) → IgnoresSpare t f → sum_by f (states_of after) ≡ sum_by f (states_of before)
+  pub states : (f : S → ℕ) → IgnoresSpare t f → sum_by f (states_of after)
+      ≡ sum_by f (states_of before)
   pub ways : (g : Carried P → ℕ) → sum_by g (under_way after) ≡ sum_by g (under_way before)
 
 module _ {R S P F : Type 0} (t : TrailWords S F) (fits : F → Colour → Event → Option P → Type 0) (y : AppWords R P S F) (app : R) (before after : Loom S P) where
@@ -42,7 +43,8 @@ module _ {R S P F : Type 0} (t : TrailWords S F) (fits : F → Colour → Event 
     pub back : List S
     pub was : states_of before ≡ front ++ (state ∷ []) ++ back
     pub is : states_of after ≡ front ++ (becomes ∷ []) ++ back
-    pub ways : (g : Carried P → ℕ) → sum_by g (under_way after) + g event ≡ sum_by g (under_way before) + sum_by g (carried_by puts)
+    pub ways : (g : Carried P → ℕ) → sum_by g (under_way after) + g event
+        ≡ sum_by g (under_way before) + sum_by g (carried_by puts)
 
   -- a step runs one event, or it only moves states and events
   abbrev pub StepTells : Type 0
@@ -51,10 +53,12 @@ module _ {R S P F : Type 0} (t : TrailWords S F) (fits : F → Colour → Event 
 -- the states stay, and so much more is under way
 pub record GainsOnly {S P : Type 0} (before after : Loom S P) (more : List (Carried P)) : Type 0 where
   pub states : (f : S → ℕ) → sum_by f (states_of after) ≡ sum_by f (states_of before)
-  pub ways : (g : Carried P → ℕ) → sum_by g (under_way after) ≡ sum_by g (under_way before) + sum_by g more
+  pub ways : (g : Carried P → ℕ) → sum_by g (under_way after)
+      ≡ sum_by g (under_way before) + sum_by g more
 
 -- what was posted is under way, and a refused post changes nothing
-abbrev pub PostTells : {S P : Type 0} → Event → Option P → Result Registered (Unregistered P) → Loom S P → Loom S P → Type 0
+abbrev pub PostTells : {S P : Type 0} → Event → Option P → Result Registered (Unregistered P)
+    → Loom S P → Loom S P → Type 0
 PostTells event load (Ok reply) before after = GainsOnly before after ((event, load) ∷ [])
 PostTells event load (Err back) before after = GainsOnly before after []
 
@@ -67,22 +71,29 @@ pub record IsMadeOf {S P : Type 0} (loom : Loom S P) (all : List S) (left : List
 pub record BeginsAs {S P F : Type 0} (t : TrailWords S F) (states : List S) (loom : Loom S P) : Type 0 where
   pub made : IsMadeOf loom states []
   pub free : AllFree loom
-  pub framed : (i : ℕ) (state : S) → slice_get states i ≡ Some state → t.frame_of state ≡ t.frame_of loom.given
+  pub framed : (i : ℕ) (state : S) → slice_get states i ≡ Some state
+      → t.frame_of state ≡ t.frame_of loom.given
 
 -- A weave is taken apart: it was made of these states, and of what is queued and was lost. The histories are legal; where the weave's are drained so are these, and nothing is queued. There is a state for each colour, with its frame, whose trail is what was run of it.
 pub record IsTakenApart {S P F : Type 0} (t : TrailWords S F) (loom : Loom S P) (histories : List (List Entry)) (states : List S) (queued : List (List (Carried P))) (lost : List (Colour × Event × Option P)) : Type 0 where
   pub made : IsMadeOf loom states (flat_map (λ events. events) queued ++ carried_by lost)
   pub legal : AreLegal loom.setup histories
-  pub drained : HistoriesAreDrained loom → (shard : ℕ) (history : List Entry) → slice_get histories shard ≡ Some history → IsDrained history
+  pub drained : HistoriesAreDrained loom → (shard : ℕ) (history : List Entry)
+      → slice_get histories shard ≡ Some history → IsDrained history
   pub emptied : HistoriesAreDrained loom → flat_map (λ events. events) queued ≡ []
   pub many : length states ≡ colours_of loom.setup
-  pub coloured : (c : Colour) (state : S) → slice_get states c.0 ≡ Some state → t.colour_of state ≡ c
-  pub framed : (c : Colour) (state : S) → slice_get states c.0 ≡ Some state → t.frame_of state ≡ t.frame_of loom.given
-  pub trailed : (c : Colour) (state : S) (history : List Entry) → slice_get states c.0 ≡ Some state → slice_get histories (shard_of loom.setup c) ≡ Some history → t.trail_of state ≡ ran_of history c
+  pub coloured : (c : Colour) (state : S) → slice_get states c.0 ≡ Some state
+      → t.colour_of state ≡ c
+  pub framed : (c : Colour) (state : S) → slice_get states c.0 ≡ Some state
+      → t.frame_of state ≡ t.frame_of loom.given
+  pub trailed : (c : Colour) (state : S) (history : List Entry) → slice_get states c.0 ≡ Some state
+      → slice_get histories (shard_of loom.setup c) ≡ Some history
+      → t.trail_of state ≡ ran_of history c
 
 -- what is still under way in the parts fits: what is queued the colour of its place, and what was lost its own
 pub record PartsFit {S P F : Type 0} (t : TrailWords S F) (fits : F → Colour → Event → Option P → Type 0) (loom : Loom S P) (waits : List (List (Carried P))) (refused : List (Colour × Event × Option P)) : Type 0 where
-  pub queued : (c : Colour) (events : List (Carried P)) → slice_get waits c.0 ≡ Some events → EachFits (fits (t.frame_of loom.given) c) events
+  pub queued : (c : Colour) (events : List (Carried P)) → slice_get waits c.0 ≡ Some events
+      → EachFits (fits (t.frame_of loom.given) c) events
   pub lost : AllByRecursion (FitsSetup fits loom.setup (t.frame_of loom.given)) refused
 
 -- a number of the whole weave: what all its states have, and what all events under way bring
@@ -90,6 +101,10 @@ abbrev pub total_of : {S P : Type 0} → (S → ℕ) → (Carried P → ℕ) →
 total_of had brought loom = sum_by had (states_of loom) + sum_by brought (under_way loom)
 
 -- whatever an event brings to a state, its handler leaves there or hands on by what it puts
-abbrev pub HandlersKeep : {R S P F : Type 0} → TrailWords S F → (F → Colour → Event → Option P → Type 0) → AppWords R P S F → R → (S → ℕ) → (Carried P → ℕ) → Type 0
-HandlersKeep {S = S} {P = P} t fits y app had brought = (state : S) (event : Event) (load : Option P) (becomes : S) (puts : List (Colour × Event × Option P)) → fits (t.frame_of state) (t.colour_of state) event load → y.runs app state event load becomes puts
+abbrev pub HandlersKeep : {R S P F : Type 0} → TrailWords S F → (F → Colour → Event → Option P
+    → Type 0) → AppWords R P S F → R → (S → ℕ) → (Carried P → ℕ) → Type 0
+HandlersKeep {S = S} {P = P} t fits y app had brought =
+    (state : S) (event : Event) (load : Option P) (becomes : S) (puts : List (Colour × Event
+    × Option P)) → fits (t.frame_of state) (t.colour_of state) event load
+    → y.runs app state event load becomes puts
     → had becomes + sum_by brought (carried_by puts) ≡ had state + brought (event, load)

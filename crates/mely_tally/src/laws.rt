@@ -32,8 +32,10 @@ pub fn a_first_weave_has_what_it_was_given<S: Fits<P>, P>()
 
 /// A post moves no state. What was posted is under way then, and after a refused post all is as before.
 pub fn a_post_brings_its_event<S: Fits<P>, P>()
-    ensures { (colour : Colour) (event : Event) (load : Option P) (answer : Result Registered (Unregistered P))
-        (before after : Loom S P) → PostCall S.Trail S.fits_under colour event load answer before after
+    ensures { (colour : Colour) (event : Event) (load : Option P)
+        (answer : Result Registered (Unregistered P))
+        (before after : Loom S P)
+        → PostCall S.Trail S.fits_under colour event load answer before after
         → PostTells event load answer before after }
 {}
 
@@ -41,7 +43,8 @@ pub fn a_post_brings_its_event<S: Fits<P>, P>()
 /// becomes the one that the handler left, the event is no longer under way, and what the handler put is. Every
 /// other step only moves states and events, but that it may make room in a state.
 pub fn a_step_runs_one_event_or_only_moves<S: Fits<P>, P, R: App<State = S, Load = P>>()
-    ensures { (app : R) (core : ℕ) (step : Made) (before after : Loom S P) → StandsWell S.Trail S.fits_under before
+    ensures { (app : R) (core : ℕ) (step : Made) (before after : Loom S P)
+        → StandsWell S.Trail S.fits_under before
         → StepCall S.Trail S.fits_under R.App app core step before after
         → StepTells S.Trail S.fits_under R.App app before after }
 {}
@@ -51,12 +54,14 @@ pub fn a_step_runs_one_event_or_only_moves<S: Fits<P>, P, R: App<State = S, Load
 pub fn what_each_handler_keeps_a_run_keeps<S: Fits<P>, P, R: App<State = S, Load = P>>()
     ensures step { (app : R) (had : S → ℕ) (brought : Carried P → ℕ) → IgnoresSpare S.Trail had
         → HandlersKeep S.Trail S.fits_under R.App app had brought
-        → (core : ℕ) (step : Made) (before after : Loom S P) → StandsWell S.Trail S.fits_under before
+        → (core : ℕ) (step : Made) (before after : Loom S P)
+        → StandsWell S.Trail S.fits_under before
         → StepCall S.Trail S.fits_under R.App app core step before after
         → total_of had brought after ≡ total_of had brought before }
     ensures run { (app : R) (had : S → ℕ) (brought : Carried P → ℕ) → IgnoresSpare S.Trail had
         → HandlersKeep S.Trail S.fits_under R.App app had brought
-        → (cores : List ℕ) (went : Went) (before after : Loom S P) → StandsWell S.Trail S.fits_under before
+        → (cores : List ℕ) (went : Went) (before after : Loom S P)
+        → StandsWell S.Trail S.fits_under before
         → RunsTo S.Trail S.fits_under R.App app before cores went after
         → total_of had brought after ≡ total_of had brought before }
     ensures drain { (app : R) (had : S → ℕ) (brought : Carried P → ℕ) → IgnoresSpare S.Trail had
@@ -78,7 +83,8 @@ pub fn a_drained_weave_has_only_what_was_refused<S: Fits<P>, P>()
 pub fn the_parts_are_what_the_weave_had<S: Fits<P>, P>()
     ensures { (loom : Loom S P) (histories : List (List Entry)) (states : List S)
         (queued : List (List (Carried P))) (lost : List (Colour × Event × Option P))
-        → StandsWell S.Trail S.fits_under loom → WeaveStands S.Trail S.fits_under loom → AllFree loom
+        → StandsWell S.Trail S.fits_under loom
+        → WeaveStands S.Trail S.fits_under loom → AllFree loom
         → histories ≡ map (λ has. has.history) loom.shards
         → AreByColour (λ lane. lane.state) loom.setup loom.shards (map (λ state. Some state) states)
         → AreByColour (λ lane. lane.events) loom.setup loom.shards queued
@@ -89,7 +95,8 @@ pub fn the_parts_are_what_the_weave_had<S: Fits<P>, P>()
 /// What is queued in the parts that a weave is taken apart into fits the colour whose queue it is, and what was refused
 /// for memory is of a colour and a handler of the setup, and fits.
 pub fn what_is_left_in_the_parts_fits<S: Fits<P>, P>()
-    ensures { (loom : Loom S P) (queued : List (List (Carried P))) (lost : List (Colour × Event × Option P))
+    ensures { (loom : Loom S P) (queued : List (List (Carried P)))
+        (lost : List (Colour × Event × Option P))
         → WeaveStands S.Trail S.fits_under loom
         → AreByColour (λ lane. lane.events) loom.setup loom.shards queued
         → lost ≡ flat_map (λ w. w.lost) loom.workers

@@ -30,7 +30,8 @@ fn play<R: Wait>(
     requires colours { app.now.colours ≤ colours_of weave.setup }
     requires handlers { 1 ≤ length (rows_of (handlers_of weave.setup)) }
     ensures { sum_by (λ purse. purse.coins) result.states.items
-        + sum_by (λ way. unwrap_or way.1 0) (flat_map (λ events. events) (map (λ queue. queue.items) result.queued.items) ++ carried_by result.lost.items)
+        + sum_by (λ way. unwrap_or way.1 0) (flat_map (λ events.
+        events) (map (λ queue. queue.items) result.queued.items) ++ carried_by result.lost.items)
         ≡ total_of (λ purse. purse.coins) (λ way. unwrap_or way.1 0) weave }
 {
     what_each_handler_keeps_a_run_keeps::<Purse, u64, Paying>();
@@ -66,7 +67,8 @@ fn small_setup() -> Result<Setup, Fail>
 
 /// A purse with a hundred coins for each colour.
 fn purses(alloc: Global, colours: u16) -> Result<Vec<Purse>, Memory>
-    ensures { IfOk result (λ states. AreBlank (λ state. state.log.colour) (λ state. state.log.events) colours states.items) }
+    ensures { IfOk result (λ states. AreBlank (λ state. state.log.colour) (λ state.
+        state.log.events) colours states.items) }
 {
     let mut states = Vec::new(alloc);
     'colours: for colour in 0..colours {

@@ -23,7 +23,7 @@ pub count_cons : (p : Placed → Bool) (x : Placed) (xs : List Placed) → count
 count_cons p x xs = omega (arith, count_append p (x ∷ []) xs)
 
 -- one chain changes
-pub count_chains : (p : Placed → Bool) (core k at : ℕ) (chains : List Chain) (old new : Chain) → at ≡ core + k → slice_get chains k ≡ Some old
+count_chains : (p : Placed → Bool) (core k at : ℕ) (chains : List Chain) (old new : Chain) → at ≡ core + k → slice_get chains k ≡ Some old
     → count_by p (in_chains core (slice_set chains k new)) + count_by p (lying at old.chain) ≡ count_by p (in_chains core chains) + count_by p (lying at new.chain)
 unfolding in_chains
 count_chains p core k at [] old new e h = cc

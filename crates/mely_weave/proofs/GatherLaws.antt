@@ -38,7 +38,7 @@ use Rattle.mely_weave.proofs.SideLaws.{get_map}
 use Rattle.mely_weave.proofs.VictimLaws.{victims_are_others, IsOther}
 
 -- a ready colour is one of the setup, and its owner is a core
-pub ready_within : (setup : Setup) (history : List Entry) (c : Colour) → IsLegal setup history → (readiness_of setup (account_of setup history c)).ready ≡ true → (c.0 < colours_of setup) × ((readiness_of setup (account_of setup history c)).owner < (shape_of setup).cores)
+ready_within : (setup : Setup) (history : List Entry) (c : Colour) → IsLegal setup history → (readiness_of setup (account_of setup history c)).ready ≡ true → (c.0 < colours_of setup) × ((readiness_of setup (account_of setup history c)).owner < (shape_of setup).cores)
 ready_within setup history c legal ready =
     let waits = (ready_rests setup (account_of setup history c) ready).1 in (
       elim (cases_lt c.0 (colours_of setup)) [
@@ -74,7 +74,7 @@ free_may t fits setup own frame owes (Pushing to mark) free = cc
 free_may t fits setup own frame owes (Turning turn hand puts) free = cc
 
 -- free workers hold nothing
-pub free_workers : {S P : Type 0} (workers : List (WorkerView S P)) → ((core : ℕ) (w : WorkerView S P) → slice_get workers core ≡ Some w → IsTrue (is_free w.phase)) → flat_map held_by workers ≡ []
+free_workers : {S P : Type 0} (workers : List (WorkerView S P)) → ((core : ℕ) (w : WorkerView S P) → slice_get workers core ≡ Some w → IsTrue (is_free w.phase)) → flat_map held_by workers ≡ []
 free_workers [] free = refl
 free_workers (w ∷ ws) free = ap (λ marks. marks ++ flat_map held_by ws) (free_holds w.core w.phase (free 0 w refl)) ∙ free_workers ws (λ core v at. free (suc core) v at)
 

@@ -16,7 +16,7 @@ use Rattle.mely_weave.proofs.Counts.{Alike, lying, count_append, count_cons, cou
 use Rattle.mely_weave.proofs.MarkLaws.{stand_changed}
 
 -- a chain is one mark with the others
-pub count_without : (p : Placed → Bool) (core : ℕ) (c : Colour) (chain : List Mark) (mark : Mark) → IsOneEach chain → mark_of c chain ≡ Some mark → count_by p (lying core chain) ≡ count_by p (lying core (without c chain)) + bit (p (core, mark))
+count_without : (p : Placed → Bool) (core : ℕ) (c : Colour) (chain : List Mark) (mark : Mark) → IsOneEach chain → mark_of c chain ≡ Some mark → count_by p (lying core chain) ≡ count_by p (lying core (without c chain)) + bit (p (core, mark))
 count_without p core c [] mark one there = absurd (none-some mark there)
 count_without p core c (x ∷ xs) mark one there = elim (cases_Bool (is_mark_of c x)) [
   | inl hit ↦
@@ -43,7 +43,7 @@ replaced-none new (x ∷ xs) none = elim (cases_Bool (is_mark_of new.colour x)) 
 ]
 
 -- a chain in which a mark was replaced is the new one with the others
-pub count_replaced : (p : Placed → Bool) (core : ℕ) (new old : Mark) (chain : List Mark) → IsOneEach chain → mark_of new.colour chain ≡ Some old → count_by p (lying core (replaced new chain)) ≡ count_by p (lying core (without new.colour chain)) + bit (p (core, new))
+count_replaced : (p : Placed → Bool) (core : ℕ) (new old : Mark) (chain : List Mark) → IsOneEach chain → mark_of new.colour chain ≡ Some old → count_by p (lying core (replaced new chain)) ≡ count_by p (lying core (without new.colour chain)) + bit (p (core, new))
 count_replaced p core new old [] one there = absurd (none-some old there)
 count_replaced p core new old (x ∷ xs) one there =
     let c : Colour = new.colour in
@@ -61,7 +61,7 @@ count_replaced p core new old (x ∷ xs) one there =
     ]
 
 -- a chain that has a mark of the colour counts one
-pub count_there : (core : ℕ) (c : Colour) (chain : List Mark) → IsSome (mark_of c chain) → 1 ≤ count_by (is_of c) (lying core chain)
+count_there : (core : ℕ) (c : Colour) (chain : List Mark) → IsSome (mark_of c chain) → 1 ≤ count_by (is_of c) (lying core chain)
 count_there core c [] there = let no : is_some {T = Mark} None ≡ true = there in cc
 count_there core c (x ∷ xs) there = elim (cases_Bool (is_mark_of c x)) [
   | inl hit ↦ omega (arith, count_cons (is_of c) (core, x) (lying core xs), ap bit hit)

@@ -11,12 +11,12 @@ use Rattle.mely_weave.specs.Marks.{Placed, is_of, is_told, bit, MarksStand}
 use Rattle.mely_weave.proofs.Counts.{Alike, count_append, count_cons}
 
 -- a test that implies one of two passes no more often than they do
-pub count_below : (p q r : Placed → Bool) (xs : List Placed) → ((x : Placed) → bit (p x) ≤ bit (q x) + bit (r x)) → count_by p xs ≤ count_by q xs + count_by r xs
+count_below : (p q r : Placed → Bool) (xs : List Placed) → ((x : Placed) → bit (p x) ≤ bit (q x) + bit (r x)) → count_by p xs ≤ count_by q xs + count_by r xs
 count_below p q r [] h = omega arith
 count_below p q r (x ∷ xs) h = omega (arith, h x, count_below p q r xs h, count_cons p x xs, count_cons q x xs, count_cons r x xs)
 
 -- a test that implies another passes no more often
-pub count_implied : (p q : Placed → Bool) (xs : List Placed) → ((x : Placed) → bit (p x) ≤ bit (q x)) → count_by p xs ≤ count_by q xs
+count_implied : (p q : Placed → Bool) (xs : List Placed) → ((x : Placed) → bit (p x) ≤ bit (q x)) → count_by p xs ≤ count_by q xs
 count_implied p q [] h = omega arith
 count_implied p q (x ∷ xs) h = omega (arith, h x, count_implied p q xs h, count_cons p x xs, count_cons q x xs)
 
@@ -24,19 +24,19 @@ count_implied p q (x ∷ xs) h = omega (arith, h x, count_implied p q xs h, coun
 abbrev pub OfColour : Colour → List Placed → Type 0
 OfColour c xs = AllByRecursion (λ p. p.1.colour.0 ≡ c.0) xs
 
-pub count_own : (c : Colour) (xs : List Placed) → OfColour c xs → count_by (is_of c) xs ≡ length xs
+count_own : (c : Colour) (xs : List Placed) → OfColour c xs → count_by (is_of c) xs ≡ length xs
 count_own c [] h = refl
 count_own c (x ∷ xs) h =
     let yes : is_of c x ≡ true = eq-eqb x.1.colour.0 c.0 h.0 in
     omega (arith, count_own c xs h.1, count_cons (is_of c) x xs, ap bit yes)
 
-pub count_other : (c d : Colour) (xs : List Placed) → d.0 ≢ c.0 → OfColour c xs → count_by (is_of d) xs ≡ 0
+count_other : (c d : Colour) (xs : List Placed) → d.0 ≢ c.0 → OfColour c xs → count_by (is_of d) xs ≡ 0
 count_other c d [] n h = refl
 count_other c d (x ∷ xs) n h =
     let no : is_of d x ≡ false = ne_eqb x.1.colour.0 d.0 (λ e. n (sym e ∙ h.0)) in
     omega (arith, count_other c d xs n h.1, count_cons (is_of d) x xs, ap bit no)
 
-pub count_told : (of : Colour → Readiness) (xs : List Placed) → AllByRecursion (λ p. is_told of p ≡ true) xs → count_by (λ p. not (is_told of p)) xs ≡ 0
+count_told : (of : Colour → Readiness) (xs : List Placed) → AllByRecursion (λ p. is_told of p ≡ true) xs → count_by (λ p. not (is_told of p)) xs ≡ 0
 count_told of [] h = refl
 count_told of (x ∷ xs) h =
     omega (arith, count_told of xs h.1, count_cons (λ p. not (is_told of p)) x xs, ap (λ b. bit (not b)) h.0)

@@ -54,7 +54,7 @@ Grows old new = (more : List Entry) × (new.history ≡ old.history ++ more)
 abbrev pub ShardsGrow : {S P : Type 0} → List (Contents S P) → List (Contents S P) → Type 0
 ShardsGrow {S} {P} before after = (number : ℕ) (has : Contents S P) → slice_get before number ≡ Some has → (is : Contents S P) × (slice_get after number ≡ Some is) × Grows has is
 
-pub grows_same : {S P : Type 0} (old new : Contents S P) → new.history ≡ old.history → Grows old new
+grows_same : {S P : Type 0} (old new : Contents S P) → new.history ≡ old.history → Grows old new
 grows_same old new same = ([], same ∙ sym (append-nil old.history))
 
 pub shards_itself : {S P : Type 0} (shards after : List (Contents S P)) → after ≡ shards → ShardsGrow shards after
@@ -66,7 +66,7 @@ shards_onward a b c one other number has there =
     let second = other number first.0 first.1 in
     (second.0, second.1, (first.2.0 ++ second.2.0, second.2.1 ∙ ap (λ l. l ++ second.2.0) first.2.1 ∙ append_assoc has.history first.2.0 second.2.0))
 
-pub shards_set : {S P : Type 0} (shards : List (Contents S P)) (place : ℕ) (old new : Contents S P) → slice_get shards place ≡ Some old → Grows old new → ShardsGrow shards (slice_set shards place new)
+shards_set : {S P : Type 0} (shards : List (Contents S P)) (place : ℕ) (old new : Contents S P) → slice_get shards place ≡ Some old → Grows old new → ShardsGrow shards (slice_set shards place new)
 shards_set shards place old new was grows number has there = ⊎_elim
     (λ (same : number ≡ place).
     let that : old ≡ has = same_Some old has (sym was ∙ ap (slice_get shards) (sym same) ∙ there) in
@@ -78,11 +78,11 @@ pub register_grows : {S P : Type 0} (c : Colour) (event : Event) (load : Option 
 register_grows c event load by (Ok reply) old new does = (_, does.0.after.history)
 register_grows c event load by (Err back) old new does = grows_same old new does.history
 
-pub take_grows : {S P F : Type 0} (t : TrailWords S F) (c : Colour) (core : ℕ) (answer : Result (Taken S P) NoTake) (old new : Contents S P) → TakeAs t c core answer old new → Grows old new
+take_grows : {S P F : Type 0} (t : TrailWords S F) (c : Colour) (core : ℕ) (answer : Result (Taken S P) NoTake) (old new : Contents S P) → TakeAs t c core answer old new → Grows old new
 take_grows t c core (Ok turn) old new does = (_, does.after.history)
 take_grows t c core (Err why) old new does = grows_same old new does.0.history
 
-pub steal_grows : {S P : Type 0} (c : Colour) (to : ℕ) (answer : Result Stolen NoSteal) (old new : Contents S P) → StealAs c to answer old new → Grows old new
+steal_grows : {S P : Type 0} (c : Colour) (to : ℕ) (answer : Result Stolen NoSteal) (old new : Contents S P) → StealAs c to answer old new → Grows old new
 steal_grows c to (Ok stolen) old new does = (_, does.history)
 steal_grows c to (Err why) old new does = grows_same old new does.0.history
 
@@ -195,17 +195,14 @@ module _ {S P F R : Type 0} (t : TrailWords S F) (Keep : Scene S P → Type 0) (
   pub step_stays : Steps (side_words t Keep) y app a w step b v → StepStays a b w v
   step_stays line = phase_stays w.phase line
 
-pub same_itself : {S P : Type 0} (a : Loom S P) → KeepsSetup a a
-same_itself a = record { setup = refl; given = refl }
-
 pub same_onward : {S P : Type 0} (a b c : Loom S P) → KeepsSetup a b → KeepsSetup b c → KeepsSetup a c
 same_onward a b c one other = record { setup = other.setup ∙ one.setup; given = other.given ∙ one.given }
 
 -- lists of steps
-pub none_of_none : NoneMetWant []
+none_of_none : NoneMetWant []
 none_of_none k d low = absurd (omega (arith, low))
 
-pub one_without : (core : ℕ) (step : Made) → step ≢ made.Memory → NoneMetWant ((core, step) ∷ [])
+one_without : (core : ℕ) (step : Made) → step ≢ made.Memory → NoneMetWant ((core, step) ∷ [])
 one_without core step ne zero d low = ne
 one_without core step ne (suc k) d low = absurd (omega (arith, low))
 
@@ -289,11 +286,11 @@ module _ {R S P F : Type 0} (t : TrailWords S F) (fits : F → Colour → Event 
       }
 
 -- one core so many times, and once more
-pub once_more : (n : ℕ) (core : ℕ) → replicate (n + 1) core ≡ replicate n core ++ core ∷ []
+once_more : (n : ℕ) (core : ℕ) → replicate (n + 1) core ≡ replicate n core ++ core ∷ []
 once_more n core = sym (replicate-append-replicate n 1 core)
 
 -- of so many times the first ones, the next one, and the others
-pub times_apart : (n count core : ℕ) → n < count → replicate count core ≡ replicate n core ++ (core ∷ [] ++ replicate (count - n - 1) core)
+times_apart : (n count core : ℕ) → n < count → replicate count core ≡ replicate n core ++ (core ∷ [] ++ replicate (count - n - 1) core)
 times_apart n count core less =
     let total : n + (1 + (count - n - 1)) ≡ count = omega (arith, less) in
     ap (λ m. replicate m core) (sym total) ∙ sym (replicate-append-replicate n (1 + (count - n - 1)) core) ∙ ap (λ l. replicate n core ++ l) (sym (replicate-append-replicate 1 (count - n - 1) core))
@@ -302,16 +299,16 @@ times_apart n count core less =
 abbrev times_named : ℕ × ℕ → List ℕ
 times_named part = replicate part.1 part.0
 
-pub spelled_more : (schedule : List (ℕ × ℕ)) (i : ℕ) (d : ℕ × ℕ) → i < length schedule → spelled_out (take (suc i) schedule) ≡ spelled_out (take i schedule) ++ replicate (get_or schedule i d).1 (get_or schedule i d).0
+spelled_more : (schedule : List (ℕ × ℕ)) (i : ℕ) (d : ℕ × ℕ) → i < length schedule → spelled_out (take (suc i) schedule) ≡ spelled_out (take i schedule) ++ replicate (get_or schedule i d).1 (get_or schedule i d).0
 spelled_more schedule i d less =
     ap spelled_out (take-suc schedule i d less) ∙ flat_map-append times_named (take i schedule) (get_or schedule i d ∷ []) ∙ ap (λ l. spelled_out (take i schedule) ++ l) (append-nil (times_named (get_or schedule i d)))
 
-pub spelled_apart : (schedule : List (ℕ × ℕ)) (i : ℕ) (d : ℕ × ℕ) → i < length schedule → spelled_out schedule ≡ spelled_out (take i schedule) ++ (replicate (get_or schedule i d).1 (get_or schedule i d).0 ++ spelled_out (drop (suc i) schedule))
+spelled_apart : (schedule : List (ℕ × ℕ)) (i : ℕ) (d : ℕ × ℕ) → i < length schedule → spelled_out schedule ≡ spelled_out (take i schedule) ++ (replicate (get_or schedule i d).1 (get_or schedule i d).0 ++ spelled_out (drop (suc i) schedule))
 spelled_apart schedule i d less =
     let apart : schedule ≡ take i schedule ++ get_or schedule i d ∷ drop (suc i) schedule = sym (take-append-drop i schedule) ∙ ap (λ l. take i schedule ++ l) (drop-cons schedule i d less) in
     ap spelled_out apart ∙ flat_map-append times_named (take i schedule) (get_or schedule i d ∷ drop (suc i) schedule)
 
-pub spelled_length : (schedule : List (ℕ × ℕ)) → length (spelled_out schedule) ≡ sum_by (λ part. part.1) schedule
+spelled_length : (schedule : List (ℕ × ℕ)) → length (spelled_out schedule) ≡ sum_by (λ part. part.1) schedule
 spelled_length [] = refl
 spelled_length (part ∷ schedule) =
     length-append (times_named part) (spelled_out schedule) ∙ ap (λ n. n + length (spelled_out schedule)) (length-replicate part.1 part.0) ∙ ap (λ n. part.1 + n) (spelled_length schedule) ∙ sym (sum_by-cons (λ (one : ℕ × ℕ). one.1) part schedule)

@@ -44,7 +44,7 @@ others_set Has xs i old new there all is k x at = ⊎_elim
     (cases_eq k i)
 
 -- a report that is told stays told
-pub report_onward : (of of' : Colour → Readiness) → ((d : Colour) → IsOnward (of d) (of' d)) → (hand : Delivery) → ReportIsTold of hand → ReportIsTold of' hand
+report_onward : (of of' : Colour → Readiness) → ((d : Colour) → IsOnward (of d) (of' d)) → (hand : Delivery) → ReportIsTold of hand → ReportIsTold of' hand
 report_onward of of' on Nothing told = tt
 report_onward of of' on (PushMark core mark) told = tt
 report_onward of of' on (Report core colour started worth) told =

@@ -39,39 +39,62 @@ pub record AtChain {S P : Type 0} (a b : Scene S P) (core : ℕ) (Does : Chain �
   pub becomes : b ≡ record a { chains = slice_set a.chains core new }
 
 -- a registration by the pass of this number
-abbrev pub RegisterAs : {S P : Type 0} → Colour → Event → Option P → ℕ → Result Registered (Unregistered P) → Contents S P → Contents S P → Type 0
-RegisterAs c event load by (Ok reply) old new = Registers old new c event load by × RegisteredAs old.setup old.history new.history c reply
+abbrev pub RegisterAs : {S P : Type 0} → Colour → Event → Option P → ℕ
+    → Result Registered (Unregistered P) → Contents S P → Contents S P → Type 0
+RegisterAs c event load by (Ok reply) old new = Registers old new c event load by
+    × RegisteredAs old.setup old.history new.history c reply
 RegisterAs c event load by (Err back) old new = HasSameContents old new
 
-abbrev pub TakeAs : {S P F : Type 0} → TrailWords S F → Colour → ℕ → Result (Taken S P) NoTake → Contents S P → Contents S P → Type 0
+abbrev pub TakeAs : {S P F : Type 0} → TrailWords S F → Colour → ℕ → Result (Taken S P) NoTake
+    → Contents S P → Contents S P → Type 0
 TakeAs t c core (Ok turn) old new = Takes t old new c core turn
-TakeAs t c core (Err why) old new = KeepsStates t old new × NoTakeAs old.setup old.history c core why
+TakeAs t c core (Err why) old new = KeepsStates t old new
+    × NoTakeAs old.setup old.history c core why
 
 abbrev pub FinishAs : {S P : Type 0} → Taken S P → After → Contents S P → Contents S P → Type 0
-FinishAs turn answer old new = Finishes old new turn × IsRunningOn old.history turn.colour turn.core turn.count × AfterAs old.setup new.history turn.colour answer
+FinishAs turn answer old new = Finishes old new turn
+    × IsRunningOn old.history turn.colour turn.core turn.count
+    × AfterAs old.setup new.history turn.colour answer
 
-abbrev pub StealAs : {S P : Type 0} → Colour → ℕ → Result Stolen NoSteal → Contents S P → Contents S P → Type 0
+abbrev pub StealAs : {S P : Type 0} → Colour → ℕ → Result Stolen NoSteal → Contents S P
+    → Contents S P → Type 0
 StealAs c to (Ok stolen) old new = Steals old new c to stolen
 StealAs c to (Err why) old new = HasSameContents old new × NoStealAs old.setup old.history c to why
 
 -- a mark enters at the back, unless one of its colour is there
 abbrev pub PushAs : Mark → Result (Unit {0}) There → Chain → Chain → Type 0
-PushAs mark (Ok done) old new = (mark_of mark.colour old.chain ≡ None) × (new ≡ record old { chain = old.chain ++ mark ∷ []; worthy = entered old.cost old.pinned mark old.worthy })
+PushAs mark (Ok done) old new = (mark_of mark.colour old.chain ≡ None)
+    × (new ≡ record old {
+      chain = old.chain ++ mark ∷ [];
+      worthy = entered old.cost old.pinned mark old.worthy;
+    })
 PushAs mark (Err there) old new = IsSome (mark_of mark.colour old.chain) × (new ≡ old)
 
 -- the front is taken
 abbrev pub PopAs : Option Mark → Chain → Chain → Type 0
 PopAs None old new = (old.chain ≡ []) × (new ≡ old)
-PopAs (Some mark) old new = (old.chain ≡ mark ∷ new.chain) × (new ≡ record old { chain = new.chain; worthy = without mark.colour old.worthy })
+PopAs (Some mark) old new = (old.chain ≡ mark ∷ new.chain)
+    × (new ≡ record old { chain = new.chain; worthy = without mark.colour old.worthy })
 
 -- the mark of the colour is raised, unless it is of another period
 abbrev pub RetellAs : Colour → ℕ → ℕ → Bool → Chain → Chain → Type 0
-RetellAs c started worth found old new = (found ≡ is_some (told_of c started worth old.chain)) × MatchOption (told_of c started worth old.chain) (new ≡ old) (λ told. new ≡ record old { chain = replaced told old.chain; worthy = changed old.cost old.pinned told old.worthy })
+RetellAs c started worth found old new = (found ≡ is_some (told_of c started worth old.chain))
+    × MatchOption (told_of c started worth old.chain) (new ≡ old) (λ told. new
+    ≡ record old {
+      chain = replaced told old.chain;
+      worthy = changed old.cost old.pinned told old.worthy;
+    })
 
 -- the first mark of the highest class is taken, of those whose colours aren't pinned
 abbrev pub PickAs : Option Mark → Chain → Chain → Type 0
 PickAs None old new = (pick_of old.cost old.worthy ≡ None) × (new ≡ old)
-PickAs (Some mark) old new = (pick_of old.cost old.worthy ≡ Some mark) × (mark_of mark.colour old.chain ≡ Some mark) × (old.cost < mark.worth) × (old.pinned ≤ mark.colour.0) × (new ≡ record old { chain = without mark.colour old.chain; worthy = without mark.colour old.worthy })
+PickAs (Some mark) old new = (pick_of old.cost old.worthy ≡ Some mark)
+    × (mark_of mark.colour old.chain ≡ Some mark) × (old.cost < mark.worth)
+    × (old.pinned ≤ mark.colour.0)
+    × (new ≡ record old {
+      chain = without mark.colour old.chain;
+      worthy = without mark.colour old.worthy;
+    })
 
 -- a turn of the colour is out on the core, and its state is to have all events that were begun
 pub record IsOut {S P : Type 0} (a : Scene S P) (c : Colour) (core count : ℕ) (trail : List Event) : Type 0 where
@@ -80,7 +103,8 @@ pub record IsOut {S P : Type 0} (a : Scene S P) (c : Colour) (core count : ℕ) 
   pub trailed : trail ≡ take (begun_of (history_at a c) c) (registered_of (history_at a c) c)
 
 -- the words of the side of one core; whatever is a fact of the side, each call keeps it
-abbrev pub side_words : {S P F : Type 0} → TrailWords S F → (Scene S P → Type 0) → AccessWords (Scene S P) S P F
+abbrev pub side_words : {S P F : Type 0} → TrailWords S F → (Scene S P → Type 0)
+    → AccessWords (Scene S P) S P F
 side_words t Stands = record {
   setup_of = λ a. a.setup;
   core_of = λ a. a.core;
@@ -99,4 +123,7 @@ side_words t Stands = record {
 
 -- the same in a weave, where a colour has no more than one mark: the mark that a worker pushes is the only one of its colour, so it always enters
 abbrev pub weave_words : {S P F : Type 0} → TrailWords S F → AccessWords (Scene S P) S P F
-weave_words t = record (side_words t (λ _. Unit {0})) { pushes = λ a core mark answer b. (answer ≡ Ok tt) × AtChain a b core (PushAs mark (Ok tt)) }
+weave_words t = record (side_words t (λ _. Unit {0})) {
+  pushes = λ a core mark answer b.
+      (answer ≡ Ok tt) × AtChain a b core (PushAs mark (Ok tt));
+}

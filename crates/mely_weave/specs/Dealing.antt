@@ -4,8 +4,10 @@ use Rattle.std.specs.Prelude.{◌≡◌, ◌+◌, ◌*◌, ℕ, List, Some, leng
 -- what is of colour c lies at place c / shards of pile c % shards, and nothing else lies there
 pub record AreDealt {X Y : Type 0} (items : Y → List X) (shards : ℕ) (all : List X) (piles : List Y) : Type 0 where
   pub many : length piles ≡ shards
-  pub each : (shard : ℕ) (pile : Y) → slice_get piles shard ≡ Some pile → (i : ℕ) → slice_get (items pile) i ≡ slice_get all (i * shards + shard)
+  pub each : (shard : ℕ) (pile : Y) → slice_get piles shard ≡ Some pile → (i : ℕ)
+      → slice_get (items pile) i ≡ slice_get all (i * shards + shard)
 
 -- each thing in a list has what it is to have at its place
 abbrev pub AtEach : {X : Type 0} → (ℕ → X → Type 0) → List X → Type 0
-AtEach {X} Has things = (place : ℕ) (thing : X) → slice_get things place ≡ Some thing → Has place thing
+AtEach {X} Has things = (place : ℕ) (thing : X)
+    → slice_get things place ≡ Some thing → Has place thing

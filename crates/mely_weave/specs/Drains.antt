@@ -19,7 +19,8 @@ use Rattle.mely_weave.specs.Runs.{CoreStep, StepsWell, Makes}
 
 module _ {S P : Type 0} (loom : Loom S P) where
   abbrev pub AllFree : Type 0
-  AllFree = (core : ℕ) (w : WorkerView S P) → slice_get loom.workers core ≡ Some w → is_free w.phase ≡ true
+  AllFree = (core : ℕ) (w : WorkerView S P) → slice_get loom.workers core ≡ Some w
+      → is_free w.phase ≡ true
 
   abbrev pub AllEmpty : Type 0
   AllEmpty = (core : ℕ) (queue : Chain) → slice_get loom.chains core ≡ Some queue → queue.chain ≡ []
@@ -37,7 +38,8 @@ module _ {S P : Type 0} (loom : Loom S P) where
     pub halted : worker.halted ≡ true
 
   abbrev pub NoneHalted : Type 0
-  NoneHalted = (core : ℕ) (w : WorkerView S P) → slice_get loom.workers core ≡ Some w → w.halted ≡ false
+  NoneHalted = (core : ℕ) (w : WorkerView S P) → slice_get loom.workers core
+      ≡ Some w → w.halted ≡ false
 
   -- whether the worker of the core is free
   pub record IsFreeAt (core : ℕ) (free : Bool) : Type 0 where
@@ -47,7 +49,8 @@ module _ {S P : Type 0} (loom : Loom S P) where
 
   -- in no history a colour runs or an event is queued
   abbrev pub HistoriesAreDrained : Type 0
-  HistoriesAreDrained = (number : ℕ) (has : Contents S P) → slice_get loom.shards number ≡ Some has → IsDrained has.history
+  HistoriesAreDrained = (number : ℕ) (has : Contents S P) → slice_get loom.shards number ≡ Some has
+      → IsDrained has.history
 
 module _ {R S P F : Type 0} (t : TrailWords S F) (fits : F → Colour → Event → Option P → Type 0) (y : AppWords R P S F) (app : R) where
   -- one step of each of so many cores, in ascending order
@@ -59,12 +62,15 @@ module _ {R S P F : Type 0} (t : TrailWords S F) (fits : F → Colour → Event 
   -- so many rounds, before each of which no worker was halted and something was left to do
   unfoldable pub Rounds : ℕ → Loom S P → Loom S P → Type 0
   Rounds zero before after = after ≡ before
-  Rounds (suc n) before after = (between : Loom S P) × Rounds n before between × NoneHalted between × (IsQuiet between → ⊥) × MakesRound (shape_of before.setup).cores between after
+  Rounds (suc n) before after = (between : Loom S P) × Rounds n before between × NoneHalted between
+      × (IsQuiet between → ⊥) × MakesRound (shape_of before.setup).cores between after
 
   -- so many steps of the core, before each of which its worker wasn't free
   unfoldable pub Drives : ℕ → ℕ → Loom S P → Loom S P → Type 0
   Drives core zero before after = after ≡ before
-  Drives core (suc n) before after = (between : Loom S P) × Drives core n before between × IsFreeAt between core false × ((step : Made) × StepsWell t fits y app between core step after)
+  Drives core (suc n) before after = (between : Loom S P) × Drives core n before between
+      × IsFreeAt between core false
+      × ((step : Made) × StepsWell t fits y app between core step after)
 
   -- the worker of the core is driven until it is free
   pub record DrivesTo (core : ℕ) (before after : Loom S P) : Type 0 where
@@ -75,9 +81,13 @@ module _ {R S P F : Type 0} (t : TrailWords S F) (fits : F → Colour → Event 
   -- the workers of so many cores are driven until they are free, in ascending order
   unfoldable pub AreDriven : ℕ → Loom S P → Loom S P → Type 0
   AreDriven zero before after = after ≡ before
-  AreDriven (suc core) before after = (between : Loom S P) × AreDriven core before between × DrivesTo core between after
+  AreDriven (suc core) before after = (between : Loom S P) × AreDriven core before between
+      × DrivesTo core between after
 
   -- a drain: rounds until nothing is left to do, or until a worker is halted; every worker is driven then until it is free
   abbrev pub Drains : Loom S P → Drained → Loom S P → Type 0
-  Drains before drained.Empty after = (n : ℕ) × Rounds n before after × NoneHalted after × IsQuiet after × HistoriesAreDrained after
-  Drains before drained.Memory after = (n : ℕ) × (between : Loom S P) × Rounds n before between × SomeHalted between × AreDriven (shape_of before.setup).cores between after × SomeHalted after × AllFree after
+  Drains before drained.Empty after = (n : ℕ) × Rounds n before after × NoneHalted after
+      × IsQuiet after × HistoriesAreDrained after
+  Drains before drained.Memory after = (n : ℕ) × (between : Loom S P) × Rounds n before between
+      × SomeHalted between × AreDriven (shape_of before.setup).cores between after
+      × SomeHalted after × AllFree after

@@ -47,18 +47,21 @@ chain_of setup marks = record {
 -- each core's chain has the marks of the ready colours below a number that the core owns
 pub record AreChained (setup : Setup) (of : Colour → Readiness) (n : ℕ) (chains : List Chain) : Type 0 where
   pub many : length chains ≡ (shape_of setup).cores
-  pub each : (core : ℕ) (queue : Chain) → slice_get chains core ≡ Some queue → queue ≡ chain_of setup (marks_below of core n)
+  pub each : (core : ℕ) (queue : Chain) → slice_get chains core ≡ Some queue
+      → queue ≡ chain_of setup (marks_below of core n)
 
 -- each core's chain has the marks of all ready colours that the core owns
 abbrev pub AreChainedAnew : {S P : Type 0} → Setup → List (Contents S P) → List Chain → Type 0
-AreChainedAnew setup shards chains = AreChained setup (readiness_for setup shards) (colours_of setup) chains
+AreChainedAnew setup shards chains =
+    AreChained setup (readiness_for setup shards) (colours_of setup) chains
 
 -- a shard that is gathered: it is the setup's shard of this number, and no colour of it runs
 pub record MayGatherShard {S P F : Type 0} (t : TrailWords S F) (setup : Setup) (frame : F) (number : ℕ) (has : Contents S P) : Type 0 where
   pub of_setup : has.setup ≡ setup
   pub numbered : has.shard ≡ number
   pub at_rest : (c : Colour) → IsOwn has c → ¬ IsRunning has.history c
-  pub framed : (i : ℕ) (given : S) → slice_get (givens has) i ≡ Some given → t.frame_of given ≡ frame
+  pub framed : (i : ℕ) (given : S) → slice_get (givens has) i ≡ Some given
+      → t.frame_of given ≡ frame
 
 -- a chain that is gathered: it is of the setup's numbers, whatever it holds
 pub record MayGatherChain (setup : Setup) (queue : Chain) : Type 0 where
@@ -78,11 +81,14 @@ pub record MayGatherWorker {S P F : Type 0} (fits : F → Colour → Event → O
 pub record MayGather {S P F : Type 0} (t : TrailWords S F) (fits : F → Colour → Event → Option P → Type 0) (setup : Setup) (shards : List (Contents S P)) (chains : List Chain) (workers : List (WorkerView S P)) : Type 0 where
   pub frame : F
   pub shard_count : length shards ≡ (shape_of setup).shards
-  pub shard : (number : ℕ) (has : Contents S P) → slice_get shards number ≡ Some has → MayGatherShard t setup frame number has
+  pub shard : (number : ℕ) (has : Contents S P) → slice_get shards number ≡ Some has
+      → MayGatherShard t setup frame number has
   pub chain_count : length chains ≡ (shape_of setup).cores
-  pub chain : (core : ℕ) (queue : Chain) → slice_get chains core ≡ Some queue → MayGatherChain setup queue
+  pub chain : (core : ℕ) (queue : Chain) → slice_get chains core ≡ Some queue
+      → MayGatherChain setup queue
   pub worker_count : length workers ≡ (shape_of setup).cores
-  pub worker : (core : ℕ) (w : WorkerView S P) → slice_get workers core ≡ Some w → MayGatherWorker fits setup frame core w
+  pub worker : (core : ℕ) (w : WorkerView S P) → slice_get workers core ≡ Some w
+      → MayGatherWorker fits setup frame core w
 
 -- the shard is the setup's of this number, with a legal history
 pub record IsOwnShard {S P : Type 0} (setup : Setup) (number : ℕ) (has : Contents S P) : Type 0 where

@@ -18,4 +18,5 @@ lane_for setup shards c = lane_in (slice_get shards (shard_of setup c)) c
 -- something of each colour, in ascending order
 pub record AreByColour {S P X : Type 0} (of : Lane S P → X) (setup : Setup) (shards : List (Contents S P)) (xs : List X) : Type 0 where
   pub many : length xs ≡ colours_of setup
-  pub each : (c : Colour) (lane : Lane S P) → c.0 < colours_of setup → lane_for setup shards c ≡ Some lane → slice_get xs c.0 ≡ Some (of lane)
+  pub each : (c : Colour) (lane : Lane S P) → c.0 < colours_of setup
+      → lane_for setup shards c ≡ Some lane → slice_get xs c.0 ≡ Some (of lane)

@@ -17,14 +17,17 @@ use Rattle.mely_weave.specs.StandsWell.{Loom}
 -- one state with an empty trail for each colour, in ascending order, all of one frame
 pub record AreFirst {S F : Type 0} (t : TrailWords S F) (setup : Setup) (states : List S) : Type 0 where
   pub all : length states ≡ colours_of setup
-  pub coloured : (i : ℕ) (state : S) → slice_get states i ≡ Some state → t.colour_of state ≡ record { 0 = i }
+  pub coloured : (i : ℕ) (state : S) → slice_get states i ≡ Some state
+      → t.colour_of state ≡ record { 0 = i }
   pub untouched : (i : ℕ) (state : S) → slice_get states i ≡ Some state → t.trail_of state ≡ []
-  pub one_frame : (i j : ℕ) (a b : S) → slice_get states i ≡ Some a → slice_get states j ≡ Some b → t.frame_of a ≡ t.frame_of b
+  pub one_frame : (i j : ℕ) (a b : S) → slice_get states i ≡ Some a → slice_get states j ≡ Some b
+      → t.frame_of a ≡ t.frame_of b
 
 -- the first states of so many colours, as they are made one after another: one for each, on which nothing was run
 pub record AreBlank {S : Type 0} (colour_of : S → Colour) (trail_of : S → List Event) (count : ℕ) (states : List S) : Type 0 where
   pub many : length states ≡ count
-  pub each : (i : ℕ) (state : S) → slice_get states i ≡ Some state → (colour_of state ≡ record { 0 = i }) × (trail_of state ≡ [])
+  pub each : (i : ℕ) (state : S) → slice_get states i ≡ Some state
+      → (colour_of state ≡ record { 0 = i }) × (trail_of state ≡ [])
 
 -- an empty chain
 abbrev pub empty_chain : Setup → Chain
@@ -55,7 +58,11 @@ first_rest setup core = record {
 -- nothing was registered, each colour has the state that it was given, the chains are empty, and the workers are free
 pub record IsFirstWeave {S P : Type 0} (setup : Setup) (states : List S) (loom : Loom S P) : Type 0 where
   pub of_setup : loom.setup ≡ setup
-  pub no_entry : (shard : ℕ) (has : Contents S P) → slice_get loom.shards shard ≡ Some has → has.history ≡ []
-  pub lane : (c : Colour) (state : S) → slice_get states c.0 ≡ Some state → lane_for loom.setup loom.shards c ≡ Some (first_lane state)
-  pub chain : (core : ℕ) (queue : Chain) → slice_get loom.chains core ≡ Some queue → queue ≡ empty_chain setup
-  pub worker : (core : ℕ) (w : WorkerView S P) → slice_get loom.workers core ≡ Some w → w ≡ first_worker setup core
+  pub no_entry : (shard : ℕ) (has : Contents S P) → slice_get loom.shards shard
+      ≡ Some has → has.history ≡ []
+  pub lane : (c : Colour) (state : S) → slice_get states c.0 ≡ Some state
+      → lane_for loom.setup loom.shards c ≡ Some (first_lane state)
+  pub chain : (core : ℕ) (queue : Chain) → slice_get loom.chains core ≡ Some queue
+      → queue ≡ empty_chain setup
+  pub worker : (core : ℕ) (w : WorkerView S P) → slice_get loom.workers core ≡ Some w
+      → w ≡ first_worker setup core

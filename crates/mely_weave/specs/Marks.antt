@@ -12,7 +12,8 @@ Placed = ℕ × Mark
 -- the marks that lie in the chains, the first of which is that of this core
 unfoldable pub in_chains : ℕ → List Chain → List Placed
 in_chains core [] = []
-in_chains core (queue ∷ queues) = map (λ mark. (core, mark)) queue.chain ++ in_chains (core + 1) queues
+in_chains core (queue ∷ queues) =
+    map (λ mark. (core, mark)) queue.chain ++ in_chains (core + 1) queues
 
 -- all marks: those in the chains, and those that the workers hold
 abbrev pub held : {W : Type 0} → (W → List Placed) → List Chain → List W → List Placed
@@ -24,7 +25,8 @@ is_of c p = p.1.colour.0 == c.0
 
 -- the mark is for the owner of its colour, and says how many events were begun and no more than the worth
 abbrev pub is_told : (Colour → Readiness) → Placed → Bool
-is_told of p = (p.0 == (of p.1.colour).owner) && ((p.1.started == (of p.1.colour).begun) && nat_le p.1.worth (of p.1.colour).worth)
+is_told of p = (p.0 == (of p.1.colour).owner) && ((p.1.started == (of p.1.colour).begun) && nat_le
+    p.1.worth (of p.1.colour).worth)
 
 -- one for true
 abbrev pub bit : Bool → ℕ

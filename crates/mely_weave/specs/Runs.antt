@@ -52,7 +52,8 @@ module _ {R S P F : Type 0} (t : TrailWords S F) (fits : F → Colour → Event 
   -- these steps are made one after another
   unfoldable pub Makes : List CoreStep → Loom S P → Loom S P → Type 0
   Makes [] before after = after ≡ before
-  Makes (step ∷ steps) before after = (between : Loom S P) × StepsWell before step.0 step.1 between × Makes steps between after
+  Makes (step ∷ steps) before after = (between : Loom S P) × StepsWell before step.0 step.1 between
+      × Makes steps between after
 
   -- a run over these cores
   pub record RunsTo (before : Loom S P) (cores : List ℕ) (went : Went) (after : Loom S P) : Type 0 where

@@ -14,7 +14,8 @@ pub record ShardStands {S P F : Type 0} (t : TrailWords S F) (fits : F → Colou
   pub of_setup : has.setup ≡ setup
   pub numbered : has.shard ≡ number
   pub kept : IsKept t fits has
-  pub framed : (i : ℕ) (given : S) → slice_get (givens has) i ≡ Some given → t.frame_of given ≡ frame
+  pub framed : (i : ℕ) (given : S) → slice_get (givens has) i ≡ Some given
+      → t.frame_of given ≡ frame
 
 -- the chain is of the setup's numbers, and its stealing queue has its worthy marks
 pub record ChainStands (setup : Setup) (queue : Chain) : Type 0 where
@@ -27,6 +28,8 @@ pub record ChainStands (setup : Setup) (queue : Chain) : Type 0 where
 pub record SideStands {S P F : Type 0} (t : TrailWords S F) (fits : F → Colour → Event → Option P → Type 0) (a : Scene S P) : Type 0 where
   pub core : a.core < (shape_of a.setup).cores
   pub shards : length a.shards ≡ (shape_of a.setup).shards
-  pub shard : (number : ℕ) (has : Contents S P) → slice_get a.shards number ≡ Some has → ShardStands t fits a.setup (t.frame_of a.given) number has
+  pub shard : (number : ℕ) (has : Contents S P) → slice_get a.shards number ≡ Some has
+      → ShardStands t fits a.setup (t.frame_of a.given) number has
   pub chains : length a.chains ≡ (shape_of a.setup).cores
-  pub chain : (core : ℕ) (queue : Chain) → slice_get a.chains core ≡ Some queue → ChainStands a.setup queue
+  pub chain : (core : ℕ) (queue : Chain) → slice_get a.chains core ≡ Some queue
+      → ChainStands a.setup queue

@@ -6,7 +6,8 @@ use Rattle.mely_shard.specs.Contents.{Contents, IsOwn}
 
 -- each shard gives one thing for each of its colours below a number
 abbrev pub AreFull : {X Y : Type 0} → (Y → List X) → ℕ → ℕ → List Y → Type 0
-AreFull items shards colours piles = (shard : ℕ) (pile : _) → slice_get piles shard ≡ Some pile → (i : ℕ) → (i < length (items pile)) ↔ (i * shards + shard < colours)
+AreFull items shards colours piles = (shard : ℕ) (pile : _) → slice_get piles shard ≡ Some pile
+    → (i : ℕ) → (i < length (items pile)) ↔ (i * shards + shard < colours)
 
 -- no colour of the shard runs
 abbrev pub IsAtRest : {S P : Type 0} → Contents S P → Type 0

@@ -33,19 +33,27 @@ pub record Loom (S P : Type 0) : Type 0 where
 
 -- its shards and chains, from the side of a core
 abbrev pub side_of : {S P : Type 0} → Loom S P → ℕ → Scene S P
-side_of loom core = record { setup = loom.setup; core = core; given = loom.given; shards = loom.shards; chains = loom.chains }
+side_of loom core = record {
+  setup = loom.setup;
+  core = core;
+  given = loom.given;
+  shards = loom.shards;
+  chains = loom.chains;
+}
 
 -- a report says no more than is so, unless more was begun since
 abbrev pub ReportIsTold : (Colour → Readiness) → Delivery → Type 0
 ReportIsTold of Nothing = Unit {0}
 ReportIsTold of (PushMark core mark) = Unit {0}
-ReportIsTold of (Report core colour started worth) = (started ≤ (of colour).begun) × (started ≡ (of colour).begun → worth ≤ (of colour).worth)
+ReportIsTold of (Report core colour started worth) = (started ≤ (of colour).begun)
+    × (started ≡ (of colour).begun → worth ≤ (of colour).worth)
 
 -- a turn is of the worker's own core, and a picked mark is from another core, worth a steal, and of a colour that isn't pinned
 abbrev pub PhaseIsTold : {S P : Type 0} → Setup → (Colour → Readiness) → ℕ → Phase S P → Type 0
 PhaseIsTold setup of core (Free place) = Unit {0}
 PhaseIsTold setup of core (Popped mark) = Unit {0}
-PhaseIsTold setup of core (Picked mark victim) = (victim ≢ core) × ((shape_of setup).steal_cost < mark.worth) × (pinned_of setup ≤ mark.colour.0)
+PhaseIsTold setup of core (Picked mark victim) = (victim ≢ core)
+    × ((shape_of setup).steal_cost < mark.worth) × (pinned_of setup ≤ mark.colour.0)
 PhaseIsTold setup of core (Landing mark) = Unit {0}
 PhaseIsTold setup of core (Pushing to mark) = Unit {0}
 PhaseIsTold setup of core (Turning turn hand puts) = (turn.core ≡ core) × ReportIsTold of hand
@@ -67,18 +75,25 @@ module _ {S P F : Type 0} (t : TrailWords S F) (fits : F → Colour → Event �
   pub record WorkerStands (core : ℕ) (w : WorkerView S P) : Type 0 where
     -- Its turn is out on its core: it has the count of the colour's last take, and what was run of it with what is left is what was begun. The state is of the colour, has the frame and has room for what is left. Each registration that is left or lost is of a colour and a handler of the setup, and event and load fit.
     pub may : MayStep t fits loom.setup core (t.frame_of loom.given) (IsOut (side_of loom core)) w
-    pub victims : w.victims ≡ victims_of core (shape_of loom.setup).cores (shape_of loom.setup).group
+    pub victims : w.victims
+        ≡ victims_of core (shape_of loom.setup).cores (shape_of loom.setup).group
     pub told : PhaseIsTold loom.setup (readiness_for loom.setup loom.shards) core w.phase
 
   pub record StandsWell : Type 0 where
     -- The histories are legal. What waits of a colour is what is queued by its history, and each event fits its load. The state of a colour that rests is at home, with the trail of what was run.
     pub shards : length loom.shards ≡ (shape_of loom.setup).shards
-    pub shard : (number : ℕ) (has : Contents S P) → slice_get loom.shards number ≡ Some has → ShardStands t fits loom.setup (t.frame_of loom.given) number has
+    pub shard : (number : ℕ) (has : Contents S P) → slice_get loom.shards number ≡ Some has
+        → ShardStands t fits loom.setup (t.frame_of loom.given) number has
     pub chains : length loom.chains ≡ (shape_of loom.setup).cores
-    pub chain : (core : ℕ) (queue : Chain) → slice_get loom.chains core ≡ Some queue → ChainStands loom.setup queue
+    pub chain : (core : ℕ) (queue : Chain) → slice_get loom.chains core ≡ Some queue
+        → ChainStands loom.setup queue
     -- A ready colour has one mark, in a chain or a hand, and no other colour has one. It is for the owner, and says how many events were begun and no more than the worth.
-    pub marks : MarksStand (readiness_for loom.setup loom.shards) (held held_by loom.chains loom.workers)
+    pub marks : MarksStand (readiness_for loom.setup loom.shards)
+        (held held_by loom.chains loom.workers)
     pub workers : length loom.workers ≡ (shape_of loom.setup).cores
-    pub worker : (core : ℕ) (w : WorkerView S P) → slice_get loom.workers core ≡ Some w → WorkerStands core w
+    pub worker : (core : ℕ) (w : WorkerView S P) → slice_get loom.workers core
+        ≡ Some w → WorkerStands core w
     -- Where a colour runs on a core, the core's worker is turning on it.
-    pub running : (c : Colour) (core count : ℕ) → IsRunningOn (history_for loom.setup loom.shards c) c core count → IsTurningOn loom.workers core c
+    pub running : (c : Colour) (core count : ℕ)
+        → IsRunningOn (history_for loom.setup loom.shards c) c core count
+        → IsTurningOn loom.workers core c

@@ -17,7 +17,13 @@ use Rattle.mely_weave.specs.StandsWell.{Loom, side_of}
 
 -- the weave of a side and workers
 abbrev pub with_workers : {S P : Type 0} → Scene S P → List (WorkerView S P) → Loom S P
-with_workers a workers = record { setup = a.setup; given = a.given; shards = a.shards; chains = a.chains; workers = workers }
+with_workers a workers = record {
+  setup = a.setup;
+  given = a.given;
+  shards = a.shards;
+  chains = a.chains;
+  workers = workers;
+}
 
 -- the worker of the core makes a step by its rule, on the weave's own shards and chains, a mark that it pushes enters, and the other workers stay
 pub record StepsAt {R S P F : Type 0} (t : TrailWords S F) (y : AppWords R P S F) (app : R) (before : Loom S P) (core : ℕ) (step : Made) (after : Loom S P) : Type 0 where
@@ -29,9 +35,13 @@ pub record StepsAt {R S P F : Type 0} (t : TrailWords S F) (y : AppWords R P S F
   pub leaves : after ≡ with_workers side (slice_set before.workers core becomes)
 
 -- a registration by the pass of the number after the cores', and what follows it, which is delivered at once; a mark that is pushed enters
-abbrev pub PostAs : {S P F : Type 0} → TrailWords S F → Colour → Event → Option P → Result Registered (Unregistered P) → Scene S P → Scene S P → Type 0
-PostAs {S} {P} t c event load (Ok reply) a b = (between : Scene S P) × AtShard a between c (RegisterAs c event load (shape_of a.setup).cores (Ok reply)) × ((arrived : Bool) × Delivers (weave_words t) between (delivery_after c reply) arrived b)
-PostAs t c event load (Err back) a b = AtShard a b c (RegisterAs c event load (shape_of a.setup).cores (Err back))
+abbrev pub PostAs : {S P F : Type 0} → TrailWords S F → Colour → Event → Option P
+    → Result Registered (Unregistered P) → Scene S P → Scene S P → Type 0
+PostAs {S} {P} t c event load (Ok reply) a b = (between : Scene S P)
+    × AtShard a between c (RegisterAs c event load (shape_of a.setup).cores (Ok reply))
+    × ((arrived : Bool) × Delivers (weave_words t) between (delivery_after c reply) arrived b)
+PostAs t c event load (Err back) a b =
+    AtShard a b c (RegisterAs c event load (shape_of a.setup).cores (Err back))
 
 -- a post, and the workers stay
 pub record PostsAt {S P F : Type 0} (t : TrailWords S F) (before : Loom S P) (c : Colour) (event : Event) (load : Option P) (answer : Result Registered (Unregistered P)) (after : Loom S P) : Type 0 where

@@ -34,15 +34,19 @@ module _ {R S P F : Type 0} (t : TrailWords S F) (fits : F → Colour → Event 
     pub there : core < (shape_of before.setup).cores
     pub steps : StepsAt t y app before core step after
     pub parts : SideStands t fits steps.side
-    pub may : MayStep t fits steps.side.setup steps.side.core (t.frame_of steps.side.given) (IsOut steps.side) steps.becomes
+    pub may : MayStep t fits steps.side.setup steps.side.core (t.frame_of steps.side.given)
+        (IsOut steps.side) steps.becomes
 
   -- a step of some core under some app
   abbrev pub SomeStep : Loom S P → Loom S P → Type 0
-  SomeStep before after = (app : R) × (core : ℕ) × (step : Made) × StepCall app core step before after
+  SomeStep before after = (app : R) × (core : ℕ) × (step : Made)
+      × StepCall app core step before after
 
   -- a post of something, with some answer
   abbrev pub SomePost : Loom S P → Loom S P → Type 0
-  SomePost before after = (colour : Colour) × (event : Event) × (load : Option P) × (answer : Result Registered (Unregistered P)) × PostCall t fits colour event load answer before after
+  SomePost before after = (colour : Colour) × (event : Event) × (load : Option P)
+      × (answer : Result Registered (Unregistered P))
+      × PostCall t fits colour event load answer before after
 
   abbrev pub Call : Loom S P → Loom S P → Type 0
   Call before after = SomeStep before after ⊎ SomePost before after
@@ -50,7 +54,8 @@ module _ {R S P F : Type 0} (t : TrailWords S F) (fits : F → Colour → Event 
   -- so many calls, of whatever cores and colours
   unfoldable pub WeaveRun : ℕ → Loom S P → Loom S P → Type 0
   WeaveRun zero before after = after ≡ before
-  WeaveRun (suc n) before after = (between : Loom S P) × WeaveRun n before between × Call between after
+  WeaveRun (suc n) before after = (between : Loom S P)
+      × WeaveRun n before between × Call between after
 
   -- some number of calls
   abbrev pub IsRun : Loom S P → Loom S P → Type 0
@@ -59,8 +64,12 @@ module _ {R S P F : Type 0} (t : TrailWords S F) (fits : F → Colour → Event 
 module _ {S P : Type 0} where
   -- each history is an earlier one, and more
   abbrev pub HistoriesGrow : Loom S P → Loom S P → Type 0
-  HistoriesGrow before after = (number : ℕ) (has : Contents S P) → slice_get before.shards number ≡ Some has → (is : Contents S P) × (slice_get after.shards number ≡ Some is) × ((more : List Entry) × (is.history ≡ has.history ++ more))
+  HistoriesGrow before after = (number : ℕ) (has : Contents S P) → slice_get before.shards number
+      ≡ Some has → (is : Contents S P) × (slice_get after.shards number ≡ Some is)
+      × ((more : List Entry) × (is.history ≡ has.history ++ more))
 
   -- no chain has a mark of a colour whose mark is in a hand, so that none of these marks is refused by a chain
   abbrev pub NoneIsThere : Loom S P → Type 0
-  NoneIsThere loom = (core : ℕ) (w : WorkerView S P) (held : Placed) → slice_get loom.workers core ≡ Some w → held_by w ≡ held ∷ [] → (to : ℕ) (queue : Chain) → slice_get loom.chains to ≡ Some queue → IsSome (mark_of held.1.colour queue.chain) → ⊥
+  NoneIsThere loom = (core : ℕ) (w : WorkerView S P) (held : Placed) → slice_get loom.workers core
+      ≡ Some w → held_by w ≡ held ∷ [] → (to : ℕ) (queue : Chain)
+      → slice_get loom.chains to ≡ Some queue → IsSome (mark_of held.1.colour queue.chain) → ⊥

@@ -37,21 +37,28 @@ module _ {S P F : Type 0} (t : TrailWords S F) (fits : F → Colour → Event �
 
   -- the worker of a core is turning
   abbrev pub Turns : ℕ → Taken S P → Delivery → List (Colour × Event × Option P) → Type 0
-  Turns core turn hand puts = (w : WorkerView S P) × ((slice_get loom.workers core ≡ Some w) × (w.phase ≡ Turning turn hand puts))
+  Turns core turn hand puts = (w : WorkerView S P)
+      × ((slice_get loom.workers core ≡ Some w) × (w.phase ≡ Turning turn hand puts))
 
   -- beside the parts: there is a shard for each number, a lane for each colour, and a chain and a worker for each core
   pub record IsWhole : Type 0 where
     pub shards : length loom.shards ≡ (shape_of loom.setup).shards
-    pub lanes : (c : Colour) → IsColour loom.setup c → (lane : Lane S P) × (lane_for loom.setup loom.shards c ≡ Some lane)
+    pub lanes : (c : Colour) → IsColour loom.setup c → (lane : Lane S P)
+        × (lane_for loom.setup loom.shards c ≡ Some lane)
     pub chains : length loom.chains ≡ (shape_of loom.setup).cores
     pub workers : length loom.workers ≡ (shape_of loom.setup).cores
-    pub own_core : (core : ℕ) (w : WorkerView S P) → slice_get loom.workers core ≡ Some w → w.core ≡ core
+    pub own_core : (core : ℕ) (w : WorkerView S P) → slice_get loom.workers core
+        ≡ Some w → w.core ≡ core
 
   -- 1: the histories are legal, and what waits of a colour is what its history says is queued, where each event fits its load
   pub record HistoriesStand : Type 0 where
     pub legal : AreLegal loom.setup (map (λ has. has.history) loom.shards)
-    pub queued : (c : Colour) (lane : Lane S P) → IsColour loom.setup c → lane_for loom.setup loom.shards c ≡ Some lane → map (λ e. e.0) lane.events ≡ queued_of (history_of c) c
-    pub fit : (c : Colour) (lane : Lane S P) → IsColour loom.setup c → lane_for loom.setup loom.shards c ≡ Some lane → EachFits (fits (t.frame_of loom.given) c) lane.events
+    pub queued : (c : Colour) (lane : Lane S P) → IsColour loom.setup c
+        → lane_for loom.setup loom.shards c ≡ Some lane → map (λ e. e.0) lane.events
+        ≡ queued_of (history_of c) c
+    pub fit : (c : Colour) (lane : Lane S P) → IsColour loom.setup c
+        → lane_for loom.setup loom.shards c ≡ Some lane
+        → EachFits (fits (t.frame_of loom.given) c) lane.events
 
   -- 2: a colour has one mark where it rests while something waits, and none otherwise
   pub record MarksAreOne : Type 0 where
@@ -60,26 +67,42 @@ module _ {S P F : Type 0} (t : TrailWords S F) (fits : F → Colour → Event �
 
   -- 3: each mark is for the owner of its colour, and a thief isn't the owner
   pub record MarksAreForOwners : Type 0 where
-    pub owner : (core : ℕ) (mark : Mark) → IsHeld core mark → core ≡ owner_of loom.setup (history_of mark.colour) mark.colour
-    pub thief : (core victim : ℕ) (w : WorkerView S P) (mark : Mark) → slice_get loom.workers core ≡ Some w → w.phase ≡ Picked mark victim → victim ≢ core
+    pub owner : (core : ℕ) (mark : Mark) → IsHeld core mark
+        → core ≡ owner_of loom.setup (history_of mark.colour) mark.colour
+    pub thief : (core victim : ℕ) (w : WorkerView S P) (mark : Mark) → slice_get loom.workers core
+        ≡ Some w → w.phase ≡ Picked mark victim → victim ≢ core
 
   -- 4: each mark says how many events were begun and no more than the worth, and a picked one is worth a steal and of a colour that isn't pinned
   pub record MarksAreTold : Type 0 where
-    pub started : (core : ℕ) (mark : Mark) → IsHeld core mark → mark.started ≡ begun_of (history_of mark.colour) mark.colour
-    pub worth : (core : ℕ) (mark : Mark) → IsHeld core mark → mark.worth ≤ worth_of loom.setup (history_of mark.colour) mark.colour
-    pub worthy : (core victim : ℕ) (w : WorkerView S P) (mark : Mark) → slice_get loom.workers core ≡ Some w → w.phase ≡ Picked mark victim → (shape_of loom.setup).steal_cost < mark.worth
-    pub loose : (core victim : ℕ) (w : WorkerView S P) (mark : Mark) → slice_get loom.workers core ≡ Some w → w.phase ≡ Picked mark victim → pinned_of loom.setup ≤ mark.colour.0
+    pub started : (core : ℕ) (mark : Mark) → IsHeld core mark
+        → mark.started ≡ begun_of (history_of mark.colour) mark.colour
+    pub worth : (core : ℕ) (mark : Mark) → IsHeld core mark
+        → mark.worth ≤ worth_of loom.setup (history_of mark.colour) mark.colour
+    pub worthy : (core victim : ℕ) (w : WorkerView S P) (mark : Mark) → slice_get loom.workers core
+        ≡ Some w → w.phase ≡ Picked mark victim → (shape_of loom.setup).steal_cost < mark.worth
+    pub loose : (core victim : ℕ) (w : WorkerView S P) (mark : Mark) → slice_get loom.workers core
+        ≡ Some w → w.phase ≡ Picked mark victim → pinned_of loom.setup ≤ mark.colour.0
 
   -- 5: a report says no more events than were begun, and where it says as many no more than the worth
   pub record ReportsAreTold : Type 0 where
-    pub started : (core to : ℕ) (turn : Taken S P) (c : Colour) (started worth : ℕ) (puts : List (Colour × Event × Option P)) → Turns core turn (Report to c started worth) puts → started ≤ begun_of (history_of c) c
-    pub worth : (core to : ℕ) (turn : Taken S P) (c : Colour) (started worth : ℕ) (puts : List (Colour × Event × Option P)) → Turns core turn (Report to c started worth) puts → started ≡ begun_of (history_of c) c → worth ≤ worth_of loom.setup (history_of c) c
+    pub started : (core to : ℕ) (turn : Taken S P) (c : Colour) (started worth : ℕ)
+        (puts : List (Colour × Event × Option P)) → Turns core turn (Report to c started worth) puts
+        → started ≤ begun_of (history_of c) c
+    pub worth : (core to : ℕ) (turn : Taken S P) (c : Colour) (started worth : ℕ)
+        (puts : List (Colour × Event × Option P)) → Turns core turn (Report to c started worth) puts
+        → started ≡ begun_of (history_of c) c → worth ≤ worth_of loom.setup (history_of c) c
 
   -- 6: a worker turns on a colour exactly where the colour runs on its core; the turn has the count of that take, and what was run on its state with what is left is what was begun
   pub record TurnsStand : Type 0 where
-    pub runs : (core : ℕ) (turn : Taken S P) (hand : Delivery) (puts : List (Colour × Event × Option P)) → Turns core turn hand puts → IsRunningOn (history_of turn.colour) turn.colour core turn.count
-    pub turns : (c : Colour) (core count : ℕ) → IsRunningOn (history_of c) c core count → IsTurningOn loom.workers core c
-    pub trailed : (core : ℕ) (turn : Taken S P) (hand : Delivery) (puts : List (Colour × Event × Option P)) → Turns core turn hand puts → t.trail_of turn.state ++ events_of turn.events ≡ take (begun_of (history_of turn.colour) turn.colour) (registered_of (history_of turn.colour) turn.colour)
+    pub runs : (core : ℕ) (turn : Taken S P) (hand : Delivery) (puts : List (Colour × Event
+        × Option P)) → Turns core turn hand puts
+        → IsRunningOn (history_of turn.colour) turn.colour core turn.count
+    pub turns : (c : Colour) (core count : ℕ) → IsRunningOn (history_of c) c core count
+        → IsTurningOn loom.workers core c
+    pub trailed : (core : ℕ) (turn : Taken S P) (hand : Delivery) (puts : List (Colour × Event
+        × Option P)) → Turns core turn hand puts → t.trail_of turn.state ++ events_of turn.events
+        ≡ take (begun_of (history_of turn.colour) turn.colour)
+        (registered_of (history_of turn.colour) turn.colour)
 
   -- a state is at home: it is of the colour, has the frame, and its trail is what was run
   pub record IsHomeState (c : Colour) (state : S) : Type 0 where
@@ -95,14 +118,22 @@ module _ {S P F : Type 0} (t : TrailWords S F) (fits : F → Colour → Event �
 
   -- 7: the state of a colour is at home where the colour doesn't run, and in the turn where it does
   pub record StatesStand : Type 0 where
-    pub home : (c : Colour) (lane : Lane S P) → IsColour loom.setup c → lane_for loom.setup loom.shards c ≡ Some lane → ¬ IsRunning (history_of c) c → (state : S) × ((lane.state ≡ Some state) × IsHomeState c state)
-    pub away : (c : Colour) (lane : Lane S P) → IsColour loom.setup c → lane_for loom.setup loom.shards c ≡ Some lane → IsRunning (history_of c) c → lane.state ≡ None
-    pub turn : (core : ℕ) (turn : Taken S P) (hand : Delivery) (puts : List (Colour × Event × Option P)) → Turns core turn hand puts → IsTurnState turn
+    pub home : (c : Colour) (lane : Lane S P) → IsColour loom.setup c
+        → lane_for loom.setup loom.shards c ≡ Some lane → ¬ IsRunning (history_of c) c → (state : S)
+        × ((lane.state ≡ Some state) × IsHomeState c state)
+    pub away : (c : Colour) (lane : Lane S P) → IsColour loom.setup c
+        → lane_for loom.setup loom.shards c ≡ Some lane
+        → IsRunning (history_of c) c → lane.state ≡ None
+    pub turn : (core : ℕ) (turn : Taken S P) (hand : Delivery) (puts : List (Colour × Event
+        × Option P)) → Turns core turn hand puts → IsTurnState turn
 
   -- 8: each registration that a worker has left or has lost is of a colour and a handler of the setup, and event and load fit
   pub record RegistrationsFit : Type 0 where
-    pub left : (core : ℕ) (turn : Taken S P) (hand : Delivery) (puts : List (Colour × Event × Option P)) → Turns core turn hand puts → AllByRecursion (FitsSetup fits loom.setup (t.frame_of loom.given)) puts
-    pub lost : (core : ℕ) (w : WorkerView S P) → slice_get loom.workers core ≡ Some w → AllByRecursion (FitsSetup fits loom.setup (t.frame_of loom.given)) w.lost
+    pub left : (core : ℕ) (turn : Taken S P) (hand : Delivery) (puts : List (Colour × Event
+        × Option P)) → Turns core turn hand puts
+        → AllByRecursion (FitsSetup fits loom.setup (t.frame_of loom.given)) puts
+    pub lost : (core : ℕ) (w : WorkerView S P) → slice_get loom.workers core ≡ Some w
+        → AllByRecursion (FitsSetup fits loom.setup (t.frame_of loom.given)) w.lost
 
   -- the rules of a weave, whatever steps were made
   pub record WeaveStands : Type 0 where

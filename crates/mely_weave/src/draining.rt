@@ -52,7 +52,8 @@ impl<S: Fits<P> + Drop, P: Drop> Weave<S, P> {
     /// Makes one step of each core, in ascending order.
     fn make_round<R: App<State = S, Load = P>>(&mut self, app: &R)
         requires served { AppServes R.App self.old.setup (S.frame_of self.old.given) app.now }
-        ensures round { MakesRound S.Trail S.fits_under R.App app.now (shape_of self.old.setup).cores self.old self.new }
+        ensures round { MakesRound S.Trail S.fits_under R.App app.now
+            (shape_of self.old.setup).cores self.old self.new }
         ensures stands { StandsWell S.Trail S.fits_under self.new }
     {
         for core in 0..self.side.setup.cores() {
@@ -63,7 +64,8 @@ impl<S: Fits<P> + Drop, P: Drop> Weave<S, P> {
     /// Drives every worker, in ascending order, until it is free.
     fn drive_all<W: Wait, R: App<State = S, Load = P>>(&mut self, rt: &W, app: &R)
         requires served { AppServes R.App self.old.setup (S.frame_of self.old.given) app.now }
-        ensures driven { AreDriven S.Trail S.fits_under R.App app.now (shape_of self.old.setup).cores self.old self.new }
+        ensures driven { AreDriven S.Trail S.fits_under R.App app.now
+            (shape_of self.old.setup).cores self.old self.new }
         ensures stands { StandsWell S.Trail S.fits_under self.new }
     {
         for core in 0..self.side.setup.cores() {

@@ -70,9 +70,12 @@ fn are_kept<S: Fits<P>, P>(shards: &[Shard<S, P>])
 /// The state of colour 0, for contracts alone.
 fn first_state<S: Fits<P>, P>(shards: &[Shard<S, P>]) -> Snapshot<S>
     requires some { 0 < length shards.now }
-    requires kept { (has : _) → slice_get shards.now 0 ≡ Some has → IsKept S.Trail S.fits_under has }
+    requires kept { (has : _) → slice_get shards.now 0 ≡ Some has
+        → IsKept S.Trail S.fits_under has }
     requires at_rest { (has : _) → slice_get shards.now 0 ≡ Some has → IsFirstAtRest has }
-    ensures { (has : _) (lane : _) → slice_get shards.now 0 ≡ Some has → lane_at has (record { 0 = 0 }) ≡ Some lane → S.frame_of result.value ≡ S.frame_of lane.given }
+    ensures { (has : _) (lane : _) → slice_get shards.now 0 ≡ Some has
+        → lane_at has (record { 0 = 0 }) ≡ Some lane
+        → S.frame_of result.value ≡ S.frame_of lane.given }
 {
     match shards[0].state(Colour(0)) {
         Some(state) => Snapshot::of(state),
@@ -105,7 +108,8 @@ fn chain_ready<S: Fits<P>, P>(setup: &Setup, shards: &[Shard<S, P>], chains: &mu
     requires own { AtEach (λ number has. IsOwnShard setup.now number has) shards.now }
     requires empty { AreChained setup.now (readiness_for setup.now shards.now) 0 chains.old }
     requires stand { AtEach (λ core queue. ChainStands setup.now queue) chains.old }
-    ensures chained { AreChained setup.now (readiness_for setup.now shards.now) (colours_of setup.now) chains.new }
+    ensures chained { AreChained setup.now (readiness_for setup.now shards.now)
+        (colours_of setup.now) chains.new }
     ensures stand { AtEach (λ core queue. ChainStands setup.now queue) chains.new }
 {
     for number in 0..setup.colours() {

@@ -21,11 +21,14 @@ pub fn no_run_loses_or_doubles_a_mark<S: Fits<P>, P, R: App<State = S, Load = P>
     ensures stands { (n : ℕ) (before after : Loom S P) → StandsWell S.Trail S.fits_under before
         → WeaveRun S.Trail S.fits_under R.App n before after
         → StandsWell S.Trail S.fits_under after }
-    ensures accepted { (n : ℕ) (before between after : Loom S P) → StandsWell S.Trail S.fits_under before
+    ensures accepted { (n : ℕ) (before between after : Loom S P)
+        → StandsWell S.Trail S.fits_under before
         → WeaveRun S.Trail S.fits_under R.App n before between
-        → (app : R) (core : ℕ) (step : Made) → StepCall S.Trail S.fits_under R.App app core step between after
+        → (app : R) (core : ℕ) (step : Made)
+        → StepCall S.Trail S.fits_under R.App app core step between after
         → WasntRefused step }
-    ensures grow { (n : ℕ) (before after : Loom S P) → WeaveRun S.Trail S.fits_under R.App n before after
+    ensures grow { (n : ℕ) (before after : Loom S P)
+        → WeaveRun S.Trail S.fits_under R.App n before after
         → HistoriesGrow before after }
     ensures there { (n : ℕ) (before after : Loom S P) → StandsWell S.Trail S.fits_under before
         → WeaveRun S.Trail S.fits_under R.App n before after

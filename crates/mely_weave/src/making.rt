@@ -83,9 +83,11 @@ pub fn shards_of<S: Fits<P> + Drop, P: Drop>(
     by_shard: Vec<Vec<S>>,
 ) -> Result<Vec<Shard<S, P>>, Memory>
     requires many { length by_shard.items ≡ (shape_of setup.now).shards }
-    requires first { AtEach (λ shard pile. AreFirstStates S.Trail setup.now shard pile.items) by_shard.items }
+    requires first { AtEach (λ shard pile.
+        AreFirstStates S.Trail setup.now shard pile.items) by_shard.items }
     ensures many { IfOk result (λ shards. length shards.items ≡ (shape_of setup.now).shards) }
-    ensures first { IfOk result (λ shards. (shard : ℕ) (pile : _) (has : _) → slice_get by_shard.items shard ≡ Some pile
+    ensures first { IfOk result (λ shards. (shard : ℕ) (pile : _) (has : _)
+        → slice_get by_shard.items shard ≡ Some pile
         → slice_get shards.items shard ≡ Some has → IsFirst setup.now shard pile.items has) }
 {
     let mut shards = Vec::with_capacity(alloc, by_shard.len())?;
@@ -104,7 +106,8 @@ pub fn shards_of<S: Fits<P> + Drop, P: Drop>(
 /// There was no memory.
 pub fn chains_of(alloc: Global, setup: &Setup) -> Result<Vec<CoreQueue>, Memory>
     ensures many { IfOk result (λ chains. length chains.items ≡ (shape_of setup.now).cores) }
-    ensures empty { IfOk result (λ chains. AtEach (λ core queue. queue ≡ empty_chain setup.now) chains.items) }
+    ensures empty { IfOk result (λ chains.
+        AtEach (λ core queue. queue ≡ empty_chain setup.now) chains.items) }
 {
     let mut chains = Vec::with_capacity(alloc, setup.cores() as usize)?;
     for core in 0..setup.cores() {
@@ -121,7 +124,8 @@ pub fn chains_of(alloc: Global, setup: &Setup) -> Result<Vec<CoreQueue>, Memory>
 /// A free worker for each core.
 fn workers_of<S, P: Drop>(alloc: Global, setup: &Setup) -> Result<Vec<Worker<S, P>>, Memory>
     ensures many { IfOk result (λ workers. length workers.items ≡ (shape_of setup.now).cores) }
-    ensures first { IfOk result (λ workers. AtEach (λ core w. w ≡ first_worker setup.now core) workers.items) }
+    ensures first { IfOk result (λ workers.
+        AtEach (λ core w. w ≡ first_worker setup.now core) workers.items) }
 {
     let rested = rested_of(alloc, setup)?;
     let mut workers = Vec::with_capacity(alloc, rested.len())?;
@@ -140,7 +144,8 @@ fn workers_of<S, P: Drop>(alloc: Global, setup: &Setup) -> Result<Vec<Worker<S, 
 /// There was no memory.
 pub fn rested_of<P: Drop>(alloc: Global, setup: &Setup) -> Result<Vec<Rested<P>>, Memory>
     ensures many { IfOk result (λ rested. length rested.items ≡ (shape_of setup.now).cores) }
-    ensures first { IfOk result (λ rested. AtEach (λ core rest. rest ≡ first_rest setup.now core) rested.items) }
+    ensures first { IfOk result (λ rested.
+        AtEach (λ core rest. rest ≡ first_rest setup.now core) rested.items) }
 {
     let mut rested = Vec::with_capacity(alloc, setup.cores() as usize)?;
     for core in 0..setup.cores() {

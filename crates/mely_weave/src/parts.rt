@@ -35,9 +35,12 @@ impl<S: Fits<P> + Drop, P: Drop> Weave<S, P> {
     /// that were refused for memory. Every worker is free, so every state is at home. It takes no memory.
     pub fn into_parts(self) -> WeaveParts<S, P>
         requires { AtEach (λ core w. IsTrue (is_free w.phase)) self.workers }
-        ensures histories { map (λ history. history.items) result.histories.items ≡ map (λ has. has.history) self.shards }
-        ensures states { AreByColour (λ lane. lane.state) self.setup self.shards (map (λ state. Some state) result.states.items) }
-        ensures queued { AreByColour (λ lane. lane.events) self.setup self.shards (map (λ queue. queue.items) result.queued.items) }
+        ensures histories { map (λ history. history.items) result.histories.items
+            ≡ map (λ has. has.history) self.shards }
+        ensures states { AreByColour (λ lane. lane.state) self.setup self.shards
+            (map (λ state. Some state) result.states.items) }
+        ensures queued { AreByColour (λ lane. lane.events) self.setup self.shards
+            (map (λ queue. queue.items) result.queued.items) }
         ensures lost { result.lost.items ≡ flat_map (λ w. w.lost) self.workers }
     {
         let Weave {
@@ -90,11 +93,15 @@ fn take_apart<S: Fits<P> + Drop, P: Drop>(
     requires no_histories { histories.old.items ≡ [] }
     requires no_states { states.old.items ≡ [] }
     requires none_queued { queued.old.items ≡ [] }
-    requires room { (length shards.items ≤ vec_capacity histories.old) × (length shards.items ≤ vec_capacity states.old)
+    requires room { (length shards.items ≤ vec_capacity histories.old)
+        × (length shards.items ≤ vec_capacity states.old)
         × (length shards.items ≤ vec_capacity queued.old) }
-    ensures histories { map (λ history. history.items) histories.new.items ≡ map (λ has. has.history) shards.items }
-    ensures states { map (λ pile. map (λ state. Some state) pile.items) states.new.items ≡ map (λ has. map (λ lane. lane.state) has.lanes) shards.items }
-    ensures queued { map (λ pile. map (λ queue. queue.items) pile.items) queued.new.items ≡ map (λ has. map (λ lane. lane.events) has.lanes) shards.items }
+    ensures histories { map (λ history. history.items) histories.new.items
+        ≡ map (λ has. has.history) shards.items }
+    ensures states { map (λ pile. map (λ state. Some state) pile.items) states.new.items
+        ≡ map (λ has. map (λ lane. lane.state) has.lanes) shards.items }
+    ensures queued { map (λ pile. map (λ queue. queue.items) pile.items) queued.new.items
+        ≡ map (λ has. map (λ lane. lane.events) has.lanes) shards.items }
 {
     for shard in shards {
         let (history, homes, waiting) = shard.into_parts();
@@ -112,7 +119,8 @@ fn spread<T: Drop>(colours: u32, mut by_shard: Vec<Vec<T>>, by_colour: &mut Vec<
     requires empty { by_colour.old.items ≡ [] }
     requires room { colours ≤ vec_capacity by_colour.old }
     ensures many { length by_colour.new.items ≡ colours }
-    ensures dealt { AreDealt (λ pile. pile.items) (length by_shard.items) by_colour.new.items by_shard.items }
+    ensures dealt { AreDealt (λ pile. pile.items) (length by_shard.items)
+        by_colour.new.items by_shard.items }
 {
     let shards = by_shard.len();
     let mut left = colours as usize;
@@ -132,7 +140,8 @@ fn collect_lost<S, P: Drop>(
     mut workers: Vec<Worker<S, P>>,
     lost: &mut Vec<(Colour, Event, Option<P>)>,
 )
-    requires free { AtEach (λ core w. (IsTrue (is_free w.phase)) × (w.batch ≡ batch)) workers.items }
+    requires free { AtEach (λ core w. (IsTrue (is_free w.phase))
+        × (w.batch ≡ batch)) workers.items }
     requires empty { lost.old.items ≡ [] }
     requires room { 2 * batch * length workers.items ≤ vec_capacity lost.old }
     ensures { lost.new.items ≡ flat_map (λ w. w.lost) workers.items }

@@ -27,7 +27,8 @@ impl<S: Fits<P> + Drop, P: Drop> Weave<S, P> {
         requires cores { All (λ part. part.0 < (shape_of self.old.setup).cores) schedule.now }
         requires count { sum_by (λ part. part.1) schedule.now < 2 ^ 64 }
         requires served { AppServes R.App self.old.setup (S.frame_of self.old.given) app.now }
-        ensures runs { RunsTo S.Trail S.fits_under R.App app.now self.old (spelled_out schedule.now) result self.new }
+        ensures runs { RunsTo S.Trail S.fits_under R.App app.now self.old
+            (spelled_out schedule.now) result self.new }
         ensures calls { IsRun S.Trail S.fits_under R.App self.old self.new }
         ensures same { KeepsSetup self.old self.new }
         ensures stands { StandsWell S.Trail S.fits_under self.new }
@@ -52,7 +53,8 @@ impl<S: Fits<P> + Drop, P: Drop> Weave<S, P> {
     fn repeat<R: App<State = S, Load = P>>(&mut self, core: u16, count: u32, app: &R) -> Went
         requires core { core < (shape_of self.old.setup).cores }
         requires served { AppServes R.App self.old.setup (S.frame_of self.old.given) app.now }
-        ensures runs { RunsTo S.Trail S.fits_under R.App app.now self.old (replicate count core) result self.new }
+        ensures runs { RunsTo S.Trail S.fits_under R.App app.now self.old
+            (replicate count core) result self.new }
         ensures stands { StandsWell S.Trail S.fits_under self.new }
     {
         let _side = &self.side;

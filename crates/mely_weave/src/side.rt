@@ -29,9 +29,21 @@ impl<S: Fits<P>, P> Model for Side<S, P> {
 
     ghost use Rattle.mely_weave.specs.SideStands.{SideStands};
 
-    ghost view = { λ s. record { setup = s.setup; core = s.core; given = s.given.value; shards = s.shards.items; chains = s.chains.items } };
+    ghost view = { λ s. record {
+      setup = s.setup;
+      core = s.core;
+      given = s.given.value;
+      shards = s.shards.items;
+      chains = s.chains.items;
+    } };
 
-    ghost invariant = { λ s. SideStands S.Trail S.fits_under (record { setup = s.setup; core = s.core; given = s.given.value; shards = s.shards.items; chains = s.chains.items }) };
+    ghost invariant = { λ s. SideStands S.Trail S.fits_under (record {
+      setup = s.setup;
+      core = s.core;
+      given = s.given.value;
+      shards = s.shards.items;
+      chains = s.chains.items;
+    }) };
 }
 
 impl<S: Fits<P> + Drop, P: Drop> Side<S, P> {
@@ -55,8 +67,10 @@ impl<S: Fits<P> + Drop, P: Drop> Side<S, P> {
         event: Event,
         load: Option<P>,
     ) -> Result<Registered, Unregistered<P>>
-        requires fits { FitsSetup S.fits_under self.old.setup (S.frame_of self.old.given) (colour, event, load) }
-        ensures posts { TriesToPost S.Trail (SideStands S.Trail S.fits_under) colour event load result self.old self.new }
+        requires fits { FitsSetup S.fits_under self.old.setup (S.frame_of self.old.given)
+            (colour, event, load) }
+        ensures posts { TriesToPost S.Trail (SideStands S.Trail S.fits_under) colour event load
+            result self.old self.new }
         ensures back { IfErr result (λ refused. (refused.event ≡ event) × (refused.load ≡ load)) }
         ensures stands { SideStands S.Trail S.fits_under self.new }
     {
@@ -87,7 +101,8 @@ impl<S: Fits<P> + Drop, P: Drop> Access<S, P> for Side<S, P> {
 
     ghost keeps = { λ a b. SideStands S.Trail S.fits_under a → SideStands S.Trail S.fits_under b };
 
-    ghost registers = { λ a c event load answer b. AtShard a b c (RegisterAs c event load a.core answer) };
+    ghost registers = { λ a c event load answer b.
+        AtShard a b c (RegisterAs c event load a.core answer) };
 
     ghost takes = { λ a c answer b. AtShard a b c (TakeAs S.Trail c a.core answer) };
 
@@ -99,7 +114,8 @@ impl<S: Fits<P> + Drop, P: Drop> Access<S, P> for Side<S, P> {
 
     ghost pops = { λ a answer b. AtChain a b a.core (PopAs answer) };
 
-    ghost retells = { λ a core c started worth found b. AtChain a b core (RetellAs c started worth found) };
+    ghost retells = { λ a core c started worth found b.
+        AtChain a b core (RetellAs c started worth found) };
 
     ghost picks = { λ a core answer b. AtChain a b core (PickAs answer) };
 
@@ -113,12 +129,17 @@ impl<S: Fits<P> + Drop, P: Drop> Access<S, P> for Side<S, P> {
         event: Event,
         load: Option<P>,
     ) -> Result<Registered, Unregistered<P>>
-        requires fits { FitsSetup S.fits_under self.old.setup (S.frame_of self.old.given) (colour, event, load) }
-        ensures called { AtShard self.old self.new colour (RegisterAs colour event load self.old.core result) }
+        requires fits { FitsSetup S.fits_under self.old.setup (S.frame_of self.old.given)
+            (colour, event, load) }
+        ensures called { AtShard self.old self.new colour
+            (RegisterAs colour event load self.old.core result) }
         ensures answer { MatchResult result (NamesCore self.old.setup) (GivesBack event load) }
-        ensures stays { Stays (λ a. a.setup) (λ a. a.core) (λ a. S.frame_of a.given) self.old self.new }
-        ensures kept { SideStands S.Trail S.fits_under self.old → SideStands S.Trail S.fits_under self.new }
-        ensures owed { StillOwes (λ a c core count trail. IsOut a c core count trail) self.old self.new }
+        ensures stays { Stays (λ a. a.setup) (λ a. a.core) (λ a.
+            S.frame_of a.given) self.old self.new }
+        ensures kept { SideStands S.Trail S.fits_under self.old
+            → SideStands S.Trail S.fits_under self.new }
+        ensures owed { StillOwes (λ a c core count trail.
+            IsOut a c core count trail) self.old self.new }
     {
         let place = (colour.0 % self.setup.shards()) as usize;
         let by = self.core;
@@ -132,10 +153,13 @@ impl<S: Fits<P> + Drop, P: Drop> Access<S, P> for Side<S, P> {
     }
 
     fn finish(&mut self, turn: Turn<S, P>) -> After
-        requires spent { IsSpent S.Trail (λ a. a.setup) (λ a. S.frame_of a.given) (λ a c core count trail. IsOut a c core count trail) self.old turn }
+        requires spent { IsSpent S.Trail (λ a. a.setup) (λ a.
+            S.frame_of a.given) (λ a c core count trail. IsOut a c core count trail) self.old turn }
         ensures called { AtShard self.old self.new turn.colour (FinishAs turn result) }
-        ensures stays { Stays (λ a. a.setup) (λ a. a.core) (λ a. S.frame_of a.given) self.old self.new }
-        ensures kept { SideStands S.Trail S.fits_under self.old → SideStands S.Trail S.fits_under self.new }
+        ensures stays { Stays (λ a. a.setup) (λ a. a.core) (λ a.
+            S.frame_of a.given) self.old self.new }
+        ensures kept { SideStands S.Trail S.fits_under self.old
+            → SideStands S.Trail S.fits_under self.new }
     {
         let place = (turn.colour().0 % self.setup.shards()) as usize;
         self.shards[place].finish(turn)

@@ -67,7 +67,8 @@ fn weave_of(alloc: Global, setup: &Setup) -> Result<Weave<TrailLog, u8>, Fail>
 fn post(weave: &mut Weave<TrailLog, u8>, colour: u16, handler: u8, arg: u16) -> Option<Registered>
     requires colour { colour < colours_of weave.old.setup }
     requires handler { handler < 2 }
-    requires example { IsExample (shape_of weave.old.setup).cores (colours_of weave.old.setup) weave.old.setup }
+    requires example { IsExample (shape_of weave.old.setup).cores
+        (colours_of weave.old.setup) weave.old.setup }
     ensures { weave.new.setup ≡ weave.old.setup }
 {
     weave
@@ -79,7 +80,8 @@ fn post(weave: &mut Weave<TrailLog, u8>, colour: u16, handler: u8, arg: u16) -> 
 fn follows(weave: &mut Weave<TrailLog, u8>, core: u16, steps: &[Made]) -> bool
     requires core { core < (shape_of weave.old.setup).cores }
     requires colours { 2 ≤ colours_of weave.old.setup }
-    requires example { IsExample (shape_of weave.old.setup).cores (colours_of weave.old.setup) weave.old.setup }
+    requires example { IsExample (shape_of weave.old.setup).cores
+        (colours_of weave.old.setup) weave.old.setup }
     ensures { weave.new.setup ≡ weave.old.setup }
 {
     for made in steps {
@@ -302,7 +304,8 @@ fn a_pinned_colour_stays_on_its_core(rt: HostRuntime) -> Result<(), Fail> {
 /// Posts ten events on colour 0, and then ten on colour 2.
 fn post_twenty(weave: &mut Weave<TrailLog, u8>) -> bool
     requires colours { 2 < colours_of weave.old.setup }
-    requires example { IsExample (shape_of weave.old.setup).cores (colours_of weave.old.setup) weave.old.setup }
+    requires example { IsExample (shape_of weave.old.setup).cores
+        (colours_of weave.old.setup) weave.old.setup }
     ensures { weave.new.setup ≡ weave.old.setup }
 {
     for arg in 0..20 {

@@ -28,9 +28,23 @@ impl<S: Fits<P>, P> Model for Weave<S, P> {
     ghost use Rattle.std.specs.Prelude.{◌≡◌};
     ghost use Rattle.mely_weave.specs.StandsWell.{StandsWell};
 
-    ghost view = { λ w. record { setup = w.side.setup; given = w.side.given; shards = w.side.shards; chains = w.side.chains; workers = w.workers.items } };
+    ghost view = { λ w. record {
+      setup = w.side.setup;
+      given = w.side.given;
+      shards = w.side.shards;
+      chains = w.side.chains;
+      workers = w.workers.items;
+    } };
 
-    ghost invariant = { λ w. StandsWell S.Trail S.fits_under (record { setup = w.side.setup; given = w.side.given; shards = w.side.shards; chains = w.side.chains; workers = w.workers.items }) × (w.room ≡ w.side.setup) };
+    ghost invariant = { λ w.
+        StandsWell S.Trail S.fits_under (record {
+          setup = w.side.setup;
+          given = w.side.given;
+          shards = w.side.shards;
+          chains = w.side.chains;
+          workers = w.workers.items;
+        })
+        × (w.room ≡ w.side.setup) };
 }
 
 impl<S: Fits<P>, P> Weave<S, P> {
@@ -53,7 +67,8 @@ impl<S: Fits<P>, P> Weave<S, P> {
     /// The entries of a shard so far, the oldest first.
     pub fn history(&self, shard: u16) -> &[Entry]
         requires { shard < (shape_of self.now.setup).shards }
-        ensures { (has : _) → slice_get self.now.shards shard ≡ Some has → result.now ≡ has.history }
+        ensures { (has : _) → slice_get self.now.shards shard ≡ Some has
+            → result.now ≡ has.history }
     {
         self.side.shards[shard as usize].history()
     }
@@ -98,7 +113,8 @@ impl<S: Fits<P> + Drop, P: Drop> Weave<S, P> {
         event: Event,
         load: Option<P>,
     ) -> Result<Registered, Unregistered<P>>
-        requires fits { FitsSetup S.fits_under self.old.setup (S.frame_of self.old.given) (colour, event, load) }
+        requires fits { FitsSetup S.fits_under self.old.setup (S.frame_of self.old.given)
+            (colour, event, load) }
         ensures call { PostCall S.Trail S.fits_under colour event load result self.old self.new }
         ensures back { IfErr result (λ refused. (refused.event ≡ event) × (refused.load ≡ load)) }
         ensures same { KeepsSetup self.old self.new }

@@ -17,7 +17,7 @@ use Rattle.mely_worker.specs.Conditions.{MayStepAt, WillBeSpentAt, AppServesAt}
 use Rattle.mely_worker.specs.declared.app.App.{Ghosts as AppWords}
 
 -- what fits fewer colours and handlers fits more of them
-pub fits_more : {P : Type 0} (m n k l : ℕ) (Fits : Colour → Event → Option P → Type 0) (puts : List (Colour × Event × Option P)) → m ≤ k → n ≤ l → AllByRecursion (FitsIn m n Fits) puts → AllByRecursion (FitsIn k l Fits) puts
+fits_more : {P : Type 0} (m n k l : ℕ) (Fits : Colour → Event → Option P → Type 0) (puts : List (Colour × Event × Option P)) → m ≤ k → n ≤ l → AllByRecursion (FitsIn m n Fits) puts → AllByRecursion (FitsIn k l Fits) puts
 fits_more m n k l Fits [] p q h = h
 fits_more m n k l Fits (put ∷ puts) p q h =
     (record { colour = omega (arith, h.0.colour, p); handler = omega (arith, h.0.handler, q); load = h.0.load }, fits_more m n k l Fits puts p q h.1)

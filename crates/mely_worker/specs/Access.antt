@@ -30,8 +30,10 @@ pub record FitsIn {P : Type 0} (colours handlers : ℕ) (fits : Colour → Event
   pub load : fits put.0 put.1 put.2
 
 -- the setup has the colour and the handler, and event and load fit under the frame
-abbrev pub FitsSetup : {F P : Type 0} → (F → Colour → Event → Option P → Type 0) → Setup → F → Colour × Event × Option P → Type 0
-FitsSetup fits setup frame put = FitsIn (colours_of setup) (length (rows_of (handlers_of setup))) (fits frame) put
+abbrev pub FitsSetup : {F P : Type 0} → (F → Colour → Event → Option P → Type 0) → Setup → F
+    → Colour × Event × Option P → Type 0
+FitsSetup fits setup frame put =
+    FitsIn (colours_of setup) (length (rows_of (handlers_of setup))) (fits frame) put
 
 -- setup, core and frame stay
 pub record Stays {A F : Type 0} (setup_of : A → Setup) (core_of : A → ℕ) (frame_of : A → F) (before after : A) : Type 0 where
@@ -41,7 +43,8 @@ pub record Stays {A F : Type 0} (setup_of : A → Setup) (core_of : A → ℕ) (
 
 -- whatever finish was owed is still owed
 abbrev pub StillOwes : {A : Type 0} → (A → Colour → ℕ → ℕ → List Event → Type 0) → A → A → Type 0
-StillOwes owes before after = (c : Colour) (core count : ℕ) (trail : List Event) → owes before c core count trail → owes after c core count trail
+StillOwes owes before after = (c : Colour) (core count : ℕ) (trail : List Event)
+    → owes before c core count trail → owes after c core count trail
 
 -- the turn that a take of the colour gives: its state has room for its events, each of which fits, and once they were run its finish is owed
 pub record IsTaken {A S F P : Type 0} (t : TrailWords S F) (fits : F → Colour → Event → Option P → Type 0) (setup_of : A → Setup) (core_of : A → ℕ) (frame_of : A → F) (owes : A → Colour → ℕ → ℕ → List Event → Type 0) (before after : A) (c : Colour) (turn : Taken S P) : Type 0 where

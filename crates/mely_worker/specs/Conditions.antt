@@ -25,7 +25,8 @@ module _ {S P F : Type 0} (t : TrailWords S F) (fits : F → Colour → Event �
     pub of_frame : t.frame_of turn.state ≡ frame
     pub events_fit : EachFits (fits frame turn.colour) turn.events
     pub room : length turn.events ≤ t.spare_of turn.state
-    pub owed : owes turn.colour turn.core turn.count (t.trail_of turn.state ++ events_of turn.events)
+    pub owed : owes turn.colour turn.core turn.count (t.trail_of turn.state
+        ++ events_of turn.events)
 
   -- what a turning worker has: its turn, what is in hand, and the registrations that are left
   pub record MayTurn (turn : Taken S P) (hand : Delivery) (puts : List (Colour × Event × Option P)) : Type 0 where
@@ -53,13 +54,17 @@ module _ {S P F : Type 0} (t : TrailWords S F) (fits : F → Colour → Event �
 -- the same at an access
 module _ {A S P F : Type 0} (t : TrailWords S F) (fits : F → Colour → Event → Option P → Type 0) (x : AccessWords A S P F) (access : A) where
   abbrev pub WillBeSpentAt : Taken S P → Type 0
-  WillBeSpentAt turn = WillBeSpent t fits (x.setup_of access) (x.core_of access) (x.frame_of access) (x.owes access) turn
+  WillBeSpentAt turn = WillBeSpent t fits (x.setup_of access) (x.core_of access)
+      (x.frame_of access) (x.owes access) turn
 
   abbrev pub MayTurnAt : Taken S P → Delivery → List (Colour × Event × Option P) → Type 0
-  MayTurnAt turn hand puts = MayTurn t fits (x.setup_of access) (x.core_of access) (x.frame_of access) (x.owes access) turn hand puts
+  MayTurnAt turn hand puts =
+      MayTurn t fits (x.setup_of access) (x.core_of access) (x.frame_of access)
+      (x.owes access) turn hand puts
 
   abbrev pub MayStepAt : WorkerView S P → Type 0
-  MayStepAt w = MayStep t fits (x.setup_of access) (x.core_of access) (x.frame_of access) (x.owes access) w
+  MayStepAt w = MayStep t fits (x.setup_of access) (x.core_of access)
+      (x.frame_of access) (x.owes access) w
 
 -- the app uses no more colours and handlers than the setup has, and serves the frame
 pub record AppServes {R S P F : Type 0} (y : AppWords R P S F) (setup : Setup) (frame : F) (app : R) : Type 0 where
@@ -68,5 +73,6 @@ pub record AppServes {R S P F : Type 0} (y : AppWords R P S F) (setup : Setup) (
   pub serves : y.serves app frame
 
 -- the same at an access
-abbrev pub AppServesAt : {A R S P F : Type 0} → AccessWords A S P F → AppWords R P S F → A → R → Type 0
+abbrev pub AppServesAt : {A R S P F : Type 0} → AccessWords A S P F
+    → AppWords R P S F → A → R → Type 0
 AppServesAt x y access app = AppServes y (x.setup_of access) (x.frame_of access) app

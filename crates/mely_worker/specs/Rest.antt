@@ -16,4 +16,11 @@ pub record Rest (P : Type 0) : Type 0 where
 
 -- the worker that rests, free at its place
 abbrev pub woken : {S P : Type 0} → Rest P → WorkerView S P
-woken rest = record { core = rest.core; batch = rest.batch; halted = rest.halted; victims = rest.victims; lost = rest.lost; phase = Free rest.place }
+woken rest = record {
+  core = rest.core;
+  batch = rest.batch;
+  halted = rest.halted;
+  victims = rest.victims;
+  lost = rest.lost;
+  phase = Free rest.place;
+}

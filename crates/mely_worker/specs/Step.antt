@@ -41,13 +41,20 @@ module _ {S P : Type 0} (w : WorkerView S P) where
   halted_in phase = record w { phase = phase; halted = true }
 
   -- what follows the registration of the first one put; without memory it is lost and the worker halted
-  abbrev pub after_register : Taken S P → List (Colour × Event × Option P) → Colour × Event × Option P → Result Registered (Unregistered P) → WorkerView S P
-  after_register turn rest put (Ok answer) = in_phase (Turning turn (delivery_after put.0 answer) rest)
-  after_register turn rest put (Err back) = record w { phase = Turning turn Nothing rest; halted = true; lost = w.lost ++ put ∷ [] }
+  abbrev pub after_register : Taken S P → List (Colour × Event × Option P) → Colour × Event
+      × Option P → Result Registered (Unregistered P) → WorkerView S P
+  after_register turn rest put (Ok answer) =
+      in_phase (Turning turn (delivery_after put.0 answer) rest)
+  after_register turn rest put (Err back) = record w {
+    phase = Turning turn Nothing rest;
+    halted = true;
+    lost = w.lost ++ put ∷ [];
+  }
 
   -- what follows a finish: the colour's mark is to go back on the own chain, where more of it waits
   abbrev pub after_finish : Colour → After → WorkerView S P
-  after_finish colour (More started worth) = in_phase (Pushing w.core (record { colour = colour; started = started; worth = worth }))
+  after_finish colour (More started worth) =
+      in_phase (Pushing w.core (record { colour = colour; started = started; worth = worth }))
   after_finish colour Idle = in_phase (Free 0)
 
   -- what follows a take of the popped mark's colour: without memory the mark is to go back, else a refused mark is dropped
@@ -60,7 +67,12 @@ module _ {S P : Type 0} (w : WorkerView S P) where
 
   -- what follows a steal of the picked mark's colour: a new mark with what was told, without memory the mark is to go back to the victim, else it is dropped
   abbrev pub after_steal : Mark → ℕ → Result Stolen NoSteal → WorkerView S P
-  after_steal mark victim (Ok stolen) = in_phase (Landing (record { colour = mark.colour; started = stolen.started; worth = stolen.worth }))
+  after_steal mark victim (Ok stolen) =
+      in_phase (Landing (record {
+        colour = mark.colour;
+        started = stolen.started;
+        worth = stolen.worth;
+      }))
   after_steal mark victim (Err no_steal.Memory) = halted_in (Pushing victim mark)
   after_steal mark victim (Err (no_steal.Pinned colour)) = in_phase (Free 0)
   after_steal mark victim (Err no_steal.Own) = in_phase (Free 0)
@@ -121,29 +133,39 @@ module _ {A R S P F : Type 0} (x : AccessWords A S P F) (y : AppWords R P S F) (
     pub state : S
     pub puts : List (Colour × Event × Option P)
     pub ran : y.runs app turn.state event.0 event.1 state puts
-    pub becomes : v ≡ in_phase w (Turning (record turn { state = state; events = rest }) Nothing puts)
+    pub becomes : v ≡ in_phase w
+        (Turning (record turn { state = state; events = rest }) Nothing puts)
     pub named : step ≡ made.Ran turn.colour event.0.handler
     pub untouched : after ≡ before
 
   -- the step of a turn with no registration left, by the events that are left
   abbrev pub StepsTurn : Taken S P → List (Event × Option P) → Type 0
-  StepsTurn turn [] = Line (λ answer. x.finishes before turn answer after) (after_finish w turn.colour) (finish_name turn.colour) step v
+  StepsTurn turn [] =
+      Line (λ answer. x.finishes before turn answer after) (after_finish w turn.colour)
+      (finish_name turn.colour) step v
   StepsTurn turn (event ∷ rest) = Runs turn event rest
 
   -- the step of a turn with an empty hand, by the registrations that are left
   abbrev pub StepsPuts : Taken S P → List (Colour × Event × Option P) → Type 0
   StepsPuts turn [] = StepsTurn turn turn.events
-  StepsPuts turn (put ∷ rest) = Line (λ answer. x.registers before put.0 put.1 put.2 answer after) (after_register w turn rest put) (register_name put.0) step v
+  StepsPuts turn (put ∷ rest) = Line (λ answer. x.registers before put.0 put.1 put.2 answer after)
+      (after_register w turn rest put) (register_name put.0) step v
 
   -- the step of a turn, by what is in hand
   abbrev pub StepsTurning : Taken S P → Delivery → List (Colour × Event × Option P) → Type 0
-  StepsTurning turn (PushMark core mark) puts = Line (λ answer. x.pushes before core mark answer after) (λ _. in_phase w (Turning turn Nothing puts)) (λ _. made.Pushed mark.colour core) step v
-  StepsTurning turn (Report core colour started worth) puts = Line (λ found. x.retells before core colour started worth found after) (λ _. in_phase w (Turning turn Nothing puts)) (λ found. made.Told colour core found) step v
+  StepsTurning turn (PushMark core mark) puts =
+      Line (λ answer. x.pushes before core mark answer after) (λ _.
+      in_phase w (Turning turn Nothing puts)) (λ _. made.Pushed mark.colour core) step v
+  StepsTurning turn (Report core colour started worth) puts =
+      Line (λ found. x.retells before core colour started worth found after) (λ _.
+      in_phase w (Turning turn Nothing puts)) (λ found. made.Told colour core found) step v
   StepsTurning turn Nothing puts = StepsPuts turn puts
 
   -- a hunt at the n-th victim, counted from 1, if there is one
   abbrev pub StepsHunt : ℕ → Option ℕ → Type 0
-  StepsHunt place (Some victim) = Line (λ answer. x.picks before victim answer after) (after_pick w place victim) (pick_name victim) step v
+  StepsHunt place (Some victim) =
+      Line (λ answer. x.picks before victim answer after) (after_pick w place victim)
+      (pick_name victim) step v
   StepsHunt place None = ⊥
 
   -- the step of a free worker, by its place
@@ -155,10 +177,14 @@ module _ {A R S P F : Type 0} (x : AccessWords A S P F) (y : AppWords R P S F) (
   -- the line that applies, by the phase
   abbrev pub StepsFrom : Phase S P → Type 0
   StepsFrom (Turning turn hand puts) = StepsTurning turn hand puts
-  StepsFrom (Pushing core mark) = Line (λ answer. x.pushes before core mark answer after) (λ _. in_phase w (Free 0)) (λ _. made.Pushed mark.colour core) step v
-  StepsFrom (Popped mark) = Line (λ answer. x.takes before mark.colour answer after) (after_take w mark) take_name step v
-  StepsFrom (Picked mark victim) = Line (λ answer. x.steals before mark.colour answer after) (after_steal w mark victim) (steal_name mark.colour) step v
-  StepsFrom (Landing mark) = Line (λ answer. x.pushes before w.core mark answer after) (λ _. in_phase w (Free 0)) (λ _. made.Landed mark.colour) step v
+  StepsFrom (Pushing core mark) = Line (λ answer. x.pushes before core mark answer after) (λ _.
+      in_phase w (Free 0)) (λ _. made.Pushed mark.colour core) step v
+  StepsFrom (Popped mark) =
+      Line (λ answer. x.takes before mark.colour answer after) (after_take w mark) take_name step v
+  StepsFrom (Picked mark victim) = Line (λ answer. x.steals before mark.colour answer after)
+      (after_steal w mark victim) (steal_name mark.colour) step v
+  StepsFrom (Landing mark) = Line (λ answer. x.pushes before w.core mark answer after) (λ _.
+      in_phase w (Free 0)) (λ _. made.Landed mark.colour) step v
   StepsFrom (Free place) = StepsFree w.halted place
 
   -- the worker's rule: one step by the table

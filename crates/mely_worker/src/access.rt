@@ -40,7 +40,8 @@ pub trait Access<S: Fits<P>, P> {
     ghost keeps: { Self → Self → Type 0 };
 
     /// What a registration does and answers.
-    ghost registers: { Self → Colour → Event → Option P → Result Registered (Unregistered P) → Self → Type 0 };
+    ghost registers: { Self → Colour → Event → Option P
+        → Result Registered (Unregistered P) → Self → Type 0 };
 
     /// What a take does and answers.
     ghost takes: { Self → Colour → Result (Taken S P) NoTake → Self → Type 0 };
@@ -78,7 +79,8 @@ pub trait Access<S: Fits<P>, P> {
         event: Event,
         load: Option<P>,
     ) -> Result<Registered, Unregistered<P>>
-        requires fits { FitsSetup S.fits_under (setup_of self.old) (frame_of self.old) (colour, event, load) }
+        requires fits { FitsSetup S.fits_under (setup_of self.old) (frame_of self.old)
+            (colour, event, load) }
         ensures called { registers self.old colour event load result self.new }
         ensures answer { MatchResult result (NamesCore (setup_of self.old)) (GivesBack event load) }
         ensures stays { Stays setup_of core_of frame_of self.old self.new }
@@ -93,7 +95,8 @@ pub trait Access<S: Fits<P>, P> {
     fn take(&mut self, colour: Colour) -> Result<Turn<S, P>, NoTake>
         requires colour { IsColour (setup_of self.old) colour }
         ensures called { takes self.old colour result self.new }
-        ensures turn { IfOk result (IsTaken S.Trail S.fits_under setup_of core_of frame_of owes self.old self.new colour) }
+        ensures turn { IfOk result (IsTaken S.Trail S.fits_under setup_of core_of frame_of owes
+            self.old self.new colour) }
         ensures stays { Stays setup_of core_of frame_of self.old self.new }
         ensures kept { keeps self.old self.new }
         ensures owed { StillOwes owes self.old self.new };

@@ -29,7 +29,8 @@ pub trait App {
     ghost serves: { Self → Self.State.Frame → Type 0 };
 
     /// What a handler may do: the state before, the event and its load, the state after, and the registrations that it put.
-    ghost runs: { Self → Self.State → Event → Option Self.Load → Self.State → List (Colour × Event × Option Self.Load) → Type 0 };
+    ghost runs: { Self → Self.State → Event → Option Self.Load → Self.State
+        → List (Colour × Event × Option Self.Load) → Type 0 };
 
     /// Runs the handler of an event on the state of its colour, and writes the event into the
     /// state's trail. What it registers it puts into `outs`, at most two events. It takes no memory
@@ -44,12 +45,15 @@ pub trait App {
         requires serves { serves self.now (Self.State.frame_of state.old) }
         requires room { 1 ≤ Self.State.spare_of state.old }
         requires empty { outs.old ≡ [] }
-        requires fits { Self.State.fits_under (Self.State.frame_of state.old) (Self.State.colour_of state.old) event load }
+        requires fits { Self.State.fits_under (Self.State.frame_of state.old)
+            (Self.State.colour_of state.old) event load }
         ensures ran { runs self.now state.old event load state.new outs.new }
         ensures colour { Self.State.colour_of state.new ≡ Self.State.colour_of state.old }
         ensures frame { Self.State.frame_of state.new ≡ Self.State.frame_of state.old }
-        ensures trail { Self.State.trail_of state.new ≡ Self.State.trail_of state.old ++ event ∷ [] }
+        ensures trail { Self.State.trail_of state.new
+            ≡ Self.State.trail_of state.old ++ event ∷ [] }
         ensures spare { Self.State.spare_of state.old ≡ Self.State.spare_of state.new + 1 }
-        ensures puts { AllByRecursion (FitsIn (colours_of self.now) (handlers_of self.now) (Self.State.fits_under (Self.State.frame_of state.old))) outs.new }
+        ensures puts { AllByRecursion (FitsIn (colours_of self.now) (handlers_of self.now)
+            (Self.State.fits_under (Self.State.frame_of state.old))) outs.new }
         ensures few { length outs.new ≤ 2 };
 }

@@ -41,7 +41,8 @@ impl Delivery {
     /// What is to be delivered after a registration on a colour that was answered so.
     pub fn after(colour: Colour, answer: &Registered) -> Delivery
         ensures after { result ≡ delivery_after colour answer.now }
-        ensures may { (setup : Setup) → IsColour setup colour → NamesCore setup answer.now → MayDeliver setup result }
+        ensures may { (setup : Setup) → IsColour setup colour → NamesCore setup answer.now
+            → MayDeliver setup result }
     {
         match *answer {
             Registered::Woke {
@@ -72,6 +73,8 @@ impl Delivery {
 
     /// Makes the one call on the access that delivers it, and answers whether it arrived: a mark entered the
     /// chain, a report found its mark. With nothing to deliver it makes no call, and answers true.
+    // Inlined, the mark isn't copied for the call.
+    #[inline(always)]
     pub fn deliver<S: Fits<P>, P, A: Access<S, P>>(self, access: &mut A) -> bool
         requires may { MayDeliver (A.setup_of access.old) self }
         ensures delivers { Delivers A.Access access.old self result access.new }

@@ -25,8 +25,10 @@ fn step_popped<S: Fits<P> + Drop, P: Drop, A: Access<S, P>, R: App<State = S, Lo
     app: &R,
 ) -> Made
     requires no_turn { is_turning phase.old ≡ false }
-    requires on { StepsOn S.Trail S.fits_under A.Access R.App app.now access.old holdings.old (Popped mark) }
-    ensures done { StepDone S.Trail S.fits_under A.Access R.App app.now access.old holdings.old (Popped mark)
+    requires on { StepsOn S.Trail S.fits_under A.Access R.App app.now access.old
+        holdings.old (Popped mark) }
+    ensures done { StepDone S.Trail S.fits_under A.Access R.App app.now access.old
+        holdings.old (Popped mark)
         result access.new holdings.new phase.new }
 {
     match access.take(mark.colour) {
@@ -69,7 +71,8 @@ fn step_picked<S: Fits<P> + Drop, P: Drop, A: Access<S, P>, R: App<State = S, Lo
     requires no_turn { is_turning phase.old ≡ false }
     requires on { StepsOn S.Trail S.fits_under A.Access R.App app.now access.old holdings.old
         (Picked mark victim) }
-    ensures done { StepDone S.Trail S.fits_under A.Access R.App app.now access.old holdings.old (Picked mark victim)
+    ensures done { StepDone S.Trail S.fits_under A.Access R.App app.now access.old
+        holdings.old (Picked mark victim)
         result access.new holdings.new phase.new }
 {
     match access.steal(mark.colour) {
@@ -108,8 +111,10 @@ fn step_free<S: Fits<P> + Drop, P: Drop, A: Access<S, P>, R: App<State = S, Load
 ) -> Made
     requires no_turn { is_turning phase.old ≡ false }
     requires at { phase.old ≡ Free place }
-    requires on { StepsOn S.Trail S.fits_under A.Access R.App app.now access.old holdings.old (Free place) }
-    ensures done { StepDone S.Trail S.fits_under A.Access R.App app.now access.old holdings.old (Free place)
+    requires on { StepsOn S.Trail S.fits_under A.Access R.App app.now access.old
+        holdings.old (Free place) }
+    ensures done { StepDone S.Trail S.fits_under A.Access R.App app.now access.old
+        holdings.old (Free place)
         result access.new holdings.new phase.new }
 {
     if holdings.halted {
@@ -155,8 +160,10 @@ pub(crate) fn step_by_phase<
     R: App<State = S, Load = P>,
     G: Gate,
 >(holdings: &mut Holdings<P>, phase: &mut Phase<S, P>, access: &mut A, app: &R, gate: &G) -> Made
-    requires on { StepsOn S.Trail S.fits_under A.Access R.App app.now access.old holdings.old phase.old }
-    ensures done { StepDone S.Trail S.fits_under A.Access R.App app.now access.old holdings.old phase.old
+    requires on { StepsOn S.Trail S.fits_under A.Access R.App app.now access.old
+        holdings.old phase.old }
+    ensures done { StepDone S.Trail S.fits_under A.Access R.App app.now access.old
+        holdings.old phase.old
         result access.new holdings.new phase.new }
 {
     match phase {

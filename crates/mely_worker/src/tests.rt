@@ -61,8 +61,10 @@ fn follows(
     app: &Forwarding,
     steps: &[Made],
 ) -> bool
-    requires may { MayStepAt ⟦<Ledger as Trail>⟧ ⟦<Ledger as Fits<u8>>⟧.fits_under ⟦<Script as Access<Ledger, u8>>⟧ script.old worker.old }
-    requires served { AppServesAt ⟦<Script as Access<Ledger, u8>>⟧ ⟦<Forwarding as App>⟧ script.old app.now }
+    requires may { MayStepAt ⟦<Ledger as Trail>⟧ ⟦<Ledger as Fits<u8>>⟧.fits_under
+        ⟦<Script as Access<Ledger, u8>>⟧ script.old worker.old }
+    requires served { AppServesAt ⟦<Script as Access<Ledger, u8>>⟧
+        ⟦<Forwarding as App>⟧ script.old app.now }
 {
     for made in steps {
         if worker.step(script, app, app) != *made {

@@ -146,8 +146,10 @@ pub(crate) fn finish_turn<S: Fits<P> + Drop, P: Drop, A: Access<S, P>, R: App<St
     app: &R,
 ) -> Made
     requires ended { HasRunAll phase.old }
-    requires on { StepsOn S.Trail S.fits_under A.Access R.App app.now access.old holdings.old phase.old }
-    ensures done { StepDone S.Trail S.fits_under A.Access R.App app.now access.old holdings.old phase.old
+    requires on { StepsOn S.Trail S.fits_under A.Access R.App app.now access.old
+        holdings.old phase.old }
+    ensures done { StepDone S.Trail S.fits_under A.Access R.App app.now access.old
+        holdings.old phase.old
         result access.new holdings.new phase.new }
 {
     let turn = mem::replace(phase, Phase::Free { place: 0 }).into_turn();

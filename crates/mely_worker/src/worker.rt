@@ -141,7 +141,8 @@ impl<S: Fits<P> + Drop, P: Drop> Worker<S, P> {
     ) -> Made
         requires may { MayStepAt S.Trail S.fits_under A.Access access.old self.old }
         requires served { AppServesAt A.Access R.App access.old app.now }
-        ensures steps { Steps A.Access R.App app.now access.old self.old result access.new self.new }
+        ensures steps { Steps A.Access R.App app.now access.old self.old
+            result access.new self.new }
         ensures may { MayStepAt S.Trail S.fits_under A.Access access.new self.new }
         ensures worker { IsSameWorker self.old self.new }
         ensures halted { self.old.halted ≡ true → self.new.halted ≡ true }

@@ -11,22 +11,6 @@ use Rattle.mely_shard.specs.Contents.{Contents, IsOwn, KeepsFrame}
 use Rattle.shard_loop.specs.Loops.{IsLoop, AreBlankBelow}
 use Rattle.mely_event.specs.TrailLog.{TrailLogState}
 
-pub loop_stays : {S P : Type 0} (old new : Contents S P) → KeepsFrame old new → IsLoop old → IsLoop new
-loop_stays old new frame is = record {
-  colours = ap colours_of frame.same_setup ∙ is.colours;
-  shards = ap (λ s. (shape_of s).shards) frame.same_setup ∙ is.shards;
-  handlers = ap (λ s. length (rows_of (handlers_of s))) frame.same_setup ∙ is.handlers;
-  number = frame.same_shard ∙ is.number;
-}
-
-pub loop_own : {S P : Type 0} (has : Contents S P) (c : ℕ) → IsLoop has → c < 1024 → IsOwn has (record { 0 = c })
-loop_own has c is lt = record { there = subst (λ n. c < n) (sym is.colours) lt; here = ap (λ g. c % g) is.shards ∙ none_left ∙ sym is.number } where
-  none_left : c % 1 ≡ 0
-  none_left = omega arith
-
-pub loop_may : {S P : Type 0} (has : Contents S P) (c arg : ℕ) → IsLoop has → c < 1024 → MayRegister has.setup (record { 0 = c }) (record { handler = 0; arg = arg })
-loop_may has c arg is lt = record { colour = subst (λ n. c < n) (sym is.colours) lt; handler = subst (λ n. 0 < n) (sym is.handlers) (omega arith) }
-
 -- no state at first
 pub blank_none : AreBlankBelow 0 []
 blank_none = record { many = refl; each = λ i state is. cc }

@@ -15,7 +15,8 @@ pub record IsLoop {S P : Type 0} (has : Contents S P) : Type 0 where
 -- one state for each of the first colours, on which nothing was run
 pub record AreBlankBelow (count : ℕ) (states : List TrailLogState) : Type 0 where
   pub many : length states ≡ count
-  pub each : (i : ℕ) (state : TrailLogState) → slice_get states i ≡ Some state → (state.colour ≡ record { 0 = i }) × (state.events ≡ [])
+  pub each : (i : ℕ) (state : TrailLogState) → slice_get states i ≡ Some state
+      → (state.colour ≡ record { 0 = i }) × (state.events ≡ [])
 
 abbrev pub AreBlank : List TrailLogState → Type 0
 AreBlank states = AreBlankBelow 1024 states

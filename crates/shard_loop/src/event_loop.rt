@@ -97,7 +97,8 @@ fn register_all(
 /// Runs what a turn has on an empty handler, which only records the event, and takes its state home.
 fn run_and_finish(shard: &mut Shard<TrailLog, u32>, mut turn: Turn<TrailLog, u32>) -> After
     requires own { IsOwn shard.old turn.colour }
-    requires stands { TurnStands ⟦<TrailLog as Trail>⟧ ⟦<TrailLog as Fits<u32>>⟧.fits_under shard.old turn }
+    requires stands { TurnStands ⟦<TrailLog as Trail>⟧
+        ⟦<TrailLog as Fits<u32>>⟧.fits_under shard.old turn }
     requires room { length turn.events ≤ turn.state.spare }
     ensures { KeepsFrame shard.old shard.new }
 {

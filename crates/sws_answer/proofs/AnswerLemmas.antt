@@ -163,7 +163,7 @@ file_closes false (Part first last) closes = refl
 file_closes false Unsatisfied closes = refl
 
 -- with a target that names a file
-pub answer-named : (site : SiteFiles) (asked : Request) (last : Bool) (path name : List ℕ) → lacks_host asked ≡ false → is_one_of other_methods asked.method ≡ false → is_one_of file_methods asked.method ≡ true
+answer-named : (site : SiteFiles) (asked : Request) (last : Bool) (path name : List ℕ) → lacks_host asked ≡ false → is_one_of other_methods asked.method ≡ false → is_one_of file_methods asked.method ≡ true
     → path_and_query asked.target ≡ Some path → name_of asked.target ≡ Some name
     → name_answer site asked name (is_closing asked || last) (is_head_request asked) ≡ request_answer site asked last
 answer-named site asked last path name host other file form named = by_named (file_named name site.files) (ap (option_and_then (λ n. file_named n site.files)) named)
@@ -194,7 +194,7 @@ answer-named site asked last path name host other file form named = by_named (fi
 pub Sends-with : (sent : Sent) (f : Bool → Bool → Answer) (closes closing is_head headless : Bool) → closes ≡ closing → is_head ≡ headless → Sends sent (f closes is_head) → Sends sent (f closing headless)
 Sends-with sent f closes closing is_head headless c h s = subst (λ x. Sends sent (f closing x)) h (subst (λ x. Sends sent (f x is_head)) c s)
 
-pub mapped_some : (found : Option (List ℕ)) (rest : List ℕ) → Some rest ≡ option_map (drop 1) found → (path : List ℕ) × (found ≡ Some path) × (rest ≡ drop 1 path)
+mapped_some : (found : Option (List ℕ)) (rest : List ℕ) → Some rest ≡ option_map (drop 1) found → (path : List ℕ) × (found ≡ Some path) × (rest ≡ drop 1 path)
 mapped_some None rest e = absurd (cc)
 mapped_some (Some path) rest e = (path, refl, (cc))
 

@@ -73,7 +73,7 @@ abbrev at_cut : ℕ → SiteFiles → List ℕ → Cut → List Answer
 at_cut left site bytes cut = answers_at site bytes (left == 0) cut (λ len. answers left site (drop len bytes))
 
 -- the answers to more bytes begin with those to the first ones
-pub answers-append : (left : ℕ) (site : SiteFiles) (bytes more : List ℕ) → Begins (answers left site bytes) (answers left site (bytes ++ more))
+answers-append : (left : ℕ) (site : SiteFiles) (bytes more : List ℕ) → Begins (answers left site bytes) (answers left site (bytes ++ more))
 unfolding answers
 answers-append zero site bytes more = record { later = []; is = refl }
 answers-append (suc left) site bytes more = by_cut (cut_of bytes) refl (λ len. answers-append left site (drop len bytes) more)

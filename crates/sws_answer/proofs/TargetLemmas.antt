@@ -28,7 +28,7 @@ starts_begins (byte ∷ bytes) e = by_test (nat_eq 47 byte) refl e
     by_test false same h = absurd (cc)
 
 -- a path with what follows it begins with a slash
-pub path_and_query_begins : (target path : List ℕ) → path_and_query target ≡ Some path → path ≡ 47 ∷ drop 1 path
+path_and_query_begins : (target path : List ℕ) → path_and_query target ≡ Some path → path ≡ 47 ∷ drop 1 path
 unfolding IsRooted
 path_and_query_begins target path e = by_origin (starts_with nat_eq target (codes "/")) refl e
   where
@@ -48,7 +48,7 @@ path_of-slash bytes = ap (λ n. take n (47 ∷ bytes)) (one_more (position_or_le
     one_more n = omega arith
 
 -- the name that is said by a path is that of the path behind its slash
-pub name_said_by-slash : (bytes : List ℕ) → name_said_by (path_of (47 ∷ bytes)) ≡ with_index (percent_decode (path_of bytes))
+name_said_by-slash : (bytes : List ℕ) → name_said_by (path_of (47 ∷ bytes)) ≡ with_index (percent_decode (path_of bytes))
 name_said_by-slash bytes =
     ap name_said_by (path_of-slash bytes)
     ∙ ap (λ d. with_index (drop 1 d)) (percent_decode_not_percent 47 (path_of bytes) (λ e. omega arith))

@@ -55,7 +55,8 @@ selected_bytes Unsatisfied bytes = []
 
 abbrev pub part_content : Option File → Selection → Content
 part_content None selection = no_content
-part_content (Some file) selection = record { kind = content_type file.0; bytes = selected_bytes selection file.1 }
+part_content (Some file) selection =
+    record { kind = content_type file.0; bytes = selected_bytes selection file.1 }
 
 abbrev pub status_content : Status → Content
 status_content status = record { kind = plain_text; bytes = fixed_body status }

@@ -28,7 +28,8 @@ file_methods = codes "GET" ∷ codes "HEAD" ∷ []
 -- the methods that are known, and that no file has (RFC 9110, section 9.3; RFC 5789)
 abbrev pub other_methods : List (List ℕ)
 other_methods =
-    codes "OPTIONS" ∷ codes "POST" ∷ codes "PUT" ∷ codes "DELETE" ∷ codes "PATCH" ∷ codes "TRACE" ∷ codes "CONNECT" ∷ []
+    codes "OPTIONS" ∷ codes "POST" ∷ codes "PUT" ∷ codes "DELETE" ∷ codes "PATCH" ∷ codes "TRACE"
+    ∷ codes "CONNECT" ∷ []
 
 -- the file that the request names
 abbrev pub file_for : SiteFiles → Request → Option File

@@ -28,4 +28,5 @@ announces_content fields = has_field (codes "transfer-encoding") fields || has_c
 
 -- the connection ends after the response to this request, whatever it is
 abbrev pub is_closing : Request → Bool
-is_closing request = request.minor == 0 || asks_to_close request.fields || announces_content request.fields
+is_closing request =
+    request.minor == 0 || asks_to_close request.fields || announces_content request.fields

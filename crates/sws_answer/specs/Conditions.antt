@@ -7,11 +7,13 @@ use Rattle.sws_answer.specs.Fields.{Field, values_of, has_field}
 
 -- the value is a date in one of the three forms, and it is not before the date (RFC 9110, section 5.6.7)
 abbrev pub is_not_before : HttpDate → List ℕ → Bool
-is_not_before date value = option_map_or (λ secs. nat_le (unix_secs date) secs) (parse_secs value) false
+is_not_before date value =
+    option_map_or (λ secs. nat_le (unix_secs date) secs) (parse_secs value) false
 
 -- the same as a fact: the value shows such a date
 abbrev pub NamesDateFrom : HttpDate → List ℕ → Type 0
-NamesDateFrom date value = (named : HttpDate) × IsDateText value named × (unix_secs date ≤ unix_secs named)
+NamesDateFrom date value = (named : HttpDate) × IsDateText value named
+    × (unix_secs date ≤ unix_secs named)
 
 -- the value, where there is exactly one
 abbrev pub one_of : List (List ℕ) → Option (List ℕ)
@@ -24,4 +26,5 @@ abbrev pub is_unmodified : Option HttpDate → List Field → Bool
 is_unmodified None fields = false
 is_unmodified (Some date) fields =
     not (has_field (codes "if-none-match") fields)
-    && option_map_or (is_not_before date) (one_of (values_of (codes "if-modified-since") fields)) false
+    && option_map_or (is_not_before date)
+    (one_of (values_of (codes "if-modified-since") fields)) false

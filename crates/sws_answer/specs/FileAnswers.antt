@@ -22,8 +22,10 @@ abbrev pub file_answer : SiteFiles → Request → Option File → Bool → Bool
 file_answer site asked None closes is_head = response site.date NotFound None Whole closes is_head
 file_answer site asked (Some file) closes is_head =
     let selection = selection_in asked (length file.1) in
-    response site.date (if is_unmodified site.date asked.fields then NotModified else status_by selection) (Some file) selection closes is_head
+    response site.date (if is_unmodified site.date asked.fields then NotModified else status_by
+    selection) (Some file) selection closes is_head
 
 -- the answer to a request that names a file by this name
 abbrev pub name_answer : SiteFiles → Request → List ℕ → Bool → Bool → Answer
-name_answer site asked name closes is_head = file_answer site asked (file_named name site.files) closes is_head
+name_answer site asked name closes is_head =
+    file_answer site asked (file_named name site.files) closes is_head

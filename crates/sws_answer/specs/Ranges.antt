@@ -17,7 +17,8 @@ use Rattle.sws_answer.specs.Conditions.{one_of}
 -- a number of 1 to 18 decimal digits, of which the first ones may be 0
 abbrev pub number_in : List ℕ → Option ℕ
 number_in digits =
-    if all_ascii_digits digits && not (length digits == 0) && nat_le (length digits) 18 then Some (digits_value 10 digits) else None
+    if all_ascii_digits digits && not (length digits == 0) && nat_le (length digits) 18 then Some
+    (digits_value 10 digits) else None
 
 -- from one byte to another that is not before it
 abbrev pub between : ℕ → ℕ → Option RangeSpec
@@ -28,7 +29,8 @@ abbrev pub spec_of : List ℕ → List ℕ → Option RangeSpec
 spec_of before behind =
     if length before == 0 then option_map Suffix (number_in behind)
     else (if length behind == 0 then option_map Onward (number_in before)
-    else option_and_then (λ first. option_and_then (λ last. between first last) (number_in behind)) (number_in before))
+    else option_and_then (λ first.
+    option_and_then (λ last. between first last) (number_in behind)) (number_in before))
 
 abbrev pub is_dash : ℕ → Bool
 is_dash byte = byte == 45

@@ -24,12 +24,14 @@ followed answer later = answer ∷ (if answer.closes then [] else later)
 abbrev pub answers_at : SiteFiles → List ℕ → Bool → Cut → (ℕ → List Answer) → List Answer
 answers_at site bytes last NotYet later = []
 answers_at site bytes last TooLong later = answer_of site too_long last ∷ []
-answers_at site bytes last (Head len) later = followed (answer_of site (asked_by (take len bytes)) last) (later len)
+answers_at site bytes last (Head len) later =
+    followed (answer_of site (asked_by (take len bytes)) last) (later len)
 
 -- the answers to the bytes, of which at most so many are given
 unfoldable pub answers : ℕ → SiteFiles → List ℕ → List Answer
 answers zero site bytes = []
-answers (suc more) site bytes = answers_at site bytes (more == 0) (cut_of bytes) (λ len. answers more site (drop len bytes))
+answers (suc more) site bytes =
+    answers_at site bytes (more == 0) (cut_of bytes) (λ len. answers more site (drop len bytes))
 
 -- the answers to all bytes of a connection
 unfoldable pub answers_to : SiteFiles → List ℕ → List Answer

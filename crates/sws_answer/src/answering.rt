@@ -97,7 +97,8 @@ fn refuse<'s>(site: &'s Site, status: Status, closes: bool, is_head: bool) -> An
 
 /// The response that sends a file.
 fn send_file<'s>(page: &Page<'s>, closes: bool, is_head: bool) -> Answer<'s>
-    ensures { Sends result (response page.now.date StatusValue.Success (Some page.now.file) Whole closes is_head) }
+    ensures { Sends result (response page.now.date StatusValue.Success (Some page.now.file)
+        Whole closes is_head) }
 {
     let head = page.head(HeadKind {
         changed: true,
@@ -112,7 +113,9 @@ fn send_file<'s>(page: &Page<'s>, closes: bool, is_head: bool) -> Answer<'s>
 
 /// The response that a file was not modified, whatever part of it is asked for.
 fn say_not_modified<'s>(page: &Page<'s>, closes: bool, is_head: bool) -> Answer<'s>
-    ensures { (selection : SelectionValue) → Sends result (response page.now.date StatusValue.NotModified (Some page.now.file) selection closes is_head) }
+    ensures { (selection : SelectionValue)
+        → Sends result (response page.now.date StatusValue.NotModified (Some page.now.file)
+        selection closes is_head) }
 {
     let head = page.head(HeadKind {
         changed: false,
@@ -135,7 +138,8 @@ fn send_part<'s>(
     is_head: bool,
 ) -> Answer<'s>
     requires { (first ≤ last) × (last < length page.now.file.1) }
-    ensures { Sends result (response site.now.date StatusValue.PartialContent (Some page.now.file) (Part first last) closes is_head) }
+    ensures { Sends result (response site.now.date StatusValue.PartialContent (Some page.now.file)
+        (Part first last) closes is_head) }
 {
     let body = page.body();
     let part = &body[first..last + 1];
@@ -163,7 +167,8 @@ const NO_SUCH_PART: &[u8] = b"416 Range Not Satisfiable\n";
 
 /// The response that a file has no such part as the request asks for.
 fn refuse_range<'s>(site: &'s Site, page: &Page<'s>, closes: bool, is_head: bool) -> Answer<'s>
-    ensures { Sends result (response site.now.date StatusValue.RangeNotSatisfiable (Some page.now.file) Unsatisfied closes is_head) }
+    ensures { Sends result (response site.now.date StatusValue.RangeNotSatisfiable
+        (Some page.now.file) Unsatisfied closes is_head) }
 {
     let head = write_head(&HeadParts {
         status: Status::RangeNotSatisfiable,
@@ -212,7 +217,8 @@ fn answer_path<'s>(
     is_head: bool,
     room: &mut PathRoom,
 ) -> Answer<'s>
-    ensures { Sends result (name_answer site.now request.now (with_index (decoded path.now)) closes is_head) }
+    ensures { Sends result
+        (name_answer site.now request.now (with_index (decoded path.now)) closes is_head) }
 {
     if !write_name(path, room) {
         site.limits();

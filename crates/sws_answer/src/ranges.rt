@@ -72,7 +72,8 @@ fn read_number(digits: &[u8]) -> Option<u64>
 
 /// The range from one byte to another, which is not before it.
 fn read_between(before: &[u8], behind: &[u8]) -> Option<RangeSpec>
-    ensures { result ≡ option_and_then (λ first. option_and_then (λ last. between first last) (number_in behind.now)) (number_in before.now) }
+    ensures { result ≡ option_and_then (λ first. option_and_then (λ last.
+        between first last) (number_in behind.now)) (number_in before.now) }
 {
     let first = read_number(before)?;
     let last = read_number(behind)?;

@@ -47,7 +47,7 @@ within_limits = record {
   bytes = let all = bytes_of-bench_files in omega arith;
 }
 
-pub limit_of-bench_files : limit_of bench_files ≡ None
+limit_of-bench_files : limit_of bench_files ≡ None
 limit_of-bench_files = limit_of-none bench_files within_limits
 
 -- so loading them meets none

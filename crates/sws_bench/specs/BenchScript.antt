@@ -16,7 +16,8 @@ use Rattle.sws_bench.specs.Draws.{stepped, behind, draw, draws_from}
 -- the request of a draw: for one of twenty files, of which the site has sixteen
 unfoldable pub request : ℕ → List ℕ
 request drawn =
-    codes "GET /f" ++ (decimal (drawn % 20) ++ (codes ".txt HTTP/1.1" ++ (line_end ++ (codes "Host: b" ++ (line_end ++ line_end)))))
+    codes "GET /f" ++ (decimal (drawn % 20)
+    ++ (codes ".txt HTTP/1.1" ++ (line_end ++ (codes "Host: b" ++ (line_end ++ line_end)))))
 
 -- ---- a connection
 
@@ -49,7 +50,11 @@ sends parts = map Send parts
 
 -- it sends its bytes in these pieces, and then its input ends
 unfoldable pub conn_from : ℕ → ScriptConn
-conn_from state = record { step = None; cut = None; items = sends (pieces (piece_size state) (bytes_from state)) }
+conn_from state = record {
+  step = None;
+  cut = None;
+  items = sends (pieces (piece_size state) (bytes_from state));
+}
 
 -- ---- all connections
 
@@ -63,4 +68,5 @@ bench_conns number count = map (λ conn. conn_from (conn_state number conn)) (ra
 
 -- how many bytes they send in all
 unfoldable pub bench_bytes : ℕ → ℕ → ℕ
-bench_bytes number count = sum (map (λ conn. length (all_bytes (script_of conn).items)) (bench_conns number count))
+bench_bytes number count =
+    sum (map (λ conn. length (all_bytes (script_of conn).items)) (bench_conns number count))

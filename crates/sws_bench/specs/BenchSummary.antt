@@ -12,8 +12,10 @@ bench_ends number count = map (λ conn. (alone bench_site conn).end) (bench_conn
 
 -- how many bytes are written to them in all
 unfoldable pub bench_written : ℕ → ℕ → ℕ
-bench_written number count = sum (map (λ conn. length (alone bench_site conn).bytes) (bench_conns number count))
+bench_written number count =
+    sum (map (λ conn. length (alone bench_site conn).bytes) (bench_conns number count))
 
 -- the summary: all bytes that they send are read
 abbrev pub bench_summary : ℕ → ℕ → List ℕ
-bench_summary number count = summary (bench_ends number count) (bench_bytes number count) (bench_written number count)
+bench_summary number count =
+    summary (bench_ends number count) (bench_bytes number count) (bench_written number count)

@@ -23,7 +23,7 @@ searched-more NotYet scan seen bytes more stops = record {
 }
 
 -- what was found before
-pub searched-cut : (cut : Cut) (scan : Scan) (seen : ℕ) (bytes : List ℕ) → IsSearchedFor cut scan seen bytes → cut ≢ NotYet → cut ≡ cut_of bytes
+searched-cut : (cut : Cut) (scan : Scan) (seen : ℕ) (bytes : List ℕ) → IsSearchedFor cut scan seen bytes → cut ≢ NotYet → cut ≡ cut_of bytes
 searched-cut (Head len) scan seen bytes is there = sym is
 searched-cut TooLong scan seen bytes is there = sym is
 searched-cut NotYet scan seen bytes is there = absurd (there refl)
@@ -50,7 +50,7 @@ looked_at scan bytes stands = record {
 }
 
 -- the bytes that came end no line
-pub search-quiet : (scan : Scan) (seen : ℕ) (bytes : List ℕ) → StopsIn scan seen bytes → IsQuiet seen bytes
+search-quiet : (scan : Scan) (seen : ℕ) (bytes : List ℕ) → StopsIn scan seen bytes → IsQuiet seen bytes
     → IsLookedAt NotYet scan bytes
 search-quiet scan seen bytes stops quiet =
     let stands : StandsFor scan (whole_lines bytes) =
@@ -80,11 +80,6 @@ search-on scan next bytes cut stops found goes_on = (by_cut cut is (λ none. goe
 pub search-start : (scan : Scan) (bytes : List ℕ) → StandsFor scan [] → StopsIn scan 0 bytes
 unfolding lines_of
 search-start scan bytes stands = record { within = omega arith; stands = stands }
-
--- the test of that
-pub quiet-test : (bytes : List ℕ) (seen : ℕ) (found : Bool) → length bytes < head_limit → found ≡ has_feed (slice_range bytes seen (length bytes)) → found ≡ false
-    → IsQuiet seen bytes
-quiet-test bytes seen found few is quiet = record { few = few; no_feed = sym (ap has_feed (take_rest bytes seen)) ∙ sym is ∙ quiet }
 
 -- ---- a buffer whose cut was asked for
 

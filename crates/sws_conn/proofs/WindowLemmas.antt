@@ -23,7 +23,7 @@ range_dropped room old start end n is fits =
     ∙ ap (take (end - (start + n))) (drop-drop n start room))
 
 -- moved to the front
-pub range_moved : (room moved : List ℕ) (start end : ℕ) → start ≤ end → end ≤ length room → moved ≡ copy_within room start end 0
+range_moved : (room moved : List ℕ) (start end : ℕ) → start ≤ end → end ≤ length room → moved ≡ copy_within room start end 0
     → slice_range moved 0 (end - start) ≡ slice_range room start end
 range_moved room moved start end ordered within is =
     let count = end - start in
@@ -32,7 +32,7 @@ range_moved room moved start end ordered within is =
     ∙ take-paste room 0 (drop start room) count (omega arith) (omega (arith, length-drop start room))
 
 -- with bytes behind it
-pub range_grown : (room into rest : List ℕ) (start end count : ℕ) → start ≤ end → end ≤ length room → count ≤ length into
+range_grown : (room into rest : List ℕ) (start end count : ℕ) → start ≤ end → end ≤ length room → count ≤ length into
     → slice_range (take end room ++ (into ++ rest)) start (end + count) ≡ slice_range room start end ++ take count into
 range_grown room into rest start end count ordered within fits =
     let front = drop start (take end room) in

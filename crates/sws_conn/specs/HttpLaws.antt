@@ -40,7 +40,12 @@ whole-head NotYet len e = cc
 
 no_head : (bytes : List ℕ) → bytes ≡ [] → IsHead bytes → ⊥
 no_head bytes none head =
-    let long : 1 ≤ length head.first = omega (arith, ap length head.first_line.0.is, length-append head.first_line.0.text (10 ∷ [])) in
+    let long : 1 ≤ length head.first =
+    omega (
+      arith,
+      ap length head.first_line.0.is,
+      length-append head.first_line.0.text (10 ∷ []),
+    ) in
     absurd (omega (
       arith,
       ap length none,
@@ -55,32 +60,40 @@ take-nil (suc n) = refl
 
 nothing_cut : cut_of [] ≡ NotYet
 nothing_cut =
-    let none : HasNoHeadWithin head_limit [] = (λ n within head. no_head (take n []) (take-nil n) head) in
+    let none : HasNoHeadWithin head_limit [] =
+    (λ n within head. no_head (take n []) (take-nil n) head) in
     cut_of-is [] NotYet (none, omega arith)
 
 -- ---- the answers
 
 -- a head at the front is answered, and then what comes behind it
-head-answered : (left : ℕ) (site : SiteFiles) (bytes more : List ℕ) (len : ℕ) → 0 < left → cut_of bytes ≡ Head len
-    → answers left site (take len bytes ++ more) ≡ followed (answer_of site (asked_by (take len bytes)) (left == 1)) (answers (left - 1) site more)
+head-answered : (left : ℕ) (site : SiteFiles) (bytes more : List ℕ) (len : ℕ) → 0 < left
+    → cut_of bytes ≡ Head len
+    → answers left site (take len bytes ++ more)
+    ≡ followed (answer_of site (asked_by (take len bytes)) (left == 1))
+    (answers (left - 1) site more)
 head-answered left site bytes more len some e =
     let head = take len bytes in
     let fits = (IsCutOf-cut_of bytes (Head len) e).0.fits in
     answers-head left site head more len some (cut_of-take bytes len e)
-    ∙ ap (λ h. followed (answer_of site (asked_by h) (left == 1)) (answers (left - 1) site (drop len head ++ more)))
+    ∙ ap (λ h. followed (answer_of site (asked_by h) (left == 1))
+    (answers (left - 1) site (drop len head ++ more)))
     (take_all len head (omega (arith, length-take len bytes)))
-    ∙ ap (λ d. followed (answer_of site (asked_by head) (left == 1)) (answers (left - 1) site (d ++ more)))
+    ∙ ap (λ d. followed (answer_of site (asked_by head) (left == 1))
+    (answers (left - 1) site (d ++ more)))
     (drop_all len head (omega (arith, length-take len bytes)))
 
 none-left : (site : SiteFiles) (bytes : List ℕ) → answers 0 site bytes ≡ []
 unfolding answers
 none-left site bytes = refl
 
-all-counted : (site : SiteFiles) (bytes : List ℕ) → answers_to site bytes ≡ answers answer_limit site (take input_limit bytes)
+all-counted : (site : SiteFiles) (bytes : List ℕ)
+    → answers_to site bytes ≡ answers answer_limit site (take input_limit bytes)
 unfolding answers_to
 all-counted site bytes = refl
 
-all-texts : (site : SiteFiles) (bytes : List ℕ) → responses_of site bytes ≡ texts_of (answers_to site bytes)
+all-texts : (site : SiteFiles) (bytes : List ℕ)
+    → responses_of site bytes ≡ texts_of (answers_to site bytes)
 unfolding responses_of
 all-texts site bytes = refl
 
@@ -88,14 +101,17 @@ pub http-orderly : IsOrderly http
 http-orderly = record {
   none_left = none-left;
   none_yet = λ left site bytes e. answers-not_yet left site bytes (not-yet (cut_of bytes) e);
-  one_more = λ left site bytes more len some e. head-answered left site bytes more len some (whole-head (cut_of bytes) len e);
-  refused = λ left site bytes more some e. answers-too_long left site bytes more some (too-long (cut_of bytes) e);
+  one_more = λ left site bytes more len some e.
+      head-answered left site bytes more len some (whole-head (cut_of bytes) len e);
+  refused = λ left site bytes more some e.
+      answers-too_long left site bytes more some (too-long (cut_of bytes) e);
   refusal_closes = closes-too_long;
   last_closes = λ site asked. closes-last site (asked_for asked);
   empty_is = λ site asked last.
       let some = head-some site (asked_for asked) last in
       let answer = answer_of site (asked_for asked) last in
-      sym (ne_eqb (length (answer.head ++ answer.body)) 0 (λ none. omega (arith, length-append answer.head answer.body)));
+      sym (ne_eqb (length (answer.head ++ answer.body)) 0 (λ none.
+      omega (arith, length-append answer.head answer.body)));
   has_bytes = λ site asked last e. refl;
   short = λ site asked last limits. answer_of-short site (asked_for asked) last limits;
   all = all-counted;
@@ -106,5 +122,6 @@ http-orderly = record {
 }
 
 -- a read finds room behind the buffer
-pub not_yet-short : (bytes : List ℕ) → cut_by (cut_of bytes) ≡ protocol.NotYet → length bytes < head_limit
+pub not_yet-short : (bytes : List ℕ) → cut_by (cut_of bytes) ≡ protocol.NotYet
+    → length bytes < head_limit
 not_yet-short bytes e = (IsCutOf-cut_of bytes NotYet (not-yet (cut_of bytes) e)).1

@@ -39,14 +39,16 @@ impl<'s, L: Link> Model for Conn<'s, L> {
 
     ghost view = { λ conn. record { standing = shown conn.talking.value; link = conn.link } };
 
-    ghost invariant = { λ conn. IsSound L.Link (record { standing = shown conn.talking.value; link = conn.link }) };
+    ghost invariant = { λ conn.
+        IsSound L.Link (record { standing = shown conn.talking.value; link = conn.link }) };
 }
 
 impl<'s, L: Link + Drop> Conn<'s, L> {
     /// A connection that waits for its link. All room is made here that it will need; where that was refused, the
     /// answer is `Memory`.
     pub fn new(alloc: Global, site: &'s Site) -> Result<Conn<'s, L>, Memory>
-        ensures new { IfOk result (λ conn. conn ≡ record { standing = unopened site.now; link = None }) }
+        ensures new { IfOk result (λ conn. conn
+            ≡ record { standing = unopened site.now; link = None }) }
         ensures sound { IfOk result (λ conn. IsSound L.Link conn) }
     {
         let buffer = Buffer::new(alloc)?;
@@ -84,7 +86,9 @@ impl<'s, L: Link + Drop> Conn<'s, L> {
         requires not_shut { L.is_shut link ≡ false }
         ensures opens { Opens self.old link result self.new }
         ensures run { IfOk result (λ _. HasRun L.Link self.old.standing.hall link [] self.new) }
-        ensures path { IfOk result (λ next. TakesOff (open_link ∷ []) (path_told self.old.standing.hall (L.tells link)) (rest_told L.Link self.new)) }
+        ensures path { IfOk result (λ next.
+            TakesOff (open_link ∷ []) (path_told self.old.standing.hall (L.tells link))
+            (rest_told L.Link self.new)) }
         ensures sound { IsSound L.Link self.new }
     {
         if self.link.is_some() {
@@ -103,9 +107,11 @@ impl<'s, L: Link + Drop> Conn<'s, L> {
         ensures told { result ≡ told_next self.new.standing }
         ensures scripted { FollowsScript L.Link self.old self.new }
         ensures path { TakesEvent L.Link self.old self.new }
-        ensures begins { BeginsResponses self.new.standing.hall (told_by_link L.Link self.new.link) }
+        ensures begins { BeginsResponses self.new.standing.hall
+            (told_by_link L.Link self.new.link) }
         ensures shut { IsShutAtEnd L.Link self.new.standing.pending self.new.link }
-        ensures ended { (end : End) → self.old.standing.end ≡ Some end → self.new.standing.end ≡ Some end }
+        ensures ended { (end : End) → self.old.standing.end ≡ Some end
+            → self.new.standing.end ≡ Some end }
         ensures sound { IsSound L.Link self.new }
     {
         step_over(&mut self.talking, &mut self.link);
@@ -169,7 +175,8 @@ impl<'s, L: Link + Drop> Conn<'s, L> {
 /// Does the pending step.
 fn step_over<L: Link>(talking: &mut Talking<Http<'_>>, link: &mut Option<L>)
     requires { IsSound L.Link (record { standing = shown talking.old; link = link.old }) }
-    ensures { StepsFrom L.Link (shown talking.old) (shown talking.new) talking.old.pending link.old link.new }
+    ensures { StepsFrom L.Link (shown talking.old) (shown talking.new)
+        talking.old.pending link.old link.new }
 {
     match (talking.pending, link) {
         (Next::Read, Some(link)) => read_step(talking, link),

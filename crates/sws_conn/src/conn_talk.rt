@@ -74,13 +74,17 @@ impl<'s, L: Link + Drop> Talk<L> for Conn<'s, L> {
     }
 
     fn a_run_serves()
-        ensures serves { (first : L) (trail : List Handler) (talk : Connection L) → HasRunOpen L.Link first trail talk
-            → ServesNow (HasServed L.Link (responses_of talk.standing.hall) (outcome_of talk.standing.hall) first)
+        ensures serves { (first : L) (trail : List Handler) (talk : Connection L)
+            → HasRunOpen L.Link first trail talk
+            → ServesNow (HasServed L.Link (responses_of talk.standing.hall)
+            (outcome_of talk.standing.hall) first)
             talk.link (talk_view talk.standing) }
-        ensures path { (first : L) (trail : List Handler) (talk : Connection L) → HasRunOpen L.Link first trail talk
+        ensures path { (first : L) (trail : List Handler) (talk : Connection L)
+            → HasRunOpen L.Link first trail talk
             → UnlessMemory talk.standing.end
             (TakesOff trail (path_to_come (path_of talk.standing.hall) (L.tells first)) (rest_told L.Link talk)) }
-        ensures due { (first : L) (trail : List Handler) (talk : Connection L) → HasRunOpen L.Link first trail talk
+        ensures due { (first : L) (trail : List Handler) (talk : Connection L)
+            → HasRunOpen L.Link first trail talk
             → IsDue (due (talk_view talk.standing)) (rest_told L.Link talk) }
     {}
 

@@ -21,13 +21,19 @@ use sws_link::Link;
 pub fn a_path_is_of_steps()
     ensures is { (site : SiteFiles) (script : Script) → IsWithinLimits site.files
         → IsPathFrom (record { standing = unopened site; script = script }) (path_of site script) }
-    ensures alone { (from : Scripted) (one other : List Handler) → IsPathFrom from one → IsPathFrom from other → one ≡ other }
-    ensures open { (site : SiteFiles) (script : Script) → path_of site script ≡ open_link ∷ rest_of_path (going_to (unopened site) NextValue.Read) script }
-    ensures close { (site : SiteFiles) (script : Script) → IsWithinLimits site.files → (before : List Handler) × (path_of site script ≡ before ++ close ∷ []) }
+    ensures alone { (from : Scripted) (one other : List Handler) → IsPathFrom from one
+        → IsPathFrom from other → one ≡ other }
+    ensures open { (site : SiteFiles) (script : Script) → path_of site script
+        ≡ open_link ∷ rest_of_path (going_to (unopened site) NextValue.Read) script }
+    ensures close { (site : SiteFiles) (script : Script) → IsWithinLimits site.files
+        → (before : List Handler) × (path_of site script ≡ before ++ close ∷ []) }
     ensures pause { (site : SiteFiles) (step cut : Option ℕ) → IsWithinLimits site.files
-        → path_of site (record { items = wait 1 ∷ []; step = step; cut = cut }) ≡ open_link ∷ read_piece ∷ resume ∷ parse ∷ close ∷ [] }
-    ensures step { (c : Scripted) → IsWithinLimits c.standing.hall.files → IsReadyTo c.standing.pending c.standing
-        → rest_of_path c.standing c.script ≡ event_of c.standing ++ rest_of_path (scripted_step c).standing (scripted_step c).script }
+        → path_of site (record { items = wait 1 ∷ []; step = step; cut = cut })
+        ≡ open_link ∷ read_piece ∷ resume ∷ parse ∷ close ∷ [] }
+    ensures step { (c : Scripted) → IsWithinLimits c.standing.hall.files
+        → IsReadyTo c.standing.pending c.standing
+        → rest_of_path c.standing c.script
+        ≡ event_of c.standing ++ rest_of_path (scripted_step c).standing (scripted_step c).script }
 {}
 
 /// A run of a connection, from `Conn::open` on and over all calls of `Conn::step`, each of which runs the event of the
@@ -35,15 +41,23 @@ pub fn a_path_is_of_steps()
 /// at its end it has served the link, which is then shut, and the events are the whole path. The path is that of a link that told its answers
 /// to come, unless memory ran out.
 pub fn a_run_serves_its_link<L: Link>()
-    ensures start { (site : SiteFiles) (first : L) → IsWithinLimits site.files → IsFresh (L.tells first) → L.is_shut first ≡ false
+    ensures start { (site : SiteFiles) (first : L) → IsWithinLimits site.files
+        → IsFresh (L.tells first) → L.is_shut first ≡ false
         → HasRun L.Link site first [] (opened site first) }
-    ensures goes_on { (site : SiteFiles) (first : L) (trail : List Handler) (event : Handler) (before after : Connection L)
-        → HasRun L.Link site first trail before → event_of before.standing ≡ event ∷ [] → Steps L.Link before after
+    ensures goes_on { (site : SiteFiles) (first : L) (trail : List Handler) (event : Handler)
+        (before after : Connection L)
+        → HasRun L.Link site first trail before → event_of before.standing ≡ event ∷ []
+        → Steps L.Link before after
         → HasRun L.Link site first (trail ++ event ∷ []) after }
-    ensures sound { (site : SiteFiles) (first : L) (trail : List Handler) (conn : Connection L) → HasRun L.Link site first trail conn → IsSound L.Link conn }
-    ensures path { (site : SiteFiles) (first : L) (trail : List Handler) (conn : Connection L) → HasRun L.Link site first trail conn
-        → UnlessMemory conn.standing.end (TakesOff (open_link ∷ trail) (path_told site (L.tells first)) (rest_told L.Link conn)) }
-    ensures ends { (site : SiteFiles) (first : L) (trail : List Handler) (conn : Connection L) (now : L) (end : EndValue)
-        → HasRun L.Link site first trail conn → conn.standing.pending ≡ NextValue.Nothing → conn.link ≡ Some now → conn.standing.end ≡ Some end
+    ensures sound { (site : SiteFiles) (first : L) (trail : List Handler) (conn : Connection L)
+        → HasRun L.Link site first trail conn → IsSound L.Link conn }
+    ensures path { (site : SiteFiles) (first : L) (trail : List Handler) (conn : Connection L)
+        → HasRun L.Link site first trail conn
+        → UnlessMemory conn.standing.end
+        (TakesOff (open_link ∷ trail) (path_told site (L.tells first)) (rest_told L.Link conn)) }
+    ensures ends { (site : SiteFiles) (first : L) (trail : List Handler) (conn : Connection L)
+        (now : L) (end : EndValue)
+        → HasRun L.Link site first trail conn → conn.standing.pending ≡ NextValue.Nothing
+        → conn.link ≡ Some now → conn.standing.end ≡ Some end
         → EndsRun L.Link site first trail now end }
 {}

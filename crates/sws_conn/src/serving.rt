@@ -28,12 +28,17 @@ pub fn serve_one<L: Link + Drop>(alloc: Global, site: &Site, link: L) -> Result<
     requires fresh { IsFresh (L.tells link) }
     requires not_shut { L.is_shut link ≡ false }
     ensures ran { IfOk result (λ served. HasEnded L.Link site.now link served.0 served.1) }
-    ensures scripted { IfOk result (λ served. EndsAs site.now (L.tells link) (L.tells served.0) served.1) }
-    ensures serves { IfOk result (λ served. Serves site.now (L.tells link) (L.tells served.0) served.1) }
+    ensures scripted { IfOk result (λ served.
+        EndsAs site.now (L.tells link) (L.tells served.0) served.1) }
+    ensures serves { IfOk result (λ served.
+        Serves site.now (L.tells link) (L.tells served.0) served.1) }
     ensures shut { IfOk result (λ served. L.is_shut served.0 ≡ true) }
-    ensures fault { IfOk result (λ served. served.1 ≡ End.Fault → Rose (L.faults link) (L.faults served.0)) }
-    ensures idle { IfOk result (λ served. served.1 ≡ End.Idle → RoseBy wait_limit (L.waits link) (L.waits served.0)) }
-    ensures kept { IfOk result (λ served. L.since link None link → KeepsBy L.Link site.now link served.0 served.1) }
+    ensures fault { IfOk result (λ served. served.1 ≡ End.Fault
+        → Rose (L.faults link) (L.faults served.0)) }
+    ensures idle { IfOk result (λ served. served.1 ≡ End.Idle
+        → RoseBy wait_limit (L.waits link) (L.waits served.0)) }
+    ensures kept { IfOk result (λ served. L.since link None link
+        → KeepsBy L.Link site.now link served.0 served.1) }
     ensures refused { IfErr result (λ back. back ≡ link) }
 {
     let mut conn = match Conn::new(alloc, site) {

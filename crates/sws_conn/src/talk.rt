@@ -74,7 +74,8 @@ pub trait Talk<L: Link>: Sized {
         ensures told { result ≡ next_told (view_of self.new) }
         ensures nothing { HasNoStep (view_of self.old).pending → self.new ≡ self.old }
         ensures hall { hall_of self.new ≡ hall_of self.old }
-        ensures ended { (end : End) → (view_of self.old).end ≡ Some end → (view_of self.new).end ≡ Some end }
+        ensures ended { (end : End) → (view_of self.old).end ≡ Some end
+            → (view_of self.new).end ≡ Some end }
         ensures runs { (first : L) (trail : List Handler) (event : Handler)
             → has_run first trail self.old → due (view_of self.old) ≡ Some event
             → has_run first (trail ++ event ∷ []) self.new };

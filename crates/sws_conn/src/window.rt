@@ -63,7 +63,8 @@ impl Window {
         requires short { length self.old ≤ 8192 }
         requires not_shut { L.is_shut link.old ≡ false }
         ensures fills { Fills L.Link self.old link.old most result self.new link.new }
-        ensures since { (first : L) → L.since first None link.old → L.since first (read_fault result) link.new }
+        ensures since { (first : L) → L.since first None link.old
+            → L.since first (read_fault result) link.new }
     {
         if ROOM - self.end < most {
             self.room.copy_within(self.start..self.end, 0);
@@ -92,7 +93,8 @@ fn read_at<L: Link>(link: &mut L, room: &mut [u8], at: usize, most: usize) -> Li
     requires fits { at + most ≤ length room.old }
     requires not_shut { L.is_shut link.old ≡ false }
     ensures reads { ReadsAt L.Link link.old at most result link.new room.old room.new }
-    ensures since { (first : L) → L.since first None link.old → L.since first (read_fault result) link.new }
+    ensures since { (first : L) → L.since first None link.old
+        → L.since first (read_fault result) link.new }
 {
     link.read(&mut room[at..at + most])
 }

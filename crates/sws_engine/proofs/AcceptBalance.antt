@@ -52,7 +52,7 @@ bit_few : (b : Bool) → bit b ≤ 1
 bit_few true = omega arith
 bit_few false = omega arith
 
-pub accept_sums : {W L : Type 0} (total : ℕ) (held : WorldLoad W) (now : W) (answer : Accepted L) → AcceptSums total held.accepted (accept_puts total held now answer)
+accept_sums : {W L : Type 0} (total : ℕ) (held : WorldLoad W) (now : W) (answer : Accepted L) → AcceptSums total held.accepted (accept_puts total held now answer)
 accept_sums {W} {L} total held now (accepted.Link link) = record {
   one = omega arith;
   opens = λ i. let e = one_beyond i held.accepted in omega (arith, e);

@@ -12,7 +12,7 @@ use Rattle.sws_engine.specs.Counting.{bit}
 use Rattle.sws_engine.specs.Loads.{world_of}
 
 -- what vanishes with another number has the sum 0 where that has
-pub sum_none : {X : Type 0} (one f : X → ℕ) → ((x : X) → one x ≡ 0 → f x ≡ 0) → (xs : List X) → sum_by one xs ≡ 0 → sum_by f xs ≡ 0
+sum_none : {X : Type 0} (one f : X → ℕ) → ((x : X) → one x ≡ 0 → f x ≡ 0) → (xs : List X) → sum_by one xs ≡ 0 → sum_by f xs ≡ 0
 sum_none one f vanish [] none = omega arith
 sum_none one f vanish (x ∷ xs) none =
     let a = sum_by-cons one x xs in
@@ -56,7 +56,7 @@ split_held b (Some held) = omega (arith, bits_of b)
 pub split_world : {W L : Type 0} (e : Way W L) → early e + lates e ≡ worlds e
 split_world e = split_held (is_late e.0) (world_of e.1)
 
-pub sum_parts : {W L : Type 0} (ways : List (Way W L)) → sum_by early ways + sum_by lates ways ≡ sum_by worlds ways
+sum_parts : {W L : Type 0} (ways : List (Way W L)) → sum_by early ways + sum_by lates ways ≡ sum_by worlds ways
 sum_parts [] = omega arith
 sum_parts (e ∷ ways) = omega (arith, sum_by-cons early e ways, sum_by-cons lates e ways, sum_by-cons worlds e ways, split_world e, sum_parts ways)
 

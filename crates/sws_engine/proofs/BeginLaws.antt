@@ -74,7 +74,7 @@ fits_at x l world total false is many none = record {
 }
 
 -- the first poll fits
-pub first_fits : {W L : Type 0} (x : WorldWords W L) (l : LinkWords L) (first world : W) (total : ℕ) → first ≡ world → (x.tells world).total ≡ total → (x.tells world).accepted ≡ 0 → Fit x l first (record { 0 = 0 }) (first_poll total) (Some (load.World (first_load world)))
+first_fits : {W L : Type 0} (x : WorldWords W L) (l : LinkWords L) (first world : W) (total : ℕ) → first ≡ world → (x.tells world).total ≡ total → (x.tells world).accepted ≡ 0 → Fit x l first (record { 0 = 0 }) (first_poll total) (Some (load.World (first_load world)))
 first_fits {W} {L} x l first world total same many none = subst (λ (w : W). Fit x l w (record { 0 = 0 }) (first_poll total) (Some (load.World (first_load world)))) (sym same) (fits_at x l world total (total == 0) refl many none)
 
 -- the state that is kept of a first weave is of the world

@@ -69,7 +69,7 @@ load_length i None served = refl
 load_length i (Some (load.World held)) served = refl
 load_length i (Some (load.Link link)) served = place_length link i served
 
-pub served_length : {W L : Type 0} (events : List (Event × Option (Load W L))) (served : List (Served L)) → length (served_with events served) ≡ length served
+served_length : {W L : Type 0} (events : List (Event × Option (Load W L))) (served : List (Served L)) → length (served_with events served) ≡ length served
 served_length [] served = refl
 served_length (e ∷ events) served = served_length events (served_with_load e.0.arg e.1 served) ∙ load_length e.0.arg e.1 served
 

@@ -21,22 +21,22 @@ use Rattle.sws_engine.proofs.Balance.{Balance}
 use Rattle.sws_engine.specs.Counting.{bit, times}
 use Rattle.sws_engine.specs.Loads.{world_of}
 
-pub bit_swap : (a b : Bool) → bit (a && b) ≡ bit (b && a)
+bit_swap : (a b : Bool) → bit (a && b) ≡ bit (b && a)
 bit_swap true true = refl
 bit_swap true false = refl
 bit_swap false true = refl
 bit_swap false false = refl
 
-pub bit_no : (a : Bool) → bit (a && false) ≡ 0
+bit_no : (a : Bool) → bit (a && false) ≡ 0
 bit_no true = refl
 bit_no false = refl
 
-pub bit_split : (a b : Bool) → bit (a && b) + bit (a && not b) ≡ bit a
+bit_split : (a b : Bool) → bit (a && b) + bit (a && not b) ≡ bit a
 bit_split true true = omega arith
 bit_split true false = omega arith
 bit_split false b = omega arith
 
-pub plus_two : (a b : ℕ) → (a + 2 == b + 2) ≡ (a == b)
+plus_two : (a b : ℕ) → (a + 2 == b + 2) ≡ (a == b)
 plus_two a b = elim (eqb_tells a b) [
   | inl same ↦ eq-eqb (a + 2) (b + 2) (ap (λ n. n + 2) same.1) ∙ sym same.0
   | inr apart ↦ ne_eqb (a + 2) (b + 2) (λ e. apart.1 (omega (arith, e))) ∙ sym apart.0

@@ -19,7 +19,7 @@ place_past link i [] past = refl
 place_past link zero (s ∷ served) past = absurd (omega (arith, past))
 place_past link (suc i) (s ∷ served) past = ap (λ l. s ∷ l) (place_past link i served (omega (arith, past)))
 
-pub place_set : {L : Type 0} (link : L) (i : ℕ) (served : List (Served L)) (s : Served L) → slice_get served i ≡ Some s → place_link link i served ≡ slice_set served i (give_link link s)
+place_set : {L : Type 0} (link : L) (i : ℕ) (served : List (Served L)) (s : Served L) → slice_get served i ≡ Some s → place_link link i served ≡ slice_set served i (give_link link s)
 place_set link i [] s at = cc
 place_set link zero (x ∷ served) s at = ap (λ o. give_link link o ∷ served) (same_Some x s at)
 place_set link (suc i) (x ∷ served) s at = ap (λ l. x ∷ l) (place_set link i served s at)

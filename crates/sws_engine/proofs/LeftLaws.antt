@@ -13,7 +13,7 @@ use Rattle.sws_engine.specs.RunLeaves.{Talker, talker_by, talkers, or_else, rest
 use Rattle.sws_engine.specs.LeftKept.{KeepsStates}
 
 -- what stands at a place of two lists, one behind the other
-pub get_either : {A : Type 0} (xs ys : List A) (i : ℕ) → ((i < length xs) × (slice_get (xs ++ ys) i ≡ slice_get xs i)) ⊎ ((k : ℕ) × (i ≡ length xs + k) × (slice_get (xs ++ ys) i ≡ slice_get ys k))
+get_either : {A : Type 0} (xs ys : List A) (i : ℕ) → ((i < length xs) × (slice_get (xs ++ ys) i ≡ slice_get xs i)) ⊎ ((k : ℕ) × (i ≡ length xs + k) × (slice_get (xs ++ ys) i ≡ slice_get ys k))
 get_either [] ys i = inr (i, omega arith, refl)
 get_either (x ∷ xs) ys zero = inl (omega arith, refl)
 get_either (x ∷ xs) ys (suc i) = elim (get_either xs ys i) [

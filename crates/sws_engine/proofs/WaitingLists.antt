@@ -99,7 +99,7 @@ all_below n (w ∷ ws) none = (
 )
 
 -- the sum of a function over the numbers below one
-pub sum_to : ℕ → (ℕ → ℕ) → ℕ
+sum_to : ℕ → (ℕ → ℕ) → ℕ
 sum_to zero f = 0
 sum_to (suc n) f = sum_to n f + f n
 

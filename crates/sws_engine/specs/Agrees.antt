@@ -17,7 +17,8 @@ HasNoOpening path = AllByRecursion (λ h. number_of h ≢ 3) path
 module _ (whole : List (List Handler)) where
   -- each path begins with the opening, and has no other
   abbrev pub AreOpened : Type 0
-  AreOpened = (i : ℕ) (path : List Handler) → slice_get whole i ≡ Some path → (later : List Handler) × (path ≡ open_link ∷ later) × HasNoOpening later
+  AreOpened = (i : ℕ) (path : List Handler) → slice_get whole i ≡ Some path → (later : List Handler)
+      × (path ≡ open_link ∷ later) × HasNoOpening later
 
   -- the world has accepted so many links, and has the others to come
   pub record WorldStands (s : Server) (w : World) : Type 0 where
@@ -46,10 +47,13 @@ module _ (whole : List (List Handler)) where
 
   -- an event is on its colour with its load, by the handler
   abbrev pub ComingStands : Server → Colour → ℕ → ℕ → Option Load → Type 0
-  ComingStands s c zero arg (Some (world w)) = (c.0 ≡ 0) × WorldStands s w × (arg ≡ 0 → w.accepted < length whole)
+  ComingStands s c zero arg (Some (world w)) = (c.0 ≡ 0) × WorldStands s w
+      × (arg ≡ 0 → w.accepted < length whole)
   ComingStands s c (suc zero) arg None = c.0 ≡ 0
-  ComingStands s c (suc (suc zero)) arg (Some (world w)) = (c.0 ≡ 1) × WorldStands s w × (w.accepted < length whole)
-  ComingStands s c (suc (suc (suc zero))) arg (Some (link path)) = (2 ≤ c.0) × (slice_get whole (c.0 - 2) ≡ Some path)
+  ComingStands s c (suc (suc zero)) arg (Some (world w)) = (c.0 ≡ 1) × WorldStands s w
+      × (w.accepted < length whole)
+  ComingStands s c (suc (suc (suc zero))) arg (Some (link path)) = (2 ≤ c.0)
+      × (slice_get whole (c.0 - 2) ≡ Some path)
   ComingStands s c (suc (suc (suc (suc more)))) arg None = 2 ≤ c.0
   ComingStands s c handler arg load = ⊥
 
@@ -70,7 +74,8 @@ worlds_of holds carries (c, inr (event, load)) = carried carries load
 module _ {S P : Type 0} (IsPlace : S → Place → Type 0) (IsLoad : P → Load → Type 0) (holds : S → ℕ) (carries : P → ℕ) (whole : List (List Handler)) where
   abbrev pub PieceStands : Server → Piece S P → Type 0
   PieceStands s (c, inl state) = (place : Place) × IsPlace state place × PlaceStands whole s c place
-  PieceStands s (c, inr (event, load)) = (l : Option Load) × AreLoads IsLoad load l × ComingStands whole s c event.handler event.arg l
+  PieceStands s (c, inr (event, load)) = (l : Option Load) × AreLoads IsLoad load l
+      × ComingStands whole s c event.handler event.arg l
 
   -- each piece has what the function has, there is one world, and a colour has one state
   pub record Agrees (s : Server) (pieces : List (Piece S P)) : Type 0 where

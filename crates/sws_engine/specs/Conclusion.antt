@@ -36,7 +36,8 @@ failed_of (Some held) = held.failed
 module _ {W L T G H : Type 0} (y : TalkWords T L G H) (total : ℕ) (how : Drained) (parts : WeaveParts (PlaceView H W T) (Load W L)) (ended : Ended W L) where
   -- what is still under way: queued, or refused for memory
   abbrev pub ways_of : List (Event × Option (Load W L))
-  ways_of = flat_map (λ events. events) (map (λ events. events.items) parts.queued.items) ++ carried_by parts.lost.items
+  ways_of = flat_map (λ events. events) (map (λ events. events.items) parts.queued.items)
+      ++ carried_by parts.lost.items
 
   -- the world that is found: under way, or at rest in a state
   abbrev pub world_found : Option (WorldLoad W)
@@ -51,5 +52,7 @@ module _ {W L T G H : Type 0} (y : TalkWords T L G H) (total : ℕ) (how : Drain
     pub accepted : ended.accepted ≡ accepted_of world_found
     pub failed : ended.failed ≡ failed_of world_found
     pub histories : ended.histories ≡ parts.histories
-    pub trails : map (λ trail. trail.items) ended.trails.items ≡ map (λ place. place.trail) parts.states.items
-    pub verdict : VerdictIs ended.served.items (is_whole how parts.lost.items) total (is_some ended.world) ended.accepted ended.failed ended.verdict
+    pub trails : map (λ trail. trail.items) ended.trails.items
+        ≡ map (λ place. place.trail) parts.states.items
+    pub verdict : VerdictIs ended.served.items (is_whole how parts.lost.items) total
+        (is_some ended.world) ended.accepted ended.failed ended.verdict

@@ -16,7 +16,8 @@ module _ {W L T G H : Type 0} (x : WorldWords W L) (l : LinkWords L) (y : TalkWo
   -- the link is that of the connection, as it was served; without one the connection was never opened
   abbrev pub LinkLeft : Option L → TalkView → Type 0
   LinkLeft None view = view ≡ unopened_view
-  LinkLeft (Some now) view = (begun : L) × LinkStands x l first i begun × HasServed l (y.responses hall) (y.outcome hall) begun now view
+  LinkLeft (Some now) view = (begun : L) × LinkStands x l first i begun
+      × HasServed l (y.responses hall) (y.outcome hall) begun now view
 
   pub record ConnLeft (trail : List Event) (s : Served L) : Type 0 where
     -- the state of its colour, with its talk, from which all of it is told

@@ -12,7 +12,8 @@ use Rattle.sws_engine.specs.Places.{PlaceView}
 module _ {W L T G H : Type 0} (y : TalkWords T L G H) (first : W) where
   -- nobody waits at colour 0, and no connection has its link
   abbrev pub FreshRole : ℕ → Role W T → Type 0
-  FreshRole c (Polling desk) = (c ≡ 0) × (desk.waiting.items ≡ []) × (desk.last ≡ false) × (desk.resting ≡ None)
+  FreshRole c (Polling desk) = (c ≡ 0) × (desk.waiting.items ≡ []) × (desk.last ≡ false)
+      × (desk.resting ≡ None)
   FreshRole c Accepting = c ≡ 1
   FreshRole c (Talking seat) = (2 ≤ c) × (y.view_of seat.talk ≡ unopened_view) × (seat.stray ≡ None)
 
@@ -44,4 +45,5 @@ pub record IsFirstPlace {W L T G H : Type 0} (y : TalkWords T L G H) (first : W)
 -- so many of them, in ascending order
 pub record AreFirstPlaces {W L T G H : Type 0} (y : TalkWords T L G H) (first : W) (hall : H) (count : ℕ) (states : List (PlaceView H W T)) : Type 0 where
   pub many : length states ≡ count
-  pub each : (i : ℕ) (s : PlaceView H W T) → slice_get states i ≡ Some s → IsFirstPlace y first hall i s
+  pub each : (i : ℕ) (s : PlaceView H W T) → slice_get states i ≡ Some s
+      → IsFirstPlace y first hall i s

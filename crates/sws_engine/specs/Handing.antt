@@ -36,7 +36,8 @@ module _ {W L : Type 0} where
   served_with (e ∷ events) served = served_with events (served_with_load e.0.arg e.1 served)
 
   -- the world, where it is in one of them, or as it was found before
-  abbrev pub world_with : List (Event × Option (Load W L)) → Option (WorldLoad W) → Option (WorldLoad W)
+  abbrev pub world_with : List (Event × Option (Load W L)) → Option (WorldLoad W)
+      → Option (WorldLoad W)
   world_with [] world = world
   world_with (e ∷ events) world = world_with events (world_with_load e.1 world)
 

@@ -78,9 +78,20 @@ pub record Asked : Type 0 where
 
 -- what the answer tells
 abbrev pub Answered : List ℕ → Bool → Polled → Asked → Type 0
-Answered waiting last (polled.Ready conn) asked = TakenOff conn waiting asked.waiting × (asked.last ≡ last) × (asked.failed ≡ false) × (asked.resumed ≡ conn ∷ [])
-Answered waiting last polled.Quiet asked = asked ≡ record { waiting = waiting; last = last; failed = false; resumed = [] }
-Answered waiting last polled.Failed asked = asked ≡ record { waiting = waiting; last = true; failed = true; resumed = [] }
+Answered waiting last (polled.Ready conn) asked = TakenOff conn waiting asked.waiting
+    × (asked.last ≡ last) × (asked.failed ≡ false) × (asked.resumed ≡ conn ∷ [])
+Answered waiting last polled.Quiet asked = asked ≡ record {
+  waiting = waiting;
+  last = last;
+  failed = false;
+  resumed = [];
+}
+Answered waiting last polled.Failed asked = asked ≡ record {
+  waiting = waiting;
+  last = true;
+  failed = true;
+  resumed = [];
+}
 
 abbrev pub is_some : List ℕ → Bool
 is_some [] = false
@@ -92,7 +103,8 @@ is_to_ask waiting last failed = not failed && (not last || is_some waiting)
 
 -- where the world has failed, the first of those that wait is resumed
 abbrev pub resuming : Bool → List ℕ → Asked → Asked
-resuming true (first ∷ rest) asked = record asked { waiting = rest; resumed = asked.resumed ++ first ∷ [] }
+resuming true (first ∷ rest) asked =
+    record asked { waiting = rest; resumed = asked.resumed ++ first ∷ [] }
 resuming true [] asked = asked
 resuming false waiting asked = asked
 
@@ -105,7 +117,8 @@ onward false waiting held = accept_put held ∷ []
 onward true (w ∷ ws) held = poll_put 1 held ∷ []
 onward true [] held = []
 
-abbrev pub rest_of : {W : Type 0} → Bool → List ℕ → WorldLoad W → Option (WorldLoad W) → Option (WorldLoad W)
+abbrev pub rest_of : {W : Type 0} → Bool → List ℕ → WorldLoad W → Option (WorldLoad W)
+    → Option (WorldLoad W)
 rest_of false waiting held resting = resting
 rest_of true (w ∷ ws) held resting = resting
 rest_of true [] held resting = Some held
@@ -121,9 +134,15 @@ poll_after last = if last then 1 else 0
 
 abbrev pub accept_puts : {W L : Type 0} → ℕ → WorldLoad W → W → Accepted L → List (Put W L)
 accept_puts total held now (accepted.Link link) =
-    poll_put (poll_after (held.accepted + 1 == total)) (record { world = now; accepted = held.accepted + 1; failed = held.failed }) ∷ open_put held.accepted link ∷ []
-accept_puts total held now accepted.NotYet = poll_put 0 (record { world = now; accepted = held.accepted; failed = held.failed }) ∷ []
-accept_puts total held now accepted.Failed = poll_put 2 (record { world = now; accepted = held.accepted; failed = held.failed }) ∷ []
+    poll_put (poll_after (held.accepted + 1 == total)) (record {
+      world = now;
+      accepted = held.accepted + 1;
+      failed = held.failed;
+    }) ∷ open_put held.accepted link ∷ []
+accept_puts total held now accepted.NotYet =
+    poll_put 0 (record { world = now; accepted = held.accepted; failed = held.failed }) ∷ []
+accept_puts total held now accepted.Failed =
+    poll_put 2 (record { world = now; accepted = held.accepted; failed = held.failed }) ∷ []
 
 -- what is put after a step
 abbrev pub next_puts : {W L : Type 0} → ℕ → Option Handler → List (Put W L)
@@ -152,21 +171,32 @@ pub record RunsWait {W L : Type 0} (desk : Desk W) (i : ℕ) (after : Desk W) (p
 module _ {W L : Type 0} (x : WorldWords W L) where
   -- the world is asked, or not
   abbrev pub Asks : Bool → W → List ℕ → Bool → Bool → W → Asked → Type 0
-  Asks true world waiting last failed now asked = (answer : Polled) × Polls x.tells x.faults x.waits world waiting answer now × Answered waiting last answer asked
-  Asks false world waiting last failed now asked = (now ≡ world) × (asked ≡ record { waiting = waiting; last = last; failed = failed; resumed = [] })
+  Asks true world waiting last failed now asked = (answer : Polled)
+      × Polls x.tells x.faults x.waits world waiting answer now × Answered waiting last answer asked
+  Asks false world waiting last failed now asked = (now ≡ world)
+      × (asked ≡ record { waiting = waiting; last = last; failed = failed; resumed = [] })
 
   pub record RunsPoll (desk : Desk W) (arg : ℕ) (held : WorldLoad W) (after : Desk W) (puts : List (Put W L)) : Type 0 where
     pub now : W
     pub asked : Asked
     pub asks : let last = desk.last || not (arg == 0) in let failed = held.failed || (arg == 2) in
-        Asks (is_to_ask desk.waiting.items last failed) held.world desk.waiting.items last failed now asked
+        Asks (is_to_ask desk.waiting.items last failed) held.world
+        desk.waiting.items last failed now asked
     pub waiting : after.waiting.items ≡ (resumed_one asked).waiting
     pub last : after.last ≡ asked.last
-    pub resting : after.resting ≡ rest_of asked.last (resumed_one asked).waiting (record { world = now; accepted = held.accepted; failed = asked.failed }) desk.resting
-    pub puts_are : puts ≡ map (λ i. step_put i resume) (resumed_one asked).resumed ++ onward asked.last (resumed_one asked).waiting (record { world = now; accepted = held.accepted; failed = asked.failed })
+    pub resting : after.resting ≡ rest_of asked.last (resumed_one asked).waiting
+        (record { world = now; accepted = held.accepted; failed = asked.failed }) desk.resting
+    pub puts_are : puts ≡ map (λ i. step_put i resume) (resumed_one asked).resumed
+        ++ onward asked.last (resumed_one asked).waiting (record {
+          world = now;
+          accepted = held.accepted;
+          failed = asked.failed;
+        })
 
-  abbrev pub RunsDesk : Desk W → Option Task → ℕ → Option (Load W L) → Desk W → List (Put W L) → Type 0
-  RunsDesk desk (Some task.Poll) arg (Some (load.World held)) after puts = RunsPoll desk arg held after puts
+  abbrev pub RunsDesk : Desk W → Option Task → ℕ → Option (Load W L) → Desk W
+      → List (Put W L) → Type 0
+  RunsDesk desk (Some task.Poll) arg (Some (load.World held)) after puts =
+      RunsPoll desk arg held after puts
   RunsDesk desk (Some task.Wait) arg None after puts = RunsWait desk arg after puts
   RunsDesk desk other arg carried after puts = (after ≡ desk) × (puts ≡ [])
 
@@ -174,7 +204,8 @@ module _ {W L : Type 0} (x : WorldWords W L) (l : LinkWords L) where
   pub record RunsAccept (total : ℕ) (held : WorldLoad W) (puts : List (Put W L)) : Type 0 where
     pub answer : Accepted L
     pub now : W
-    pub accepts : Accepts x.tells x.faults x.waits l.tells l.is_shut l.faults l.waits held.world answer now
+    pub accepts : Accepts x.tells x.faults x.waits l.tells l.is_shut l.faults
+        l.waits held.world answer now
     pub puts_are : puts ≡ accept_puts total held now answer
 
   abbrev pub RunsAccepting : ℕ → Option Task → Option (Load W L) → List (Put W L) → Type 0
@@ -183,28 +214,40 @@ module _ {W L : Type 0} (x : WorldWords W L) (l : LinkWords L) where
 
 -- an end that is known stays
 abbrev pub KeepsEnd : {T L G H : Type 0} → TalkWords T L G H → T → T → Type 0
-KeepsEnd y before after = (end : End) → (y.view_of before).end ≡ Some end → (y.view_of after).end ≡ Some end
+KeepsEnd y before after = (end : End) → (y.view_of before).end ≡ Some end
+    → (y.view_of after).end ≡ Some end
 
 module _ {W L T G H : Type 0} (y : TalkWords T L G H) where
   -- the step: the opening takes the link of the load, every other step is one more of the run
   abbrev pub Stepped : T → Option Handler → Option (Load W L) → T → Type 0
   Stepped before None carried after = ⊥
-  Stepped before (Some open_link) carried after = (link : L) × (carried ≡ Some (load.Link link)) × y.has_run link (open_link ∷ []) after × (y.view_of after ≡ opened_view)
-  Stepped before (Some step) carried after = (first : L) (ran : List Handler) → y.has_run first ran before → y.has_run first (ran ++ step ∷ []) after
+  Stepped before (Some open_link) carried after = (link : L) × (carried ≡ Some (load.Link link))
+      × y.has_run link (open_link ∷ []) after × (y.view_of after ≡ opened_view)
+  Stepped before (Some step) carried after = (first : L) (ran : List Handler)
+      → y.has_run first ran before → y.has_run first (ran ++ step ∷ []) after
 
   -- the due event does its step, and the next one is put; any other event is stray, of which the first is kept
-  abbrev pub RunsSeat : Bool → ℕ → Seat T → Event → Option (Load W L) → Seat T → List (Put W L) → Type 0
+  abbrev pub RunsSeat : Bool → ℕ → Seat T → Event → Option (Load W L) → Seat T
+      → List (Put W L) → Type 0
   RunsSeat true i seat event carried after puts =
-      Stepped seat.talk (due (y.view_of seat.talk)) carried after.talk × (after.stray ≡ seat.stray) × (y.hall_of after.talk ≡ y.hall_of seat.talk)
-      × (is_due i (due (y.view_of after.talk)) (record { handler = 3; arg = i }) ≡ false) × (puts ≡ next_puts i (due (y.view_of after.talk)))
+      Stepped seat.talk (due (y.view_of seat.talk)) carried after.talk × (after.stray ≡ seat.stray)
+      × (y.hall_of after.talk ≡ y.hall_of seat.talk)
+      × (is_due i (due (y.view_of after.talk)) (record { handler = 3; arg = i }) ≡ false)
+      × (puts ≡ next_puts i (due (y.view_of after.talk)))
       × KeepsEnd y seat.talk after.talk
-  RunsSeat false i seat event carried after puts = (after.talk ≡ seat.talk) × (after.stray ≡ stray_of seat.stray event) × (puts ≡ [])
+  RunsSeat false i seat event carried after puts = (after.talk ≡ seat.talk)
+      × (after.stray ≡ stray_of seat.stray event) × (puts ≡ [])
 
 module _ {W L T G H : Type 0} (x : WorldWords W L) (l : LinkWords L) (y : TalkWords T L G H) where
-  abbrev pub RunsRole : Colour → Role W T → Event → Option (Load W L) → Role W T → List (Put W L) → ℕ → Type 0
-  RunsRole c (Polling desk) event carried (Polling after) puts total = RunsDesk x desk (task_of event.handler) event.arg carried after puts
-  RunsRole c Accepting event carried Accepting puts total = RunsAccepting x l total (task_of event.handler) carried puts
-  RunsRole c (Talking seat) event carried (Talking after) puts total = RunsSeat y (is_due (conn_of c) (due (y.view_of seat.talk)) event) (conn_of c) seat event carried after puts
+  abbrev pub RunsRole : Colour → Role W T → Event → Option (Load W L) → Role W T
+      → List (Put W L) → ℕ → Type 0
+  RunsRole c (Polling desk) event carried (Polling after) puts total =
+      RunsDesk x desk (task_of event.handler) event.arg carried after puts
+  RunsRole c Accepting event carried Accepting puts total =
+      RunsAccepting x l total (task_of event.handler) carried puts
+  RunsRole c (Talking seat) event carried (Talking after) puts total =
+      RunsSeat y (is_due (conn_of c) (due (y.view_of seat.talk)) event) (conn_of c) seat
+      event carried after puts
   RunsRole c role event carried after puts total = ⊥
 
   -- what the handler of an event does: the event joins the trail, and all but the role stays

@@ -32,7 +32,8 @@ module _ {W L T G H : Type 0} (x : WorldWords W L) (l : LinkWords L) (y : TalkWo
   -- these steps were run on the connection, from the fresh one on
   abbrev pub RanBy : List Handler → T → Type 0
   RanBy [] talk = (y.link_of talk ≡ None) × (y.view_of talk ≡ unopened_view)
-  RanBy (step ∷ steps) talk = (link : L) × LinkStands x l first i link × y.has_run link (step ∷ steps) talk
+  RanBy (step ∷ steps) talk = (link : L) × LinkStands x l first i link
+      × y.has_run link (step ∷ steps) talk
 
   -- the first event that wasn't due came after these steps
   pub record FirstStray (trail : List Event) (event : Event) : Type 0 where
@@ -60,7 +61,8 @@ module _ {W L T G H : Type 0} (x : WorldWords W L) (l : LinkWords L) (y : TalkWo
   abbrev pub RoleStands : H → W → Colour → List Event → Role W T → Type 0
   RoleStands hall first c trail (Polling desk) = (c.0 ≡ 0) × DeskStands x l first desk
   RoleStands hall first c trail Accepting = c.0 ≡ 1
-  RoleStands hall first c trail (Talking seat) = (2 ≤ c.0) × SeatStands x l y hall first (conn_of c) trail seat
+  RoleStands hall first c trail (Talking seat) = (2 ≤ c.0)
+      × SeatStands x l y hall first (conn_of c) trail seat
 
   abbrev pub IsKept : PlaceView H W T → Type 0
   IsKept place = RoleStands place.hall place.first place.colour place.trail place.role

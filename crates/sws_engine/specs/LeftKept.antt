@@ -14,6 +14,7 @@ pub record KeepsStates {W L T G H : Type 0} (y : TalkWords T L G H) (states : Li
   pub served_len : vec_len after.served ≡ vec_len before.served + length (talkers states)
   pub served_room : vec_capacity after.served ≡ vec_capacity before.served
   pub world : after.world ≡ resting_in before.world states
-  pub trails : map (λ trail. trail.items) after.trails.items ≡ map (λ trail. trail.items) before.trails.items ++ map (λ place. place.trail) states
+  pub trails : map (λ trail. trail.items) after.trails.items
+      ≡ map (λ trail. trail.items) before.trails.items ++ map (λ place. place.trail) states
   pub trails_len : vec_len after.trails ≡ vec_len before.trails + length states
   pub trails_room : vec_capacity after.trails ≡ vec_capacity before.trails

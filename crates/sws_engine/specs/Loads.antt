@@ -23,7 +23,8 @@ world_of (Some (load.Link link)) = None
 -- the link is the i-th of those to come, where these are known: nothing was taken or written
 abbrev pub IsComing : Option (List Coming) → ℕ → Option LinkTells → Type 0
 IsComing None i told = IsFresh told
-IsComing (Some coming) i told = (first : Coming) × (slice_get coming i ≡ Some first) × (told ≡ Some (untouched first))
+IsComing (Some coming) i told = (first : Coming) × (slice_get coming i ≡ Some first)
+    × (told ≡ Some (untouched first))
 
 module _ {W L : Type 0} (x : WorldWords W L) (l : LinkWords L) (first : W) where
   -- what the world told at first
@@ -37,7 +38,8 @@ module _ {W L : Type 0} (x : WorldWords W L) (l : LinkWords L) (first : W) where
     pub scripted : (x.tells held.world).scripted ≡ at_first.scripted
     pub accepted : (x.tells held.world).accepted ≡ held.accepted
     pub within : held.accepted ≤ at_first.total
-    pub coming : (x.tells held.world).coming ≡ option_map (λ c. drop held.accepted c) at_first.coming
+    pub coming : (x.tells held.world).coming
+        ≡ option_map (λ c. drop held.accepted c) at_first.coming
     pub faults : IsLater (x.faults first) (x.faults held.world)
     pub failed : IsTrue held.failed → Rose (x.faults first) (x.faults held.world)
     pub sure : IsTrue at_first.scripted → held.failed ≡ false

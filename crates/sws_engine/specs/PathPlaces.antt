@@ -97,7 +97,14 @@ rests_with true (i ∷ waiting) w = None
 
 -- the first that waits, where somebody does, is ready and resumes
 abbrev pub polls : Bool → List ℕ → World → Ran
-polls last [] w = record { place = polling (record { waiting = []; last = last; resting = rests_with last [] w }); puts = goes_on last [] w }
+polls last [] w = record {
+  place = polling (record {
+    waiting = [];
+    last = last;
+    resting = rests_with last [] w;
+  });
+  puts = goes_on last [] w;
+}
 polls last (i ∷ waiting) w = record {
   place = polling (record { waiting = waiting; last = last; resting = rests_with last waiting w });
   puts = with_nothing (talk i resume) ∷ goes_on last waiting w;
@@ -109,7 +116,14 @@ wakes None = []
 wakes (Some w) = with_world w (poll 1) ∷ []
 
 abbrev pub waits : Desk → ℕ → Ran
-waits desk i = record { place = polling (record { waiting = waiting_with i desk.waiting; last = desk.last; resting = None }); puts = wakes desk.resting }
+waits desk i = record {
+  place = polling (record {
+    waiting = waiting_with i desk.waiting;
+    last = desk.last;
+    resting = None;
+  });
+  puts = wakes desk.resting;
+}
 
 -- by the handler and the load
 abbrev pub runs_desk : Desk → ℕ → ℕ → Option Load → Ran
@@ -124,7 +138,9 @@ abbrev pub accepts : ℕ → ℕ → List (List Handler) → Ran
 accepts total n [] = stays accepting
 accepts total n (path ∷ coming) = record {
   place = accepting;
-  puts = with_world (record { accepted = n + 1; coming = coming }) (poll (if n + 1 == total then 1 else 0)) ∷ ((talk n open_link).0, (talk n open_link).1, Some (link path)) ∷ [];
+  puts = with_world (record { accepted = n + 1; coming = coming })
+      (poll (if n + 1 == total then 1 else 0))
+      ∷ ((talk n open_link).0, (talk n open_link).1, Some (link path)) ∷ [];
 }
 
 abbrev pub runs_accepting : ℕ → ℕ → Option Load → Ran
@@ -136,7 +152,11 @@ runs_accepting total handler load = stays accepting
 -- the event that is next on the path is taken off it; any other does nothing
 abbrev pub takes_off : ℕ → ℕ → Option (List Handler) → List Handler → Ran
 takes_off i handler seat [] = stays (talking seat)
-takes_off i handler seat (next ∷ later) = if number_of next == handler then record { place = talking (Some later); puts = map with_nothing (follows i later) } else stays (talking seat)
+takes_off i handler seat (next ∷ later) =
+    if number_of next == handler then record {
+      place = talking (Some later);
+      puts = map with_nothing (follows i later);
+    } else stays (talking seat)
 
 abbrev pub runs_talk : ℕ → ℕ → Option (List Handler) → Option Load → Ran
 runs_talk i handler None (Some (link path)) = takes_off i handler None path

@@ -28,7 +28,8 @@ module _ {W L T G H : Type 0} (x : WorldWords W L) (l : LinkWords L) (y : TalkWo
     pub many : (x.tells first).total ≡ length paths
     pub coming : List Coming
     pub told : (x.tells first).coming ≡ Some coming
-    pub each : (i : ℕ) (link : Coming) (way : List Handler) → slice_get coming i ≡ Some link → slice_get paths i ≡ Some way → option_map (y.path hall) link.answers ≡ Some way
+    pub each : (i : ℕ) (link : Coming) (way : List Handler) → slice_get coming i ≡ Some link
+        → slice_get paths i ≡ Some way → option_map (y.path hall) link.answers ≡ Some way
 
   -- ---- a state and a load as the paths have them
 
@@ -122,28 +123,39 @@ AreLoads IsLoad (Some load) None = ⊥
 AreLoads IsLoad (Some load) (Some l) = IsLoad load l
 
 -- the same registrations, with loads that are as those
-abbrev pub ArePuts : {P : Type 0} → (P → path.Load → Type 0) → List (Colour × Event × Option P) → List path.Put → Type 0
+abbrev pub ArePuts : {P : Type 0} → (P → path.Load → Type 0) → List (Colour × Event × Option P)
+    → List path.Put → Type 0
 ArePuts IsLoad [] [] = ⊤
 ArePuts IsLoad [] (q ∷ qs) = ⊥
 ArePuts IsLoad (p ∷ ps) [] = ⊥
-ArePuts IsLoad (p ∷ ps) (q ∷ qs) = ((p.0 ≡ q.0) × (p.1 ≡ q.1) × AreLoads IsLoad p.2 q.2) × ArePuts IsLoad ps qs
+ArePuts IsLoad (p ∷ ps) (q ∷ qs) = ((p.0 ≡ q.0) × (p.1 ≡ q.1) × AreLoads IsLoad p.2 q.2)
+    × ArePuts IsLoad ps qs
 
 -- ---- the law
 
 module _ {W L T G H : Type 0} (x : WorldWords W L) (l : LinkWords L) (y : TalkWords T L G H) (hall : H) (first : W) (paths : List (List Handler)) (total : ℕ) where
   -- what a handler leaves and puts is what the paths say, unless its connection has met want of memory
   abbrev pub RanAs : PlaceView H W T → List (Colour × Event × Option (Load W L)) → path.Ran → Type 0
-  RanAs after puts ran = is_spoilt y after ≡ false → HasPlace x l y hall paths after ran.place × ArePuts (HasLoad x l y hall paths) puts ran.puts
+  RanAs after puts ran = is_spoilt y after ≡ false → HasPlace x l y hall paths after ran.place
+      × ArePuts (HasLoad x l y hall paths) puts ran.puts
 
   -- over a scripted world every handler makes of what its colour has, and of its load, what the paths say
   abbrev pub FollowsPaths : Type 0
   FollowsPaths =
-      (before after : PlaceView H W T) (event : Event) (carried : Option (Load W L)) (puts : List (Colour × Event × Option (Load W L))) (place : path.Place) (p : Option path.Load)
-      → Fit x l first before.colour event carried → IsPlacedAt before.colour place → HasPlace x l y hall paths before place → AreLoads (HasLoad x l y hall paths) carried p
-      → path.worlds_of_place place + path.worlds_of_load p ≤ 1 → Runs x l y total before event carried after puts → RanAs after puts (path.runs_place total before.colour place event p)
+      (before after : PlaceView H W T) (event : Event) (carried : Option (Load W L))
+      (puts : List (Colour × Event × Option (Load W L))) (place : path.Place)
+      (p : Option path.Load)
+      → Fit x l first before.colour event carried → IsPlacedAt before.colour place
+      → HasPlace x l y hall paths before place → AreLoads (HasLoad x l y hall paths) carried p
+      → path.worlds_of_place place + path.worlds_of_load p ≤ 1
+      → Runs x l y total before event carried after puts
+      → RanAs after puts (path.runs_place total before.colour place event p)
 
 -- what met want of memory says so from then on
-abbrev pub StaysSpoilt : {W L T G H : Type 0} → WorldWords W L → LinkWords L → TalkWords T L G H → ℕ → Type 0
+abbrev pub StaysSpoilt : {W L T G H : Type 0} → WorldWords W L → LinkWords L
+    → TalkWords T L G H → ℕ → Type 0
 StaysSpoilt {W} {L} {T} {G} {H} x l y total =
-    (before after : PlaceView H W T) (event : Event) (carried : Option (Load W L)) (puts : List (Colour × Event × Option (Load W L)))
-    → Runs x l y total before event carried after puts → is_spoilt y before ≡ true → is_spoilt y after ≡ true
+    (before after : PlaceView H W T) (event : Event) (carried : Option (Load W L))
+    (puts : List (Colour × Event × Option (Load W L)))
+    → Runs x l y total before event carried after puts → is_spoilt y before ≡ true
+    → is_spoilt y after ≡ true

@@ -14,13 +14,22 @@ use Rattle.sws_engine.specs.PathStates.{AreLoads, ArePuts}
 pub record IsPlaced {S P F R : Type 0} (t : TrailWords S F) (fits : F → Colour → Event → Option P → Type 0) (y : AppWords R P S F) (app : R) (frame : F) (IsPlace : S → Place → Type 0) (IsLoad : P → Load → Type 0) (holds : S → ℕ) (carries : P → ℕ) (spoilt : S → Bool) (whole : List (List Handler)) : Type 0 where
   pub held : (state : S) (place : Place) → IsPlace state place → holds state ≡ worlds_of_place place
   pub carriage : (load : P) (l : Load) → IsLoad load l → carries load ≡ worlds_of_load (Some l)
-  pub roomy : (state roomy : S) (place : Place) → t.alike state roomy → IsPlace state place → IsPlace roomy place
-  pub runs : (s : Server) (state after : S) (event : Event) (load : Option P) (puts : List (Colour × Event × Option P)) (place : Place) (l : Option Load) → t.frame_of state ≡ frame → fits frame (t.colour_of state) event load
-      → IsPlace state place → PlaceStands whole s (t.colour_of state) place → AreLoads IsLoad load l → ComingStands whole s (t.colour_of state) event.handler event.arg l → worlds_of_place place + worlds_of_load l ≤ 1
+  pub roomy : (state roomy : S) (place : Place) → t.alike state roomy
+      → IsPlace state place → IsPlace roomy place
+  pub runs : (s : Server) (state after : S) (event : Event) (load : Option P) (puts : List (Colour
+      × Event × Option P)) (place : Place) (l : Option Load) → t.frame_of state ≡ frame
+      → fits frame (t.colour_of state) event load
+      → IsPlace state place → PlaceStands whole s (t.colour_of state) place → AreLoads IsLoad load l
+      → ComingStands whole s (t.colour_of state) event.handler event.arg l
+      → worlds_of_place place + worlds_of_load l ≤ 1
       → y.runs app state event load after puts → spoilt after ≡ false
-      → IsPlace after (runs_place (length whole) (t.colour_of state) place event l).place × ArePuts IsLoad puts (runs_place (length whole) (t.colour_of state) place event l).puts
-  pub spoilt_roomier : (state roomy : S) → t.alike state roomy → spoilt state ≡ true → spoilt roomy ≡ true
-  pub spoilt_after : (state after : S) (event : Event) (load : Option P) (puts : List (Colour × Event × Option P)) → y.runs app state event load after puts → spoilt state ≡ true → spoilt after ≡ true
+      → IsPlace after (runs_place (length whole) (t.colour_of state) place event l).place
+      × ArePuts IsLoad puts (runs_place (length whole) (t.colour_of state) place event l).puts
+  pub spoilt_roomier : (state roomy : S) → t.alike state roomy
+      → spoilt state ≡ true → spoilt roomy ≡ true
+  pub spoilt_after : (state after : S) (event : Event) (load : Option P) (puts : List (Colour
+      × Event × Option P)) → y.runs app state event load after puts
+      → spoilt state ≡ true → spoilt after ≡ true
 
 -- the places at first: the desk, the accepting, and connections that aren't open yet
 abbrev pub first_place : ℕ → Place
@@ -30,4 +39,5 @@ first_place (suc (suc i)) = talking None
 
 -- the states, of which the first is of this colour, are as the places at first
 abbrev pub AreFirstPlaces : {S : Type 0} → (S → Place → Type 0) → ℕ → List S → Type 0
-AreFirstPlaces {S} IsPlace n states = (i : ℕ) (state : S) → slice_get states i ≡ Some state → IsPlace state (first_place (n + i))
+AreFirstPlaces {S} IsPlace n states = (i : ℕ) (state : S) → slice_get states i ≡ Some state
+    → IsPlace state (first_place (n + i))

@@ -15,7 +15,12 @@ LetsGo false waiting first after = (first ≡ None) × (after ≡ waiting)
 
 -- what is known after the world was asked
 abbrev pub asked_as : List ℕ → Bool → Bool → Option ℕ → Asked
-asked_as waiting last failed ready = record { waiting = waiting; last = last; failed = failed; resumed = in_place ready }
+asked_as waiting last failed ready = record {
+  waiting = waiting;
+  last = last;
+  failed = failed;
+  resumed = in_place ready;
+}
 
 module _ {W L : Type 0} (x : WorldWords W L) where
   -- the world was asked, and who is resumed was taken off those that wait
@@ -29,5 +34,6 @@ module _ {W L : Type 0} (x : WorldWords W L) where
 
 -- the world of a load may be asked for one more link
 abbrev pub MayAccept : {W L : Type 0} → (W → WorldTells) → ℕ → Load W L → Type 0
-MayAccept tells total (load.World held) = ((tells held.world).accepted < (tells held.world).total) × (held.accepted < total)
+MayAccept tells total (load.World held) = ((tells held.world).accepted < (tells held.world).total)
+    × (held.accepted < total)
 MayAccept tells total (load.Link link) = Unit {0}

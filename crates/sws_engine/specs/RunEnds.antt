@@ -28,4 +28,6 @@ pub record RunEnds {W L T G H : Type 0} (y : TalkWords T L G H) (total : ℕ) (s
   pub rests : desk.resting ≡ Some held
   pub nobody : desk.waiting.items ≡ []
   pub ended : is_unended total held ≡ false
-  pub conn : (i : ℕ) (place : PlaceView H W T) (seat : Seat T) → i < total → slice_get states (i + 2) ≡ Some place → place.role ≡ Talking seat → ConnEnds y held.accepted i seat
+  pub conn : (i : ℕ) (place : PlaceView H W T) (seat : Seat T) → i < total
+      → slice_get states (i + 2) ≡ Some place → place.role ≡ Talking seat
+      → ConnEnds y held.accepted i seat

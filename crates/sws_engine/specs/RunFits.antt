@@ -13,8 +13,10 @@ use Rattle.sws_engine.specs.Places.{PlaceView}
 
 module _ {W L : Type 0} (x : WorldWords W L) (l : LinkWords L) (first : W) where
   pub record RunFits {H T : Type 0} (hall : H) (states : List (PlaceView H W T)) (waits : List (List (Event × Option (Load W L)))) (refused : List (Colour × Event × Option (Load W L))) : Type 0 where
-    pub of_hall : (i : ℕ) (place : PlaceView H W T) → slice_get states i ≡ Some place → place.hall ≡ hall
-    pub queued : (c : Colour) (events : List (Event × Option (Load W L))) → slice_get waits c.0 ≡ Some events → EachFits (Fit x l first c) events
+    pub of_hall : (i : ℕ) (place : PlaceView H W T)
+        → slice_get states i ≡ Some place → place.hall ≡ hall
+    pub queued : (c : Colour) (events : List (Event × Option (Load W L)))
+        → slice_get waits c.0 ≡ Some events → EachFits (Fit x l first c) events
     pub lost : AllByRecursion (λ put. Fit x l first put.0 put.1 put.2) refused
 
   -- what an event carries: the world of the run, or the link of the connection to which nothing was done

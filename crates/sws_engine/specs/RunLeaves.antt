@@ -45,7 +45,8 @@ resting_by Accepting = None
 resting_by (Talking seat) = None
 
 -- the world that rests in one of the states
-abbrev pub resting_in : {H W T : Type 0} → Option (WorldLoad W) → List (PlaceView H W T) → Option (WorldLoad W)
+abbrev pub resting_in : {H W T : Type 0} → Option (WorldLoad W) → List (PlaceView H W T)
+    → Option (WorldLoad W)
 resting_in before [] = before
 resting_in before (place ∷ states) = resting_in (or_else (resting_by place.role) before) states
 
@@ -64,7 +65,8 @@ pub record ShowsSeat {T L G H : Type 0} (y : TalkWords T L G H) (seat : Seat T) 
 -- each connection shows how its talk stands
 pub record ShowAll {W T L G H : Type 0} (y : TalkWords T L G H) (all : List (Talker H W T)) (served : List (Served L)) : Type 0 where
   pub many : length served ≡ length all
-  pub each : (i : ℕ) (talker : Talker H W T) (s : Served L) → slice_get all i ≡ Some talker → slice_get served i ≡ Some s → ShowsSeat y talker.seat s
+  pub each : (i : ℕ) (talker : Talker H W T) (s : Served L) → slice_get all i ≡ Some talker
+      → slice_get served i ≡ Some s → ShowsSeat y talker.seat s
 
 -- ---- what the type of a state keeps
 
@@ -99,11 +101,13 @@ owed failed accepted total = if failed then accepted else total
 module _ {L : Type 0} (served : List (Served L)) where
   -- of so many connections each has what it is to have
   abbrev pub AreWhole : ℕ → Type 0
-  AreWhole count = (i : ℕ) (s : Served L) → i < count → slice_get served i ≡ Some s → is_lacking s ≡ false
+  AreWhole count = (i : ℕ) (s : Served L) → i < count → slice_get served i ≡ Some s
+      → is_lacking s ≡ false
 
   -- no link met want of memory
   abbrev pub NoneOutOfMemory : Type 0
-  NoneOutOfMemory = (i : ℕ) (s : Served L) → slice_get served i ≡ Some s → is_out_of_memory s.end ≡ false
+  NoneOutOfMemory = (i : ℕ) (s : Served L) → slice_get served i ≡ Some s
+      → is_out_of_memory s.end ≡ false
 
   pub record SomeOutOfMemory : Type 0 where
     pub i : ℕ
@@ -126,8 +130,11 @@ module _ {L : Type 0} (served : List (Served L)) where
 
   -- the verdict over what is shown: whether all was run, how many links there are, whether the world is there, how many links it gave and whether it failed
   abbrev pub VerdictIs : Bool → ℕ → Bool → ℕ → Bool → Verdict → Type 0
-  VerdictIs whole total there accepted failed verdict.Ok = IsJudged whole × (there ≡ true) × (failed ≡ false) × AreWhole (owed failed accepted total)
-  VerdictIs whole total there accepted failed verdict.World = IsJudged whole × (there ≡ true) × (failed ≡ true) × AreWhole (owed failed accepted total)
+  VerdictIs whole total there accepted failed verdict.Ok = IsJudged whole × (there ≡ true)
+      × (failed ≡ false) × AreWhole (owed failed accepted total)
+  VerdictIs whole total there accepted failed verdict.World = IsJudged whole × (there ≡ true)
+      × (failed ≡ true) × AreWhole (owed failed accepted total)
   VerdictIs whole total there accepted failed (verdict.Apart conn) =
-      IsJudged whole × (IsFirstLacking (owed failed accepted total) conn ⊎ ((there ≡ false) × AreWhole (owed failed accepted total) × (conn ≡ total)))
+      IsJudged whole × (IsFirstLacking (owed failed accepted total) conn
+      ⊎ ((there ≡ false) × AreWhole (owed failed accepted total) × (conn ≡ total)))
   VerdictIs whole total there accepted failed verdict.Memory = (whole ≡ false) ⊎ SomeOutOfMemory

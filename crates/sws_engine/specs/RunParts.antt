@@ -25,15 +25,23 @@ module _ {W L T G H : Type 0} (x : WorldWords W L) (y : TalkWords T L G H) (setu
     -- the histories are legal, one for each shard, and where the weave was drained each of them is
     pub legal : AreLegal setup histories
     pub shards : length histories ≡ (shape_of setup).shards
-    pub drained : ended ≡ Empty → (shard : ℕ) (history : List Entry) → slice_get histories shard ≡ Some history → IsDrained history
+    pub drained : ended ≡ Empty → (shard : ℕ) (history : List Entry)
+        → slice_get histories shard ≡ Some history → IsDrained history
     -- nothing is queued then
     pub emptied : ended ≡ Empty → flat_map (λ events. events) queued ≡ []
     -- there is a state for each colour, of its role, over the world that was handed in, and its trail is what was run of it
     pub many : length states ≡ (x.tells first).total + 2
-    pub placed : (i : ℕ) (place : PlaceView H W T) → slice_get states i ≡ Some place → IsPlacedAs i place
-    pub of_world : (i : ℕ) (place : PlaceView H W T) → slice_get states i ≡ Some place → place.first ≡ first
-    pub trailed : (c : Colour) (place : PlaceView H W T) (history : List Entry) → slice_get states c.0 ≡ Some place → slice_get histories (shard_of setup c) ≡ Some history → place.trail ≡ ran_of history c
+    pub placed : (i : ℕ) (place : PlaceView H W T)
+        → slice_get states i ≡ Some place → IsPlacedAs i place
+    pub of_world : (i : ℕ) (place : PlaceView H W T)
+        → slice_get states i ≡ Some place → place.first ≡ first
+    pub trailed : (c : Colour) (place : PlaceView H W T) (history : List Entry)
+        → slice_get states c.0 ≡ Some place → slice_get histories (shard_of setup c) ≡ Some history
+        → place.trail ≡ ran_of history c
     -- what stands of a run stands of the states, with what is queued and what was lost
-    pub stands : RunStands y (x.tells first).total states (flat_map (λ events. events) queued ++ carried_by lost)
+    pub stands : RunStands y (x.tells first).total states (flat_map (λ events.
+        events) queued ++ carried_by lost)
     -- where the weave was drained and nothing was lost, the run has ended
-    pub ends : ended ≡ Empty → lost ≡ [] → (place : PlaceView H W T) (desk : Desk W) → slice_get states 0 ≡ Some place → place.role ≡ Polling desk → RunEnds y (x.tells first).total states desk
+    pub ends : ended ≡ Empty → lost ≡ [] → (place : PlaceView H W T) (desk : Desk W)
+        → slice_get states 0 ≡ Some place → place.role ≡ Polling desk
+        → RunEnds y (x.tells first).total states desk

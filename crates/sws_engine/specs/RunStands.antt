@@ -108,7 +108,8 @@ module _ {H W T : Type 0} where
 
   -- the world rests though somebody waits
   abbrev pub rests_in_vain : PlaceView H W T → ℕ
-  rests_in_vain s = at_desk (λ desk. if_held (λ held. is_some desk.waiting.items) desk.resting) s.role
+  rests_in_vain s = at_desk (λ desk.
+      if_held (λ held. is_some desk.waiting.items) desk.resting) s.role
 
   abbrev pub is_last : PlaceView H W T → ℕ
   is_last s = at_desk (λ desk. bit desk.last) s.role
@@ -126,11 +127,13 @@ due_number y seat = first_number (due (y.view_of seat.talk))
 module _ {W L T G H : Type 0} (y : TalkWords T L G H) where
   -- the connection's due handler has this number
   abbrev pub is_at : ℕ → ℕ → PlaceView H W T → ℕ
-  is_at i number s = at_seat (λ seat. bit ((s.colour.0 == i + 2) && (due_number y seat == number))) s.role
+  is_at i number s = at_seat (λ seat.
+      bit ((s.colour.0 == i + 2) && (due_number y seat == number))) s.role
 
   -- the connection was opened
   abbrev pub is_opened : ℕ → PlaceView H W T → ℕ
-  is_opened i s = at_seat (λ seat. bit ((s.colour.0 == i + 2) && not (due_number y seat == 3))) s.role
+  is_opened i s = at_seat (λ seat.
+      bit ((s.colour.0 == i + 2) && not (due_number y seat == 3))) s.role
 
   -- Of all states and all events under way in a run with so many links
   pub record RunStands (total : ℕ) (states : List (PlaceView H W T)) (ways : List (Way W L)) : Type 0 where
@@ -141,11 +144,14 @@ module _ {W L T G H : Type 0} (y : TalkWords T L G H) where
     -- there is one world: in an event, or at rest in the state that polls
     pub one_world : sum_by worlds ways + sum_by rests states ≡ 1
     -- a link that was accepted is in the opening of its connection, or that was opened
-    pub opens : (i : ℕ) → i < total → sum_by (asks_for 3 i) ways + sum_by (is_opened i) states ≡ sum_by (beyond i) ways + sum_by (rests_beyond i) states
+    pub opens : (i : ℕ) → i < total → sum_by (asks_for 3 i) ways + sum_by (is_opened i) states
+        ≡ sum_by (beyond i) ways + sum_by (rests_beyond i) states
     -- a connection that is to do a step has one event under way, of the due handler
-    pub steps : (i number : ℕ) → i < total → 4 ≤ number → number ≤ 8 → sum_by (asks_for number i) ways ≡ sum_by (is_at i number) states
+    pub steps : (i number : ℕ) → i < total → 4 ≤ number → number ≤ 8
+        → sum_by (asks_for number i) ways ≡ sum_by (is_at i number) states
     -- one that waits is in an event Wait, in the list, or in an event Resume
-    pub waits : (i : ℕ) → i < total → sum_by (asks_for 9 i) ways + sum_by (asks_for 1 i) ways + sum_by (waits_for i) states ≡ sum_by (is_at i 9) states
+    pub waits : (i : ℕ) → i < total → sum_by (asks_for 9 i) ways + sum_by (asks_for 1 i) ways
+        + sum_by (waits_for i) states ≡ sum_by (is_at i 9) states
     pub no_stray : sum_by strays states ≡ 0
     -- the poll after the last link comes after the last link or a fault, and so does the rest of the world
     pub ended : sum_by (unended total) ways + sum_by (rests_unended total) states ≡ 0

@@ -15,9 +15,13 @@ pub record TellsScripts {W L : Type 0} (x : WorldWords W L) (first : W) (scripts
   pub many : (x.tells first).total ≡ length scripts
   pub coming : List Coming
   pub told : (x.tells first).coming ≡ Some coming
-  pub each : (i : ℕ) (link : Coming) (script : Script) → slice_get coming i ≡ Some link → slice_get scripts i ≡ Some script → link.answers ≡ Some script
+  pub each : (i : ℕ) (link : Coming) (script : Script) → slice_get coming i ≡ Some link
+      → slice_get scripts i ≡ Some script → link.answers ≡ Some script
 
 -- over such a world the histories at Ok are those of the server on these scripts, by the definition of a run, and so no others
-abbrev pub IsScheduled : {W L : Type 0} → WorldWords W L → SiteFiles → Shape → W → List (ℕ × ℕ) → Ended W L → Type 0
+abbrev pub IsScheduled : {W L : Type 0} → WorldWords W L → SiteFiles → Shape → W
+    → List (ℕ × ℕ) → Ended W L → Type 0
 IsScheduled x site shape first schedule ended =
-    (scripts : List Script) → TellsScripts x first scripts → ended.verdict ≡ verdict.Ok → IsServerRun shape site scripts schedule (map (λ history. history.items) ended.histories.items)
+    (scripts : List Script) → TellsScripts x first scripts → ended.verdict ≡ verdict.Ok
+    → IsServerRun shape site scripts schedule
+    (map (λ history. history.items) ended.histories.items)

@@ -19,17 +19,20 @@ module _ {W L T G H : Type 0} (x : WorldWords W L) (l : LinkWords L) (y : TalkWo
   -- a connection without a link is fresh; one with a link was given the link of its number, and has served it so far
   abbrev pub ServedBy : Option L → Type 0
   ServedBy None = y.view_of seat.talk ≡ unopened_view
-  ServedBy (Some now) = (first : L) × LinkStands x l place.first conn first × HasServed l (y.responses place.hall) (y.outcome place.hall) first now (y.view_of seat.talk)
+  ServedBy (Some now) = (first : L) × LinkStands x l place.first conn first
+      × HasServed l (y.responses place.hall) (y.outcome place.hall) first now (y.view_of seat.talk)
 
   -- the steps that were run come first on the path of a link that told its answers to come, whose rest begins with the due one
   abbrev pub OnPath : List Handler → Type 0
   OnPath [] = y.view_of seat.talk ≡ unopened_view
   OnPath (step ∷ steps) =
       (first : L) × LinkStands x l place.first conn first
-      × UnlessMemory (y.view_of seat.talk).end (TakesOff (step ∷ steps) (path_to_come (y.path place.hall) (l.tells first)) (y.rest_of seat.talk))
+      × UnlessMemory (y.view_of seat.talk).end (TakesOff (step ∷ steps)
+      (path_to_come (y.path place.hall) (l.tells first)) (y.rest_of seat.talk))
       × IsDue (due (y.view_of seat.talk)) (y.rest_of seat.talk)
 
   pub record SeatServes : Type 0 where
     pub served : ServedBy (y.link_of seat.talk)
     -- without a stray event the trail is the steps that were run
-    pub trailed : seat.stray ≡ None → (ran : List Handler) × (place.trail ≡ map (event_for conn) ran) × OnPath ran
+    pub trailed : seat.stray ≡ None → (ran : List Handler)
+        × (place.trail ≡ map (event_for conn) ran) × OnPath ran

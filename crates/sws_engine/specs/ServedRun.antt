@@ -33,11 +33,15 @@ module _ {W L T G H : Type 0} (x : WorldWords W L) (y : TalkWords T L G H) where
     pub states : List (PlaceView H W T)
     pub fresh : AreFirstPlaces y first hall ((x.tells first).total + 2) states
     pub posted : Loom (PlaceView H W T) (Load W L)
-    pub begun : IsBegun t fits setup states (record { 0 = 0 }) (first_poll (x.tells first).total) (Some (load.World (first_load first))) posted
+    pub begun : IsBegun t fits setup states (record { 0 = 0 }) (first_poll (x.tells first).total)
+        (Some (load.World (first_load first))) posted
     pub out : IsRunOut t fits a app posted schedule end
 
   -- The histories are those of the server on the paths of the world's links, by the definition of a run, and so no others. That is so where the world is scripted and each path opens once, the setup says the rules of the server at this shape, the weave was drained, and no link met want of memory.
-  abbrev pub IsOfPaths : LinkWords L → H → Setup → W → List (ℕ × ℕ) → Drained → List (List Entry) → List (PlaceView H W T) → Type 0
+  abbrev pub IsOfPaths : LinkWords L → H → Setup → W → List (ℕ × ℕ) → Drained → List (List Entry)
+      → List (PlaceView H W T) → Type 0
   IsOfPaths l hall setup first schedule ended histories states =
-      (shape : Shape) (paths : List (List Handler)) → rules_of setup ≡ server_rules shape → TellsPaths x l y hall first paths → AreOpened paths → ended ≡ Empty
-      → All (λ place. is_spoilt y place ≡ false) states → IsRunOfPaths shape paths schedule histories
+      (shape : Shape) (paths : List (List Handler)) → rules_of setup ≡ server_rules shape
+      → TellsPaths x l y hall first paths → AreOpened paths → ended ≡ Empty
+      → All (λ place. is_spoilt y place ≡ false) states
+      → IsRunOfPaths shape paths schedule histories

@@ -18,7 +18,13 @@ pub record Server : Type 0 where
 
 -- nothing was accepted, and no connection is open
 abbrev pub first_server : List (List Handler) → Server
-first_server paths = record { waiting = []; last = false; rests = false; accepted = 0; paths = paths }
+first_server paths = record {
+  waiting = [];
+  last = false;
+  rests = false;
+  accepted = 0;
+  paths = paths;
+}
 
 -- the world goes on, by whether no more links are to come: the next is accepted; or where somebody waits it is polled again; or it rests
 abbrev pub world_goes : Bool → List ℕ → List (Colour × Event)
@@ -33,11 +39,17 @@ is_nobody (i ∷ waiting) = false
 -- Poll: the first that waits, where somebody does, is ready and resumes; and the world goes on
 abbrev pub after_poll : Server → List ℕ → Acted Server
 after_poll s [] = record { puts = world_goes s.last []; becomes = record s { rests = s.last } }
-after_poll s (i ∷ waiting) = record { puts = talk i resume ∷ world_goes s.last waiting; becomes = record s { waiting = waiting; rests = s.last && is_nobody waiting } }
+after_poll s (i ∷ waiting) = record {
+  puts = talk i resume ∷ world_goes s.last waiting;
+  becomes = record s { waiting = waiting; rests = s.last && is_nobody waiting };
+}
 
 -- Wait: a connection waits, and a world that rests is polled
 abbrev pub after_wait : Server → Bool → ℕ → Acted Server
-after_wait s rests i = record { puts = if rests then poll 1 ∷ [] else []; becomes = record s { waiting = waiting_with i s.waiting; rests = false } }
+after_wait s rests i = record {
+  puts = if rests then poll 1 ∷ [] else [];
+  becomes = record s { waiting = waiting_with i s.waiting; rests = false };
+}
 
 -- Accept: the next link is that of the next connection, which opens
 abbrev pub after_accept : Server → ℕ → Acted Server
@@ -49,7 +61,8 @@ after_accept s i = record {
 -- a connection's event: where it is the next of the path, it is taken off the path, and what follows is registered; any other does nothing
 abbrev pub after_talk : Server → ℕ → Bool → List Handler → Acted Server
 after_talk s i false later = record { puts = []; becomes = s }
-after_talk s i true later = record { puts = follows i later; becomes = record s { paths = slice_set s.paths i later } }
+after_talk s i true later =
+    record { puts = follows i later; becomes = record s { paths = slice_set s.paths i later } }
 
 abbrev pub after_event : Server → ℕ → ℕ → Option (List Handler) → Acted Server
 after_event s i handler None = record { puts = []; becomes = s }
@@ -58,10 +71,12 @@ after_event s i handler (Some (next ∷ later)) = after_talk s i (number_of next
 
 -- by the number of the handler
 abbrev pub after_handler : Server → ℕ → ℕ → ℕ → Acted Server
-after_handler s colour zero arg = after_poll (record s { last = s.last || not (arg == 0) }) s.waiting
+after_handler s colour zero arg =
+    after_poll (record s { last = s.last || not (arg == 0) }) s.waiting
 after_handler s colour (suc zero) arg = after_wait s s.rests arg
 after_handler s colour (suc (suc zero)) arg = after_accept s s.accepted
-after_handler s colour (suc (suc (suc more))) arg = after_event s (colour - 2) (suc (suc (suc more))) (slice_get s.paths (colour - 2))
+after_handler s colour (suc (suc (suc more))) arg =
+    after_event s (colour - 2) (suc (suc (suc more))) (slice_get s.paths (colour - 2))
 
 -- what the server does with an event of a colour
 unfoldable pub serve : Server → Colour → Event → Acted Server

@@ -26,10 +26,14 @@ no_input = record { items = []; step = None; cut = None }
 -- the histories of one such connection, six steps of core 0 and twelve of core 1
 abbrev pub worked_histories : List (List Entry)
 worked_histories = ((
-    Reg (col 0) (event 0 0) 2 ∷ Take (col 0) 0 1 ∷ Reg (col 1) (event 2 0) 0 ∷ Fin (col 0) 0 1 ∷ Take (col 1) 1 1
-    ∷ Reg (col 0) (event 0 1) 1 ∷ Reg (col 2) (event 3 0) 1 ∷ Fin (col 1) 1 1 ∷ Steal (col 2) 0 1 ∷ Take (col 0) 0 1
-    ∷ Take (col 2) 1 1 ∷ Fin (col 0) 0 1 ∷ Reg (col 2) (event 4 0) 1 ∷ Fin (col 2) 1 1 ∷ Take (col 2) 1 1
-    ∷ Reg (col 2) (event 5 0) 1 ∷ Fin (col 2) 1 1 ∷ Take (col 2) 1 1 ∷ Reg (col 2) (event 8 0) 1 ∷ Fin (col 2) 1 1 ∷ Take (col 2) 1 1 ∷ Fin (col 2) 1 1 ∷ []) ∷ [])
+    Reg (col 0) (event 0 0) 2 ∷ Take (col 0) 0 1 ∷ Reg (col 1) (event 2 0) 0
+    ∷ Fin (col 0) 0 1 ∷ Take (col 1) 1 1
+    ∷ Reg (col 0) (event 0 1) 1 ∷ Reg (col 2) (event 3 0) 1 ∷ Fin (col 1) 1 1
+    ∷ Steal (col 2) 0 1 ∷ Take (col 0) 0 1
+    ∷ Take (col 2) 1 1 ∷ Fin (col 0) 0 1 ∷ Reg (col 2) (event 4 0) 1
+    ∷ Fin (col 2) 1 1 ∷ Take (col 2) 1 1
+    ∷ Reg (col 2) (event 5 0) 1 ∷ Fin (col 2) 1 1 ∷ Take (col 2) 1 1 ∷ Reg (col 2) (event 8 0) 1
+    ∷ Fin (col 2) 1 1 ∷ Take (col 2) 1 1 ∷ Fin (col 2) 1 1 ∷ []) ∷ [])
 
 -- the histories of no connection, two steps of core 1: the poll stays on its core
 abbrev pub polled_histories : List (List Entry)

@@ -11,7 +11,8 @@ use Rattle.sws_engine.specs.Server.{first_server, first_event, serve}
 
 -- the time and the penalty of each handler
 abbrev pub handler_rows : List (ℕ × ℕ)
-handler_rows = (40, 4) ∷ (10, 1) ∷ (40, 4) ∷ (20, 1) ∷ (60, 2) ∷ (80, 1) ∷ (50, 1) ∷ (100, 2) ∷ (30, 1) ∷ (60, 2) ∷ []
+handler_rows = (40, 4) ∷ (10, 1) ∷ (40, 4) ∷ (20, 1) ∷ (60, 2) ∷ (80, 1) ∷ (50, 1) ∷ (100, 2)
+    ∷ (30, 1) ∷ (60, 2) ∷ []
 
 -- the rules of the server: the colour of polling stays on its core
 abbrev pub server_rules : Shape → Rules
@@ -19,8 +20,11 @@ server_rules shape = record { shape = shape; rows = handler_rows; pinned = 1 }
 
 -- these are the histories of the server on connections of these paths by this schedule, if the run ends
 abbrev pub IsRunOfPaths : Shape → List (List Handler) → List (ℕ × ℕ) → List (List Entry) → Type 0
-IsRunOfPaths shape paths schedule histories = RunsTo (server_rules shape) serve (first_server paths) (first_event (length paths)) schedule histories
+IsRunOfPaths shape paths schedule histories =
+    RunsTo (server_rules shape) serve (first_server paths)
+    (first_event (length paths)) schedule histories
 
 -- the same of scripted connections
 abbrev pub IsServerRun : Shape → SiteFiles → List Script → List (ℕ × ℕ) → List (List Entry) → Type 0
-IsServerRun shape site scripts schedule histories = IsRunOfPaths shape (map (path_of site) scripts) schedule histories
+IsServerRun shape site scripts schedule histories =
+    IsRunOfPaths shape (map (path_of site) scripts) schedule histories

@@ -54,26 +54,45 @@ module _ {W L T G H : Type 0} (x : WorldWords W L) (l : LinkWords L) (y : TalkWo
     -- what the weave came to, and its parts
     pub how : Drained
     pub parts : WeaveParts (PlaceView H W T) (Load W L)
-    pub ran : RunParts x y setup first how (map (λ history. history.items) parts.histories.items) parts.states.items (map (λ events. events.items) parts.queued.items) parts.lost.items
-    pub fits : RunFits x l first hall parts.states.items (map (λ events. events.items) parts.queued.items) parts.lost.items
+    pub ran : RunParts x y setup first how (map (λ history. history.items) parts.histories.items)
+        parts.states.items (map (λ events. events.items) parts.queued.items) parts.lost.items
+    pub fits : RunFits x l first hall parts.states.items
+        (map (λ events. events.items) parts.queued.items) parts.lost.items
     pub concluded : IsConcluded y (x.tells first).total how parts ended
     -- the histories, one for each shard, are legal, and drained unless memory was refused; each colour's trail is what was run of it
     pub legal : AreLegal setup histories_in
     pub shards : length histories_in ≡ shape.shards
-    pub drained : ended.verdict ≢ verdict.Memory → (shard : ℕ) (history : List Entry) → slice_get histories_in shard ≡ Some history → IsDrained history
-    pub trailed : (c : Colour) (history trail : List _) → slice_get (map (λ t. t.items) ended.trails.items) c.0 ≡ Some trail → slice_get histories_in (shard_of setup c) ≡ Some history → trail ≡ ran_of history c
+    pub drained : ended.verdict ≢ verdict.Memory → (shard : ℕ) (history : List Entry)
+        → slice_get histories_in shard ≡ Some history → IsDrained history
+    pub trailed : (c : Colour) (history trail : List _)
+        → slice_get (map (λ t. t.items) ended.trails.items) c.0 ≡ Some trail
+        → slice_get histories_in (shard_of setup c) ≡ Some history → trail ≡ ran_of history c
     pub many_trails : length ended.trails.items ≡ (x.tells first).total + 2
     -- there is a member for each link; at Ok the world is there and each has its link, an end, and no stray event, and at World so have those that were accepted
     pub many_served : length ended.served.items ≡ (x.tells first).total
-    pub ok : ended.verdict ≡ verdict.Ok → IsSome ended.world × (ended.failed ≡ false) × AreWhole ended.served.items (x.tells first).total × NoneOutOfMemory ended.served.items
-    pub world : ended.verdict ≡ verdict.World → IsSome ended.world × (ended.failed ≡ true) × AreWhole ended.served.items ended.accepted × NoneOutOfMemory ended.served.items
+    pub ok : ended.verdict ≡ verdict.Ok → IsSome ended.world × (ended.failed ≡ false)
+        × AreWhole ended.served.items (x.tells first).total × NoneOutOfMemory ended.served.items
+    pub world : ended.verdict ≡ verdict.World → IsSome ended.world × (ended.failed ≡ true)
+        × AreWhole ended.served.items ended.accepted × NoneOutOfMemory ended.served.items
     -- a connection has the link of its number, as it was served
-    pub conn : (i : ℕ) (s : Served L) (trail : List Event) → slice_get ended.served.items i ≡ Some s → slice_get (map (λ t. t.items) ended.trails.items) (i + 2) ≡ Some trail → ConnLeft x l y hall first i trail s
+    pub conn : (i : ℕ) (s : Served L) (trail : List Event) → slice_get ended.served.items i ≡ Some s
+        → slice_get (map (λ t. t.items) ended.trails.items) (i + 2) ≡ Some trail
+        → ConnLeft x l y hall first i trail s
     -- at Ok one whose link is known to answer by a script has run its path, and came to its outcome
-    pub follows : ended.verdict ≡ verdict.Ok → (coming : List Coming) (one : Coming) (script : Script) (i : ℕ) (s : Served L) (trail : List Event) → (x.tells first).coming ≡ Some coming → slice_get coming i ≡ Some one → one.answers ≡ Some script
-        → slice_get ended.served.items i ≡ Some s → slice_get (map (λ t. t.items) ended.trails.items) (i + 2) ≡ Some trail → ConnFollows l y hall i script trail s
+    pub follows : ended.verdict ≡ verdict.Ok
+        → (coming : List Coming) (one : Coming) (script : Script) (i : ℕ) (s : Served L)
+        (trail : List Event) → (x.tells first).coming ≡ Some coming → slice_get coming i ≡ Some one
+        → one.answers ≡ Some script
+        → slice_get ended.served.items i ≡ Some s
+        → slice_get (map (λ t. t.items) ended.trails.items) (i + 2) ≡ Some trail
+        → ConnFollows l y hall i script trail s
     -- the world is the one that was handed in: it has its port, gave so many links, failed only where its count of faults rose, and never where it is scripted
-    pub stands : (world : W) → ended.world ≡ Some world → WorldStands x l first (record { world = world; accepted = ended.accepted; failed = ended.failed })
+    pub stands : (world : W) → ended.world ≡ Some world
+        → WorldStands x l first (record {
+          world = world;
+          accepted = ended.accepted;
+          failed = ended.failed;
+        })
     -- nothing is ever amiss
     pub never_apart : (conn : ℕ) → ended.verdict ≢ verdict.Apart conn
 

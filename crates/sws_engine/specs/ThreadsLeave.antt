@@ -37,12 +37,17 @@ use Rattle.sws_engine.specs.StepsLeave.{HasNotBegun, histories_in}
 pub record PartsKept {W L T G H : Type 0} (x : WorldWords W L) (y : TalkWords T L G H) (setup : Setup) (first : W) (how : Drained) (histories : List (List Entry)) (states : List (PlaceView H W T)) (queued : List (List (Event × Option (Load W L)))) : Type 0 where
   pub legal : AreLegal setup histories
   pub shards : length histories ≡ (shape_of setup).shards
-  pub drained : how ≡ Empty → (shard : ℕ) (history : List Entry) → slice_get histories shard ≡ Some history → IsDrained history
+  pub drained : how ≡ Empty → (shard : ℕ) (history : List Entry) → slice_get histories shard
+      ≡ Some history → IsDrained history
   pub emptied : how ≡ Empty → flat_map (λ events. events) queued ≡ []
   pub many : length states ≡ (x.tells first).total + 2
-  pub placed : (i : ℕ) (place : PlaceView H W T) → slice_get states i ≡ Some place → IsPlacedAs i place
-  pub of_world : (i : ℕ) (place : PlaceView H W T) → slice_get states i ≡ Some place → place.first ≡ first
-  pub trailed : (c : Colour) (place : PlaceView H W T) (history : List Entry) → slice_get states c.0 ≡ Some place → slice_get histories (shard_of setup c) ≡ Some history → place.trail ≡ ran_of history c
+  pub placed : (i : ℕ) (place : PlaceView H W T)
+      → slice_get states i ≡ Some place → IsPlacedAs i place
+  pub of_world : (i : ℕ) (place : PlaceView H W T)
+      → slice_get states i ≡ Some place → place.first ≡ first
+  pub trailed : (c : Colour) (place : PlaceView H W T) (history : List Entry)
+      → slice_get states c.0 ≡ Some place → slice_get histories (shard_of setup c) ≡ Some history
+      → place.trail ≡ ran_of history c
 
 -- a talk with an end is not kept waiting
 abbrev pub IsUnkept : {T L G H : Type 0} → TalkWords T L G H → Type 0
@@ -61,27 +66,46 @@ module _ {W L T G H : Type 0} (x : WorldWords W L) (l : LinkWords L) (y : TalkWo
     -- what the weave came to that the fleet was closed into, and its parts
     pub how : Drained
     pub parts : WeaveParts (PlaceView H W T) (Load W L)
-    pub kept : PartsKept x y setup first how (map (λ history. history.items) parts.histories.items) parts.states.items (map (λ events. events.items) parts.queued.items)
-    pub fits : RunFits x l first hall parts.states.items (map (λ events. events.items) parts.queued.items) parts.lost.items
+    pub kept : PartsKept x y setup first how (map (λ history. history.items) parts.histories.items)
+        parts.states.items (map (λ events. events.items) parts.queued.items)
+    pub fits : RunFits x l first hall parts.states.items
+        (map (λ events. events.items) parts.queued.items) parts.lost.items
     -- the verdict is exactly what these show
     pub concluded : IsConcluded y (x.tells first).total how parts ended
     -- the histories, one for each shard, are legal, and drained unless memory was refused; each colour's trail is what was run of it
     pub legal : AreLegal setup histories
     pub shards : length histories ≡ shape.shards
-    pub drained : ended.verdict ≢ verdict.Memory → (shard : ℕ) (history : List Entry) → slice_get histories shard ≡ Some history → IsDrained history
-    pub trailed : (c : Colour) (history trail : List _) → slice_get (map (λ t. t.items) ended.trails.items) c.0 ≡ Some trail → slice_get histories (shard_of setup c) ≡ Some history → trail ≡ ran_of history c
+    pub drained : ended.verdict ≢ verdict.Memory → (shard : ℕ) (history : List Entry)
+        → slice_get histories shard ≡ Some history → IsDrained history
+    pub trailed : (c : Colour) (history trail : List _)
+        → slice_get (map (λ t. t.items) ended.trails.items) c.0 ≡ Some trail
+        → slice_get histories (shard_of setup c) ≡ Some history → trail ≡ ran_of history c
     pub many_trails : length ended.trails.items ≡ (x.tells first).total + 2
     -- there is a member for each link; at Ok the world is there and each has its link, an end, and no stray event, and at World so have those that were accepted
     pub many_served : length ended.served.items ≡ (x.tells first).total
-    pub ok : ended.verdict ≡ verdict.Ok → IsSome ended.world × (ended.failed ≡ false) × AreWhole ended.served.items (x.tells first).total × NoneOutOfMemory ended.served.items
-    pub world : ended.verdict ≡ verdict.World → IsSome ended.world × (ended.failed ≡ true) × AreWhole ended.served.items ended.accepted × NoneOutOfMemory ended.served.items
+    pub ok : ended.verdict ≡ verdict.Ok → IsSome ended.world × (ended.failed ≡ false)
+        × AreWhole ended.served.items (x.tells first).total × NoneOutOfMemory ended.served.items
+    pub world : ended.verdict ≡ verdict.World → IsSome ended.world × (ended.failed ≡ true)
+        × AreWhole ended.served.items ended.accepted × NoneOutOfMemory ended.served.items
     -- a connection has the link of its number, as it was served
-    pub conn : (i : ℕ) (s : Served L) (trail : List Event) → slice_get ended.served.items i ≡ Some s → slice_get (map (λ t. t.items) ended.trails.items) (i + 2) ≡ Some trail → ConnLeft x l y hall first i trail s
+    pub conn : (i : ℕ) (s : Served L) (trail : List Event) → slice_get ended.served.items i ≡ Some s
+        → slice_get (map (λ t. t.items) ended.trails.items) (i + 2) ≡ Some trail
+        → ConnLeft x l y hall first i trail s
     -- at Ok one whose link is known to answer by a script has run its path, and came to its outcome
-    pub follows : IsUnkept y → ended.verdict ≡ verdict.Ok → (coming : List Coming) (one : Coming) (script : Script) (i : ℕ) (s : Served L) (trail : List Event) → (x.tells first).coming ≡ Some coming → slice_get coming i ≡ Some one → one.answers ≡ Some script
-        → slice_get ended.served.items i ≡ Some s → slice_get (map (λ t. t.items) ended.trails.items) (i + 2) ≡ Some trail → ConnFollows l y hall i script trail s
+    pub follows : IsUnkept y → ended.verdict ≡ verdict.Ok
+        → (coming : List Coming) (one : Coming) (script : Script) (i : ℕ) (s : Served L)
+        (trail : List Event) → (x.tells first).coming ≡ Some coming → slice_get coming i ≡ Some one
+        → one.answers ≡ Some script
+        → slice_get ended.served.items i ≡ Some s
+        → slice_get (map (λ t. t.items) ended.trails.items) (i + 2) ≡ Some trail
+        → ConnFollows l y hall i script trail s
     -- the world is the one that was handed in: it has its port, gave so many links, failed only where its count of faults rose, and never where it is scripted
-    pub stands : (world : W) → ended.world ≡ Some world → WorldStands x l first (record { world = world; accepted = ended.accepted; failed = ended.failed })
+    pub stands : (world : W) → ended.world ≡ Some world
+        → WorldStands x l first (record {
+          world = world;
+          accepted = ended.accepted;
+          failed = ended.failed;
+        })
 
   abbrev pub ThreadsLeave : Type 0
   ThreadsLeave = HasNotBegun first ended ⊎ HasRunThreads

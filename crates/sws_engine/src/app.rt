@@ -51,7 +51,8 @@ impl<W: World + Drop, T: Talk<W::Link> + Drop> App for Sws<W, T> {
 
     ghost serves = { λ app frame. ((W.tells frame.first).total ≡ app.total) × (app.total ≤ 1024) };
 
-    ghost runs = { λ app before event load after puts. Runs W.World W.Link.Link T.Talk app.total before event load after puts };
+    ghost runs = { λ app before event load after puts.
+        Runs W.World W.Link.Link T.Talk app.total before event load after puts };
 
     fn run(
         &self,
@@ -60,23 +61,26 @@ impl<W: World + Drop, T: Talk<W::Link> + Drop> App for Sws<W, T> {
         load: Option<Load<W, W::Link>>,
         outs: &mut Outs<Load<W, W::Link>>,
     )
-        requires serves { ((W.tells state.old.first).total ≡ self.now.total) × (self.now.total ≤ 1024) }
+        requires serves { ((W.tells state.old.first).total ≡ self.now.total)
+            × (self.now.total ≤ 1024) }
         requires room { 1 ≤ state.old.spare }
         requires empty { outs.old ≡ [] }
         requires fits { Fit W.World W.Link.Link state.old.first state.old.colour event load }
-        ensures ran { Runs W.World W.Link.Link T.Talk self.now.total state.old event load state.new outs.new }
+        ensures ran { Runs W.World W.Link.Link T.Talk self.now.total state.old event
+            load state.new outs.new }
         ensures colour { state.new.colour ≡ state.old.colour }
         ensures frame { frame_in state.new ≡ frame_in state.old }
         ensures trail { state.new.trail ≡ state.old.trail ++ event ∷ [] }
         ensures spare { state.old.spare ≡ state.new.spare + 1 }
-        ensures puts { AllByRecursion (FitsIn (self.now.total + 2) 10 (Fit W.World W.Link.Link state.old.first)) outs.new }
+        ensures puts { AllByRecursion
+            (FitsIn (self.now.total + 2) 10 (Fit W.World W.Link.Link state.old.first)) outs.new }
         ensures few { length outs.new ≤ 2 }
     {
         // What holds of a run: a connection that has run isn't to be opened again.
         T::a_run_serves();
         let total = self.total;
         state.trail.push_reserved(event);
-        match &mut state.role {
+        match &mut *state.role {
             Role::Polling(desk) => run_desk(desk, event, load, outs),
             Role::Accepting => run_accepting(total, event, load, outs),
             Role::Talking(seat) => serve(seat, state.colour.0 - 2, event, load, outs),

@@ -135,7 +135,8 @@ fn go_on<W: Drop, L: Drop>(desk: &mut Desk<W>, held: WorldLoad<W>, outs: &mut Ou
     ensures puts { outs.new ≡ outs.old ++ onward desk.old.last desk.old.waiting.items held }
     ensures waiting { desk.new.waiting ≡ desk.old.waiting }
     ensures last { desk.new.last ≡ desk.old.last }
-    ensures resting { desk.new.resting ≡ rest_of desk.old.last desk.old.waiting.items held desk.old.resting }
+    ensures resting { desk.new.resting
+        ≡ rest_of desk.old.last desk.old.waiting.items held desk.old.resting }
 {
     if !desk.last {
         outs.put(
@@ -173,7 +174,8 @@ pub(crate) fn run_desk<W: World + Drop>(
     requires empty { outs.old ≡ [] }
     requires few { desk.old.waiting.total ≤ 1024 }
     requires known { task_of event.handler ≡ Some Task.Wait → event.arg < desk.old.waiting.total }
-    ensures runs { RunsDesk W.World desk.old (task_of event.handler) event.arg load desk.new outs.new }
+    ensures runs { RunsDesk W.World desk.old (task_of event.handler) event.arg
+        load desk.new outs.new }
     ensures room { desk.new.waiting.total ≡ desk.old.waiting.total }
 {
     match Task::of(event.handler) {

@@ -46,7 +46,8 @@ pub(crate) fn keep_queued<W: Drop, L: Drop>(
     queued: Vec<Vec<(Event, Option<Load<W, L>>)>>,
     left: &mut Left<W, L>,
 )
-    ensures { HandsOut (flat_map (λ events. events) (map (λ events. events.items) queued.items)) left.old left.new }
+    ensures { HandsOut (flat_map (λ events. events) (map (λ events. events.items) queued.items))
+        left.old left.new }
 {
     for events in queued {
         keep_loads(events, left);

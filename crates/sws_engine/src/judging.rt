@@ -39,7 +39,8 @@ fn any_ran_out<L>(served: &[Served<L>]) -> bool
 
 /// The first of so many connections that lacks something.
 fn first_lacking<L>(served: &[Served<L>], count: u16) -> Option<u16>
-    ensures { MatchOption result (AreWhole served.now count) (λ conn. IsFirstLacking served.now count conn) }
+    ensures { MatchOption result (AreWhole served.now count) (λ conn.
+        IsFirstLacking served.now count conn) }
 {
     for conn in 0..count {
         match served.get(usize::from(conn)) {

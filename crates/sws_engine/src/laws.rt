@@ -19,7 +19,8 @@ use sws_link::{Link, World};
 /// made of it, so its link is the one of its number, what was written begins the responses, an end has its cause, and where no
 /// event was stray the trail is a front of the path. A call does nothing.
 pub fn a_state_tells_what_was_served<W: World, T: Talk<W::Link>>(place: &Place<W, T>)
-    ensures { (seat : _) → place.now.role ≡ Talking seat → SeatServes W.World W.Link.Link T.Talk place.now seat }
+    ensures { (seat : _) → place.now.role ≡ Talking seat
+        → SeatServes W.World W.Link.Link T.Talk place.now seat }
 {
     T::a_run_serves();
     let _role = &place.role;

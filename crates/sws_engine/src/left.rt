@@ -47,7 +47,8 @@ fn keep_state<W: World + Drop, T: Talk<W::Link> + Drop>(
     place: Place<W, T>,
     left: &mut Left<W, W::Link>,
 )
-    requires served { vec_len left.old.served + length (talkers (place ∷ [])) ≤ vec_capacity left.old.served }
+    requires served { vec_len left.old.served + length (talkers (place ∷ []))
+        ≤ vec_capacity left.old.served }
     requires trails { vec_len left.old.trails + 1 ≤ vec_capacity left.old.trails }
     ensures keeps { KeepsStates T.Talk (place ∷ []) left.old left.new }
     ensures tells { StateTells W.World W.Link.Link T.Talk place }
@@ -61,7 +62,7 @@ fn keep_state<W: World + Drop, T: Talk<W::Link> + Drop>(
         role,
     } = place;
     left.trails.push_reserved(trail);
-    match role {
+    match Box::into_inner(role) {
         Role::Polling(desk) => {
             let Desk {
                 waiting: _,
@@ -83,7 +84,8 @@ pub(crate) fn keep_states<W: World + Drop, T: Talk<W::Link> + Drop>(
     states: Vec<Place<W, T>>,
     left: &mut Left<W, W::Link>,
 )
-    requires served { vec_len left.old.served + length (talkers states.items) ≤ vec_capacity left.old.served }
+    requires served { vec_len left.old.served + length (talkers states.items)
+        ≤ vec_capacity left.old.served }
     requires trails { vec_len left.old.trails + length states.items ≤ vec_capacity left.old.trails }
     ensures keeps { KeepsStates T.Talk states.items left.old left.new }
     ensures tell { AllByRecursion (StateTells W.World W.Link.Link T.Talk) states.items }

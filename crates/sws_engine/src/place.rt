@@ -48,7 +48,9 @@ pub struct Place<W: World, T: Talk<W::Link>> {
     pub(crate) trail: Vec<Event>,
     pub(crate) hall: T::Hall,
     pub(crate) first: Snapshot<W>,
-    pub(crate) role: Role<W, T>,
+
+    /// It lies in a box, since a state is moved out of its shard and back in each turn.
+    pub(crate) role: Box<Role<W, T>>,
 }
 
 impl<W: World, T: Talk<W::Link>> Model for Place<W, T> {
@@ -106,5 +108,6 @@ impl<W: World, T: Talk<W::Link>> Trail for Place<W, T> {
 impl<W: World, T: Talk<W::Link>> Fits<Load<W, W::Link>> for Place<W, T> {
     ghost use Rattle.sws_engine.specs.Loads.{Fit};
 
-    ghost fits_under = { λ frame colour event load. Fit W.World W.Link.Link frame.first colour event load };
+    ghost fits_under = { λ frame colour event load.
+        Fit W.World W.Link.Link frame.first colour event load };
 }

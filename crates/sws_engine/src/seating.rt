@@ -44,7 +44,14 @@ pub(crate) fn is_due_on(next: Next, conn: u16, event: Event) -> bool
 fn put_step<W: Drop, L: Drop>(task: Task, conn: u16, outs: &mut Outs<Load<W, L>>)
     requires empty { outs.old ≡ [] }
     requires small { conn < 65534 }
-    ensures { outs.new ≡ (record { 0 = conn + 2 }, record { handler = number_of_task task; arg = conn }, None) ∷ [] }
+    ensures { outs.new ≡ (
+      record { 0 = conn + 2 },
+      record {
+        handler = number_of_task task;
+        arg = conn;
+      },
+      None,
+    ) ∷ [] }
 {
     outs.put(Colour(conn + 2), event_of(task, conn), None);
 }
@@ -108,7 +115,9 @@ fn step_seat<W: Drop, L: Link + Drop, T: Talk<L>>(
     requires ran { HasRunSome T.Talk seat.old.talk }
     requires pending { IsSome (due (T.view_of seat.old.talk)) }
     ensures moved { due (T.view_of seat.new.talk) ≢ Some open_link }
-    ensures runs { (first : L) (ran : List Handler) (step : Handler) → T.has_run first ran seat.old.talk → due (T.view_of seat.old.talk) ≡ Some step → T.has_run first (ran ++ step ∷ []) seat.new.talk }
+    ensures runs { (first : L) (ran : List Handler) (step : Handler)
+        → T.has_run first ran seat.old.talk → due (T.view_of seat.old.talk) ≡ Some step
+        → T.has_run first (ran ++ step ∷ []) seat.new.talk }
     ensures hall { T.hall_of seat.new.talk ≡ T.hall_of seat.old.talk }
     ensures next { seat.new.next ≡ next_told (T.view_of seat.new.talk) }
     ensures ended { KeepsEnd T.Talk seat.old.talk seat.new.talk }
@@ -137,9 +146,11 @@ pub(crate) fn serve<W: Drop, L: Link + Drop, T: Talk<L>>(
     requires next { seat.old.next ≡ next_told (T.view_of seat.old.talk) }
     requires ran { IsFreshOrRan T.Talk seat.old.talk }
     requires suits { LoadSuits L.Link (event.handler == 3) load }
-    ensures runs { RunsSeat T.Talk (is_due conn (due (T.view_of seat.old.talk)) event) conn seat.old event load seat.new outs.new }
+    ensures runs { RunsSeat T.Talk (is_due conn (due (T.view_of seat.old.talk)) event) conn seat.old
+        event load seat.new outs.new }
     ensures next { seat.new.next ≡ next_told (T.view_of seat.new.talk) }
-    ensures once { HasRunSome T.Talk seat.old.talk → due (T.view_of seat.old.talk) ≢ Some open_link }
+    ensures once { HasRunSome T.Talk seat.old.talk
+        → due (T.view_of seat.old.talk) ≢ Some open_link }
 {
     // What holds of a run: its link is there, so the connection isn't to be opened again.
     T::a_run_serves();

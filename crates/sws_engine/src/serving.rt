@@ -32,7 +32,8 @@ pub fn serve_steps<'s, R: Wait, W: World + Drop>(
     requires none { (W.tells world).accepted ≡ 0 }
     requires cores { All (λ part. part.0 < shape.now.cores) schedule.now }
     requires count { sum_by (λ part. part.1) schedule.now < 2 ^ 64 }
-    ensures leaves { StepsLeave W.World W.Link.Link ⟦<Conn<'s, W::Link> as Talk<W::Link>>⟧ shape.now site.now world result }
+    ensures leaves { StepsLeave W.World W.Link.Link ⟦<Conn<'s, W::Link> as Talk<W::Link>>⟧ shape.now
+        site.now world result }
     ensures scheduled { IsScheduled W.World site.now shape.now world schedule.now result }
 {
     site.limits();

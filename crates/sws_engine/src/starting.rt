@@ -29,47 +29,32 @@ fn fresh_place<W: World + Drop, T: Talk<W::Link> + Drop>(
     total: u16,
 ) -> Result<Place<W, T>, Memory>
     requires { (W.tells world.now).total ≡ total }
-    ensures { IfOk result (λ place. IsFirstPlace T.Talk world.now (T.contents_of hall) number place) }
+    ensures { IfOk result (λ place.
+        IsFirstPlace T.Talk world.now (T.contents_of hall) number place) }
 {
-    let trail = Vec::new(alloc);
-    let first = Snapshot::of(world);
-    match number {
-        0 => {
-            let waiting = Waiting::new(alloc, total)?;
-            Ok(Place {
-                colour: Colour(number),
-                trail,
-                hall,
-                first,
-                role: Role::Polling(Desk {
-                    waiting,
-                    last: false,
-                    resting: None,
-                }),
-            })
-        }
-        1 => Ok(Place {
-            colour: Colour(number),
-            trail,
-            hall,
-            first,
-            role: Role::Accepting,
+    let role = match number {
+        0 => Role::Polling(Desk {
+            waiting: Waiting::new(alloc, total)?,
+            last: false,
+            resting: None,
         }),
-        _ => {
-            let talk = T::make(alloc, hall)?;
-            Ok(Place {
-                colour: Colour(number),
-                trail,
-                hall,
-                first,
-                role: Role::Talking(Seat {
-                    talk,
-                    next: Next::Open,
-                    stray: None,
-                }),
-            })
-        }
-    }
+        1 => Role::Accepting,
+        _ => Role::Talking(Seat {
+            talk: T::make(alloc, hall)?,
+            next: Next::Open,
+            stray: None,
+        }),
+    };
+    let Ok(role) = Box::new(alloc, role) else {
+        return Err(Memory);
+    };
+    Ok(Place {
+        colour: Colour(number),
+        trail: Vec::new(alloc),
+        hall,
+        first: Snapshot::of(world),
+        role,
+    })
 }
 
 /// The states of all colours at first, in ascending order: colours 0 and 1, and one for each connection.
@@ -81,7 +66,8 @@ pub fn fresh_places<W: World + Drop, T: Talk<W::Link> + Drop>(
 ) -> Result<Vec<Place<W, T>>, Memory>
     requires few { total ≤ 1024 }
     requires total { (W.tells world.now).total ≡ total }
-    ensures { IfOk result (λ places. AreFirstPlaces T.Talk world.now (T.contents_of hall) (total + 2) places.items) }
+    ensures { IfOk result (λ places.
+        AreFirstPlaces T.Talk world.now (T.contents_of hall) (total + 2) places.items) }
 {
     let Ok(mut places) = Vec::with_capacity(alloc, total as usize + 2) else {
         return Err(Memory);

@@ -74,8 +74,10 @@ pub fn talk_steps<R: Wait, W: World + Drop, T: Talk<W::Link> + Drop>(
     requires none { (W.tells world).accepted ≡ 0 }
     requires cores { All (λ part. part.0 < shape.now.cores) schedule.now }
     requires count { sum_by (λ part. part.1) schedule.now < 2 ^ 64 }
-    ensures leaves { StepsLeave W.World W.Link.Link T.Talk shape.now (T.contents_of hall) world result }
-    ensures model { IsModelled W.World W.Link.Link T.Talk (T.contents_of hall) shape.now world schedule.now result }
+    ensures leaves { StepsLeave W.World W.Link.Link T.Talk shape.now
+        (T.contents_of hall) world result }
+    ensures model { IsModelled W.World W.Link.Link T.Talk (T.contents_of hall) shape.now
+        world schedule.now result }
 {
     let total = world.total();
     let Ok(room) = EndRoom::new(alloc, total) else {

@@ -30,7 +30,10 @@ impl Model for Waiting {
     ghost use Rattle.std.specs.Prelude.{length};
     ghost use Rattle.sws_engine.specs.WaitingKept.{IsTabled};
 
-    ghost view = { λ waiting. record { items = waiting.conns.items; total = length waiting.since.items } };
+    ghost view = { λ waiting. record {
+      items = waiting.conns.items;
+      total = length waiting.since.items;
+    } };
 
     ghost invariant = { IsTabled };
 }
@@ -147,7 +150,8 @@ impl Waiting {
 
     /// The first of those that wait does so no more; nothing where nobody waits.
     pub(crate) fn take_first(&mut self) -> Option<u16>
-        ensures first { MatchOption result (self.old.items ≡ []) (λ conn. self.old.items ≡ conn ∷ self.new.items) }
+        ensures first { MatchOption result (self.old.items ≡ []) (λ conn. self.old.items
+            ≡ conn ∷ self.new.items) }
         ensures none { MatchOption result (self.new.items ≡ []) (λ conn. conn < self.old.total) }
         ensures total { self.new.total ≡ self.old.total }
     {

@@ -48,8 +48,10 @@ pub fn run_whole<R: Wait, W: World + Drop, T: Talk<W::Link> + Drop>(
     ensures free { IfOk result (λ ran. AllFree ran.0) }
     ensures drained { IfOk result (λ ran. ran.1 ≡ Drained.Empty → HistoriesAreDrained ran.0) }
     ensures out { IfOk result (λ ran. ran.1 ≡ Drained.Empty
-        → HasRunOut W.World T.Talk ⟦<Place<W, T> as Trail>⟧ ⟦<Place<W, T> as Fits<Load<W, W::Link>>>⟧.fits_under
-        ⟦<Sws<W, T> as App>⟧ (λ app. app.total) setup.now world (T.contents_of hall) schedule.now ran.0) }
+        → HasRunOut W.World T.Talk ⟦<Place<W, T> as Trail>⟧
+        ⟦<Place<W, T> as Fits<Load<W, W::Link>>>⟧.fits_under
+        ⟦<Sws<W, T> as App>⟧ (λ app. app.total) setup.now world
+        (T.contents_of hall) schedule.now ran.0) }
     ensures back { IfErr result (λ back. back ≡ world) }
 {
     let total = world.total();
@@ -84,10 +86,13 @@ pub fn run_apart<R: Wait, W: World + Drop, T: Talk<W::Link> + Drop>(
     ensures ran { IfOk result (λ ran. RunParts W.World T.Talk setup.now world ran.1
         (map (λ history. history.items) ran.0.histories.items) ran.0.states.items
         (map (λ queue. queue.items) ran.0.queued.items) ran.0.lost.items) }
-    ensures fits { IfOk result (λ ran. RunFits W.World W.Link.Link world (T.contents_of hall) ran.0.states.items
+    ensures fits { IfOk result (λ ran.
+        RunFits W.World W.Link.Link world (T.contents_of hall) ran.0.states.items
         (map (λ queue. queue.items) ran.0.queued.items) ran.0.lost.items) }
-    ensures model { IfOk result (λ ran. IsOfPaths W.World T.Talk W.Link.Link (T.contents_of hall) setup.now world
-        schedule.now ran.1 (map (λ history. history.items) ran.0.histories.items) ran.0.states.items) }
+    ensures model { IfOk result (λ ran.
+        IsOfPaths W.World T.Talk W.Link.Link (T.contents_of hall) setup.now world
+        schedule.now ran.1 (map (λ history. history.items) ran.0.histories.items)
+        ran.0.states.items) }
     ensures back { IfErr result (λ back. back ≡ world) }
 {
     let (weave, drained) = run_whole(rt, alloc, setup, hall, world, schedule)?;

@@ -10,7 +10,7 @@ use Rattle.sws_link.specs.Calls.{next_fails}
 use Rattle.sws_link.specs.MemLinks.{WireState, script_unless, wire_tells, wire_after_read}
 
 -- the bytes that a read gives are the next ones
-pub read_bytes : (room : ℕ) (items : List Item) → all_bytes items ≡ (read_of room items).bytes ++ all_bytes (read_of room items).items
+read_bytes : (room : ℕ) (items : List Item) → all_bytes items ≡ (read_of room items).bytes ++ all_bytes (read_of room items).items
 read_bytes room [] = refl
 read_bytes room (piece [] ∷ items) = read_bytes room items
 read_bytes room (piece (byte ∷ bytes) ∷ items) =

@@ -20,7 +20,7 @@ wire-told failing wire taken written =
     ap (λ t. told t wire.written) taken ∙ ap (told []) written
 
 -- the next link is given
-pub lobby-gives : {L : Type 0} (tells : L → Option LinkTells) (is_shut : L → Bool) (faults waits : L → Count) (coming : L → Coming) (scripted : Bool)
+lobby-gives : {L : Type 0} (tells : L → Option LinkTells) (is_shut : L → Bool) (faults waits : L → Count) (coming : L → Coming) (scripted : Bool)
     (before after : LobbyState L) (link : L) → GivesNext before link after
     → tells link ≡ Some (untouched (coming link)) → is_shut link ≡ false → faults link ≡ no_faults → waits link ≡ no_faults
     → GivesLink tells is_shut faults waits (lobby_tells coming scripted before) link (lobby_tells coming scripted after)

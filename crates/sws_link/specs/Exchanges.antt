@@ -46,11 +46,14 @@ written_in (shut_call ∷ calls) = written_in calls
 module _ {L : Type 0} (tells : L → Option LinkTells) (is_shut : L → Bool) (faults waits : L → Count) where
   -- the call was made
   abbrev pub Makes : LinkCall → L → L → Type 0
-  Makes (read_call room answer into) before after = Reads tells is_shut faults waits before room answer into after
-  Makes (write_call piece answer) before after = Writes tells is_shut faults waits before piece answer after
+  Makes (read_call room answer into) before after =
+      Reads tells is_shut faults waits before room answer into after
+  Makes (write_call piece answer) before after =
+      Writes tells is_shut faults waits before piece answer after
   Makes shut_call before after = Shuts tells is_shut faults waits before after
 
   -- these calls were made, and no other
   unfoldable pub Exchanges : List LinkCall → L → L → Type 0
   Exchanges [] before after = after ≡ before
-  Exchanges (call ∷ calls) before after = (between : L) × Makes call before between × Exchanges calls between after
+  Exchanges (call ∷ calls) before after = (between : L) × Makes call before between
+      × Exchanges calls between after

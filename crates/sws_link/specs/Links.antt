@@ -47,7 +47,8 @@ abbrev pub ReadsAs : Option Script → ℕ → LinkRead → List ℕ → Option 
 ReadsAs None room answer into now = now ≡ None
 ReadsAs (Some script) room answer into now =
     let said = read_of room script.items in
-    (answer ≡ said.answer) × (given_by answer into ≡ said.bytes) × (now ≡ Some (record script { items = said.items }))
+    (answer ≡ said.answer) × (given_by answer into ≡ said.bytes)
+    × (now ≡ Some (record script { items = said.items }))
 
 -- the end comes only where nothing is left
 abbrev pub EndsRead : LinkRead → List ℕ → Type 0
@@ -92,7 +93,8 @@ abbrev pub WritesAs : Option Script → ℕ → LinkWrite → Option Script → 
 WritesAs None length answer now = now ≡ None
 WritesAs (Some script) length write.Memory now = now ≡ Some script
 WritesAs (Some script) length (write.Wrote count) now =
-    let said = write_of script length in (write.Wrote count ≡ said.answer) × (now ≡ Some said.script)
+    let said = write_of script length in (write.Wrote count ≡ said.answer)
+    × (now ≡ Some said.script)
 WritesAs (Some script) length write.NotReady now =
     let said = write_of script length in (write.NotReady ≡ said.answer) × (now ≡ Some said.script)
 WritesAs (Some script) length write.Failed now =

@@ -34,13 +34,22 @@ pub record SureLinkState : Type 0 where
 
 -- nothing was taken or written
 abbrev pub fresh_wire : List Item → Option ℕ → Option ℕ → WireState
-fresh_wire items step cut = record { input = record { taken = []; items = items }; written = []; step = step; cut = cut }
+fresh_wire items step cut = record {
+  input = record { taken = []; items = items };
+  written = [];
+  step = step;
+  cut = cut;
+}
 
 -- ---- what is told
 
 -- the answers to come, as they stand
 abbrev pub script_of : WireState → Script
-script_of wire = record { items = wire.input.items; step = wire.step; cut = lowered wire.cut (length wire.written) }
+script_of wire = record {
+  items = wire.input.items;
+  step = wire.step;
+  cut = lowered wire.cut (length wire.written);
+}
 
 -- no script has a step of nothing
 abbrev pub script_by_step : Option ℕ → Script → Option Script
@@ -85,15 +94,18 @@ write_answer (Some zero) None length = write.NotReady
 write_answer (Some (suc limit)) None length = write.Wrote (within (Some (suc limit)) length)
 write_answer None (Some (suc left)) length = write.Wrote (within (Some (suc left)) length)
 write_answer (Some zero) (Some (suc left)) length = write.NotReady
-write_answer (Some (suc limit)) (Some (suc left)) length = write.Wrote (within (Some (suc limit)) (within (Some (suc left)) length))
+write_answer (Some (suc limit)) (Some (suc left)) length =
+    write.Wrote (within (Some (suc limit)) (within (Some (suc left)) length))
 
 -- what a write may answer
 abbrev pub MayAnswer : WireState → ℕ → LinkWrite → Type 0
-MayAnswer wire count answer = (answer ≡ write.Memory) ⊎ (answer ≡ write_answer wire.step (lowered wire.cut (length wire.written)) count)
+MayAnswer wire count answer = (answer ≡ write.Memory)
+    ⊎ (answer ≡ write_answer wire.step (lowered wire.cut (length wire.written)) count)
 
 -- what the answer says was written
 abbrev pub wire_after_write : WireState → LinkWrite → List ℕ → WireState
-wire_after_write wire answer piece = record wire { written = wire.written ++ written_by answer piece }
+wire_after_write wire answer piece =
+    record wire { written = wire.written ++ written_by answer piece }
 
 -- ---- counts
 
@@ -137,9 +149,13 @@ waited waits waiting = if waiting then raised waits else waits
 
 -- a read that is to fail takes nothing, and another answers as the items say; either is counted
 pub record FailsOrReads (before : MemLinkState) (room : ℕ) (answer : LinkRead) (into : List ℕ) (after : MemLinkState) : Type 0 where
-  pub answer_is : answer ≡ (if next_fails before.calls then read.Failed else (read_of room before.wire.input.items).answer)
-  pub bytes_are : given_by answer into ≡ (if next_fails before.calls then [] else (read_of room before.wire.input.items).bytes)
-  pub wire_is : after.wire ≡ (if next_fails before.calls then before.wire else wire_after_read before.wire room)
+  pub answer_is : answer
+      ≡ (if next_fails before.calls then read.Failed else
+      (read_of room before.wire.input.items).answer)
+  pub bytes_are : given_by answer into
+      ≡ (if next_fails before.calls then [] else (read_of room before.wire.input.items).bytes)
+  pub wire_is : after.wire
+      ≡ (if next_fails before.calls then before.wire else wire_after_read before.wire room)
   pub calls_are : after.calls ≡ counted before.calls (is_failed_read answer)
   pub waits_are : after.waits ≡ waited before.waits (is_waiting_read answer)
   pub shut_is : after.shut ≡ before.shut

@@ -26,7 +26,11 @@ fresh_lobby links = record { links = links; total = length links; accepted = 0; 
 
 -- as many as are asked for, or as there are
 abbrev pub lobby_opened : {L : Type 0} → LobbyState L → ℕ → ℕ → LobbyState L
-lobby_opened lobby port total = record lobby { total = min total (length lobby.links); accepted = 0; port = port }
+lobby_opened lobby port total = record lobby {
+  total = min total (length lobby.links);
+  accepted = 0;
+  port = port;
+}
 
 -- the next link was given
 pub record GivesNext {L : Type 0} (before : LobbyState L) (link : L) (after : LobbyState L) : Type 0 where
@@ -55,7 +59,11 @@ pub record IsFreshSureLink (link : SureLinkState) : Type 0 where
 
 -- what is to come of a link: the bytes of its items, and its answers where no call is to fail
 abbrev pub wire_coming : List ℕ → WireState → Coming
-wire_coming failing wire = record { input = all_bytes wire.input.items; answers = script_unless failing (script_of wire); says_all = true }
+wire_coming failing wire = record {
+  input = all_bytes wire.input.items;
+  answers = script_unless failing (script_of wire);
+  says_all = true;
+}
 
 abbrev pub mem_coming : MemLinkState → Coming
 mem_coming link = wire_coming link.calls.failing link.wire
@@ -107,12 +115,15 @@ ready_or_fails world waiting = if next_fails world.calls then polled.Failed else
 -- the next link is given, or the call fails where it is to fail
 abbrev pub FailsOrGivesBy : Bool → MemWorldState → Accepted MemLinkState → MemWorldState → Type 0
 FailsOrGivesBy true before answer after = (answer ≡ accepted.Failed) × (after.lobby ≡ before.lobby)
-FailsOrGivesBy false before answer after = (link : MemLinkState) × (answer ≡ accepted.Link link) × GivesNext before.lobby link after.lobby
+FailsOrGivesBy false before answer after = (link : MemLinkState) × (answer ≡ accepted.Link link)
+    × GivesNext before.lobby link after.lobby
 
 pub record FailsOrGives (before : MemWorldState) (answer : Accepted MemLinkState) (after : MemWorldState) : Type 0 where
   pub gives : FailsOrGivesBy (next_fails before.calls) before answer after
   pub calls_are : after.calls ≡ called before.calls
 
 -- the next link is given
-abbrev pub Gives : LobbyState SureLinkState → Accepted SureLinkState → LobbyState SureLinkState → Type 0
-Gives before answer after = (link : SureLinkState) × (answer ≡ accepted.Link link) × GivesNext before link after
+abbrev pub Gives : LobbyState SureLinkState → Accepted SureLinkState
+    → LobbyState SureLinkState → Type 0
+Gives before answer after = (link : SureLinkState) × (answer ≡ accepted.Link link)
+    × GivesNext before link after

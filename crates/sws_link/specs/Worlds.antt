@@ -19,7 +19,13 @@ pub record Coming : Type 0 where
 
 -- what such a link tells when it comes: nothing was taken or written
 abbrev pub untouched : Coming → LinkTells
-untouched coming = record { taken = []; left = coming.input; written = []; to_come = coming.answers; says_all = coming.says_all }
+untouched coming = record {
+  taken = [];
+  left = coming.input;
+  written = [];
+  to_come = coming.answers;
+  says_all = coming.says_all;
+}
 
 pub record WorldTells : Type 0 where
   -- the links to come, the next one first, where these are known
@@ -51,7 +57,11 @@ total_within (Some coming) total = min total (length coming)
 
 -- it gives links anew, and none was accepted
 abbrev pub opened_at : WorldTells → ℕ → ℕ → WorldTells
-opened_at world port total = record world { total = total_within world.coming total; accepted = 0; port = port }
+opened_at world port total = record world {
+  total = total_within world.coming total;
+  accepted = 0;
+  port = port;
+}
 
 abbrev pub after_open : WorldTells → ℕ → ℕ → Opened → WorldTells
 after_open world port total opened.Ready = opened_at world port total
@@ -77,7 +87,8 @@ first_ready (conn ∷ waiting) = polled.Ready conn
 abbrev pub TakesNext : Option (List Coming) → Option LinkTells → Option (List Coming) → Type 0
 TakesNext None told now = now ≡ None
 TakesNext (Some coming) told now =
-    (first : Coming) × (rest : List Coming) × (coming ≡ first ∷ rest) × (now ≡ Some rest) × (told ≡ Some (untouched first))
+    (first : Coming) × (rest : List Coming) × (coming ≡ first ∷ rest) × (now ≡ Some rest)
+    × (told ≡ Some (untouched first))
 
 module _ {L : Type 0} (link_tells : L → Option LinkTells) (link_shut : L → Bool) (link_faults link_waits : L → Count) where
   -- the next link comes, of which nothing was taken or written, which isn't shut and whose counts begin
@@ -125,9 +136,11 @@ module _ {W : Type 0} (tells : W → WorldTells) (faults waits : W → Count) wh
     pub waited : HasCause (waits before) (waits after) ((answer ≡ polled.Quiet) × (waiting ≢ []))
 
   -- it was asked for the next link
-  pub record Accepts {L : Type 0} (link_tells : L → Option LinkTells) (link_shut : L → Bool) (link_faults link_waits : L → Count)
+  pub record Accepts {L : Type 0} (link_tells : L → Option LinkTells) (link_shut : L
+      → Bool) (link_faults link_waits : L → Count)
       (before : W) (answer : Accepted L) (after : W) : Type 0 where
-    pub gives : GivesBy link_tells link_shut link_faults link_waits (tells before) answer (tells after)
+    pub gives : GivesBy link_tells link_shut link_faults link_waits
+        (tells before) answer (tells after)
     pub scripted : IsTrue (tells before).scripted → IsLink answer
     pub answers : AreScripted (tells before).coming → GivesScripted link_tells answer
     pub still_scripted : AreScripted (tells before).coming → AreScripted (tells after).coming

@@ -232,8 +232,10 @@ pub trait Link {
     fn read(&mut self, into: &mut [u8]) -> LinkRead
         requires room { 0 < length into.old }
         requires not_shut { is_shut self.old ≡ false }
-        ensures reads { Reads tells is_shut faults waits self.old (length into.old) result into.new self.new }
-        ensures since { (first : Self) → since first None self.old → since first (read_fault result) self.new };
+        ensures reads { Reads tells is_shut faults waits self.old (length into.old)
+            result into.new self.new }
+        ensures since { (first : Self) → since first None self.old
+            → since first (read_fault result) self.new };
 
     /// Writes at least one byte of the piece, and as many as the peer takes, unless the link is not ready or at
     /// fault.
@@ -241,13 +243,15 @@ pub trait Link {
         requires some { 0 < length bytes.now }
         requires not_shut { is_shut self.old ≡ false }
         ensures writes { Writes tells is_shut faults waits self.old bytes.now result self.new }
-        ensures since { (first : Self) → since first None self.old → since first (write_fault result) self.new };
+        ensures since { (first : Self) → since first None self.old
+            → since first (write_fault result) self.new };
 
     /// Ends the connection, once. What was taken and written and both counts stay as they are.
     fn shut(&mut self)
         requires { is_shut self.old ≡ false }
         ensures shuts { Shuts tells is_shut faults waits self.old self.new }
-        ensures since { (first : Self) (fault : Option Way) → since first fault self.old → since first fault self.new };
+        ensures since { (first : Self) (fault : Option Way) → since first fault self.old
+            → since first fault self.new };
 }
 
 /// What a poll of a world answers.

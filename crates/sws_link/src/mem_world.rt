@@ -62,7 +62,8 @@ impl World for MemWorld {
     fn open(&mut self, port: u16, total: u16) -> Opened
         ensures exact { result ≡ opened_or_fails self.old }
         ensures becomes { self.new ≡ mem_world_opened self.old port total }
-        ensures listens { Listens mem_world_tells (λ world. kept_count world.calls.failed) (λ _. no_faults)
+        ensures listens { Listens mem_world_tells (λ world.
+            kept_count world.calls.failed) (λ _. no_faults)
             self.old port total result self.new }
     {
         if self.calls.fails() {
@@ -82,7 +83,8 @@ impl World for MemWorld {
     fn poll(&mut self, waiting: &[u16]) -> Polled
         ensures exact { result ≡ ready_or_fails self.old waiting.now }
         ensures becomes { self.new ≡ record self.old { calls = called self.old.calls } }
-        ensures polls { Polls mem_world_tells (λ world. kept_count world.calls.failed) (λ _. no_faults)
+        ensures polls { Polls mem_world_tells (λ world.
+            kept_count world.calls.failed) (λ _. no_faults)
             self.old waiting.now result self.new }
     {
         if self.calls.fails() {
@@ -98,8 +100,10 @@ impl World for MemWorld {
     fn accept(&mut self) -> Accepted<MemLink>
         requires { self.old.lobby.accepted < self.old.lobby.total }
         ensures exact { FailsOrGives self.old result self.new }
-        ensures accepts { Accepts mem_world_tells (λ world. kept_count world.calls.failed) (λ _. no_faults)
-            mem_link_tells (λ link. link.shut) (λ link. kept_count link.calls.failed) (λ link. kept_count link.waits)
+        ensures accepts { Accepts mem_world_tells (λ world.
+            kept_count world.calls.failed) (λ _. no_faults)
+            mem_link_tells (λ link. link.shut) (λ link. kept_count link.calls.failed) (λ link.
+            kept_count link.waits)
             self.old result self.new }
     {
         if self.calls.fails() {

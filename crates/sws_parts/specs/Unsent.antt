@@ -21,4 +21,5 @@ front_of unsent = head_or_body unsent.head unsent.body
 
 -- what is left after so many further bytes, of the head first
 abbrev pub after_sending : ℕ → Unsent → Unsent
-after_sending count unsent = record { head = drop count unsent.head; body = drop (count - length unsent.head) unsent.body }
+after_sending count unsent =
+    record { head = drop count unsent.head; body = drop (count - length unsent.head) unsent.body }

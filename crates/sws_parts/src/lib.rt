@@ -126,7 +126,8 @@ impl<'s> Parts<'s> {
         requires { count ≤ length (front_of self.old) }
         ensures parts { self.new ≡ after_sending count self.old }
         ensures left { unsent_bytes self.new ≡ drop count (unsent_bytes self.old) }
-        ensures whole { take count (front_of self.old) ++ unsent_bytes self.new ≡ unsent_bytes self.old }
+        ensures whole { take count (front_of self.old) ++ unsent_bytes self.new
+            ≡ unsent_bytes self.old }
     {
         if self.head.left().is_empty() {
             self.body = &self.body[count..];

@@ -7,14 +7,6 @@ use Rattle.sws_script.specs.declared.input.Input.{Input}
 use Rattle.sws_script.specs.Inputs.{IsInput, total_of}
 use Rattle.sws_replay.specs.OfInput.{AreOfInput}
 
--- the connections of an input are those of one
-pub are_of_input : (schedule : Bool) (cores : ℕ) (input : Input) → IsInput schedule cores input → AreOfInput input.conns
-are_of_input schedule cores input is = record { schedule = schedule; cores = cores; steps = input.steps; is = is }
-
--- the cores of its schedule are cores, and its steps are few
-pub steps_on_cores : (schedule : Bool) (cores : ℕ) (input : Input) → IsInput schedule cores input → All (λ part. part.0 < cores) input.steps
-steps_on_cores schedule cores input is = All-from_recursion (λ (part : ℕ × ℕ). part.0 < cores) input.steps is.workers
-
 pub steps_are_few : (schedule : Bool) (cores : ℕ) (input : Input) → IsInput schedule cores input → sum_by (λ part. part.1) input.steps < 2 ^ 64
 steps_are_few schedule cores input is =
     let same = is_sum_by total_of (λ (part : ℕ × ℕ). part.1) refl (λ _ _. refl) input.steps in

@@ -47,7 +47,7 @@ shown_alone site (conn ∷ conns) (s ∷ served) many each =
     λ i. same i ∷ rest i
 
 -- the transcript of what was served is the one-core transcript
-pub transcript_alone : (site : SiteFiles) (conns : List ScriptConn) (ended : Ended MemWorldState MemLinkState) → ServesAll site conns ended → transcript (map shown_of ended.served.items) ≡ transcript_of site conns
+transcript_alone : (site : SiteFiles) (conns : List ScriptConn) (ended : Ended MemWorldState MemLinkState) → ServesAll site conns ended → transcript (map shown_of ended.served.items) ≡ transcript_of site conns
 unfolding transcript_of
 transcript_alone site conns ended all = ap (λ (t : List (End × List ℕ)). transcript t) (shown_alone site conns ended.served.items all.many all.each)
 
@@ -65,19 +65,19 @@ all_showable site conns ended all = showable site conns ended.served.items all.m
 -- ---- how a replay ends
 
 -- by the last write of one of its texts
-pub writes_one : (IsText : List ℕ → Type 0) (text : List ℕ) (before after : Option (List ℕ)) (answer : Put) → IsText text → Puts before after answer text → WritesOne IsText before after (result_of answer)
+writes_one : (IsText : List ℕ → Type 0) (text : List ℕ) (before after : Option (List ℕ)) (answer : Put) → IsText text → Puts before after answer text → WritesOne IsText before after (result_of answer)
 writes_one IsText text None after answer is puts = puts
 writes_one IsText text (Some before) after put.Done is puts = (before ++ text, puts, (text, is, refl))
 writes_one IsText text (Some before) after put.Failed is puts = (before ++ puts.0, puts.2, (puts.0, (text, is, puts.1), refl))
 writes_one IsText text (Some before) after put.Memory is puts = (before ++ puts.0, puts.2, (puts.0, inr (text, is, puts.1), refl))
 
 -- by want of memory, before anything was written
-pub writes_nothing : (IsText : List ℕ → Type 0) (now : Option (List ℕ)) → WritesOne {T = Unit {0}} IsText now now (Err Memory)
+writes_nothing : (IsText : List ℕ → Type 0) (now : Option (List ℕ)) → WritesOne {T = Unit {0}} IsText now now (Err Memory)
 writes_nothing IsText None = refl
 writes_nothing IsText (Some bytes) = (bytes, refl, ([], inl refl, sym (append-nil bytes)))
 
 -- only by a write that failed
-pub failed_only : (answer : Put) → result_of answer ≡ Err Write → answer ≡ put.Failed
+failed_only : (answer : Put) → result_of answer ≡ Err Write → answer ≡ put.Failed
 failed_only put.Done same = cc
 failed_only put.Failed same = refl
 failed_only put.Memory same = absurd (memory≢write same)
@@ -85,19 +85,12 @@ failed_only put.Memory same = absurd (memory≢write same)
     memory≢write : ◌≡◌ {A = Result (Unit {0}) RunFault} (Err Memory) (Err Write) → ⊥
     memory≢write e = cc
 
-pub failed_writes : (answer : Put) → answer ≡ put.Failed → result_of answer ≡ Err Write
-failed_writes answer same = ap result_of same
-
 -- ---- the transcript, connection by connection
 
 -- so far what stands before a connection was written, and no write failed
 pub record Shown (before now : Option (List ℕ)) (faults_before faults_now : Count) (number index : ℕ) (served : List (Served MemLinkState)) : Type 0 where
   pub going : Going before now faults_before faults_now [] (transcript_from number (map shown_of (drop index served))) (transcript (map shown_of served))
   pub counted : number ≡ index
-
--- nothing is written yet
-pub Shown-none : (now : Option (List ℕ)) (faults : Count) (served : List (Served MemLinkState)) → Shown now now faults faults 0 0 served
-Shown-none now faults served = record { going = Going-none now faults [] (transcript (map shown_of served)); counted = refl }
 
 module _ (a b c : Option (List ℕ)) (m n k : Count) (number index : ℕ) (served : List (Served MemLinkState)) (s : Served MemLinkState) (at : drop index served ≡ s ∷ drop (index + 1) served) (shown : Shown a b m n number index served) where
   abbrev text : List ℕ
@@ -129,21 +122,8 @@ next_shown served index s low is =
     let one : suc index ≡ index + 1 = omega arith in
     drop-cons served index s low ∙ ap (λ (x : Served MemLinkState). x ∷ drop (suc index) served) (sym is) ∙ ap (λ (n : ℕ). s ∷ drop n served) one
 
--- all is written
-pub Shown-all : (a b : Option (List ℕ)) (m n : Count) (number index : ℕ) (served : List (Served MemLinkState)) → Shown a b m n number index served → drop index served ≡ [] → Puts a b put.Done (transcript (map shown_of served))
-Shown-all a b m n number index served shown none =
-    Going-ended a b b m n [] (transcript_from number (map shown_of (drop index served))) (transcript (map shown_of served)) put.Done shown.going
-    (ap (λ (l : List (Served MemLinkState)). transcript_from number (map shown_of l)) none) (Puts-nil b)
-
 done≢failed : put.Done ≢ put.Failed
 done≢failed same = cc
-
-pub Shown-sound : (a b : Option (List ℕ)) (m n : Count) (number index : ℕ) (served : List (Served MemLinkState)) → Shown a b m n number index served → HasCause m n (put.Done ≡ put.Failed)
-Shown-sound a b m n number index served shown = HasCause-none m n (put.Done ≡ put.Failed) shown.going.same done≢failed
-
--- a write behind one that was done is the cause of what fails with it
-pub then_cause : (m n k : Count) (F : Type 0) → HasCause m n (put.Done ≡ put.Failed) → HasCause n k F → HasCause m k F
-then_cause m n k F first second = HasCause-as m n k F F (first.stays done≢failed) second (λ f. f) (λ f. f)
 
 -- ---- the texts of a replay
 

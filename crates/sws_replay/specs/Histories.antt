@@ -28,6 +28,8 @@ pub record AreServed (site : SiteFiles) (shape : Shape) (conns : List ScriptConn
   pub colours : colours_of setup ≡ length conns + 2
   pub shards : length histories ≡ shape.shards
   pub legal : AreLegal setup histories
-  pub drained : (shard : ℕ) (history : List Entry) → slice_get histories shard ≡ Some history → IsDrained history
-  pub paths : (i : ℕ) (conn : ScriptConn) (history : List Entry) → slice_get conns i ≡ Some conn → slice_get histories (shard_of setup (colour_for i)) ≡ Some history
+  pub drained : (shard : ℕ) (history : List Entry) → slice_get histories shard ≡ Some history
+      → IsDrained history
+  pub paths : (i : ℕ) (conn : ScriptConn) (history : List Entry) → slice_get conns i ≡ Some conn
+      → slice_get histories (shard_of setup (colour_for i)) ≡ Some history
       → ran_of history (colour_for i) ≡ map (event_for i) (path_of site (script_of conn))

@@ -20,27 +20,35 @@ use Rattle.sws_replay.specs.Transcripts.{transcript_of}
 abbrev pub IsReplay : SiteFiles → Shape → List ScriptConn → Bool → List ℕ → Type 0
 IsReplay site shape conns false text = text ≡ transcript_of site conns
 IsReplay site shape conns true text =
-    (histories : List (List Entry)) × AreServed site shape conns histories × (text ≡ transcript_of site conns ++ journal histories)
+    (histories : List (List Entry)) × AreServed site shape conns histories
+    × (text ≡ transcript_of site conns ++ journal histories)
 
 -- the one text of a replay by a schedule: behind the transcript, the journal of the histories that the definition of a run gives
 abbrev pub IsScheduledReplay : SiteFiles → Shape → Input → List ℕ → Type 0
 IsScheduledReplay site shape input text =
-    (histories : List (List Entry)) × IsServerRun shape site (map script_of input.conns) input.steps histories × (text ≡ transcript_of site input.conns ++ journal histories)
+    (histories : List (List Entry))
+    × IsServerRun shape site (map script_of input.conns) input.steps histories
+    × (text ≡ transcript_of site input.conns ++ journal histories)
 
 -- a front of such a text
 abbrev pub Begins : (List ℕ → Type 0) → List ℕ → Type 0
 Begins IsText front = (text : List ℕ) × IsText text × IsPrefix front text
 
 -- Behind what a sink had before: one of these texts, whole, where the call is Ok; a front of one where the sink failed; and where there was no memory, a front of one or, as where the run found none, nothing.
-abbrev pub WritesBehind : {T : Type 0} → (List ℕ → Type 0) → List ℕ → List ℕ → Result T RunFault → Type 0
+abbrev pub WritesBehind : {T : Type 0} → (List ℕ → Type 0) → List ℕ → List ℕ
+    → Result T RunFault → Type 0
 WritesBehind IsText before now (Ok done) = (text : List ℕ) × IsText text × (now ≡ before ++ text)
-WritesBehind IsText before now (Err Write) = (front : List ℕ) × Begins IsText front × (now ≡ before ++ front)
-WritesBehind IsText before now (Err Memory) = (front : List ℕ) × ((front ≡ []) ⊎ Begins IsText front) × (now ≡ before ++ front)
+WritesBehind IsText before now (Err Write) = (front : List ℕ) × Begins IsText front
+    × (now ≡ before ++ front)
+WritesBehind IsText before now (Err Memory) = (front : List ℕ)
+    × ((front ≡ []) ⊎ Begins IsText front) × (now ≡ before ++ front)
 
 -- the same of a sink that tells what was written; one that doesn't goes on telling nothing
-abbrev pub WritesOne : {T : Type 0} → (List ℕ → Type 0) → Option (List ℕ) → Option (List ℕ) → Result T RunFault → Type 0
+abbrev pub WritesOne : {T : Type 0} → (List ℕ → Type 0) → Option (List ℕ) → Option (List ℕ)
+    → Result T RunFault → Type 0
 WritesOne IsText None now result = now ≡ None
-WritesOne IsText (Some before) now result = (bytes : List ℕ) × (now ≡ Some bytes) × WritesBehind IsText before bytes result
+WritesOne IsText (Some before) now result = (bytes : List ℕ) × (now ≡ Some bytes)
+    × WritesBehind IsText before bytes result
 
 -- how a replay ends by its last write
 abbrev pub result_of : Put → Result (Unit {0}) RunFault

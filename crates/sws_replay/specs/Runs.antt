@@ -28,13 +28,15 @@ pub record IsServedAlone (site : SiteFiles) (conn : ScriptConn) (s : Served MemL
   pub few_written : s.written < 2 ^ 40
   pub read : s.read ≡ length link.wire.input.taken
   pub few_read : s.read ≤ 65536
-  pub input : link.wire.input.taken ++ all_bytes link.wire.input.items ≡ all_bytes (script_of conn).items
+  pub input : link.wire.input.taken ++ all_bytes link.wire.input.items
+      ≡ all_bytes (script_of conn).items
 
 -- the run went well: each connection was served as if it were alone
 pub record ServesAll (site : SiteFiles) (conns : List ScriptConn) (ended : Ended MemWorldState MemLinkState) : Type 0 where
   pub well : ended.verdict ≡ verdict.Ok
   pub many : length ended.served.items ≡ length conns
-  pub each : (i : ℕ) (conn : ScriptConn) (s : Served MemLinkState) → slice_get conns i ≡ Some conn → slice_get ended.served.items i ≡ Some s → IsServedAlone site conn s
+  pub each : (i : ℕ) (conn : ScriptConn) (s : Served MemLinkState) → slice_get conns i ≡ Some conn
+      → slice_get ended.served.items i ≡ Some s → IsServedAlone site conn s
 
 -- the entries of each shard
 abbrev pub histories_of : Ended MemWorldState MemLinkState → List (List Entry)

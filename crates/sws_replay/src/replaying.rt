@@ -53,7 +53,9 @@ pub fn replay<R: Threads + Wait + Sync, O: Sink>(
 /// Serves the connections of an input out of a site on one thread, by its schedule, and writes their transcript and behind it the
 /// journal of the shards' histories. It need not return.
 ///
-/// The schedule leaves no choice: there is one text that may be written.
+/// The schedule leaves no choice: there is one text that may be written (see [`a_schedule_has_one_text`]).
+///
+/// [`a_schedule_has_one_text`]: crate::laws::a_schedule_has_one_text
 ///
 /// # Errors
 ///

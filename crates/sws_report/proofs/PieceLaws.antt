@@ -47,17 +47,9 @@ Going-ended a b c m n piece left whole put going none puts =
     subst (Puts a c put) (ap (λ t. going.front ++ t) (sym (append-nil piece) ∙ ap (λ l. piece ++ l) (sym none)) ∙ going.is)
     (Puts-then a b c put going.front piece going.puts puts)
 
--- there was no memory
-pub Going-no_memory : (a b : Option (List ℕ)) (m n : Count) (piece left whole : List ℕ) → Going a b m n piece left whole → Puts a b Memory whole
-Going-no_memory a b m n piece left whole going =
-    subst (Puts a b Memory) going.is (Puts-then a b b Memory going.front (piece ++ left) going.puts (Puts-nothing b (piece ++ left)))
-
 -- a write is the cause of what fails with it
 pub Going-cause : (a b : Option (List ℕ)) (m n k : Count) (piece left whole : List ℕ) (F : Type 0) → Going a b m n piece left whole → HasCause n k F → HasCause m k F
 Going-cause a b m n k piece left whole F going cause = HasCause-as m n k F F going.same cause (λ f. f) (λ f. f)
-
-pub Going-no_cause : (a b : Option (List ℕ)) (m n : Count) (piece left whole : List ℕ) (F : Type 0) → Going a b m n piece left whole → (F → ⊥) → HasCause m n F
-Going-no_cause a b m n piece left whole F going never = HasCause-none m n F going.same never
 
 -- what was moved is no longer left
 pub shorter : (more rest piece left : List ℕ) → more ++ rest ≡ piece ++ left → length piece < length more → length rest < length left

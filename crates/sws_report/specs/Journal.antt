@@ -8,10 +8,14 @@ use Rattle.sws_report.specs.Numbers.{spaced}
 -- the line of an entry
 abbrev pub entry_line : Entry → List ℕ
 entry_line (Reg colour event by) =
-    codes "reg" ++ spaced colour.0 ++ spaced event.handler ++ spaced event.arg ++ spaced by ++ 10 ∷ []
-entry_line (Take colour core count) = codes "take" ++ spaced colour.0 ++ spaced core ++ spaced count ++ 10 ∷ []
-entry_line (Fin colour core count) = codes "fin" ++ spaced colour.0 ++ spaced core ++ spaced count ++ 10 ∷ []
-entry_line (Steal colour from to) = codes "steal" ++ spaced colour.0 ++ spaced from ++ spaced to ++ 10 ∷ []
+    codes "reg" ++ spaced colour.0 ++ spaced event.handler ++ spaced event.arg
+    ++ spaced by ++ 10 ∷ []
+entry_line (Take colour core count) =
+    codes "take" ++ spaced colour.0 ++ spaced core ++ spaced count ++ 10 ∷ []
+entry_line (Fin colour core count) =
+    codes "fin" ++ spaced colour.0 ++ spaced core ++ spaced count ++ 10 ∷ []
+entry_line (Steal colour from to) =
+    codes "steal" ++ spaced colour.0 ++ spaced from ++ spaced to ++ 10 ∷ []
 
 -- the line of a shard: its number, and how many entries its history has
 abbrev pub shard_line : ℕ → ℕ → List ℕ
@@ -24,14 +28,16 @@ shard_text number history = shard_line number (length history) ++ flat_map entry
 -- shards from this number on
 abbrev pub journal_from : ℕ → List (List Entry) → List ℕ
 journal_from number [] = []
-journal_from number (history ∷ histories) = shard_text number history ++ journal_from (number + 1) histories
+journal_from number (history ∷ histories) =
+    shard_text number history ++ journal_from (number + 1) histories
 
 abbrev pub journal : List (List Entry) → List ℕ
 journal histories = journal_from 0 histories
 
 -- the numbers of an entry have 64 bits at most, as the types of its fields have fewer
 abbrev pub IsSmall : Entry → Type 0
-IsSmall (Reg colour event by) = (colour.0 < 2 ^ 64) × (event.handler < 2 ^ 64) × (event.arg < 2 ^ 64) × (by < 2 ^ 64)
+IsSmall (Reg colour event by) = (colour.0 < 2 ^ 64) × (event.handler < 2 ^ 64)
+    × (event.arg < 2 ^ 64) × (by < 2 ^ 64)
 IsSmall (Take colour core count) = (colour.0 < 2 ^ 64) × (core < 2 ^ 64) × (count < 2 ^ 64)
 IsSmall (Fin colour core count) = (colour.0 < 2 ^ 64) × (core < 2 ^ 64) × (count < 2 ^ 64)
 IsSmall (Steal colour from to) = (colour.0 < 2 ^ 64) × (from < 2 ^ 64) × (to < 2 ^ 64)

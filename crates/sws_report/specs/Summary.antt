@@ -20,12 +20,15 @@ is_fault _ = false
 -- how many connections there are, and how many of them ended in each way
 abbrev pub ends_line : List End → List ℕ
 ends_line ends =
-    (codes "connections" ++ spaced (length ends)) ++ (codes " done" ++ spaced (count_by is_done ends))
-    ++ (codes " idle" ++ spaced (count_by is_idle ends)) ++ (codes " fault" ++ spaced (count_by is_fault ends)) ++ 10 ∷ []
+    (codes "connections" ++ spaced (length ends))
+    ++ (codes " done" ++ spaced (count_by is_done ends))
+    ++ (codes " idle" ++ spaced (count_by is_idle ends))
+    ++ (codes " fault" ++ spaced (count_by is_fault ends)) ++ 10 ∷ []
 
 -- how many bytes were read and written in all
 abbrev pub bytes_line : ℕ → ℕ → List ℕ
-bytes_line read written = (codes "read" ++ spaced read) ++ (codes " written" ++ spaced written) ++ 10 ∷ []
+bytes_line read written =
+    (codes "read" ++ spaced read) ++ (codes " written" ++ spaced written) ++ 10 ∷ []
 
 abbrev pub summary : List End → ℕ → ℕ → List ℕ
 summary ends read written = ends_line ends ++ bytes_line read written

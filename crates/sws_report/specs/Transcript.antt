@@ -14,7 +14,8 @@ end_word Memory = []
 
 -- the line of a connection: its number, its end, and how many bytes were written
 abbrev pub conn_line : ℕ → End → ℕ → List ℕ
-conn_line number end count = codes "conn" ++ spaced number ++ end_word end ++ spaced count ++ 10 ∷ []
+conn_line number end count =
+    codes "conn" ++ spaced number ++ end_word end ++ spaced count ++ 10 ∷ []
 
 -- a connection: its line, and the lines that show the bytes
 abbrev pub conn_text : ℕ → End → List ℕ → List ℕ
@@ -23,7 +24,8 @@ conn_text number end bytes = conn_line number end (length bytes) ++ shown bytes
 -- connections from this number on
 abbrev pub transcript_from : ℕ → List (End × List ℕ) → List ℕ
 transcript_from number [] = []
-transcript_from number (conn ∷ conns) = conn_text number conn.0 conn.1 ++ transcript_from (number + 1) conns
+transcript_from number (conn ∷ conns) =
+    conn_text number conn.0 conn.1 ++ transcript_from (number + 1) conns
 
 -- all connections, each by its end and what was written
 abbrev pub transcript : List (End × List ℕ) → List ℕ

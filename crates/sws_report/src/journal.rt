@@ -42,7 +42,8 @@ struct JournalLines<'h> {
 
 impl<'h> Unwritten for JournalLines<'h> {
     ghost left = { λ lines. flat_map entry_line lines.entries.now
-        ++ journal_from lines.next (map (λ history. history.items) (drop lines.next lines.histories.now)) };
+        ++ journal_from lines.next
+        (map (λ history. history.items) (drop lines.next lines.histories.now)) };
 
     fn push_next(&mut self, piece: &mut Vec<u8>) -> Result<bool, AllocError> {
         if let [entry, entries @ ..] = self.entries {

@@ -11,7 +11,7 @@ use Rattle.sws_request.proofs.HeadLemmas.{IsCutOf-ends, HasNoHeadWithin-past}
 use Rattle.sws_request.proofs.LineLemmas.{IsEnding, ending-is}
 
 -- there is no other cut
-pub IsCutOf-unique : (bytes : List ℕ) (a b : Cut) → IsCutOf bytes a → IsCutOf bytes b → a ≡ b
+IsCutOf-unique : (bytes : List ℕ) (a b : Cut) → IsCutOf bytes a → IsCutOf bytes b → a ≡ b
 IsCutOf-unique bytes (Head m) (Head n) x y = ap Head (by_order (nat_le m n) refl (nat_le n m) refl)
   where
     by_order : (a : Bool) → a ≡ nat_le m n → (b : Bool) → b ≡ nat_le n m → m ≡ n

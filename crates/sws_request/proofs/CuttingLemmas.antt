@@ -21,18 +21,6 @@ pub record IsScanned (bytes : List ℕ) (first : Bool) (start : ℕ) (begun : Bo
   pub size : length (whole_lines bytes) ≡ start + length (whole_lines (drop start bytes))
   pub others : (first || has_other (lines_of bytes)) ≡ (begun || has_other (lines_of (drop start bytes)))
 
-pub IsScanned-none : (bytes : List ℕ) (begun : Bool) → IsScanned bytes begun 0 begun
-IsScanned-none bytes begun = record {
-  within = omega arith;
-  ends = sym (same (rest_len begun (lines_of bytes)));
-  size = omega arith;
-  others = refl;
-}
-  where
-    same : (found : Option ℕ) → option_map (λ len. 0 + len) found ≡ found
-    same None = refl
-    same (Some len) = ap Some (let e : 0 + len ≡ len = omega arith in e)
-
 -- the line behind them
 pub record IsNextLine (bytes : List ℕ) (start : ℕ) (line : List ℕ) : Type 0 where
   pub is_line : IsLine line
@@ -51,7 +39,7 @@ IsScanned-last bytes first start line scanned next empty =
     scanned.ends ∙ ap (option_map (λ len. start + len)) (ap (rest_len true) (lines_next bytes start line next) ∙ rest_len-last line later empty)
 
 -- or is one more of it
-pub IsScanned-line : (bytes : List ℕ) (first : Bool) (start : ℕ) (begun : Bool) (line : List ℕ) → IsScanned bytes first start begun → IsNextLine bytes start line
+IsScanned-line : (bytes : List ℕ) (first : Bool) (start : ℕ) (begun : Bool) (line : List ℕ) → IsScanned bytes first start begun → IsNextLine bytes start line
     → (begun && is_empty_line line) ≡ false → IsScanned bytes first (start + length line) (begun || not (is_empty_line line))
 IsScanned-line bytes first start begun line scanned next goes_on = record {
   within = let long = ap length next.is in let some = scanned.within in omega (arith, length-append line (drop (start + length line) bytes), length-drop start bytes, length-drop (start + length line) bytes);

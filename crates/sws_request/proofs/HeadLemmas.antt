@@ -28,12 +28,12 @@ line-text : (line rest : List ℕ) (is : IsLine line) → line ++ rest ≡ is.te
 line-text line rest is = ap (λ l. l ++ rest) is.is ∙ append_assoc is.text (10 ∷ []) rest
 
 -- and so is a line
-pub IsLine-unique : (a b x y : List ℕ) → IsLine a → IsLine b → a ++ x ≡ b ++ y → (a ≡ b) × (x ≡ y)
+IsLine-unique : (a b x y : List ℕ) → IsLine a → IsLine b → a ++ x ≡ b ++ y → (a ≡ b) × (x ≡ y)
 IsLine-unique a b x y p q e =
     let same = text-unique p.text q.text x y p.no_feed q.no_feed (sym (line-text a x p) ∙ e ∙ line-text b y q) in
     (p.is ∙ ap (λ t. t ++ 10 ∷ []) same.0 ∙ sym q.is, same.1)
 
-pub IsEmptyLine-line : (line : List ℕ) → IsEmptyLine line → IsLine line
+IsEmptyLine-line : (line : List ℕ) → IsEmptyLine line → IsLine line
 IsEmptyLine-line line (inl e) = record { text = []; no_feed = All-nil IsNotFeed; is = e }
 IsEmptyLine-line line (inr e) = record { text = 13 ∷ []; no_feed = All-cons IsNotFeed 13 [] (λ f. omega arith) (All-nil IsNotFeed); is = e }
 

@@ -24,7 +24,7 @@ pub is_empty-line : (line : List ℕ) → IsEmptyLine line → is_empty_line lin
 is_empty-line line (inl e) = ap is_empty_line e
 is_empty-line line (inr e) = ap is_empty_line e
 
-pub is_empty-false : (line : List ℕ) → is_empty_line line ≡ false → IsEmptyLine line → ⊥
+is_empty-false : (line : List ℕ) → is_empty_line line ≡ false → IsEmptyLine line → ⊥
 is_empty-false line e empty = let t : false ≡ true = sym e ∙ is_empty-line line empty in cc
 
 -- ---- lines
@@ -49,7 +49,7 @@ lines_of-line line rest is =
     ap lines_of (ap (λ l. l ++ rest) is.is ∙ append_assoc is.text (10 ∷ []) rest) ∙ lines_of-text is.text rest is.no_feed ∙ ap (λ l. l ∷ lines_of rest) (sym is.is)
 
 -- and so are several
-pub lines_of-joined : (lines : List (List ℕ)) (rest : List ℕ) → All IsLine lines → lines_of (joined lines ++ rest) ≡ lines ++ lines_of rest
+lines_of-joined : (lines : List (List ℕ)) (rest : List ℕ) → All IsLine lines → lines_of (joined lines ++ rest) ≡ lines ++ lines_of rest
 lines_of-joined [] rest all = refl
 lines_of-joined (line ∷ lines) rest all =
     ap lines_of (append_assoc line (joined lines) rest)
@@ -57,7 +57,7 @@ lines_of-joined (line ∷ lines) rest all =
     ∙ ap (λ l. line ∷ l) (lines_of-joined lines rest (All-tail IsLine line lines all))
 
 -- what the lines of some bytes are
-pub lines_of-are : (bytes : List ℕ) → All IsLine (lines_of bytes)
+lines_of-are : (bytes : List ℕ) → All IsLine (lines_of bytes)
 unfolding lines_of
 lines_of-are [] = All-nil IsLine
 lines_of-are (b ∷ bytes) = by_test (b == 10) refl (lines_of bytes) (lines_of-are bytes)

@@ -7,7 +7,7 @@ use Rattle.sws_request.specs.RequestLaws.{find_request, SaysRequest-from}
 use Rattle.sws_request.specs.Requests.{found_in, request_in}
 
 -- there is no other request
-pub IsRequest-unique : (head : List ℕ) (a b : Request) → IsRequest head a → IsRequest head b → a ≡ b
+IsRequest-unique : (head : List ℕ) (a b : Request) → IsRequest head a → IsRequest head b → a ≡ b
 IsRequest-unique head a b x y =
     let p = SaysRequest-from head a x in
     let q = SaysRequest-from head b y in

@@ -42,7 +42,7 @@ no_lines (b ∷ more) quiet = by_test (b == 10) quiet (no_lines more)
     by_test false quiet later = ap (before_first b) (later quiet)
 
 -- they end no line
-pub lines_of-quiet : (bytes more : List ℕ) → has_feed more ≡ false → lines_of (bytes ++ more) ≡ lines_of bytes
+lines_of-quiet : (bytes more : List ℕ) → has_feed more ≡ false → lines_of (bytes ++ more) ≡ lines_of bytes
 unfolding lines_of
 lines_of-quiet [] more quiet = no_lines more quiet
 lines_of-quiet (b ∷ bytes) more quiet =

@@ -18,21 +18,6 @@ pub record IsFieldAt (view : Inside) (fields : List (List ℕ × List ℕ)) (i :
   pub within : IsHeaderWithin (length view.head.now) (get_or view.spans i d)
   pub field : slice_get fields i ≡ Some (header_bytes view.head.now (get_or view.spans i d))
 
-pub shown-field : (view : Inside) (request : Request) (i : ℕ) (d : HeaderSpan) → shown view ≡ request → IsInside view
-    → i < length request.fields → IsFieldAt view request.fields i d
-shown-field view request i d is inside lt =
-    let lt' : i < length (map (header_bytes view.head.now) (take view.fields view.spans)) = subst (λ r. i < length r.fields) (sym is) lt in
-    let few : i < length (take view.fields view.spans) = subst (λ n. i < n) (length-map (take view.fields view.spans) (header_bytes view.head.now)) lt' in
-    let count : i < view.fields = omega (arith, length-take view.fields view.spans) in
-    let most = inside.count in
-    let same : get_or (take view.fields view.spans) i d ≡ get_or view.spans i d = get_or-take view.fields view.spans i d count in record {
-      below = omega arith;
-      within = subst (IsHeaderWithin (length view.head.now)) same (inside.spans i d few);
-      field = ap (λ r. slice_get r.fields i) (sym is) ∙ slice_get-map (header_bytes view.head.now) (take view.fields view.spans) i
-          ∙ ap (option_map (header_bytes view.head.now)) (slice_get-get_or (take view.fields view.spans) i d few)
-          ∙ ap (λ s. Some (header_bytes view.head.now s)) same;
-    }
-
 -- what was parsed, and nothing behind it, is the request that the spans show
 pub SaysRequest-shown : (bytes : List ℕ) (headers : List HeaderSpan) (spans : RequestSpans) → IsRequestOf bytes headers spans → spans.len ≡ length bytes → spans.headers ≤ field_limit
     → SaysRequest bytes (record { method = span_bytes bytes spans.method; target = span_bytes bytes spans.path; minor = spans.version; fields = map (header_bytes bytes) (take spans.headers headers) })

@@ -12,7 +12,8 @@ before_first byte (line ∷ lines) = (byte ∷ line) ∷ lines
 -- the lines, each up to and with its LF; what stands behind the last LF is no line yet
 unfoldable pub lines_of : List ℕ → List (List ℕ)
 lines_of [] = []
-lines_of (byte ∷ bytes) = if byte == line_feed then (byte ∷ []) ∷ lines_of bytes else before_first byte (lines_of bytes)
+lines_of (byte ∷ bytes) =
+    if byte == line_feed then (byte ∷ []) ∷ lines_of bytes else before_first byte (lines_of bytes)
 
 -- LF or CR LF
 abbrev pub is_empty_line : List ℕ → Bool
@@ -24,12 +25,15 @@ is_empty_line (a ∷ b ∷ c ∷ line) = false
 -- the lines up to and with the first empty one
 unfoldable pub up_to_empty : List (List ℕ) → Option (List (List ℕ))
 up_to_empty [] = None
-up_to_empty (line ∷ lines) = if is_empty_line line then Some (line ∷ []) else option_map (λ later. line ∷ later) (up_to_empty lines)
+up_to_empty (line ∷ lines) = if is_empty_line line then Some (line ∷ []) else option_map (λ later.
+    line ∷ later) (up_to_empty lines)
 
 -- the lines of the first head: any number of empty ones, then another, and then those up to and with the first empty one
 unfoldable pub head_lines : List (List ℕ) → Option (List (List ℕ))
 head_lines [] = None
-head_lines (line ∷ lines) = option_map (λ later. line ∷ later) (if is_empty_line line then head_lines lines else up_to_empty lines)
+head_lines (line ∷ lines) =
+    option_map (λ later.
+    line ∷ later) (if is_empty_line line then head_lines lines else up_to_empty lines)
 
 -- the length of the first head, where it is whole
 abbrev pub head_len : List ℕ → Option ℕ

@@ -5,7 +5,8 @@ use Rattle.sws_request.specs.Request.{Request, IsRequest, IsNoRequest}
 use Rattle.sws_request.specs.RequestLaws.{find_request}
 
 -- what was found, if it is a request
-abbrev pub found_in : {head : List ℕ} → ((request : Request) × IsRequest head request) ⊎ IsNoRequest head → Option Request
+abbrev pub found_in : {head : List ℕ} → ((request : Request) × IsRequest head request)
+    ⊎ IsNoRequest head → Option Request
 found_in found = elim found [ inl said ↦ Some said.0 | inr none ↦ None ]
 
 abbrev pub request_in : List ℕ → Option Request

@@ -84,5 +84,6 @@ fn is_empty_line(line: &[u8]) -> bool
 
 /// More bytes do not change where a head ends, nor that it is too long.
 pub fn cut_is_stable()
-    ensures { (bytes more : List ℕ) → cut_of bytes ≢ CutValue.NotYet → cut_of (bytes ++ more) ≡ cut_of bytes }
+    ensures { (bytes more : List ℕ) → cut_of bytes ≢ CutValue.NotYet
+        → cut_of (bytes ++ more) ≡ cut_of bytes }
 {}

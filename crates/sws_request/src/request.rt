@@ -119,6 +119,8 @@ pub fn view(head: &[u8]) -> Result<RequestView<'_>, NotARequest>
 
 /// `httparse` drops the same empty lines by itself: what it reads from the front of a head is what it reads behind them.
 pub fn empty_lines_change_nothing()
-    ensures dropped { (head : List ℕ) (request : Request) → IsRequest head request → SaysRequest head request }
-    ensures kept { (head : List ℕ) (request : Request) → SaysRequest head request → IsRequest head request }
+    ensures dropped { (head : List ℕ) (request : Request) → IsRequest head request
+        → SaysRequest head request }
+    ensures kept { (head : List ℕ) (request : Request) → SaysRequest head request
+        → IsRequest head request }
 {}

@@ -19,7 +19,7 @@ use Rattle.sws_script.proofs.WordLaws.{word_at}
 -- ---- words
 
 -- a word is found again
-pub word_in-word_text : (word : Word) (rest : List ℕ) → word_in (word_text word ++ rest) ≡ word_at word rest
+word_in-word_text : (word : Word) (rest : List ℕ) → word_in (word_text word ++ rest) ≡ word_at word rest
 unfolding word_in
 word_in-word_text ScheduleHead rest = refl
 word_in-word_text End rest = refl
@@ -32,13 +32,13 @@ word_in-word_text Fill rest = refl
 word_in-word_text Pause rest = refl
 word_in-word_text Fault rest = refl
 
-pub word_same : (v w : Word) (a b : List ℕ) → word_at v a ≡ word_at w b → (v ≡ w) × (a ≡ b)
+word_same : (v w : Word) (a b : List ℕ) → word_at v a ≡ word_at w b → (v ≡ w) × (a ≡ b)
 word_same v w a b e = let same = some_same (v, a) (w, b) e in (ap (λ (p : Word × List ℕ). p.0) same, ap (λ (p : Word × List ℕ). p.1) same)
   where
     some_same : (x y : Word × List ℕ) → Some x ≡ Some y → x ≡ y
     some_same x y e = cc
 
-pub word_none : {X : Type 0} (w : Word) (a : List ℕ) → None ≡ word_at w a → X
+word_none : {X : Type 0} (w : Word) (a : List ℕ) → None ≡ word_at w a → X
 word_none w a e = absurd (none_some (w, a) e)
   where
     none_some : {A : Type 0} (x : A) → None ≡ Some x → ⊥
@@ -89,7 +89,7 @@ pub record Begins (text : List ℕ) (says : Line) : Type 0 where
 alone : (text : List ℕ) (word : Word) (says : Line) → text ≡ word_text word → Says word [] says → Begins text says
 alone text word says is of = record { word = word; rest = []; is = is ∙ sym (append-nil (word_text word)); of = of }
 
-pub Begins-line : (text : List ℕ) (says : Line) → SpellsLine text says → IsLine says → Begins text says
+Begins-line : (text : List ℕ) (says : Line) → SpellsLine text says → IsLine says → Begins text says
 Begins-line text line.ScheduleHead spells is = alone text ScheduleHead line.ScheduleHead spells (refl, refl)
 Begins-line text (line.Run core count) spells is =
     record { word = Step; rest = decimal core ++ 32 ∷ decimal count; is = spells; of = inr (core, count, refl, refl, is.0, is.1) }
@@ -177,7 +177,7 @@ two_numbers a b c d small_a small_b small_c small_d e =
 one_number : (a b : ℕ) (rest : List ℕ) → a < 10000000000 → b < 10000000000 → rest ≡ decimal a → rest ≡ decimal b → a ≡ b
 one_number a b rest small_a small_b e f = decimal_injective a b (omega arith) (omega arith) (sym e ∙ f)
 
-pub Says-unique : (word : Word) (rest : List ℕ) (one other : Line) → Says word rest one → Says word rest other → one ≡ other
+Says-unique : (word : Word) (rest : List ℕ) (one other : Line) → Says word rest one → Says word rest other → one ≡ other
 Says-unique ScheduleHead rest one other a b = a.1 ∙ sym b.1
 Says-unique End rest one other a b = a.1 ∙ sym b.1
 Says-unique ScriptHead rest one other a b = a.1 ∙ sym b.1

@@ -279,14 +279,14 @@ begin_of schedule cores done said now contents spelled went is placed =
           (AllZip-append SpellsLine done (completion_texts now.place) said (completion now.place) first.0 last.0);
     }
 
-pub Stands-begin : (schedule : Bool) (cores : ℕ) (text rest : List ℕ) (count : ℕ) (parser : Parser) (stands : Stands schedule cores text rest count parser) → Begin schedule cores stands.done
+Stands-begin : (schedule : Bool) (cores : ℕ) (text rest : List ℕ) (count : ℕ) (parser : Parser) (stands : Stands schedule cores text rest count parser) → Begin schedule cores stands.done
 Stands-begin schedule cores text rest count parser stands =
     begin_of schedule cores stands.done stands.said (state parser) parser.contents stands.spelled stands.goes stands.is stands.placed
 
 taken : (schedule : Bool) (cores : ℕ) (text rest : List ℕ) (count : ℕ) (parser : Parser) (stands : Stands schedule cores text rest count parser) → take count (lines_of text) ≡ stands.done
 taken schedule cores text rest count parser stands = ap (take count) stands.lines ∙ take_at stands.done (lines_of rest) count stands.counted
 
-pub Stands-may : (schedule : Bool) (cores : ℕ) (text rest : List ℕ) (count : ℕ) (parser : Parser) → Stands schedule cores text rest count parser → MayStand schedule cores text count
+Stands-may : (schedule : Bool) (cores : ℕ) (text rest : List ℕ) (count : ℕ) (parser : Parser) → Stands schedule cores text rest count parser → MayStand schedule cores text count
 Stands-may schedule cores text rest count parser stands =
     let is = taken schedule cores text rest count parser stands in
     record {
@@ -310,7 +310,7 @@ next_taken schedule cores text rest count parser words after stands to =
     ap (take (count + 1)) all ∙ take_at (stands.done ++ words ∷ []) (lines_of after) (count + 1) (omega (arith, length-append stands.done (words ∷ [])))
 
 -- a line that may stand may follow
-pub next_goes : (schedule : Bool) (cores : ℕ) (text rest : List ℕ) (count : ℕ) (parser : Parser) (words after : List ℕ) (stands : Stands schedule cores text rest count parser)
+next_goes : (schedule : Bool) (cores : ℕ) (text rest : List ℕ) (count : ℕ) (parser : Parser) (words after : List ℕ) (stands : Stands schedule cores text rest count parser)
     → GoesTo rest words after → Begin schedule cores (take (count + 1) (lines_of text))
     → (says : Line) × IsSpelled words says × (next : State) × (state_after cores (state parser) says ≡ Some next)
 next_goes schedule cores text rest count parser words after stands to begin =

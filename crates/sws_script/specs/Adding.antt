@@ -18,6 +18,8 @@ pub record AddsSpelled (old new : Parser) (text : List ℕ) : Type 0 where
 
 abbrev pub AddsLine : Parser → Parser → List ℕ → ℕ → Result (Unit {0}) ScriptFault → Type 0
 AddsLine old new text number (Ok done) = AddsSpelled old new text
-AddsLine old new text number (Err (Bad at)) = (at ≡ number) × ((says : Line) → IsSpelled text says → state_after old.cores (state old) says ≡ None)
-AddsLine old new text number (Err (TooMany at)) = (at ≡ number) × IsSpelled text line.Conn × (length (conns_of old.contents) ≡ 1024)
+AddsLine old new text number (Err (Bad at)) = (at ≡ number)
+    × ((says : Line) → IsSpelled text says → state_after old.cores (state old) says ≡ None)
+AddsLine old new text number (Err (TooMany at)) = (at ≡ number) × IsSpelled text line.Conn
+    × (length (conns_of old.contents) ≡ 1024)
 AddsLine old new text number (Err Memory) = ⊤

@@ -18,7 +18,8 @@ conn_limit = 1024
 -- the lines of a text, without their LF, which may be missing at the last
 abbrev pub lines_of : List ℕ → List (List ℕ)
 lines_of [] = []
-lines_of (byte ∷ bytes) = if byte == 10 then [] ∷ lines_of bytes else onto_first byte (lines_of bytes)
+lines_of (byte ∷ bytes) =
+    if byte == 10 then [] ∷ lines_of bytes else onto_first byte (lines_of bytes)
 
 -- each line spells a line of the input, in order
 abbrev pub SpellLines : Bool → List (List ℕ) → Input → Type 0
@@ -54,7 +55,8 @@ pub record MayStand (schedule : Bool) (cores : ℕ) (text : List ℕ) (count : �
 pub record IsFirstOutside (schedule : Bool) (cores : ℕ) (text : List ℕ) (before : ℕ) : Type 0 where
   pub stand : MayStand schedule cores text before
   pub next : before < length (lines_of text) → MayStand schedule cores text (before + 1) → ⊥
-  pub whole : (input : Input) → before ≡ length (lines_of text) → Spells schedule cores text input → ⊥
+  pub whole : (input : Input) → before ≡ length (lines_of text)
+      → Spells schedule cores text input → ⊥
 
 abbrev pub is_conn : List ℕ → Bool
 is_conn line = bytes_eq line (codes "conn")
@@ -73,8 +75,10 @@ pub record IsFirstTooMany (schedule : Bool) (cores : ℕ) (text : List ℕ) (bef
 -- lines are counted from 1
 abbrev pub IsCause : Bool → ℕ → List ℕ → ScriptFault → Type 0
 IsCause schedule cores text (Bad line) =
-    (before : ℕ) × (line ≡ before + 1) × IsFirstOutside schedule cores text before × (conns_in (take before (lines_of text)) ≤ conn_limit)
-IsCause schedule cores text (TooMany line) = (before : ℕ) × (line ≡ before + 1) × IsFirstTooMany schedule cores text before
+    (before : ℕ) × (line ≡ before + 1) × IsFirstOutside schedule cores text before
+    × (conns_in (take before (lines_of text)) ≤ conn_limit)
+IsCause schedule cores text (TooMany line) = (before : ℕ) × (line ≡ before + 1)
+    × IsFirstTooMany schedule cores text before
 IsCause schedule cores text Memory = ⊤
 
 -- the answer is this one, or there was no memory

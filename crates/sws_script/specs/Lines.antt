@@ -10,7 +10,8 @@ use Rattle.sws_script.specs.declared.line.Line.TheVariants as line
 
 -- a number is its decimal digits, without leading zeros; words are separated by one space, 32; TEXT is any text that stands for the bytes
 abbrev pub SpellsItem : List ℕ → Item → Type 0
-SpellsItem text (Send bytes) = (shown : List ℕ) × (text ≡ codes "send " ++ shown) × StandsFor shown bytes
+SpellsItem text (Send bytes) = (shown : List ℕ) × (text ≡ codes "send " ++ shown)
+    × StandsFor shown bytes
 SpellsItem text (Fill count) = text ≡ codes "fill " ++ decimal count
 SpellsItem text (Pause count) = text ≡ codes "pause " ++ decimal count
 SpellsItem text Fault = text ≡ codes "fault"
@@ -55,9 +56,11 @@ pub record IsSpelled (text : List ℕ) (says : Line) : Type 0 where
 -- what was read of a text: the line that it spells, or none where it spells none
 abbrev pub ReadsLine : List ℕ → Option Line → Type 0
 ReadsLine text read =
-    MatchOption read ((says : Line) → SpellsLine text says → IsLine says → ⊥) (λ says. SpellsLine text says × IsLine says)
+    MatchOption read ((says : Line) → SpellsLine text says → IsLine says
+    → ⊥) (λ says. SpellsLine text says × IsLine says)
 
 -- the number that a word writes within these bounds, or none where it writes none
 abbrev pub ReadsNumber : ℕ → ℕ → List ℕ → Option ℕ → Type 0
 ReadsNumber low high word read =
-    MatchOption read ((n : ℕ) → word ≡ decimal n → IsWithin low high n → ⊥) (λ n. (word ≡ decimal n) × IsWithin low high n)
+    MatchOption read ((n : ℕ) → word ≡ decimal n → IsWithin low high n → ⊥) (λ n. (word ≡ decimal n)
+    × IsWithin low high n)

@@ -81,7 +81,8 @@ pub record State : Type 0 where
 -- the steps with those of a line, where its core and their number are within the limits
 abbrev pub total_after : ℕ → ℕ → Line → Option ℕ
 total_after cores total line.ScheduleHead = Some total
-total_after cores total (line.Run core count) = if nat_lt core cores && nat_le (total + count) 10000000 then Some (total + count) else None
+total_after cores total (line.Run core count) =
+    if nat_lt core cores && nat_le (total + count) 10000000 then Some (total + count) else None
 total_after cores total line.End = Some total
 total_after cores total line.ScriptHead = Some total
 total_after cores total line.Conn = Some total
@@ -95,12 +96,14 @@ state_of (Some place) None = None
 state_of (Some place) (Some total) = Some (record { place = place; total = total })
 
 abbrev pub state_after : ℕ → State → Line → Option State
-state_after cores state says = state_of (place_after state.place says) (total_after cores state.total says)
+state_after cores state says =
+    state_of (place_after state.place says) (total_after cores state.total says)
 
 -- the state behind lines, where each may follow those before it
 abbrev pub run : ℕ → State → List Line → Option State
 run cores state [] = Some state
-run cores state (says ∷ lines) = option_and_then (λ next. run cores next lines) (state_after cores state says)
+run cores state (says ∷ lines) =
+    option_and_then (λ next. run cores next lines) (state_after cores state says)
 
 abbrev pub start : Bool → State
 start true = record { place = ScheduleHead; total = 0 }
@@ -123,13 +126,33 @@ with_item item conn = record { step = conn.step; cut = conn.cut; items = conn.it
 -- with one line more
 abbrev pub grown : Contents → Line → Contents
 grown contents line.ScheduleHead = contents
-grown contents (line.Run core count) = record { steps = contents.steps ++ (core, count) ∷ []; conns = contents.conns; open_conn = contents.open_conn }
+grown contents (line.Run core count) = record {
+  steps = contents.steps ++ (core, count) ∷ [];
+  conns = contents.conns;
+  open_conn = contents.open_conn;
+}
 grown contents line.End = contents
 grown contents line.ScriptHead = contents
-grown contents line.Conn = record { steps = contents.steps; conns = contents.conns ++ option_to_list contents.open_conn; open_conn = Some bare_conn }
-grown contents (line.Step count) = record { steps = contents.steps; conns = contents.conns; open_conn = option_map (with_step count) contents.open_conn }
-grown contents (line.Cut count) = record { steps = contents.steps; conns = contents.conns; open_conn = option_map (with_cut count) contents.open_conn }
-grown contents (line.Item item) = record { steps = contents.steps; conns = contents.conns; open_conn = option_map (with_item item) contents.open_conn }
+grown contents line.Conn = record {
+  steps = contents.steps;
+  conns = contents.conns ++ option_to_list contents.open_conn;
+  open_conn = Some bare_conn;
+}
+grown contents (line.Step count) = record {
+  steps = contents.steps;
+  conns = contents.conns;
+  open_conn = option_map (with_step count) contents.open_conn;
+}
+grown contents (line.Cut count) = record {
+  steps = contents.steps;
+  conns = contents.conns;
+  open_conn = option_map (with_cut count) contents.open_conn;
+}
+grown contents (line.Item item) = record {
+  steps = contents.steps;
+  conns = contents.conns;
+  open_conn = option_map (with_item item) contents.open_conn;
+}
 
 abbrev pub no_contents : Contents
 no_contents = record { steps = []; conns = []; open_conn = None }

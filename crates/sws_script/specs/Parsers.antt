@@ -17,8 +17,10 @@ pub record Adds (old new : Parser) (says : Line) : Type 0 where
 
 -- or it may not follow
 abbrev pub TakesLine : Parser → Parser → Line → Bool → Type 0
-TakesLine old new says taken = MatchBool taken (Adds old new says) (state_after old.cores (state old) says ≡ None)
+TakesLine old new says taken =
+    MatchBool taken (Adds old new says) (state_after old.cores (state old) says ≡ None)
 
 -- the lines are those of an input, or of none
 abbrev pub Finishes : Parser → Option Input → Type 0
-Finishes parser finished = MatchOption finished (in_script parser.place ≡ false) (λ input. (in_script parser.place ≡ true) × (input ≡ input_of parser.contents))
+Finishes parser finished = MatchOption finished (in_script parser.place ≡ false) (λ input.
+    (in_script parser.place ≡ true) × (input ≡ input_of parser.contents))

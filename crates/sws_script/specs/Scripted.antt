@@ -19,7 +19,8 @@ filled count = piece (replicate count 97)
 -- in pieces of this many, and one of what is left, if anything is
 abbrev pub fill_pieces_by : ℕ → ℕ → List LinkItem
 fill_pieces_by size count =
-    replicate (count / size) (filled size) ++ (if count % size == 0 then [] else filled (count % size) ∷ [])
+    replicate (count / size) (filled size)
+    ++ (if count % size == 0 then [] else filled (count % size) ∷ [])
 
 abbrev pub fill_pieces : ℕ → List LinkItem
 fill_pieces count = fill_pieces_by 4096 count
@@ -45,7 +46,11 @@ link_of conn = record {
 
 -- what is to come of it: the bytes of its items, and the answers of its script
 abbrev pub coming_of : ScriptConn → Coming
-coming_of conn = record { input = all_bytes (flat_map link_items conn.items); answers = Some (script_of conn); says_all = true }
+coming_of conn = record {
+  input = all_bytes (flat_map link_items conn.items);
+  answers = Some (script_of conn);
+  says_all = true;
+}
 
 -- the world of connections: a link for each in order, none of them accepted, and no call of the world is to fail
 abbrev pub world_of : List ScriptConn → MemWorldState
@@ -53,4 +58,10 @@ world_of conns = record { lobby = fresh_lobby (map link_of conns); calls = no_ca
 
 -- what it tells: as many links as connections, each with its input and its answers, and that nothing of the outside stands in its way
 abbrev pub told_of : List ScriptConn → WorldTells
-told_of conns = record { coming = Some (map coming_of conns); total = length conns; accepted = 0; port = 0; scripted = true }
+told_of conns = record {
+  coming = Some (map coming_of conns);
+  total = length conns;
+  accepted = 0;
+  port = 0;
+  scripted = true;
+}

@@ -38,7 +38,8 @@ onward word (Some rest) other = Some (word, rest)
 -- the first of the words with which a line begins
 abbrev pub first_word : List Word → List ℕ → Option (Word × List ℕ)
 first_word [] text = None
-first_word (word ∷ words) text = onward word (stripped (word_text word) text) (first_word words text)
+first_word (word ∷ words) text =
+    onward word (stripped (word_text word) text) (first_word words text)
 
 unfoldable pub word_in : List ℕ → Option (Word × List ℕ)
 word_in text = first_word all_words text
@@ -55,13 +56,19 @@ Says ScriptHead rest says = (rest ≡ []) × (says ≡ line.ScriptHead)
 Says Conn rest says = (rest ≡ []) × (says ≡ line.Conn)
 Says Step rest says =
     ((count : ℕ) × (says ≡ line.Step count) × (rest ≡ decimal count) × IsWithin 1 65536 count)
-    ⊎ ((core : ℕ) × (count : ℕ) × (says ≡ line.Run core count) × (rest ≡ decimal core ++ 32 ∷ decimal count) × (core < 65536) × IsWithin 1 1000000 count)
-Says Cut rest says = (count : ℕ) × (says ≡ line.Cut count) × (rest ≡ decimal count) × IsWithin 0 1000000000 count
-Says Send rest says = (bytes : List ℕ) × (says ≡ line.Item (item.Send bytes)) × StandsFor rest bytes × IsWithin 1 4096 (length bytes)
-Says Fill rest says = (count : ℕ) × (says ≡ line.Item (item.Fill count)) × (rest ≡ decimal count) × IsWithin 1 65536 count
-Says Pause rest says = (count : ℕ) × (says ≡ line.Item (item.Pause count)) × (rest ≡ decimal count) × IsWithin 1 1000 count
+    ⊎ ((core : ℕ) × (count : ℕ) × (says ≡ line.Run core count)
+    × (rest ≡ decimal core ++ 32 ∷ decimal count) × (core < 65536) × IsWithin 1 1000000 count)
+Says Cut rest says = (count : ℕ) × (says ≡ line.Cut count) × (rest ≡ decimal count)
+    × IsWithin 0 1000000000 count
+Says Send rest says = (bytes : List ℕ) × (says ≡ line.Item (item.Send bytes)) × StandsFor rest bytes
+    × IsWithin 1 4096 (length bytes)
+Says Fill rest says = (count : ℕ) × (says ≡ line.Item (item.Fill count)) × (rest ≡ decimal count)
+    × IsWithin 1 65536 count
+Says Pause rest says = (count : ℕ) × (says ≡ line.Item (item.Pause count)) × (rest ≡ decimal count)
+    × IsWithin 1 1000 count
 Says Fault rest says = (rest ≡ []) × (says ≡ line.Item item.Fault)
 
 -- what was read of a line behind its word: the line that it says, or none where it says none
 abbrev pub ReadsBehind : Word → List ℕ → Option Line → Type 0
-ReadsBehind word rest read = MatchOption read ((says : Line) → Says word rest says → ⊥) (Says word rest)
+ReadsBehind word rest read = MatchOption read ((says : Line)
+    → Says word rest says → ⊥) (Says word rest)

@@ -41,7 +41,8 @@ fn print_all(alloc: Global, input: &Input, schedule: bool) -> Result<Vec<u8>, Al
 
 /// Adds the lines of a schedule.
 fn push_schedule(text: &mut Vec<u8>, steps: &[(u16, u32)]) -> Result<(), AllocError>
-    ensures { OnOk result (text.new.items ≡ text.old.items ++ printed_lines (schedule_lines steps.now)) }
+    ensures { OnOk result (text.new.items
+        ≡ text.old.items ++ printed_lines (schedule_lines steps.now)) }
 {
     text.extend_from_slice(b"sws-schedule 1\n")?;
     push_steps(text, steps)?;
@@ -51,7 +52,8 @@ fn push_schedule(text: &mut Vec<u8>, steps: &[(u16, u32)]) -> Result<(), AllocEr
 
 /// Adds the lines of the steps.
 fn push_steps(text: &mut Vec<u8>, steps: &[(u16, u32)]) -> Result<(), AllocError>
-    ensures { OnOk result (text.new.items ≡ text.old.items ++ printed_lines (map run_line steps.now)) }
+    ensures { OnOk result (text.new.items
+        ≡ text.old.items ++ printed_lines (map run_line steps.now)) }
 {
     for (core, count) in steps {
         push_run(text, *core, *count)?;
@@ -73,7 +75,8 @@ fn push_run(text: &mut Vec<u8>, core: u16, count: u32) -> Result<(), AllocError>
 
 /// Adds the lines of a script.
 fn push_script(text: &mut Vec<u8>, conns: &[ScriptConn]) -> Result<(), AllocError>
-    ensures { OnOk result (text.new.items ≡ text.old.items ++ printed_lines (script_lines conns.now)) }
+    ensures { OnOk result (text.new.items
+        ≡ text.old.items ++ printed_lines (script_lines conns.now)) }
 {
     text.extend_from_slice(b"sws-script 1\n")?;
     push_conns(text, conns)
@@ -81,7 +84,8 @@ fn push_script(text: &mut Vec<u8>, conns: &[ScriptConn]) -> Result<(), AllocErro
 
 /// Adds the lines of the connections.
 fn push_conns(text: &mut Vec<u8>, conns: &[ScriptConn]) -> Result<(), AllocError>
-    ensures { OnOk result (text.new.items ≡ text.old.items ++ printed_lines (flat_map conn_lines conns.now)) }
+    ensures { OnOk result (text.new.items
+        ≡ text.old.items ++ printed_lines (flat_map conn_lines conns.now)) }
 {
     for conn in conns {
         push_conn(text, conn)?;
@@ -121,7 +125,8 @@ fn push_cut(text: &mut Vec<u8>, cut: Option<u64>) -> Result<(), AllocError>
 
 /// Adds the lines of the items.
 fn push_items(text: &mut Vec<u8>, items: &[Item]) -> Result<(), AllocError>
-    ensures { OnOk result (text.new.items ≡ text.old.items ++ printed_lines (map line.Item items.now)) }
+    ensures { OnOk result (text.new.items
+        ≡ text.old.items ++ printed_lines (map line.Item items.now)) }
 {
     for item in items {
         push_item(text, item)?;
@@ -146,7 +151,8 @@ fn push_item(text: &mut Vec<u8>, item: &Item) -> Result<(), AllocError>
 
 /// Adds `send TEXT`.
 fn push_send(text: &mut Vec<u8>, bytes: &[u8]) -> Result<(), AllocError>
-    ensures { OnOk result (text.new.items ≡ text.old.items ++ printed_line (line.Item (Send bytes.now))) }
+    ensures { OnOk result (text.new.items
+        ≡ text.old.items ++ printed_line (line.Item (Send bytes.now))) }
 {
     text.extend_from_slice(b"send ")?;
     push_text(text, bytes)?;
@@ -156,7 +162,8 @@ fn push_send(text: &mut Vec<u8>, bytes: &[u8]) -> Result<(), AllocError>
 
 /// Adds a line of a word and a number.
 fn push_counted(text: &mut Vec<u8>, word: &[u8], count: u64) -> Result<(), AllocError>
-    ensures { OnOk result (text.new.items ≡ text.old.items ++ (word.now ++ decimal count) ++ 10 ∷ []) }
+    ensures { OnOk result (text.new.items
+        ≡ text.old.items ++ (word.now ++ decimal count) ++ 10 ∷ []) }
 {
     text.extend_from_slice(word)?;
     push_number(text, count)?;

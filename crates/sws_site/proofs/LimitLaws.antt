@@ -60,7 +60,7 @@ limit_met-bytes before file few short over = λ i.
 -- ---- all files
 
 -- files that are within the limits meet none
-pub first_limit-none : (before files : List File) → length before + length files ≤ 4096 → All (λ file. length file.0 ≤ 1024) files
+first_limit-none : (before files : List File) → length before + length files ≤ 4096 → All (λ file. length file.0 ≤ 1024) files
     → bytes_of before + bytes_of files ≤ 268435456 → first_limit before files ≡ None
 first_limit-none before [] few short fits = refl
 first_limit-none before (file ∷ files) few short fits =
@@ -122,7 +122,3 @@ within-first_limit before (file ∷ files) within none =
     let here = within-limit_met before file neither.0 in
     subst IsWithinLimits (append_assoc before (file ∷ []) files)
     (within-first_limit (before ++ file ∷ []) files (IsWithinLimits-push before file within here.0 here.1 here.2) neither.1)
-
--- files that meet no limit are within the limits
-pub within-limit_of : (files : List File) → limit_of files ≡ None → IsWithinLimits files
-within-limit_of files none = within-first_limit [] files IsWithinLimits-nil none

@@ -93,7 +93,7 @@ HasLoaded-step (Some first) (Some before) after files file (left, now, is, limit
           ∙ ap (λ n. first_limit (files ++ file ∷ []) (drop n first.files)) (sym count),
     )
 
-pub HasLoaded-end : (first before after : Option FolderTells) (files : List File) → HasLoaded first before files
+HasLoaded-end : (first before after : Option FolderTells) (files : List File) → HasLoaded first before files
     → StepsTo before after None → Loads first (Ok files)
 HasLoaded-end None before after files loaded step = tt
 HasLoaded-end (Some first) None after files (left, now, is, limit) step = cc

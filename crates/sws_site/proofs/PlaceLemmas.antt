@@ -53,7 +53,7 @@ other_names key other name e is = by_test (has_name name other) refl
         absurd (cc)
 
 -- after an insert the name of the key finds the value, and another name finds what it found
-pub lookup-insert_entry : (name : List ℕ) (entries : Entries) (key : Vec ℕ Global) (value : ℕ)
+lookup-insert_entry : (name : List ℕ) (entries : Entries) (key : Vec ℕ Global) (value : ℕ)
     → lookup (has_name name) (insert_entry compare_keys entries key value) ≡ cond (has_name name key) (Some value) (lookup (has_name name) entries)
 lookup-insert_entry name [] key value = refl
 lookup-insert_entry name (entry ∷ entries) key value = by_order (compare_keys key entry.0) refl (lookup-insert_entry name entries key value)

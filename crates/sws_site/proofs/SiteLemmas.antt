@@ -13,7 +13,7 @@ use Rattle.sws_site.specs.BuiltResponses.{IsBuilt, built_head, IsRefusal}
 use Rattle.sws_site.specs.Stored.{HasHeads, file_of}
 
 -- either head
-pub built_head-text : (status : Status) (date : Option HttpDate) (kind : List ℕ) (response : BuiltResponse) (closes : Bool) → IsBuilt status date kind response
+built_head-text : (status : Status) (date : Option HttpDate) (kind : List ℕ) (response : BuiltResponse) (closes : Bool) → IsBuilt status date kind response
     → built_head response closes ≡ head_text (record { status = status; closes = closes; date = date; range = None; kind = kind; len = length response.body.items })
 built_head-text status date kind response true built = built.closing_head
 built_head-text status date kind response false built = built.open_head

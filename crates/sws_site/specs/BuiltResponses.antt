@@ -9,13 +9,28 @@ use Rattle.sws_site.specs.Fixed.{fixed_body, plain_text}
 -- the two heads are those of such a response with this body
 pub record IsBuilt (status : Status) (date : Option HttpDate) (kind : List ℕ) (response : BuiltResponse) : Type 0 where
   pub open_head : response.open_head.items
-      ≡ head_text (record { status = status; closes = false; date = date; range = None; kind = kind; len = length response.body.items })
+      ≡ head_text (record {
+        status = status;
+        closes = false;
+        date = date;
+        range = None;
+        kind = kind;
+        len = length response.body.items;
+      })
   pub closing_head : response.closing_head.items
-      ≡ head_text (record { status = status; closes = true; date = date; range = None; kind = kind; len = length response.body.items })
+      ≡ head_text (record {
+        status = status;
+        closes = true;
+        date = date;
+        range = None;
+        kind = kind;
+        len = length response.body.items;
+      })
 
 -- the head that ends the connection, or the other one
 abbrev pub built_head : BuiltResponse → Bool → List ℕ
-built_head response closes = if closes then response.closing_head.items else response.open_head.items
+built_head response closes =
+    if closes then response.closing_head.items else response.open_head.items
 
 -- the response refuses with this status
 pub record IsRefusal (status : Status) (response : BuiltResponse) : Type 0 where

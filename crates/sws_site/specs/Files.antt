@@ -17,8 +17,23 @@ file_named name files = find (λ file. bytes_eq file.0 name) files
 -- the head of the response that sends a file of a site of this date
 unfoldable pub file_head : Option HttpDate → File → Bool → List ℕ
 file_head date file closes =
-    head_text (record { status = Success; closes = closes; date = date; range = None; kind = content_type file.0; len = length file.1 })
+    head_text (record {
+      status = Success;
+      closes = closes;
+      date = date;
+      range = None;
+      kind = content_type file.0;
+      len = length file.1;
+    })
 
 -- the head of the response that a file was not modified since
 unfoldable pub not_modified_head : Option HttpDate → Bool → List ℕ
-not_modified_head date closes = head_text (record { status = NotModified; closes = closes; date = date; range = None; kind = []; len = 0 })
+not_modified_head date closes =
+    head_text (record {
+      status = NotModified;
+      closes = closes;
+      date = date;
+      range = None;
+      kind = [];
+      len = 0;
+    })

@@ -15,7 +15,14 @@ fixed_body status = status_text status ++ 10 ∷ []
 
 unfoldable pub fixed_head : Status → Bool → List ℕ
 fixed_head status closes =
-    head_text (record { status = status; closes = closes; date = None; range = None; kind = plain_text; len = length (fixed_body status) })
+    head_text (record {
+      status = status;
+      closes = closes;
+      date = None;
+      range = None;
+      kind = plain_text;
+      len = length (fixed_body status);
+    })
 
 -- the content tells the status
 abbrev pub tells_status : Body → Bool

@@ -4,4 +4,11 @@ use Rattle.sws_site.specs.ResponseHeads.{ResponseHead}
 
 abbrev pub head_of : HeadParts → ResponseHead
 head_of parts =
-    record { status = parts.status; closes = parts.closes; date = parts.date.now; range = parts.range; kind = parts.kind.now; len = parts.len }
+    record {
+      status = parts.status;
+      closes = parts.closes;
+      date = parts.date.now;
+      range = parts.range;
+      kind = parts.kind.now;
+      len = parts.len;
+    }

@@ -37,7 +37,8 @@ limit_met before file =
 -- the first limit that files meet beside those before them
 abbrev pub first_limit : List File → List File → Option SiteFault
 first_limit before [] = None
-first_limit before (file ∷ files) = option_or (limit_met before file) (first_limit (before ++ file ∷ []) files)
+first_limit before (file ∷ files) =
+    option_or (limit_met before file) (first_limit (before ++ file ∷ []) files)
 
 -- the first limit that the files of a folder meet
 abbrev pub limit_of : List File → Option SiteFault

@@ -49,7 +49,8 @@ allow_lines lists_methods = if lists_methods then codes "Allow: GET, HEAD" ∷ [
 
 -- the first and the last byte of the part, and how many the whole file has; or that the file has no such part
 abbrev pub range_text : ContentRange → List ℕ
-range_text (Selected first last len) = decimal first ++ codes "-" ++ decimal last ++ codes "/" ++ decimal len
+range_text (Selected first last len) =
+    decimal first ++ codes "-" ++ decimal last ++ codes "/" ++ decimal len
 range_text (NoSuch len) = codes "*/" ++ decimal len
 
 -- RFC 9110, section 14.4
@@ -63,7 +64,8 @@ range_lines has_range range = if has_range then content_range_lines range else [
 
 -- RFC 9110, sections 8.3 and 8.6
 abbrev pub kind_and_len_lines : List ℕ → ℕ → List (List ℕ)
-kind_and_len_lines kind len = (codes "Content-Type: " ++ kind) ∷ (codes "Content-Length: " ++ decimal len) ∷ []
+kind_and_len_lines kind len =
+    (codes "Content-Type: " ++ kind) ∷ (codes "Content-Length: " ++ decimal len) ∷ []
 
 -- every response but 304 has content (RFC 9110, section 15.4.5)
 abbrev pub content_lines : Body → List ℕ → ℕ → List (List ℕ)

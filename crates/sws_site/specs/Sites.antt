@@ -16,11 +16,13 @@ pub record SiteFile : Type 0 where
 
 -- the first file of the name
 abbrev pub found_in : SiteFiles → List ℕ → Option SiteFile
-found_in site name = option_map (λ file. record { file = file; date = site.date }) (file_named name site.files)
+found_in site name =
+    option_map (λ file. record { file = file; date = site.date }) (file_named name site.files)
 
 -- the head of the response to a request for the file, which has changed since the date that the request names or has not
 abbrev pub page_head : SiteFile → Bool → Bool → List ℕ
-page_head page changed closes = if changed then file_head page.date page.file closes else not_modified_head page.date closes
+page_head page changed closes =
+    if changed then file_head page.date page.file closes else not_modified_head page.date closes
 
 -- the date is so many seconds after the beginning of 1970, where one is given
 abbrev pub IsDateAt : Option ℕ → Option HttpDate → Type 0

@@ -19,18 +19,34 @@ pub record Row : Type 0 where
 
 -- a status that has no line of its own, and that its content tells
 abbrev pub plain_row : ℕ → List ℕ → Row
-plain_row code text = record { code = code; text = text; is_dated = false; lists_methods = false; has_range = false; body = StatusText; closes = false }
+plain_row code text = record {
+  code = code;
+  text = text;
+  is_dated = false;
+  lists_methods = false;
+  has_range = false;
+  body = StatusText;
+  closes = false;
+}
 
 -- the table
 abbrev pub row_of : Status → Row
 row_of Success = record (plain_row 200 (codes "200 OK")) { is_dated = true; body = WholeFile }
-row_of PartialContent = record (plain_row 206 (codes "206 Partial Content")) { is_dated = true; has_range = true; body = PartOfFile }
-row_of NotModified = record (plain_row 304 (codes "304 Not Modified")) { is_dated = true; body = Nothing }
+row_of PartialContent = record (plain_row 206 (codes "206 Partial Content")) {
+  is_dated = true;
+  has_range = true;
+  body = PartOfFile;
+}
+row_of NotModified =
+    record (plain_row 304 (codes "304 Not Modified")) { is_dated = true; body = Nothing }
 row_of BadRequest = record (plain_row 400 (codes "400 Bad Request")) { closes = true }
 row_of NotFound = plain_row 404 (codes "404 Not Found")
-row_of MethodNotAllowed = record (plain_row 405 (codes "405 Method Not Allowed")) { lists_methods = true }
-row_of RangeNotSatisfiable = record (plain_row 416 (codes "416 Range Not Satisfiable")) { has_range = true }
-row_of HeaderFieldsTooLarge = record (plain_row 431 (codes "431 Request Header Fields Too Large")) { closes = true }
+row_of MethodNotAllowed =
+    record (plain_row 405 (codes "405 Method Not Allowed")) { lists_methods = true }
+row_of RangeNotSatisfiable =
+    record (plain_row 416 (codes "416 Range Not Satisfiable")) { has_range = true }
+row_of HeaderFieldsTooLarge =
+    record (plain_row 431 (codes "431 Request Header Fields Too Large")) { closes = true }
 row_of NotImplemented = plain_row 501 (codes "501 Not Implemented")
 
 abbrev pub code_of : Status → ℕ
@@ -54,7 +70,8 @@ row_shown row =
 
 abbrev pub statuses : List Status
 statuses =
-    Success ∷ PartialContent ∷ NotModified ∷ BadRequest ∷ NotFound ∷ MethodNotAllowed ∷ RangeNotSatisfiable ∷ HeaderFieldsTooLarge
+    Success ∷ PartialContent ∷ NotModified ∷ BadRequest ∷ NotFound ∷ MethodNotAllowed
+    ∷ RangeNotSatisfiable ∷ HeaderFieldsTooLarge
     ∷ NotImplemented ∷ []
 
 -- the status of this code, if there is one

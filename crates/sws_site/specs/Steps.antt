@@ -17,7 +17,8 @@ HasRead (Some before) now bytes =
 -- all of it was read
 abbrev pub HasReadAll : Option FolderTells → Option FolderTells → List ℕ → Type 0
 HasReadAll None now bytes = now ≡ None
-HasReadAll (Some before) now bytes = (before.left ≡ bytes) × (now ≡ Some (record before { left = [] }))
+HasReadAll (Some before) now bytes = (before.left ≡ bytes)
+    × (now ≡ Some (record before { left = [] }))
 
 -- a read of the current file put what it took behind the bytes that were there
 abbrev pub HasReadMore : Option FolderTells → Option FolderTells → Got → List ℕ → List ℕ → Type 0
@@ -31,7 +32,8 @@ abbrev pub ReadFails : ℕ → ℕ → Option FolderTells → SiteFault → Type
 ReadFails number room before (TooManyFiles count) = ⊥
 ReadFails number room before (LongName found) = ⊥
 ReadFails number room None (TooManyBytes found) = ⊤
-ReadFails number room (Some before) (TooManyBytes found) = (found ≡ number) × (room < length before.left)
+ReadFails number room (Some before) (TooManyBytes found) = (found ≡ number)
+    × (room < length before.left)
 ReadFails number room before Fault = ⊤
 ReadFails number room before Memory = ⊤
 
@@ -40,7 +42,8 @@ abbrev pub StepsTo : Option FolderTells → Option FolderTells → Option File �
 StepsTo None now file = now ≡ None
 StepsTo (Some before) now None = (before.given ≡ length before.files) × (now ≡ Some before)
 StepsTo (Some before) now (Some file) =
-    (slice_get before.files before.given ≡ Some file) × (now ≡ Some (record before { given = before.given + 1; left = [] }))
+    (slice_get before.files before.given ≡ Some file)
+    × (now ≡ Some (record before { given = before.given + 1; left = [] }))
 
 -- a file of this number is within the limits, where there is room for so many bytes
 pub record IsWithin (number room : ℕ) (file : File) : Type 0 where
@@ -52,11 +55,14 @@ pub record IsWithin (number room : ℕ) (file : File) : Type 0 where
 abbrev pub StepFails : ℕ → ℕ → Option FolderTells → SiteFault → Type 0
 StepFails number room None _ = ⊤
 StepFails number room (Some before) (TooManyFiles found) =
-    (found ≡ number) × (file : File) × (slice_get before.files before.given ≡ Some file) × (max_files < number)
+    (found ≡ number) × (file : File) × (slice_get before.files before.given ≡ Some file)
+    × (max_files < number)
 StepFails number room (Some before) (LongName found) =
-    (found ≡ number) × (file : File) × (slice_get before.files before.given ≡ Some file) × (number ≤ max_files) × (max_name < length file.0)
+    (found ≡ number) × (file : File) × (slice_get before.files before.given ≡ Some file)
+    × (number ≤ max_files) × (max_name < length file.0)
 StepFails number room (Some before) (TooManyBytes found) =
-    (found ≡ number) × (file : File) × (slice_get before.files before.given ≡ Some file) × (number ≤ max_files)
+    (found ≡ number) × (file : File) × (slice_get before.files before.given ≡ Some file)
+    × (number ≤ max_files)
     × (length file.0 ≤ max_name) × (room < length file.1)
 StepFails number room (Some before) Fault = ⊤
 StepFails number room (Some before) Memory = ⊤

@@ -37,7 +37,8 @@ LoadsStored folder (Err fault) = Loads folder (Err fault)
 -- the place of the first file of the name, where the first of them has this place
 abbrev pub place_from : ℕ → List ℕ → List StoredFile → Option ℕ
 place_from place name [] = None
-place_from place name (file ∷ files) = if bytes_eq file.name.items name then Some place else place_from (suc place) name files
+place_from place name (file ∷ files) =
+    if bytes_eq file.name.items name then Some place else place_from (suc place) name files
 
 -- the place that is kept of a name
 abbrev pub kept_place : BTreeMap (Vec ℕ Global) ℕ → List ℕ → Option ℕ

@@ -68,7 +68,8 @@ fn add_connection(head: &mut OwnHead, closes: bool)
 
 /// Says when the site was last modified, where the response has the date and it is known.
 fn add_last_modified(head: &mut OwnHead, is_dated: bool, date: &Option<HttpDate>)
-    requires { length head.old + length (lines_text (last_modified_lines is_dated date.now)) ≤ MAX_OWN_HEAD }
+    requires { length head.old + length (lines_text (last_modified_lines is_dated date.now))
+        ≤ MAX_OWN_HEAD }
     ensures { head.new ≡ head.old ++ lines_text (last_modified_lines is_dated date.now) }
 {
     if !is_dated {
@@ -111,7 +112,8 @@ fn put_range(head: &mut OwnHead, range: &ContentRange)
 
 /// Says which part of the file the response is about, where it is about one.
 fn add_range(head: &mut OwnHead, has_range: bool, range: &Option<ContentRange>)
-    requires { length head.old + length (lines_text (range_lines has_range range.now)) ≤ MAX_OWN_HEAD }
+    requires { length head.old + length (lines_text (range_lines has_range range.now))
+        ≤ MAX_OWN_HEAD }
     ensures { head.new ≡ head.old ++ lines_text (range_lines has_range range.now) }
 {
     if !has_range {
@@ -126,7 +128,8 @@ fn add_range(head: &mut OwnHead, has_range: bool, range: &Option<ContentRange>)
 
 /// Says of which media type the content is, and how long.
 fn add_kind_and_len(head: &mut OwnHead, kind: &[u8], len: usize)
-    requires { length head.old + length (lines_text (kind_and_len_lines kind.now len)) ≤ MAX_OWN_HEAD }
+    requires { length head.old + length (lines_text (kind_and_len_lines kind.now len))
+        ≤ MAX_OWN_HEAD }
     ensures { head.new ≡ head.old ++ lines_text (kind_and_len_lines kind.now len) }
 {
     add_line(head, b"Content-Type: ", kind);
@@ -137,7 +140,8 @@ fn add_kind_and_len(head: &mut OwnHead, kind: &[u8], len: usize)
 
 /// Tells of the content, where there is any.
 fn add_content(head: &mut OwnHead, body: Body, kind: &[u8], len: usize)
-    requires { length head.old + length (lines_text (content_lines body kind.now len)) ≤ MAX_OWN_HEAD }
+    requires { length head.old + length (lines_text (content_lines body kind.now len))
+        ≤ MAX_OWN_HEAD }
     ensures { head.new ≡ head.old ++ lines_text (content_lines body kind.now len) }
 {
     match body {

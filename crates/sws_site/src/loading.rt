@@ -38,7 +38,8 @@ fn next_piece(filled: usize, spare: usize) -> usize
 fn read_more<F: Folder>(folder: &mut F, bytes: &mut Vec<u8>) -> Result<Got, AllocError>
     requires file { IsTrue (F.at_file folder.old) }
     requires room { length bytes.old.items ≤ max_bytes }
-    ensures reads { IfOk result (λ got. HasReadMore (F.tells folder.old) (F.tells folder.new) got bytes.old.items bytes.new.items) }
+    ensures reads { IfOk result (λ got.
+        HasReadMore (F.tells folder.old) (F.tells folder.new) got bytes.old.items bytes.new.items) }
     ensures fails { OnErr result (F.tells folder.new ≡ F.tells folder.old) }
     ensures file { IsTrue (F.at_file folder.new) }
     ensures cause { HasCause (F.faults folder.old) (F.faults folder.new) (result ≡ Ok Got.Failed) }
@@ -64,11 +65,13 @@ fn read_file<F: Folder>(
 ) -> Result<Vec<u8>, SiteFault>
     requires file { IsTrue (F.at_file folder.old) }
     requires room { room ≤ max_bytes }
-    ensures reads { IfOk result (λ bytes. HasReadAll (F.tells folder.old) (F.tells folder.new) bytes.items) }
+    ensures reads { IfOk result (λ bytes.
+        HasReadAll (F.tells folder.old) (F.tells folder.new) bytes.items) }
     ensures fits { IfOk result (λ bytes. length bytes.items ≤ room) }
     ensures fails { IfErr result (ReadFails number room (F.tells folder.old)) }
     ensures same { IsSameFolder (F.tells folder.old) (F.tells folder.new) }
-    ensures cause { HasCause (F.faults folder.old) (F.faults folder.new) (result ≡ Err SiteFault.Fault) }
+    ensures cause { HasCause (F.faults folder.old) (F.faults folder.new) (result
+        ≡ Err SiteFault.Fault) }
 {
     let mut bytes = Vec::new(alloc);
     'pieces: while bytes.len() <= room {
@@ -93,12 +96,15 @@ fn next_file<F: Folder>(
     room: usize,
 ) -> Result<Option<StoredFile>, SiteFault>
     requires { room ≤ max_bytes }
-    ensures steps { IfOk result (λ file. StepsTo (F.tells folder.old) (F.tells folder.new) (option_map file_of file)) }
-    ensures within { IfOk result (λ file. IfSome file (λ file. IsWithin number room (file_of file))) }
+    ensures steps { IfOk result (λ file.
+        StepsTo (F.tells folder.old) (F.tells folder.new) (option_map file_of file)) }
+    ensures within { IfOk result (λ file.
+        IfSome file (λ file. IsWithin number room (file_of file))) }
     ensures heads { IfOk result (λ file. IfSome file (HasHeads date.now)) }
     ensures fails { IfErr result (StepFails number room (F.tells folder.old)) }
     ensures same { IsSameFolder (F.tells folder.old) (F.tells folder.new) }
-    ensures cause { HasCause (F.faults folder.old) (F.faults folder.new) (result ≡ Err SiteFault.Fault) }
+    ensures cause { HasCause (F.faults folder.old) (F.faults folder.new) (result
+        ≡ Err SiteFault.Fault) }
 {
     let mut name = [0u8; 1024];
     let len = match folder.next(&mut name) {
@@ -134,7 +140,8 @@ pub(crate) fn read_files<F: Folder>(
     ensures limits { IfOk result (λ files. IsWithinLimits (files_of files.items)) }
     ensures heads { IfOk result (λ files. AllHaveHeads date.now files.items) }
     ensures same { IsSameFolder (F.tells folder.old) (F.tells folder.new) }
-    ensures cause { HasCause (F.faults folder.old) (F.faults folder.new) (result ≡ Err SiteFault.Fault) }
+    ensures cause { HasCause (F.faults folder.old) (F.faults folder.new) (result
+        ≡ Err SiteFault.Fault) }
 {
     let mut files = Vec::new(alloc);
     let mut room = MAX_BYTES;

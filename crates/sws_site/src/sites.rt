@@ -89,7 +89,8 @@ impl Site {
         ensures loads { LoadsSite (F.tells folder.old) result }
         ensures date { IfOk result (λ site. IsDateAt date site.date) }
         ensures same { IsSameFolder (F.tells folder.old) (F.tells folder.new) }
-        ensures cause { HasCause (F.faults folder.old) (F.faults folder.new) (result ≡ Err SiteFault.Fault) }
+        ensures cause { HasCause (F.faults folder.old) (F.faults folder.new) (result
+            ≡ Err SiteFault.Fault) }
     {
         let date = http_date(date);
         let files = match read_files(alloc, folder, &date) {

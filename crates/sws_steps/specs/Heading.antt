@@ -32,13 +32,16 @@ with_written written outcome = record { bytes = written ++ outcome.bytes; end = 
 
 module _ {Hall Answer : Type 0} (p : Protocol Hall Answer) where
   abbrev pub input_to_come : Standing Hall → Script → Input
-  input_to_come c script = limited (p.input_limit - c.read) (input_by c.input_ended (waits_at c.pending c.waits) script)
+  input_to_come c script =
+      limited (p.input_limit - c.read) (input_by c.input_ended (waits_at c.pending c.waits) script)
 
   -- what comes of the rest of the parts, and of what will be answered of the buffer and the input to come
   abbrev pub ahead : Standing Hall → Option ℕ → Input → Outcome
   ahead c cut input =
-      let later = later_unless c.closes (p.answers (p.answer_limit - c.answered) c.hall (c.buffer ++ input.bytes)) in
-      cut_off cut (unsent_bytes c.parts ++ texts_of p later) (end_of (c.closes || is_closed p later) input.stop)
+      let later = later_unless c.closes (p.answers (p.answer_limit - c.answered) c.hall
+      (c.buffer ++ input.bytes)) in
+      cut_off cut (unsent_bytes c.parts ++ texts_of p later)
+      (end_of (c.closes || is_closed p later) input.stop)
 
   -- by the end, where it is known
   abbrev pub heading_by : Option End → Standing Hall → Script → Outcome
@@ -51,7 +54,8 @@ module _ {Hall Answer : Type 0} (p : Protocol Hall Answer) where
   -- with what was written it comes to this outcome
   abbrev pub HeadsByScript : Option Script → List ℕ → Standing Hall → Outcome → Type 0
   HeadsByScript None written c outcome = ⊥
-  HeadsByScript (Some script) written c outcome = UnlessMemory c.end (with_written written (heading c script) ≡ outcome)
+  HeadsByScript (Some script) written c outcome =
+      UnlessMemory c.end (with_written written (heading c script) ≡ outcome)
 
   -- the link tells its answers to come, with which the connection comes to this outcome
   abbrev pub HeadsFor : Option LinkTells → Standing Hall → Outcome → Type 0

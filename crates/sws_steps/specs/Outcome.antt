@@ -26,12 +26,17 @@ abbrev pub input_from : ℕ → List Item → Input
 input_from waits [] = stopped at_end
 input_from waits (piece [] ∷ items) = input_from waits items
 input_from waits (piece (byte ∷ bytes) ∷ items) = preceded (byte ∷ bytes) (input_from 0 items)
-input_from waits (wait count ∷ items) = if nat_le wait_limit (waits + count) then stopped at_pause else input_from (waits + count) items
+input_from waits (wait count ∷ items) =
+    if nat_le wait_limit (waits + count) then stopped at_pause else input_from (waits + count) items
 input_from waits (fault ∷ items) = stopped at_fault
 
 -- no more than so many bytes: the last of these stops it before what follows
 abbrev pub limited : ℕ → Input → Input
-limited limit input = if nat_le limit (length input.bytes) then record { bytes = take limit input.bytes; stop = at_limit } else input
+limited limit input =
+    if nat_le limit (length input.bytes) then record {
+      bytes = take limit input.bytes;
+      stop = at_limit;
+    } else input
 
 -- the bytes that are written, and the end
 pub record Outcome : Type 0 where
@@ -49,19 +54,25 @@ end_of false at_pause = Idle
 abbrev pub cut_off : Option ℕ → List ℕ → End → Outcome
 cut_off None bytes end = record { bytes = bytes; end = end }
 cut_off (Some limit) bytes end =
-    if nat_lt limit (length bytes) then record { bytes = take limit bytes; end = Fault } else record { bytes = bytes; end = end }
+    if nat_lt limit (length bytes) then record {
+      bytes = take limit bytes;
+      end = Fault;
+    } else record { bytes = bytes; end = end }
 
 module _ {Hall Answer : Type 0} (p : Protocol Hall Answer) where
   -- the outcome by the input and the answers to it
   abbrev pub outcome_by : Option ℕ → Input → List Answer → Outcome
-  outcome_by cut input given = cut_off cut (texts_of p given) (end_of (is_closed p given) input.stop)
+  outcome_by cut input given =
+      cut_off cut (texts_of p given) (end_of (is_closed p given) input.stop)
 
   abbrev pub scripted_input : Script → Input
   scripted_input script = limited p.input_limit (input_from 0 script.items)
 
   -- the outcome of a scripted connection
   abbrev pub outcome_of : Hall → Script → Outcome
-  outcome_of hall script = outcome_by script.cut (scripted_input script) (p.answers_to hall (scripted_input script).bytes)
+  outcome_of hall script =
+      outcome_by script.cut (scripted_input script)
+      (p.answers_to hall (scripted_input script).bytes)
 
 -- a fact, unless memory ran out
 abbrev pub UnlessMemory : Option End → Type 0 → Type 0

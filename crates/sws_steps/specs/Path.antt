@@ -41,9 +41,14 @@ module _ {Hall Answer : Type 0} (p : Protocol Hall Answer) where
   scripted_at next.Open c = record c { standing = going_to c.standing next.Read }
   scripted_at next.Read c =
       let said = read_of (room_of p c.standing) c.script.items in
-      record { standing = after_read c.standing said.answer said.bytes; script = record c.script { items = said.items } }
-  scripted_at next.Parse c = record c { standing = after_parse p c.standing (p.cut c.standing.buffer) }
-  scripted_at next.Look c = record c { standing = after_look p c.standing (p.cut c.standing.buffer) }
+      record {
+        standing = after_read c.standing said.answer said.bytes;
+        script = record c.script { items = said.items };
+      }
+  scripted_at next.Parse c =
+      record c { standing = after_parse p c.standing (p.cut c.standing.buffer) }
+  scripted_at next.Look c =
+      record c { standing = after_look p c.standing (p.cut c.standing.buffer) }
   scripted_at next.Write c =
       let said = write_of c.script (length (front_of c.standing.parts)) in
       record { standing = after_write c.standing said.answer; script = said.script }
@@ -60,7 +65,8 @@ module _ {Hall Answer : Type 0} (p : Protocol Hall Answer) where
   -- pending any more
   unfoldable pub IsPathFrom : Scripted Hall → List Handler → Type 0
   IsPathFrom c [] = event_of c.standing ≡ []
-  IsPathFrom c (event ∷ later) = (event_of c.standing ≡ event ∷ []) × IsPathFrom (scripted_step c) later
+  IsPathFrom c (event ∷ later) = (event_of c.standing ≡ event ∷ [])
+      × IsPathFrom (scripted_step c) later
 
   -- ---- the path
 
@@ -97,7 +103,8 @@ told_by_link x (Some link) = x.tells link
 -- these events are taken off the front of a path, which leaves the rest
 abbrev pub TakesOff : List Handler → Option (List Handler) → Option (List Handler) → Type 0
 TakesOff front None rest = rest ≡ None
-TakesOff front (Some path) rest = (left : List Handler) × (rest ≡ Some left) × (path ≡ front ++ left)
+TakesOff front (Some path) rest = (left : List Handler) × (rest ≡ Some left)
+    × (path ≡ front ++ left)
 
 -- no event is left, where that is told
 abbrev pub HasNoEvents : Option (List Handler) → Type 0
@@ -115,7 +122,8 @@ module _ {Hall Answer : Type 0} (p : Protocol Hall Answer) where
   -- a bound on the steps that are left
   abbrev pub steps_left : Standing Hall → ℕ
   steps_left c =
-      ((p.answer_limit - c.answered) * (p.text_limit + 1) + length (unsent_bytes c.parts) + (p.input_limit - c.read) + input_left c.input_ended) * 160
+      ((p.answer_limit - c.answered) * (p.text_limit + 1) + length (unsent_bytes c.parts)
+      + (p.input_limit - c.read) + input_left c.input_ended) * 160
       + (wait_limit - c.waits) * 4 + rank_of c.pending
 
   -- the rest of the path
@@ -145,17 +153,25 @@ module _ {Hall Answer : Type 0} (p : Protocol Hall Answer) where
   rest_told x conn = rest_by conn.standing (answers_to_come (told_by_link x conn.link))
 
   -- a step takes its event off the rest of the path, unless memory runs out
-  abbrev pub TakesEvent : {L : Type 0} → LinkWords L → Connection Hall L → Connection Hall L → Type 0
-  TakesEvent x before after = UnlessMemory after.standing.end (TakesOff (event_of before.standing) (rest_told x before) (rest_told x after))
+  abbrev pub TakesEvent : {L : Type 0} → LinkWords L → Connection Hall L
+      → Connection Hall L → Type 0
+  TakesEvent x before after =
+      UnlessMemory after.standing.end
+      (TakesOff (event_of before.standing) (rest_told x before) (rest_told x after))
 
   abbrev pub FollowsBy : Option Script → Standing Hall → Standing Hall → Option LinkTells → Type 0
   FollowsBy None c d now = ⊤
-  FollowsBy (Some script) c d now = UnlessMemory d.end (Follows (scripted_step p (record { standing = c; script = script })) d now)
+  FollowsBy (Some script) c d now =
+      UnlessMemory d.end (Follows
+      (scripted_step p (record { standing = c; script = script })) d now)
 
-  abbrev pub FollowsTold : Option LinkTells → Standing Hall → Standing Hall → Option LinkTells → Type 0
+  abbrev pub FollowsTold : Option LinkTells → Standing Hall → Standing Hall
+      → Option LinkTells → Type 0
   FollowsTold None c d now = ⊤
   FollowsTold (Some tells) c d now = FollowsBy tells.to_come c d now
 
   -- the step is the one of the scripted connection, where the link tells its answers to come, unless memory runs out
-  abbrev pub FollowsScript : {L : Type 0} → LinkWords L → Connection Hall L → Connection Hall L → Type 0
-  FollowsScript x before after = FollowsTold (told_by_link x before.link) before.standing after.standing (told_by_link x after.link)
+  abbrev pub FollowsScript : {L : Type 0} → LinkWords L → Connection Hall L
+      → Connection Hall L → Type 0
+  FollowsScript x before after = FollowsTold (told_by_link x before.link) before.standing
+      after.standing (told_by_link x after.link)

@@ -64,20 +64,29 @@ module _ {Hall Answer : Type 0} (p : Protocol Hall Answer) where
   -- One that is too long is the last, and so is the answer that is given as the last one. What doesn't close has bytes.
   pub record IsOrderly : Type 0 where
     pub none_left : (hall : Hall) (bytes : List ℕ) → p.answers 0 hall bytes ≡ []
-    pub none_yet : (left : ℕ) (hall : Hall) (bytes : List ℕ) → p.cut bytes ≡ NotYet → p.answers left hall bytes ≡ []
-    pub one_more : (left : ℕ) (hall : Hall) (bytes more : List ℕ) (len : ℕ) → 0 < left → p.cut bytes ≡ Whole len
-        → p.answers left hall (take len bytes ++ more) ≡ followed (p.answer hall (request (take len bytes)) (left == 1)) (p.answers (left - 1) hall more)
+    pub none_yet : (left : ℕ) (hall : Hall) (bytes : List ℕ) → p.cut bytes ≡ NotYet
+        → p.answers left hall bytes ≡ []
+    pub one_more : (left : ℕ) (hall : Hall) (bytes more : List ℕ) (len : ℕ) → 0 < left
+        → p.cut bytes ≡ Whole len
+        → p.answers left hall (take len bytes ++ more)
+        ≡ followed (p.answer hall (request (take len bytes)) (left == 1))
+        (p.answers (left - 1) hall more)
     pub refused : (left : ℕ) (hall : Hall) (bytes more : List ℕ) → 0 < left → p.cut bytes ≡ TooLong
         → p.answers left hall (bytes ++ more) ≡ p.answer hall too_long (left == 1) ∷ []
     pub refusal_closes : (hall : Hall) (last : Bool) → p.closes (p.answer hall too_long last) ≡ true
     pub last_closes : (hall : Hall) (asked : Asked) → p.closes (p.answer hall asked true) ≡ true
     pub empty_is : (hall : Hall) (asked : Asked) (last : Bool)
         → p.is_empty (p.answer hall asked last) ≡ (length (text_of (p.answer hall asked last)) == 0)
-    pub has_bytes : (hall : Hall) (asked : Asked) (last : Bool) → p.closes (p.answer hall asked last) ≡ false → p.is_empty (p.answer hall asked last) ≡ false
-    pub short : (hall : Hall) (asked : Asked) (last : Bool) → p.IsHall hall → length (text_of (p.answer hall asked last)) ≤ p.text_limit
+    pub has_bytes : (hall : Hall) (asked : Asked) (last : Bool)
+        → p.closes (p.answer hall asked last) ≡ false
+        → p.is_empty (p.answer hall asked last) ≡ false
+    pub short : (hall : Hall) (asked : Asked) (last : Bool) → p.IsHall hall
+        → length (text_of (p.answer hall asked last)) ≤ p.text_limit
     -- those to all bytes are those to the ones that count, and the responses are their texts
-    pub all : (hall : Hall) (bytes : List ℕ) → p.answers_to hall bytes ≡ p.answers p.answer_limit hall (take p.input_limit bytes)
-    pub texts : (hall : Hall) (bytes : List ℕ) → p.responses_of hall bytes ≡ texts_of (p.answers_to hall bytes)
+    pub all : (hall : Hall) (bytes : List ℕ)
+        → p.answers_to hall bytes ≡ p.answers p.answer_limit hall (take p.input_limit bytes)
+    pub texts : (hall : Hall) (bytes : List ℕ)
+        → p.responses_of hall bytes ≡ texts_of (p.answers_to hall bytes)
     -- a connection begins without a request, and may have some bytes and an answer
     pub nothing : p.cut [] ≡ NotYet
     pub some_input : 0 < p.input_limit

@@ -25,10 +25,12 @@ IsWhole trail (Some path) = trail ≡ path
 
 module _ {Hall Answer : Type 0} (p : Protocol Hall Answer) where
   -- these events lead from one connection to another, by a step each
-  unfoldable pub RunsBy : {L : Type 0} → LinkWords L → List Handler → Connection Hall L → Connection Hall L → Type 0
+  unfoldable pub RunsBy : {L : Type 0} → LinkWords L → List Handler → Connection Hall L
+      → Connection Hall L → Type 0
   RunsBy x [] before after = after ≡ before
   RunsBy {L = L} x (event ∷ later) before after =
-      (between : Connection Hall L) × (event_of before.standing ≡ event ∷ []) × Steps p x before between × RunsBy x later between after
+      (between : Connection Hall L) × (event_of before.standing ≡ event ∷ [])
+      × Steps p x before between × RunsBy x later between after
 
 module _ {Hall Answer L : Type 0} (p : Protocol Hall Answer) (x : LinkWords L) (hall : Hall) (first : L) where
   -- the connection was opened over this link, which wasn't shut and of which nothing was taken or written before, and has run these
@@ -54,7 +56,8 @@ module _ {Hall Answer L : Type 0} (p : Protocol Hall Answer) (x : LinkWords L) (
     pub serves : Serves p hall (x.tells first) (x.tells now) end
     -- a link that told its answers to come got exactly its outcome, by its whole path
     pub outcome : EndsAs p hall (x.tells first) (x.tells now) end
-    pub path : UnlessMemory (Some end) (IsWhole (open_link ∷ trail) (path_told p hall (x.tells first)))
+    pub path : UnlessMemory (Some end)
+        (IsWhole (open_link ∷ trail) (path_told p hall (x.tells first)))
     pub shut : x.is_shut now ≡ true
     -- it failed in this run, or was not ready so often
     pub fault : end ≡ ending.Fault → Rose (x.faults first) (x.faults now)

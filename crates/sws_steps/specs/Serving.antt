@@ -17,7 +17,8 @@ RoseBy more before now = (before.number + more ≤ now.number) ⊎ IsTrue now.fu
 module _ {Hall Answer : Type 0} (p : Protocol Hall Answer) where
   -- the input has ended, as many bytes were taken as count, or an answer to them closes
   abbrev pub IsLast : Hall → LinkTells → Type 0
-  IsLast hall tells = (tells.left ≡ []) ⊎ (length tells.taken ≡ p.input_limit) ⊎ (is_closed p (p.answers_to hall tells.taken) ≡ true)
+  IsLast hall tells = (tells.left ≡ []) ⊎ (length tells.taken ≡ p.input_limit)
+      ⊎ (is_closed p (p.answers_to hall tells.taken) ≡ true)
 
   -- The whole input is the same, of which no more was taken than counts; what was written begins the responses to what was taken; and
   -- where all is done it is the responses to the whole input, and nothing more comes.
@@ -30,7 +31,8 @@ module _ {Hall Answer : Type 0} (p : Protocol Hall Answer) where
 
   abbrev pub Serves : Hall → Option LinkTells → Option LinkTells → End → Type 0
   Serves hall None now end = now ≡ None
-  Serves hall (Some before) now end = (told : LinkTells) × (now ≡ Some told) × ServesTold hall before told end
+  Serves hall (Some before) now end = (told : LinkTells) × (now ≡ Some told)
+      × ServesTold hall before told end
 
   -- what was written begins the responses to what was taken, where that is told
   abbrev pub BeginsResponses : Hall → Option LinkTells → Type 0
@@ -41,7 +43,8 @@ module _ {Hall Answer : Type 0} (p : Protocol Hall Answer) where
   abbrev pub EndsByScript : Hall → Option Script → Option LinkTells → End → Type 0
   EndsByScript hall None now end = ⊤
   EndsByScript hall (Some script) now end = UnlessMemory (Some end)
-      ((tells : LinkTells) × (now ≡ Some tells) × (tells.written ≡ (outcome_of p hall script).bytes) × (end ≡ (outcome_of p hall script).end))
+      ((tells : LinkTells) × (now ≡ Some tells) × (tells.written ≡ (outcome_of p hall script).bytes)
+      × (end ≡ (outcome_of p hall script).end))
 
   abbrev pub EndsAs : Hall → Option LinkTells → Option LinkTells → End → Type 0
   EndsAs hall None now end = ⊤
@@ -57,5 +60,6 @@ module _ {Hall Answer : Type 0} (p : Protocol Hall Answer) where
   abbrev pub KeepsBy : {L : Type 0} → LinkWords L → Hall → L → L → End → Type 0
   KeepsBy x hall first now Done = x.since first None now
   KeepsBy x hall first now Idle = x.since first None now
-  KeepsBy x hall first now Fault = (x.since first (Some reading) now × IsAnswered hall (x.tells now)) ⊎ x.since first (Some writing) now
+  KeepsBy x hall first now Fault = (x.since first (Some reading) now
+      × IsAnswered hall (x.tells now)) ⊎ x.since first (Some writing) now
   KeepsBy x hall first now Memory = x.since first None now

@@ -62,7 +62,8 @@ module _ {Hall Answer : Type 0} (p : Protocol Hall Answer) where
   -- all that is to be written was written: the last answer closes, or no more input comes and none is left to be answered
   pub record IsDone (c : Standing Hall) : Type 0 where
     pub nothing : is_sent c.parts ≡ true
-    pub last : (c.closes ≡ true) ⊎ ((c.closes ≡ false) × (p.cut c.buffer ≡ NotYet) × (has_all_input p c ≡ true))
+    pub last : (c.closes ≡ true) ⊎ ((c.closes ≡ false) × (p.cut c.buffer ≡ NotYet)
+        × (has_all_input p c ≡ true))
 
   -- the end is known
   pub record IsEnded (c : Standing Hall) : Type 0 where
@@ -128,9 +129,11 @@ pub record WritesSent {Hall : Type 0} (c : Standing Hall) (written sent : List �
 -- what the link tells, where it does
 abbrev pub IsTold : {Hall : Type 0} → Standing Hall → Option LinkTells → List ℕ → List ℕ → Type 0
 IsTold c None taken sent = ⊤
-IsTold c (Some tells) taken sent = (tells.taken ≡ taken) × WritesSent c tells.written sent × (c.input_ended ≡ true → tells.left ≡ [])
+IsTold c (Some tells) taken sent = (tells.taken ≡ taken) × WritesSent c tells.written sent
+    × (c.input_ended ≡ true → tells.left ≡ [])
 
-abbrev pub IsToldBy : {Hall L : Type 0} → LinkWords L → Standing Hall → Option L → List ℕ → List ℕ → Type 0
+abbrev pub IsToldBy : {Hall L : Type 0} → LinkWords L → Standing Hall → Option L
+    → List ℕ → List ℕ → Type 0
 IsToldBy x c None taken sent = (taken ≡ []) × (sent ≡ [])
 IsToldBy x c (Some link) taken sent = IsTold c (x.tells link) taken sent
 

@@ -21,6 +21,7 @@ module _ {Hall Answer : Type 0} (p : Protocol Hall Answer) (hall : Hall) (bytes 
 
   -- the first request is answered, by where it ends
   abbrev pub AnswersFirst : Cut → List ℕ → Unsent → Bool → Type 0
-  AnswersFirst (Whole len) rest parts closes = Gives (p.answer hall (request (take len bytes)) last) (drop len bytes) rest parts closes
+  AnswersFirst (Whole len) rest parts closes =
+      Gives (p.answer hall (request (take len bytes)) last) (drop len bytes) rest parts closes
   AnswersFirst TooLong rest parts closes = Gives (p.answer hall too_long last) [] rest parts closes
   AnswersFirst NotYet rest parts closes = ⊤

@@ -32,14 +32,23 @@ module _ {Hall : Type 0} (c : Standing Hall) where
 
   -- the link was not ready once more
   abbrev pub still_waiting : Bool → Standing Hall
-  still_waiting true = record c { waits = c.waits + 1; end = Some ending.Idle; pending = next.Close }
+  still_waiting true = record c {
+    waits = c.waits + 1;
+    end = Some ending.Idle;
+    pending = next.Close;
+  }
   still_waiting false = record c { waits = c.waits + 1 }
 
   abbrev pub not_ready : Standing Hall
   not_ready = still_waiting (nat_le wait_limit (c.waits + 1))
 
   abbrev pub after_read : LinkRead → List ℕ → Standing Hall
-  after_read (read.Took count) into = record c { buffer = c.buffer ++ take count into; read = c.read + count; waits = 0; pending = next.Parse }
+  after_read (read.Took count) into = record c {
+    buffer = c.buffer ++ take count into;
+    read = c.read + count;
+    waits = 0;
+    pending = next.Parse;
+  }
   after_read read.End into = record c { input_ended = true; waits = 0; pending = next.Parse }
   after_read read.NotReady into = not_ready
   after_read read.Failed into = ending_as ending.Fault
@@ -51,7 +60,11 @@ after_part true true c = ending_as c ending.Done
 after_part true false c = going_to c next.Parse
 
 abbrev pub after_wrote : {Hall : Type 0} → Standing Hall → Unsent → ℕ → Standing Hall
-after_wrote c parts count = after_part (is_sent parts) c.closes (record c { parts = parts; written = c.written + count; waits = 0 })
+after_wrote c parts count = after_part (is_sent parts) c.closes (record c {
+  parts = parts;
+  written = c.written + count;
+  waits = 0;
+})
 
 abbrev pub after_write : {Hall : Type 0} → Standing Hall → LinkWrite → Standing Hall
 after_write c (write.Wrote count) = after_wrote c (after_sending count c.parts) count
@@ -91,7 +104,8 @@ module _ {Hall Answer : Type 0} (p : Protocol Hall Answer) (c : Standing Hall) w
   is_last = c.answered + 1 == p.answer_limit
 
   abbrev pub after_look : Cut → Standing Hall
-  after_look (Whole len) = answering (p.answer c.hall (request (take len c.buffer)) is_last) (drop len c.buffer)
+  after_look (Whole len) =
+      answering (p.answer c.hall (request (take len c.buffer)) is_last) (drop len c.buffer)
   after_look TooLong = answering (p.answer c.hall too_long is_last) []
   after_look NotYet = c
 
@@ -106,7 +120,8 @@ module _ {Hall L : Type 0} (x : LinkWords L) (before after : Standing Hall) wher
   -- the link was shut
   pub record ShutsOnce (link now : L) : Type 0 where
     pub called : Shuts x.tells x.is_shut x.faults x.waits link now
-    pub since : (first : L) (fault : Option Way) → x.since first fault link → x.since first fault now
+    pub since : (first : L) (fault : Option Way) → x.since first fault link
+        → x.since first fault now
     pub becomes : after ≡ going_to before next.Nothing
 
   -- the step is done over a link, of which it makes this
@@ -128,7 +143,8 @@ module _ {Hall Answer L : Type 0} (p : Protocol Hall Answer) (x : LinkWords L) (
   abbrev pub StepsFrom : Next → Option L → Option L → Type 0
   StepsFrom next.Open link now = (after ≡ before) × (now ≡ link)
   StepsFrom next.Read link now = OverLink x before after ReadsOnce link now
-  StepsFrom next.Parse link now = (after ≡ after_parse p before (p.cut before.buffer)) × (now ≡ link)
+  StepsFrom next.Parse link now = (after ≡ after_parse p before (p.cut before.buffer))
+      × (now ≡ link)
   StepsFrom next.Look link now = (after ≡ after_look p before (p.cut before.buffer)) × (now ≡ link)
   StepsFrom next.Write link now = OverLink x before after (WritesOnce x before after) link now
   StepsFrom next.Wait link now = ⊥
@@ -136,14 +152,19 @@ module _ {Hall Answer L : Type 0} (p : Protocol Hall Answer) (x : LinkWords L) (
   StepsFrom next.Nothing link now = (after ≡ before) × (now ≡ link)
 
 -- the step that is pending was done
-abbrev pub Steps : {Hall Answer L : Type 0} → Protocol Hall Answer → LinkWords L → Connection Hall L → Connection Hall L → Type 0
-Steps p x before after = StepsFrom p x before.standing after.standing before.standing.pending before.link after.link
+abbrev pub Steps : {Hall Answer L : Type 0} → Protocol Hall Answer → LinkWords L → Connection Hall L
+    → Connection Hall L → Type 0
+Steps p x before after =
+    StepsFrom p x before.standing after.standing before.standing.pending before.link after.link
 
 -- the connection gets its link, or has one already and hands this one back
-abbrev pub OpensAt : {Hall L : Type 0} → Option L → Connection Hall L → L → Result Next L → Connection Hall L → Type 0
+abbrev pub OpensAt : {Hall L : Type 0} → Option L → Connection Hall L → L → Result Next L
+    → Connection Hall L → Type 0
 OpensAt None before link answer after =
-    (answer ≡ Ok next.Read) × (after ≡ record { standing = going_to before.standing next.Read; link = Some link })
+    (answer ≡ Ok next.Read)
+    × (after ≡ record { standing = going_to before.standing next.Read; link = Some link })
 OpensAt (Some there) before link answer after = (answer ≡ Err link) × (after ≡ before)
 
-abbrev pub Opens : {Hall L : Type 0} → Connection Hall L → L → Result Next L → Connection Hall L → Type 0
+abbrev pub Opens : {Hall L : Type 0} → Connection Hall L → L → Result Next L
+    → Connection Hall L → Type 0
 Opens before link answer after = OpensAt before.link before link answer after

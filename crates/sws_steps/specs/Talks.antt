@@ -67,7 +67,8 @@ due view = due_after (next_told view)
 module _ {T L : Type 0} (link_of : T → Option L) (view_of : T → TalkView) where
   -- it gets its link, or has one already and hands this one back
   abbrev pub OpensBy : Option L → T → L → Result Next L → T → Type 0
-  OpensBy None before link answer after = (answer ≡ Ok next.Read) × (link_of after ≡ Some link) × (view_of after ≡ opened_view)
+  OpensBy None before link answer after = (answer ≡ Ok next.Read) × (link_of after ≡ Some link)
+      × (view_of after ≡ opened_view)
   OpensBy (Some there) before link answer after = (answer ≡ Err link) × (after ≡ before)
 
   abbrev pub OpensTalk : T → L → Result Next L → T → Type 0
@@ -106,12 +107,14 @@ pub record ServesLink (respond : List ℕ → List ℕ) (before now : LinkTells)
 
 abbrev pub ServesTold : (List ℕ → List ℕ) → Option LinkTells → Option LinkTells → TalkView → Type 0
 ServesTold respond None now view = now ≡ None
-ServesTold respond (Some before) now view = (told : LinkTells) × (now ≡ Some told) × ServesLink respond before told view
+ServesTold respond (Some before) now view = (told : LinkTells) × (now ≡ Some told)
+    × ServesLink respond before told view
 
 -- a link that told its answers to come ends with exactly its outcome
 abbrev pub ComesTo : Option Outcome → Option LinkTells → End → Type 0
 ComesTo None now end = ⊤
-ComesTo (Some outcome) now end = UnlessMemory (Some end) ((tells : LinkTells) × (now ≡ Some tells) × (tells.written ≡ outcome.bytes) × (end ≡ outcome.end))
+ComesTo (Some outcome) now end = UnlessMemory (Some end) ((tells : LinkTells) × (now ≡ Some tells)
+    × (tells.written ≡ outcome.bytes) × (end ≡ outcome.end))
 
 -- the calls of a link that led from one to the other, whose answers count the bytes that were taken and written
 pub record ExchangesBy {L : Type 0} (x : LinkWords L) (first now : L) (view : TalkView) : Type 0 where
@@ -134,7 +137,8 @@ module _ {L : Type 0} (x : LinkWords L) (respond : List ℕ → List ℕ) (outco
     -- the calls that were made of it, whatever it tells
     pub exchange : ExchangesBy x first now view
     -- the outcome, once the link is shut
-    pub outcome_is : (end : End) → end_told view ≡ Some end → ComesTo (option_map outcome (answers_to_come (x.tells first))) (x.tells now) end
+    pub outcome_is : (end : End) → end_told view ≡ Some end
+        → ComesTo (option_map outcome (answers_to_come (x.tells first))) (x.tells now) end
 
 -- the link is there and was served
 abbrev pub ServesNow : {L : Type 0} → (L → TalkView → Type 0) → Option L → TalkView → Type 0
@@ -159,8 +163,16 @@ IsDue event (Some rest) = BeginsWith event rest
 -- ---- a connection as a talk
 
 abbrev pub talk_view : {Hall : Type 0} → Standing Hall → TalkView
-talk_view c = record { pending = c.pending; waiting = is_waiting c; end = c.end; read = c.read; written = c.written }
+talk_view c = record {
+  pending = c.pending;
+  waiting = is_waiting c;
+  end = c.end;
+  read = c.read;
+  written = c.written;
+}
 
 -- it was opened over this link, and has run these events since, of which the opening is the first
-abbrev pub HasRunOpen : {Hall Answer L : Type 0} → Protocol Hall Answer → LinkWords L → L → List Handler → Connection Hall L → Type 0
-HasRunOpen p x first trail conn = (later : List Handler) × (trail ≡ open_link ∷ later) × HasRun p x conn.standing.hall first later conn
+abbrev pub HasRunOpen : {Hall Answer L : Type 0} → Protocol Hall Answer → LinkWords L → L
+    → List Handler → Connection Hall L → Type 0
+HasRunOpen p x first trail conn = (later : List Handler) × (trail ≡ open_link ∷ later)
+    × HasRun p x conn.standing.hall first later conn

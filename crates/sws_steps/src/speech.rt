@@ -43,8 +43,10 @@ pub trait Speech: Sized {
         requires few { most ≤ 4096 }
         requires not_yet { protocol.cut (bytes_of self.old) ≡ NotYet }
         requires not_shut { L.is_shut link.old ≡ false }
-        ensures fills { Fills L.Link (bytes_of self.old) link.old most result (bytes_of self.new) link.new }
-        ensures since { (first : L) → L.since first None link.old → L.since first (read_fault result) link.new }
+        ensures fills { Fills L.Link (bytes_of self.old) link.old most result
+            (bytes_of self.new) link.new }
+        ensures since { (first : L) → L.since first None link.old
+            → L.since first (read_fault result) link.new }
         ensures hall { hall_of self.new ≡ hall_of self.old }
         ensures parts { parts_of self.new ≡ parts_of self.old };
 
@@ -58,7 +60,8 @@ pub trait Speech: Sized {
     /// Answers the first request, which is whole or too long, and drops it. Answers whether the connection ends with it.
     fn answer(&mut self, last: bool) -> bool
         requires there { protocol.cut (bytes_of self.old) ≢ NotYet }
-        ensures answers { AnswersFirst protocol (hall_of self.old) (bytes_of self.old) last (protocol.cut (bytes_of self.old)) (bytes_of self.new) (parts_of self.new) result }
+        ensures answers { AnswersFirst protocol (hall_of self.old) (bytes_of self.old) last
+            (protocol.cut (bytes_of self.old)) (bytes_of self.new) (parts_of self.new) result }
         ensures hall { hall_of self.new ≡ hall_of self.old };
 
     /// What the next write offers.

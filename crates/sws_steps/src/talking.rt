@@ -65,7 +65,8 @@ pub fn read_step<S: Speech, L: Link>(talking: &mut Talking<S>, link: &mut L)
     requires not_yet { S.protocol.cut (S.bytes_of talking.old.speech) ≡ NotYet }
     requires waits { talking.old.waits < 30 }
     requires not_shut { L.is_shut link.old ≡ false }
-    ensures { ReadsOnce S.protocol L.Link (shown S.Speech talking.old) (shown S.Speech talking.new) link.old link.new }
+    ensures { ReadsOnce S.protocol L.Link (shown S.Speech talking.old)
+        (shown S.Speech talking.new) link.old link.new }
 {
     let most = (talking.speech.input_limit() - talking.read).min(MAX_READ) as usize;
     match talking.speech.fill(link, most) {
@@ -87,7 +88,8 @@ pub fn read_step<S: Speech, L: Link>(talking: &mut Talking<S>, link: &mut L)
 /// Looks for a whole request.
 pub fn parse_step<S: Speech>(talking: &mut Talking<S>)
     ensures { shown S.Speech talking.new
-        ≡ after_parse S.protocol (shown S.Speech talking.old) (S.protocol.cut (S.bytes_of talking.old.speech)) }
+        ≡ after_parse S.protocol (shown S.Speech talking.old)
+        (S.protocol.cut (S.bytes_of talking.old.speech)) }
 {
     if talking.speech.has_request() {
         talking.pending = Next::Look;
@@ -103,7 +105,8 @@ pub fn look_step<S: Speech>(talking: &mut Talking<S>)
     requires answered { talking.old.answered < S.protocol.answer_limit }
     requires there { S.protocol.cut (S.bytes_of talking.old.speech) ≢ NotYet }
     ensures { shown S.Speech talking.new
-        ≡ after_look S.protocol (shown S.Speech talking.old) (S.protocol.cut (S.bytes_of talking.old.speech)) }
+        ≡ after_look S.protocol (shown S.Speech talking.old)
+        (S.protocol.cut (S.bytes_of talking.old.speech)) }
 {
     let most = talking.speech.answer_limit();
     let last = talking.answered + 1 == most;
@@ -117,9 +120,11 @@ pub fn look_step<S: Speech>(talking: &mut Talking<S>)
 pub fn write_step<S: Speech, L: Link>(talking: &mut Talking<S>, link: &mut L)
     requires front { 0 < length (front_of (S.parts_of talking.old.speech)) }
     requires waits { talking.old.waits < 30 }
-    requires written { talking.old.written + length (front_of (S.parts_of talking.old.speech)) < 1152921504606846976 }
+    requires written { talking.old.written + length (front_of (S.parts_of talking.old.speech))
+        < 1152921504606846976 }
     requires not_shut { L.is_shut link.old ≡ false }
-    ensures { WritesOnce L.Link (shown S.Speech talking.old) (shown S.Speech talking.new) link.old link.new }
+    ensures { WritesOnce L.Link (shown S.Speech talking.old)
+        (shown S.Speech talking.new) link.old link.new }
 {
     match link.write(talking.speech.front()) {
         LinkWrite::Wrote(count) => written(talking, count),
@@ -132,9 +137,11 @@ pub fn write_step<S: Speech, L: Link>(talking: &mut Talking<S>, link: &mut L)
 /// So many bytes of the front were written.
 fn written<S: Speech>(talking: &mut Talking<S>, count: usize)
     requires fits { count ≤ length (front_of (S.parts_of talking.old.speech)) }
-    requires written { talking.old.written + length (front_of (S.parts_of talking.old.speech)) < 1152921504606846976 }
+    requires written { talking.old.written + length (front_of (S.parts_of talking.old.speech))
+        < 1152921504606846976 }
     ensures { shown S.Speech talking.new
-        ≡ after_wrote (shown S.Speech talking.old) (after_sending count (S.parts_of talking.old.speech)) count }
+        ≡ after_wrote (shown S.Speech talking.old)
+        (after_sending count (S.parts_of talking.old.speech)) count }
 {
     talking.speech.advance(count);
     talking.written += count as u64;
@@ -145,7 +152,8 @@ fn written<S: Speech>(talking: &mut Talking<S>, count: usize)
 /// Where nothing is left of the answer, the connection ends with it, or goes on behind it.
 fn go_on<S: Speech>(talking: &mut Talking<S>)
     ensures { shown S.Speech talking.new
-        ≡ after_part (is_sent (S.parts_of talking.old.speech)) talking.old.closes (shown S.Speech talking.old) }
+        ≡ after_part (is_sent (S.parts_of talking.old.speech)) talking.old.closes
+        (shown S.Speech talking.old) }
 {
     if talking.speech.left() != 0 {
         return;
@@ -161,7 +169,8 @@ fn go_on<S: Speech>(talking: &mut Talking<S>)
 /// Ends the connection.
 pub fn close_step<S: Speech, L: Link>(talking: &mut Talking<S>, link: &mut L)
     requires { L.is_shut link.old ≡ false }
-    ensures { ShutsOnce L.Link (shown S.Speech talking.old) (shown S.Speech talking.new) link.old link.new }
+    ensures { ShutsOnce L.Link (shown S.Speech talking.old)
+        (shown S.Speech talking.new) link.old link.new }
 {
     link.shut();
     talking.pending = Next::Nothing;

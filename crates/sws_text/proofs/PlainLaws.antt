@@ -21,7 +21,7 @@ sign_before-plain byte (next ∷ bytes) is = by_test (eqb byte 13) refl ∙ ap (
     by_test false e = refl
 
 -- the text of what stands for itself is itself
-pub text_of-plain : (plain rest : List ℕ) → AllByRecursion IsPlain plain → text_of (plain ++ rest) ≡ plain ++ text_of rest
+text_of-plain : (plain rest : List ℕ) → AllByRecursion IsPlain plain → text_of (plain ++ rest) ≡ plain ++ text_of rest
 text_of-plain [] rest all = refl
 text_of-plain (byte ∷ plain) rest all =
     text_of-signs (byte ∷ (plain ++ rest)) (Plain byte) (plain ++ rest) (sign_before-step (byte ∷ (plain ++ rest)) (Plain byte) (plain ++ rest) (sign_before-plain byte (plain ++ rest) all.0)).signs
@@ -44,19 +44,8 @@ still_shown-front in_line bytes count there some all =
     ∙ sym (append_assoc (margin in_line) (take count bytes) (still_shown true (drop count bytes)))
 
 -- the text of bytes behind such a front
-pub text_of-front : (bytes : List ℕ) (count : ℕ) → AllByRecursion IsPlain (take count bytes) → text_of bytes ≡ take count bytes ++ text_of (drop count bytes)
+text_of-front : (bytes : List ℕ) (count : ℕ) → AllByRecursion IsPlain (take count bytes) → text_of bytes ≡ take count bytes ++ text_of (drop count bytes)
 text_of-front bytes count all = ap text_of (sym (take-append-drop count bytes)) ∙ text_of-plain (take count bytes) (drop count bytes) all
-
--- one byte more
-pub plain-more : (bytes : List ℕ) (at : ℕ) → at < length bytes → AllByRecursion IsPlain (take at bytes) → IsPlain (get_or bytes at 0) → AllByRecursion IsPlain (take (at + 1) bytes)
-plain-more bytes at lt all one = subst (AllByRecursion IsPlain) (sym (front bytes at lt)) (snoc (take at bytes) (get_or bytes at 0) all one)
-  where
-    front : (bytes : List ℕ) (at : ℕ) → at < length bytes → take (at + 1) bytes ≡ take at bytes ++ get_or bytes at 0 ∷ []
-    front bytes at lt = ap (λ n. take n bytes) (add-one at) ∙ take-suc bytes at 0 lt
-
-    snoc : (a : List ℕ) (x : ℕ) → AllByRecursion IsPlain a → IsPlain x → AllByRecursion IsPlain (a ++ x ∷ [])
-    snoc [] x all one = (one, tt)
-    snoc (y ∷ a) x all one = (all.0, snoc a x all.1 one)
 
 -- the bytes behind so many
 pub behind : (bytes : List ℕ) (count : ℕ) → take (length bytes - count) (drop count bytes) ≡ drop count bytes

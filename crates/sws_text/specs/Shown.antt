@@ -9,7 +9,8 @@ use Rattle.sws_text.specs.Texts.{text_of}
 -- the bytes up to and with each LF, and what follows the last one, if anything does
 abbrev pub pieces_of : List ℕ → List (List ℕ)
 pieces_of [] = []
-pieces_of (byte ∷ bytes) = if byte == 10 then (byte ∷ []) ∷ pieces_of bytes else onto_first byte (pieces_of bytes)
+pieces_of (byte ∷ bytes) =
+    if byte == 10 then (byte ∷ []) ∷ pieces_of bytes else onto_first byte (pieces_of bytes)
 
 -- a line
 abbrev pub shown_line : List ℕ → List ℕ

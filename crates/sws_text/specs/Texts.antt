@@ -27,13 +27,15 @@ sign_of byte =
 abbrev pub signs_of : List ℕ → List Sign
 signs_of [] = []
 signs_of (a ∷ []) = sign_of a ∷ []
-signs_of (a ∷ b ∷ bytes) = if (a == 13) && (b == 10) then LineEnd ∷ signs_of bytes else sign_of a ∷ signs_of (b ∷ bytes)
+signs_of (a ∷ b ∷ bytes) = if (a == 13) && (b == 10) then LineEnd ∷ signs_of bytes else sign_of a
+    ∷ signs_of (b ∷ bytes)
 
 -- the first of these signs, and the bytes behind it
 abbrev pub sign_before : List ℕ → Option (Sign × List ℕ)
 sign_before [] = None
 sign_before (a ∷ []) = Some (sign_of a, [])
-sign_before (a ∷ b ∷ bytes) = if (a == 13) && (b == 10) then Some (LineEnd, bytes) else Some (sign_of a, b ∷ bytes)
+sign_before (a ∷ b ∷ bytes) =
+    if (a == 13) && (b == 10) then Some (LineEnd, bytes) else Some (sign_of a, b ∷ bytes)
 
 -- the text that is written for bytes
 unfoldable pub text_of : List ℕ → List ℕ

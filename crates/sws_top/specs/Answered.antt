@@ -18,7 +18,8 @@ pub record Answered (site : SiteFiles) (input before : List ℕ) (left written :
   pub split : input ≡ read ++ rest
   pub left_is : left ≡ Some rest
   pub within : length read ≤ input_limit
-  pub whole : fault ≡ None → (rest ≡ []) ⊎ (length read ≡ input_limit) ⊎ (is_closed (answers_to site read) ≡ true)
+  pub whole : fault ≡ None → (rest ≡ []) ⊎ (length read ≡ input_limit)
+      ⊎ (is_closed (answers_to site read) ≡ true)
   pub written_is : written ≡ Some (before ++ sent)
   pub front_of_read : Begins sent (responses_of site read)
   pub front_of_all : Begins sent (responses_of site input)
@@ -26,15 +27,18 @@ pub record Answered (site : SiteFiles) (input before : List ℕ) (left written :
   pub all_read : fault ≡ Some ReadFault → sent ≡ responses_of site read
 
 -- the same wherever the source and the sink tell what they hold
-abbrev pub AnswersFrom : SiteFiles → Option (List ℕ) → Option (List ℕ) → Option (List ℕ) → Option (List ℕ) → Option TopFault → Type 0
+abbrev pub AnswersFrom : SiteFiles → Option (List ℕ) → Option (List ℕ) → Option (List ℕ)
+    → Option (List ℕ) → Option TopFault → Type 0
 AnswersFrom site input left before written fault =
-    (bytes : List ℕ) (sent : List ℕ) → input ≡ Some bytes → before ≡ Some sent → Answered site bytes sent left written fault
+    (bytes : List ℕ) (sent : List ℕ) → input ≡ Some bytes → before ≡ Some sent
+    → Answered site bytes sent left written fault
 
 module _ {R O : Type 0} (r : SourceWords R) (o : SinkWords O) where
   -- The connection whose input is the source's, and whose output the sink takes, was answered from the site. A fault of reading comes
   -- only where the source failed, one of writing only where the sink did, and without it the count stands.
   pub record AnswersInput (site : SiteFiles) (source source_now : R) (out out_now : O) (fault : Option TopFault) : Type 0 where
-    pub answered : AnswersFrom site (r.left source) (r.left source_now) (o.written out) (o.written out_now) fault
+    pub answered : AnswersFrom site (r.left source) (r.left source_now) (o.written out)
+        (o.written out_now) fault
     pub ends : EndsAnswering fault
     pub read_cause : HasCause (r.faults source) (r.faults source_now) (fault ≡ Some ReadFault)
     pub write_cause : HasCause (o.faults out) (o.faults out_now) (fault ≡ Some WriteFault)

@@ -18,30 +18,37 @@ use Rattle.sws_top.specs.Sites.{TellsWithinLimits}
 -- the bytes are a text of an input that has no more connections than a script may
 abbrev pub TellsInput : Bool → ℕ → Option (List ℕ) → Type 0
 TellsInput schedule cores None = ⊥
-TellsInput schedule cores (Some text) = (input : Input) × Spells schedule cores text input × (length input.conns ≤ conn_limit)
+TellsInput schedule cores (Some text) = (input : Input) × Spells schedule cores text input
+    × (length input.conns ≤ conn_limit)
 
 -- the world as it stands afterwards: handed back, or in what a run on it has left
 abbrev pub IsLast : {W L : Type 0} → Outcome W L → W → Type 0
 IsLast {W} {L} outcome last =
-    (outcome.world ≡ Some last) ⊎ ((ended : Ended W L) × (outcome.ended ≡ Some ended) × (ended.world ≡ Some last))
+    (outcome.world ≡ Some last) ⊎ ((ended : Ended W L) × (outcome.ended ≡ Some ended)
+    × (ended.world ≡ Some last))
 
 -- what a run has left says that it lost this connection
 abbrev pub HasLost : {W L : Type 0} → Outcome W L → ℕ → Type 0
-HasLost {W} {L} outcome conn = (ended : Ended W L) × (outcome.ended ≡ Some ended) × (ended.verdict ≡ verdict.Apart conn)
+HasLost {W} {L} outcome conn = (ended : Ended W L) × (outcome.ended ≡ Some ended)
+    × (ended.verdict ≡ verdict.Apart conn)
 
 module _ {F R W L O : Type 0} (f : FolderWords F) (r : SourceWords R) (x : WorldWords W L) (o : SinkWords O) (before now : Hands F R O) (world : W) (outcome : Outcome W L) where
   -- Each fault of the outside comes only where the count of what failed rose, and the sink's, the folder's and the source's counts stand
   -- where they have none. A connection is lost exactly where the run has left that verdict.
   pub record HasCauses : Type 0 where
     pub read : outcome.fault ≡ Some ReadFault
-        → Rose (f.faults before.folder) (f.faults now.folder) ⊎ Rose (r.faults before.source) (r.faults now.source)
+        → Rose (f.faults before.folder) (f.faults now.folder)
+        ⊎ Rose (r.faults before.source) (r.faults now.source)
     pub no_read : outcome.fault ≢ Some ReadFault
-        → (f.faults now.folder ≡ f.faults before.folder) × (r.faults now.source ≡ r.faults before.source)
+        → (f.faults now.folder ≡ f.faults before.folder)
+        × (r.faults now.source ≡ r.faults before.source)
     pub write : HasCause (o.faults before.out) (o.faults now.out) (outcome.fault ≡ Some WriteFault)
-    pub world_failed : outcome.fault ≡ Some WorldFault → (last : W) × IsLast outcome last × Rose (x.faults world) (x.faults last)
+    pub world_failed : outcome.fault ≡ Some WorldFault → (last : W) × IsLast outcome last
+        × Rose (x.faults world) (x.faults last)
     pub lost : (conn : ℕ) → (outcome.fault ≡ Some (Apart conn)) ↔ HasLost outcome conn
     -- either the world is handed back, or what a run on it has left
-    pub either : (IsSome outcome.world × (outcome.ended ≡ None)) ⊎ (IsSome outcome.ended × (outcome.world ≡ None))
+    pub either : (IsSome outcome.world × (outcome.ended ≡ None))
+        ⊎ (IsSome outcome.ended × (outcome.world ≡ None))
 
   -- ---- when all is done
 
@@ -49,7 +56,8 @@ module _ {F R W L O : Type 0} (f : FolderWords F) (r : SourceWords R) (x : World
   abbrev pub IsSound : Order → Type 0
   IsSound (answer path date) = TellsWithinLimits (f.tells before.folder)
   IsSound (replay path shape date journal schedule) =
-      TellsWithinLimits (f.tells before.folder) × TellsInput schedule shape.cores (r.left before.source)
+      TellsWithinLimits (f.tells before.folder)
+      × TellsInput schedule shape.cores (r.left before.source)
   IsSound (serve path port connections shape date) = TellsWithinLimits (f.tells before.folder)
   IsSound (bench connections number shape) = ⊤
 
@@ -62,4 +70,5 @@ module _ {F R W L O : Type 0} (f : FolderWords F) (r : SourceWords R) (x : World
 
   -- all was done, there was no memory, or a run on threads has lost a connection, which it shows
   abbrev pub IsDone : Type 0
-  IsDone = (outcome.fault ≡ None) ⊎ ((outcome.fault ≡ Some Memory) ⊎ ((conn : ℕ) × (outcome.fault ≡ Some (Apart conn)) × HasLost outcome conn))
+  IsDone = (outcome.fault ≡ None) ⊎ ((outcome.fault ≡ Some Memory)
+      ⊎ ((conn : ℕ) × (outcome.fault ≡ Some (Apart conn)) × HasLost outcome conn))

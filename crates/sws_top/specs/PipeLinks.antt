@@ -10,7 +10,8 @@ use Rattle.sws_top.specs.Pipes.{pipe_tells, both_counts, GoesOn}
 module _ {R O : Type 0} (source : SourceWords R) (sink : SinkWords O) where
   -- what it tells, by what its source and its sink do
   abbrev pub told_by_pipe : Pipe R O source sink → Option LinkTells
-  told_by_pipe pipe = pipe_tells (source.left pipe.first_source.now.value) (source.left pipe.source.now)
+  told_by_pipe pipe =
+      pipe_tells (source.left pipe.first_source.now.value) (source.left pipe.source.now)
       (sink.written pipe.first_out.now.value) (sink.written pipe.out.now)
 
   -- its faults are theirs
@@ -19,6 +20,9 @@ module _ {R O : Type 0} (source : SourceWords R) (sink : SinkWords O) where
 
   -- it is still over the same two, and keeps which of them failed
   abbrev pub StaysPipe : Pipe R O source sink → Option Way → Pipe R O source sink → Type 0
-  StaysPipe first fault now = (now.source.ghost_name ≡ first.source.ghost_name) × (now.out.ghost_name ≡ first.out.ghost_name)
-      × (now.first_source.now.value ≡ first.first_source.now.value) × (now.first_out.now.value ≡ first.first_out.now.value)
-      × GoesOn fault (source.faults first.source.now) (source.faults now.source.now) (sink.faults first.out.now) (sink.faults now.out.now) now.fault
+  StaysPipe first fault now = (now.source.ghost_name ≡ first.source.ghost_name)
+      × (now.out.ghost_name ≡ first.out.ghost_name)
+      × (now.first_source.now.value ≡ first.first_source.now.value)
+      × (now.first_out.now.value ≡ first.first_out.now.value)
+      × GoesOn fault (source.faults first.source.now) (source.faults now.source.now)
+      (sink.faults first.out.now) (sink.faults now.out.now) now.fault

@@ -24,7 +24,8 @@ abbrev pub IsLeftOf : Option (List ℕ) → Option (List ℕ) → Type 0
 IsLeftOf whole left = whole ≡ option_map (λ rest. taken_before rest whole ++ rest) left
 
 abbrev pub IsWrittenBehind : Option (List ℕ) → Option (List ℕ) → Type 0
-IsWrittenBehind first bytes = bytes ≡ option_map (λ front. front ++ written_behind front bytes) first
+IsWrittenBehind first bytes =
+    bytes ≡ option_map (λ front. front ++ written_behind front bytes) first
 
 -- what the link tells, where both its source and its sink do
 abbrev pub pipe_tells : (whole left first bytes : Option (List ℕ)) → Option LinkTells
@@ -49,8 +50,10 @@ pub record HasRisen (before now : Count) : Type 0 where
 -- fail, both counts stand; else the count of the one that failed rose, alone, and the fault says which of the two that is.
 abbrev pub GoesOn : Option Way → Count → Count → Count → Count → Option TopFault → Type 0
 GoesOn None source source_now sink sink_now kept = (source_now ≡ source) × (sink_now ≡ sink)
-GoesOn (Some reading) source source_now sink sink_now kept = (kept ≡ Some ReadFault) × HasRisen source source_now × (sink_now ≡ sink)
-GoesOn (Some writing) source source_now sink sink_now kept = (kept ≡ Some WriteFault) × (source_now ≡ source) × HasRisen sink sink_now
+GoesOn (Some reading) source source_now sink sink_now kept = (kept ≡ Some ReadFault)
+    × HasRisen source source_now × (sink_now ≡ sink)
+GoesOn (Some writing) source source_now sink sink_now kept = (kept ≡ Some WriteFault)
+    × (source_now ≡ source) × HasRisen sink sink_now
 
 -- one `write_all` of the whole piece: where that is done, all of the piece was written
 abbrev pub WritesAll : Option (List ℕ) → Option (List ℕ) → LinkWrite → List ℕ → Type 0

@@ -30,11 +30,17 @@ pub record IsRefused {F R O W L : Type 0} (before now : Hands F R O) (world : W)
 module _ {F R W L O T G : Type 0} (f : FolderWords F) (r : SourceWords R) (x : WorldWords W L) (l : LinkWords L) (o : SinkWords O) (y : TalkWords T L G SiteFiles) (before now : Hands F R O) (world : W) (outcome : Outcome W L) where
   -- the order was run; only `serve` asks anything of the world
   abbrev pub RanAs : Order → Type 0
-  RanAs (answer path date) = RanAnswer f r o before now outcome.fault path date × IsBack world outcome
-  RanAs (replay path shape date journal schedule) = RanReplay f r o before now outcome.fault path (run_shape shape) date journal schedule × IsBack world outcome
-  RanAs (serve path port connections shape date) = (now.source ≡ before.source) × RanServe f x l o y before.folder now.folder before.out now.out world outcome path port connections (run_shape shape) date
+  RanAs (answer path date) = RanAnswer f r o before now outcome.fault path date
+      × IsBack world outcome
+  RanAs (replay path shape date journal schedule) =
+      RanReplay f r o before now outcome.fault path (run_shape shape) date journal schedule
+      × IsBack world outcome
+  RanAs (serve path port connections shape date) = (now.source ≡ before.source)
+      × RanServe f x l o y before.folder now.folder before.out now.out world outcome path port
+      connections (run_shape shape) date
   RanAs (bench connections number shape) =
-      (now.folder ≡ before.folder) × (now.source ≡ before.source) × RanBench o before.out now.out outcome.fault connections number × IsBack world outcome
+      (now.folder ≡ before.folder) × (now.source ≡ before.source)
+      × RanBench o before.out now.out outcome.fault connections number × IsBack world outcome
 
   -- the order was run, or there was no memory to read it
   abbrev pub Ran : Order → Type 0

@@ -6,5 +6,7 @@ use Rattle.sws_top.specs.declared.faults.TopFault.{TopFault}
 use Rattle.sws_top.specs.Texts.{WritesText}
 
 -- the generated script was run on the generated site, and its summary written
-abbrev pub RanBench : {O : Type 0} → SinkWords O → O → O → Option TopFault → (connections number : ℕ) → Type 0
-RanBench o out now fault connections number = WritesText o out now fault (λ text. text ≡ bench_summary number connections)
+abbrev pub RanBench : {O : Type 0} → SinkWords O → O → O → Option TopFault
+    → (connections number : ℕ) → Type 0
+RanBench o out now fault connections number =
+    WritesText o out now fault (λ text. text ≡ bench_summary number connections)

@@ -25,5 +25,7 @@ module _ {F R O : Type 0} (f : FolderWords F) (r : SourceWords R) (o : SinkWords
   RanReplay path shape date journal schedule =
       RunsOnSite f path before.folder now.folder date fault
       ((now.source ≡ before.source) × (now.out ≡ before.out))
-      (λ site. RunsOnInput r schedule shape.cores before.source now.source fault (now.out ≡ before.out)
-      (λ input. WritesText o before.out now.out fault (IsReplayText shape journal schedule site input)))
+      (λ site. RunsOnInput r schedule shape.cores before.source now.source fault
+      (now.out ≡ before.out)
+      (λ input. WritesText o before.out now.out fault
+      (IsReplayText shape journal schedule site input)))

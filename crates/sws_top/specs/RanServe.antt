@@ -32,7 +32,8 @@ ends_of served = filter_map (λ s. s.end) served
 
 -- the summary of what has become of connections: how many ended in each way, and how many bytes were read and written in all
 unfoldable pub summary_of : {L : Type 0} → List (Served L) → List ℕ
-summary_of served = summary (ends_of served) (sum_by (λ s. s.read) served) (sum_by (λ s. s.written) served)
+summary_of served =
+    summary (ends_of served) (sum_by (λ s. s.read) served) (sum_by (λ s. s.written) served)
 
 -- the world was handed back as it was handed in, and nothing was served
 pub record IsBack {W L : Type 0} (world : W) (outcome : Outcome W L) : Type 0 where
@@ -80,15 +81,18 @@ module _ {W L O T G : Type 0} (x : WorldWords W L) (l : LinkWords L) (o : SinkWo
     pub unkept : IsUnkept y
     -- the world that is handed out has the port, and where it failed its count of faults rose; at Ok and World it is handed out
     pub port_is : (last : W) → ended.world ≡ Some last → (x.tells last).port ≡ port
-    pub rose : (last : W) → ended.world ≡ Some last → ended.verdict ≡ verdict.World → Rose (x.faults world) (x.faults last)
+    pub rose : (last : W) → ended.world ≡ Some last → ended.verdict ≡ verdict.World
+        → Rose (x.faults world) (x.faults last)
     pub held : (ended.verdict ≡ verdict.Ok) ⊎ (ended.verdict ≡ verdict.World) → IsSome ended.world
     -- there is a member for each connection, or for each input that the world told where these were fewer
-    pub many : ended.verdict ≢ verdict.Memory → length ended.served.items ≡ total_within (x.tells world).coming connections
+    pub many : ended.verdict ≢ verdict.Memory
+        → length ended.served.items ≡ total_within (x.tells world).coming connections
     pub ends : EndsBy o out out_now outcome.fault ended.served.items ended.verdict
 
   -- what became of the world, on the site
   abbrev pub IsServeEnd : (port connections : ℕ) → Shape → SiteFiles → Type 0
-  IsServeEnd port connections shape site = IsNotReady port connections ⊎ HasServed port connections shape site
+  IsServeEnd port connections shape site = IsNotReady port connections
+      ⊎ HasServed port connections shape site
 
 module _ {F W L O T G : Type 0} (f : FolderWords F) (x : WorldWords W L) (l : LinkWords L) (o : SinkWords O) (y : TalkWords T L G SiteFiles) (folder folder_now : F) (out out_now : O) (world : W) (outcome : Outcome W L) where
   -- on the site, the world was opened and served, and the summary was written

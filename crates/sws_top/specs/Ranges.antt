@@ -22,7 +22,13 @@ pub record IsRunShape (shape : RunShape) : Type 0 where
 
 -- the shape of a run, as the runtime has it
 abbrev pub run_shape : Shape → RunShape
-run_shape shape = record { cores = shape.cores; shards = shape.shards; batch = shape.batch; steal_cost = shape.steal_cost; group = shape.group }
+run_shape shape = record {
+  cores = shape.cores;
+  shards = shape.shards;
+  batch = shape.batch;
+  steal_cost = shape.steal_cost;
+  group = shape.group;
+}
 
 abbrev pub IsShape : Shape → Type 0
 IsShape shape = IsRunShape (run_shape shape)
@@ -31,5 +37,6 @@ IsShape shape = IsRunShape (run_shape shape)
 abbrev pub IsInRange : Order → Type 0
 IsInRange (answer folder date) = IsDate date
 IsInRange (replay folder shape date journal schedule) = IsShape shape × IsDate date
-IsInRange (serve folder port connections shape date) = IsBetween 1 65535 port × IsBetween 1 1024 connections × IsShape shape × IsDate date
+IsInRange (serve folder port connections shape date) = IsBetween 1 65535 port
+    × IsBetween 1 1024 connections × IsShape shape × IsDate date
 IsInRange (bench connections number shape) = IsBetween 1 1024 connections × IsShape shape

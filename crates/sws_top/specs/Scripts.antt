@@ -17,7 +17,8 @@ IsReadOf read (Some text) now = (rest : List ℕ) × (now ≡ Some rest) × (tex
 -- These bytes were read: all that there were, or more than a script may have.
 pub record IsTextRead {R : Type 0} (r : SourceWords R) (source now : R) (read : List ℕ) : Type 0 where
   pub front : IsReadOf read (r.left source) (r.left now)
-  pub whole : (text : List ℕ) → r.left source ≡ Some text → (read ≡ text) ⊎ (byte_limit < length read)
+  pub whole : (text : List ℕ) → r.left source ≡ Some text → (read ≡ text)
+      ⊎ (byte_limit < length read)
   pub no_fault : r.faults now ≡ r.faults source
 
 -- a front was read before the source failed or memory was refused
@@ -41,9 +42,11 @@ module _ {R : Type 0} (r : SourceWords R) (schedule : Bool) (cores : ℕ) (sourc
   LacksInput ReadFault = Rose (r.faults source) (r.faults now)
   LacksInput Memory = r.faults now ≡ r.faults source
   LacksInput (BadScript line) = (r.faults now ≡ r.faults source)
-      × ((text : List ℕ) → r.left source ≡ Some text → IsCause schedule cores text (script_fault.Bad line))
+      × ((text : List ℕ) → r.left source ≡ Some text
+      → IsCause schedule cores text (script_fault.Bad line))
   LacksInput (TooMany line) = (r.faults now ≡ r.faults source)
-      × ((text : List ℕ) → r.left source ≡ Some text → IsCause schedule cores text (script_fault.TooMany line))
+      × ((text : List ℕ) → r.left source ≡ Some text
+      → IsCause schedule cores text (script_fault.TooMany line))
   LacksInput other = ⊥
 
   pub record HasNoInput (fault : TopFault) : Type 0 where

@@ -43,7 +43,8 @@ module _ {F : Type 0} (f : FolderWords F) (path : List ℕ) (folder now : F) whe
       × (OpensAt path (f.tells folder) (f.tells now) ⊎ (f.tells now ≡ f.tells folder))
   LacksSite (SiteFull limit) = (f.faults now ≡ f.faults folder)
       × OpensAt path (f.tells folder) (f.tells now)
-      × ((told : FolderTells) → f.tells folder ≡ Some told → limit_of told.files ≡ Some (refusal_of limit))
+      × ((told : FolderTells) → f.tells folder ≡ Some told
+      → limit_of told.files ≡ Some (refusal_of limit))
   LacksSite other = ⊥
 
   pub record HasNoSite (fault : TopFault) : Type 0 where

@@ -95,11 +95,14 @@ impl<'f, 'p, R: Source, O: Sink> Link for Pipe<'f, 'p, R, O> {
     fn write(&mut self, bytes: &[u8]) -> LinkWrite
         requires some { 0 < length bytes.now }
         requires not_shut { self.old.shut ≡ false }
-        ensures writes { Writes (told_by_pipe R.Source O.Sink) (λ pipe. pipe.shut) (faults_of_pipe R.Source O.Sink) (λ pipe. no_faults)
+        ensures writes { Writes (told_by_pipe R.Source O.Sink) (λ pipe.
+            pipe.shut) (faults_of_pipe R.Source O.Sink) (λ pipe. no_faults)
             self.old bytes.now result self.new }
-        ensures since { (first : PipeValue R O R.Source O.Sink) → StaysPipe R.Source O.Sink first None self.old
+        ensures since { (first : PipeValue R O R.Source O.Sink)
+            → StaysPipe R.Source O.Sink first None self.old
             → StaysPipe R.Source O.Sink first (write_fault result) self.new }
-        ensures whole { WritesAll (O.written self.old.out.now) (O.written self.new.out.now) result bytes.now }
+        ensures whole { WritesAll (O.written self.old.out.now)
+            (O.written self.new.out.now) result bytes.now }
     {
         match self.out.write_all(bytes) {
             Put::Done => LinkWrite::Wrote(bytes.len()),

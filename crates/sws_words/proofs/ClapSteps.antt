@@ -46,12 +46,6 @@ pub flagged : (c : List Rule) (h : Held) (position : ℕ) (word name : Text) (a 
 unfolding walked
 flagged c h position word name a e1 e2 e3 e4 = rw (e1, e2, e3, e4) refl
 
--- a name that no argument has
-pub unknown-fault : (s : Shape) (h : Held) (position : ℕ) (word name : Text) (v : Option Text)
-    → bytes_eq word (45 ∷ 45 ∷ []) ≡ false → long_of word ≡ Some (name, v) → arg_by_long s.rules name ≡ None
-    → turn_fault s [] (idle_at h position) word ≡ kind.UnknownArgument ∷ []
-unknown-fault s h position word name v e1 e2 e3 = rw (e1, e2, e3) refl
-
 -- `--`
 pub dashes : (c : List Rule) (h : Held) (position : ℕ) (word : Text) → bytes_eq word (45 ∷ 45 ∷ []) ≡ true
     → walked c [] (idle_at h position) word ≡ record (idle_at h position) { is_trailing = true }

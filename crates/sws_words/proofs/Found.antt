@@ -61,7 +61,7 @@ row_last name r e (x ∷ rows) none = by_name (bytes_eq x.id name) refl (row_las
     by_name true h later n = absurd (true≢false (ap is_some n))
     by_name false h later n = rw h (later n)
 
-pub has_row_at : (name : Text) (rows : List Row) → has_row name rows ≡ is_some (row_at name rows)
+has_row_at : (name : Text) (rows : List Row) → has_row name rows ≡ is_some (row_at name rows)
 has_row_at name [] = refl
 has_row_at name (x ∷ rows) = by_name (bytes_eq x.id name) refl (has_row_at name rows)
   where

@@ -66,38 +66,38 @@ shape_rows f = five (sym (first_value-rows f (codes "workers"))) (sym (first_val
 abbrev pub answer_parts : Option Text → Option (Option ℕ) → Option Order
 answer_parts o d = option_and_then (λ f. option_map (λ x. answer f x) d) o
 
-pub answer_no_date : (o : Option Text) (d : Option (Option ℕ)) → d ≡ None → answer_parts o d ≡ None
+answer_no_date : (o : Option Text) (d : Option (Option ℕ)) → d ≡ None → answer_parts o d ≡ None
 answer_no_date o d e = none_after (λ f. option_map (λ x. answer f x) d) o (λ f. ap (option_map (λ x. answer f x)) e)
 
-pub answer_all : {f : Text} {x : Option ℕ} (o : Option Text) (d : Option (Option ℕ)) → o ≡ Some f → d ≡ Some x → answer_parts o d ≡ Some (answer f x)
+answer_all : {f : Text} {x : Option ℕ} (o : Option Text) (d : Option (Option ℕ)) → o ≡ Some f → d ≡ Some x → answer_parts o d ≡ Some (answer f x)
 answer_all o d e1 e2 = rw (e1, e2) refl
 
 abbrev pub replay_parts : Option Text → Option orders.Shape → Option (Option ℕ) → Bool → Bool → Option Order
 replay_parts o s d j t = option_and_then (λ f. option_and_then (λ h. option_map (λ x. replay f h x j t) d) s) o
 
-pub replay_no_shape : (o : Option Text) (s : Option orders.Shape) (d : Option (Option ℕ)) (j t : Bool) → s ≡ None → replay_parts o s d j t ≡ None
+replay_no_shape : (o : Option Text) (s : Option orders.Shape) (d : Option (Option ℕ)) (j t : Bool) → s ≡ None → replay_parts o s d j t ≡ None
 replay_no_shape o s d j t e = none_after _ o (λ f. ap (option_and_then (λ h. option_map (λ x. replay f h x j t) d)) e)
 
-pub replay_no_date : (o : Option Text) (s : Option orders.Shape) (d : Option (Option ℕ)) (j t : Bool) → d ≡ None → replay_parts o s d j t ≡ None
+replay_no_date : (o : Option Text) (s : Option orders.Shape) (d : Option (Option ℕ)) (j t : Bool) → d ≡ None → replay_parts o s d j t ≡ None
 replay_no_date o s d j t e = none_after _ o (λ f. none_after _ s (λ h. ap (option_map (λ x. replay f h x j t)) e))
 
-pub replay_all : {f : Text} {h : orders.Shape} {x : Option ℕ} (o : Option Text) (s : Option orders.Shape) (d : Option (Option ℕ)) (j t : Bool)
+replay_all : {f : Text} {h : orders.Shape} {x : Option ℕ} (o : Option Text) (s : Option orders.Shape) (d : Option (Option ℕ)) (j t : Bool)
     → o ≡ Some f → s ≡ Some h → d ≡ Some x → replay_parts o s d j t ≡ Some (replay f h x j t)
 replay_all o s d j t e1 e2 e3 = rw (e1, e2, e3) refl
 
 abbrev pub serve_parts : Option Text → Option ℕ → Option ℕ → Option orders.Shape → Option (Option ℕ) → Option Order
 serve_parts o p n s d = option_and_then (λ f. option_and_then (λ q. option_and_then (λ c. option_and_then (λ h. option_map (λ x. serve f q c h x) d) s) n) p) o
 
-pub serve_no_port : (o : Option Text) (p n : Option ℕ) (s : Option orders.Shape) (d : Option (Option ℕ)) → p ≡ None → serve_parts o p n s d ≡ None
+serve_no_port : (o : Option Text) (p n : Option ℕ) (s : Option orders.Shape) (d : Option (Option ℕ)) → p ≡ None → serve_parts o p n s d ≡ None
 serve_no_port o p n s d e = none_after _ o (λ f. ap (option_and_then (λ q. option_and_then (λ c. option_and_then (λ h. option_map (λ x. serve f q c h x) d) s) n)) e)
 
-pub serve_no_connections : (o : Option Text) (p n : Option ℕ) (s : Option orders.Shape) (d : Option (Option ℕ)) → n ≡ None → serve_parts o p n s d ≡ None
+serve_no_connections : (o : Option Text) (p n : Option ℕ) (s : Option orders.Shape) (d : Option (Option ℕ)) → n ≡ None → serve_parts o p n s d ≡ None
 serve_no_connections o p n s d e = none_after _ o (λ f. none_after _ p (λ q. ap (option_and_then (λ c. option_and_then (λ h. option_map (λ x. serve f q c h x) d) s)) e))
 
-pub serve_no_shape : (o : Option Text) (p n : Option ℕ) (s : Option orders.Shape) (d : Option (Option ℕ)) → s ≡ None → serve_parts o p n s d ≡ None
+serve_no_shape : (o : Option Text) (p n : Option ℕ) (s : Option orders.Shape) (d : Option (Option ℕ)) → s ≡ None → serve_parts o p n s d ≡ None
 serve_no_shape o p n s d e = none_after _ o (λ f. none_after _ p (λ q. none_after _ n (λ c. ap (option_and_then (λ h. option_map (λ x. serve f q c h x) d)) e)))
 
-pub serve_no_date : (o : Option Text) (p n : Option ℕ) (s : Option orders.Shape) (d : Option (Option ℕ)) → d ≡ None → serve_parts o p n s d ≡ None
+serve_no_date : (o : Option Text) (p n : Option ℕ) (s : Option orders.Shape) (d : Option (Option ℕ)) → d ≡ None → serve_parts o p n s d ≡ None
 serve_no_date o p n s d e = none_after _ o (λ f. none_after _ p (λ q. none_after _ n (λ c. none_after _ s (λ h. ap (option_map (λ x. serve f q c h x)) e))))
 
 pub serve_all : {f : Text} {q c : ℕ} {h : orders.Shape} {x : Option ℕ} (o : Option Text) (p n : Option ℕ) (s : Option orders.Shape) (d : Option (Option ℕ))
@@ -107,13 +107,13 @@ serve_all o p n s d e1 e2 e3 e4 e5 = rw (e1, e2, e3, e4, e5) refl
 abbrev pub bench_parts : Option ℕ → Option ℕ → Option orders.Shape → Option Order
 bench_parts n m s = option_and_then (λ c. option_and_then (λ k. option_map (λ h. bench c k h) s) m) n
 
-pub bench_no_number : (n m : Option ℕ) (s : Option orders.Shape) → m ≡ None → bench_parts n m s ≡ None
+bench_no_number : (n m : Option ℕ) (s : Option orders.Shape) → m ≡ None → bench_parts n m s ≡ None
 bench_no_number n m s e = none_after _ n (λ c. ap (option_and_then (λ k. option_map (λ h. bench c k h) s)) e)
 
-pub bench_no_shape : (n m : Option ℕ) (s : Option orders.Shape) → s ≡ None → bench_parts n m s ≡ None
+bench_no_shape : (n m : Option ℕ) (s : Option orders.Shape) → s ≡ None → bench_parts n m s ≡ None
 bench_no_shape n m s e = none_after _ n (λ c. none_after _ m (λ k. ap (option_map (λ h. bench c k h)) e))
 
-pub bench_all : {c k : ℕ} {h : orders.Shape} (n m : Option ℕ) (s : Option orders.Shape) → n ≡ Some c → m ≡ Some k → s ≡ Some h → bench_parts n m s ≡ Some (bench c k h)
+bench_all : {c k : ℕ} {h : orders.Shape} (n m : Option ℕ) (s : Option orders.Shape) → n ≡ Some c → m ≡ Some k → s ≡ Some h → bench_parts n m s ≡ Some (bench c k h)
 bench_all n m s e1 e2 e3 = rw (e1, e2, e3) refl
 
 -- ---- `answer`
@@ -121,7 +121,7 @@ bench_all n m s e1 e2 e3 = rw (e1, e2, e3) refl
 abbrev pub answer_of : Found → Option Order
 answer_of f = answer_parts (first_value f (codes "folder")) (date_in (first_value f (codes "date")))
 
-pub answer_found : (app : App) (words : List Text) (f : Found) → app ≡ answer_app → has_bundle words ≡ false → fault_of app words ≡ [] → rows_of f ≡ matches_of app words
+answer_found : (app : App) (words : List Text) (f : Found) → app ≡ answer_app → has_bundle words ≡ false → fault_of app words ≡ [] → rows_of f ≡ matches_of app words
     → option_and_then answer_by (given_of answer_known words) ≡ answer_of f
 answer_found app words f is clear taken rows =
     taken_order answer_at app answer_app words f is (answer_order words clear) taken rows
@@ -136,7 +136,7 @@ answer_refused app words is clear faults = refused_order answer_at app answer_ap
 abbrev pub replay_of : Found → Bool → Bool → Option Order
 replay_of f journal schedule = replay_parts (first_value f (codes "folder")) (shape_in (first_value f (codes "workers")) (first_value f (codes "shards")) (first_value f (codes "batch")) (first_value f (codes "group")) (first_value f (codes "cost"))) (date_in (first_value f (codes "date"))) journal schedule
 
-pub replay_found : (app : App) (words : List Text) (f : Found) (journal schedule : Bool) → app ≡ replay_app → has_bundle words ≡ false → fault_of app words ≡ [] → rows_of f ≡ matches_of app words
+replay_found : (app : App) (words : List Text) (f : Found) (journal schedule : Bool) → app ≡ replay_app → has_bundle words ≡ false → fault_of app words ≡ [] → rows_of f ≡ matches_of app words
     → (one_text f (codes "journal") ≡ Some (codes "true") → journal ≡ true) → (one_text f (codes "journal") ≡ Some (codes "false") → journal ≡ false)
     → (one_text f (codes "schedule") ≡ Some (codes "true") → schedule ≡ true) → (one_text f (codes "schedule") ≡ Some (codes "false") → schedule ≡ false)
     → option_and_then replay_by (given_of replay_known words) ≡ replay_of f journal schedule
@@ -162,7 +162,7 @@ pub replay_refused : (app : App) (words : List Text) → app ≡ replay_app → 
 replay_refused app words is clear faults = refused_order replay_at app replay_app words is (replay_order words clear) faults
 
 -- where the words are taken, and a part is missing
-pub replay_lacks : (app : App) (words : List Text) (f : Found) → app ≡ replay_app → has_bundle words ≡ false → fault_of app words ≡ [] → rows_of f ≡ matches_of app words
+replay_lacks : (app : App) (words : List Text) (f : Found) → app ≡ replay_app → has_bundle words ≡ false → fault_of app words ≡ [] → rows_of f ≡ matches_of app words
     → ((j t : Bool) → replay_of f j t ≡ None) → option_and_then replay_by (given_of replay_known words) ≡ None
 replay_lacks app words f is clear taken rows lacks =
     taken_order replay_at app replay_app words f is (replay_order words clear) taken rows
@@ -179,7 +179,7 @@ replay_lacks app words f is clear taken rows lacks =
 abbrev pub serve_of : Found → Option Order
 serve_of f = serve_parts (first_value f (codes "folder")) (option_and_then (within 1 65535) (first_value f (codes "port"))) (option_and_then (within 1 1024) (first_value f (codes "connections"))) (shape_in (first_value f (codes "workers")) (first_value f (codes "shards")) (first_value f (codes "batch")) (first_value f (codes "group")) (first_value f (codes "cost"))) (date_in (first_value f (codes "date")))
 
-pub serve_found : (app : App) (words : List Text) (f : Found) → app ≡ serve_app → has_bundle words ≡ false → fault_of app words ≡ [] → rows_of f ≡ matches_of app words
+serve_found : (app : App) (words : List Text) (f : Found) → app ≡ serve_app → has_bundle words ≡ false → fault_of app words ≡ [] → rows_of f ≡ matches_of app words
     → option_and_then serve_by (given_of serve_known words) ≡ serve_of f
 serve_found app words f is clear taken rows =
     taken_order serve_at app serve_app words f is (serve_order words clear) taken rows
@@ -198,7 +198,7 @@ serve_refused app words is clear faults = refused_order serve_at app serve_app w
 abbrev pub bench_of : Found → Option Order
 bench_of f = bench_parts (option_and_then (within 1 1024) (first_value f (codes "connections"))) (option_and_then (within 0 4294967295) (first_value f (codes "number"))) (shape_in (first_value f (codes "workers")) (first_value f (codes "shards")) (first_value f (codes "batch")) (first_value f (codes "group")) (first_value f (codes "cost")))
 
-pub bench_found : (app : App) (words : List Text) (f : Found) → app ≡ bench_app → has_bundle words ≡ false → fault_of app words ≡ [] → rows_of f ≡ matches_of app words
+bench_found : (app : App) (words : List Text) (f : Found) → app ≡ bench_app → has_bundle words ≡ false → fault_of app words ≡ [] → rows_of f ≡ matches_of app words
     → option_and_then bench_by (given_of bench_known words) ≡ bench_of f
 bench_found app words f is clear taken rows =
     taken_order bench_at app bench_app words f is (bench_order words clear) taken rows

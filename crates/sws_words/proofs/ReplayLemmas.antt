@@ -200,7 +200,7 @@ flag_schedule given is =
 abbrev pub flag_of : Option Text → Bool
 flag_of text = option_map_or (λ t. bytes_eq t (codes "true")) text false
 
-pub flag_of_text : (t : Bool) → flag_of (Some (flag_text t)) ≡ t
+flag_of_text : (t : Bool) → flag_of (Some (flag_text t)) ≡ t
 flag_of_text true = refl
 flag_of_text false = refl
 

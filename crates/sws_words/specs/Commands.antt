@@ -16,28 +16,36 @@ flag_rule name = record (new_rule name) { long = Some name; action = Some SetTru
 
 -- a command that has no help option
 abbrev pub bare_app : Text → App
-bare_app name = on_top (λ shape. record shape { no_binary_name = true; disable_help_flag = true }) (new_app name)
+bare_app name = on_top (λ shape. record shape {
+  no_binary_name = true;
+  disable_help_flag = true;
+}) (new_app name)
 
 -- the options that shape a run
 abbrev pub shape_app : App → App
 shape_app app =
-    with_rule (with_rule (with_rule (with_rule (with_rule app (option_rule (codes "workers"))) (option_rule (codes "shards")))
+    with_rule (with_rule (with_rule (with_rule (with_rule app (option_rule (codes "workers")))
+    (option_rule (codes "shards")))
     (option_rule (codes "batch"))) (option_rule (codes "group"))) (option_rule (codes "cost"))
 
 abbrev pub answer_app : App
-answer_app = with_rule (with_rule (bare_app (codes "answer")) (place_rule (codes "folder"))) (option_rule (codes "date"))
+answer_app = with_rule (with_rule (bare_app (codes "answer")) (place_rule (codes "folder")))
+    (option_rule (codes "date"))
 
 abbrev pub replay_app : App
 replay_app =
     with_rule (with_rule (shape_app
-    (with_rule (with_rule (bare_app (codes "replay")) (place_rule (codes "folder"))) (option_rule (codes "date"))))
+    (with_rule (with_rule (bare_app (codes "replay")) (place_rule (codes "folder")))
+    (option_rule (codes "date"))))
     (flag_rule (codes "journal"))) (flag_rule (codes "schedule"))
 
 abbrev pub serve_app : App
 serve_app =
-    shape_app (with_rule (with_rule (with_rule (with_rule (bare_app (codes "serve")) (place_rule (codes "folder")))
+    shape_app (with_rule
+    (with_rule (with_rule (with_rule (bare_app (codes "serve")) (place_rule (codes "folder")))
     (option_rule (codes "port"))) (option_rule (codes "connections"))) (option_rule (codes "date")))
 
 abbrev pub bench_app : App
 bench_app =
-    shape_app (with_rule (with_rule (bare_app (codes "bench")) (place_rule (codes "connections"))) (place_rule (codes "number")))
+    shape_app (with_rule (with_rule (bare_app (codes "bench")) (place_rule (codes "connections")))
+    (place_rule (codes "number")))

@@ -29,16 +29,19 @@ abbrev pub before : Given → Option (List Given) → Option (List Given)
 before given rest = option_map (λ others. given ∷ others) rest
 
 -- an option with the value that stands in its word, or one whose value is the next word
-abbrev pub with_value : Text → Option Text → (Option Text → Option (List Given)) → Option (List Given)
+abbrev pub with_value : Text → Option Text
+    → (Option Text → Option (List Given)) → Option (List Given)
 with_value name (Some value) rest = before (option name value) (rest None)
 with_value name None rest = rest (Some name)
 
 -- a word that begins with a minus sign: `--name` or `--name=value`, where the command knows the name
-abbrev pub by_name : Known → Option (Text × Option Text) → (Option Text → Option (List Given)) → Option (List Given)
+abbrev pub by_name : Known → Option (Text × Option Text)
+    → (Option Text → Option (List Given)) → Option (List Given)
 by_name known None rest = None
 by_name known (Some named) rest =
     if is_among named.0 known.options then with_value named.0 named.1 rest
-    else if is_among named.0 known.flags && not (is_some named.1) then before (flag named.0) (rest None)
+    else if is_among named.0 known.flags && not (is_some named.1) then before
+    (flag named.0) (rest None)
     else None
 
 -- what the words give, one after another; `awaited` is the option of which the next word is the value
@@ -47,7 +50,8 @@ given_by known None [] = Some []
 given_by known (Some name) [] = None
 given_by known None (word ∷ words) =
     if bytes_eq word (codes "--") then Some (map place words)
-    else if looks_like_option word then by_name known (long_of word) (λ awaited. given_by known awaited words)
+    else if looks_like_option word then by_name known (long_of word) (λ awaited.
+    given_by known awaited words)
     else before (place word) (given_by known None words)
 given_by known (Some name) (word ∷ words) =
     if looks_like_option word then None else before (option name word) (given_by known None words)
@@ -77,7 +81,8 @@ places (flag name ∷ others) = places others
 
 abbrev pub value_of : Text → List Given → Option Text
 value_of name [] = None
-value_of name (option given value ∷ others) = if bytes_eq given name then Some value else value_of name others
+value_of name (option given value ∷ others) =
+    if bytes_eq given name then Some value else value_of name others
 value_of name (place word ∷ others) = value_of name others
 value_of name (flag given ∷ others) = value_of name others
 
@@ -89,7 +94,8 @@ has_flag name (option given value ∷ others) = has_flag name others
 
 -- what the words behind a command give, each option and flag at most once
 abbrev pub given_of : Known → List Text → Option (List Given)
-given_of known words = option_and_then (λ given. if each_once given then Some given else None) (given_by known None words)
+given_of known words = option_and_then (λ given. if each_once given then Some given else None)
+    (given_by known None words)
 
 -- ---- what is refused before `clap` sees it
 
@@ -102,4 +108,5 @@ is_bundle (x ∷ y ∷ rest) = (x == 45) && not (y == 45)
 -- a word before `--` is a bundle; the grammar gives nothing for such words
 abbrev pub has_bundle : List Text → Bool
 has_bundle [] = false
-has_bundle (word ∷ words) = if bytes_eq word (45 ∷ 45 ∷ []) then false else if is_bundle word then true else has_bundle words
+has_bundle (word ∷ words) = if bytes_eq word (45 ∷ 45 ∷ []) then false else if is_bundle word then
+    true else has_bundle words

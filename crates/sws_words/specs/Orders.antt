@@ -10,11 +10,14 @@ use Rattle.sws_words.specs.Grammar.{Text, Known, Given, given_of, places, value_
 abbrev pub number_in : Text → Option ℕ
 number_in word =
     let digits = without_leading_plus word in
-    if all_ascii_digits digits && not (length digits == 0) then Some (digits_value 10 digits) else None
+    if all_ascii_digits digits && not (length digits == 0) then Some
+    (digits_value 10 digits) else None
 
 -- a number of a range
 unfoldable pub within : ℕ → ℕ → Text → Option ℕ
-within least most word = option_and_then (λ number. if nat_le least number && nat_le number most then Some number else None) (number_in word)
+within least most word =
+    option_and_then (λ number.
+    if nat_le least number && nat_le number most then Some number else None) (number_in word)
 
 -- the value of an option: none where it isn't given, and nothing where it is given and out of form
 abbrev pub optional : (Text → Option ℕ) → Option Text → Option (Option ℕ)
@@ -51,7 +54,13 @@ shape_in workers shards batch group cost =
     option_and_then (λ parts.
     option_and_then (λ most.
     option_and_then (λ near.
-    option_map (λ steal. record { cores = cores; shards = parts; batch = most; group = near; steal_cost = steal })
+    option_map (λ steal. record {
+      cores = cores;
+      shards = parts;
+      batch = most;
+      group = near;
+      steal_cost = steal;
+    })
     (or_default (within 0 1000000) 20 cost))
     (or_default (within 1 64) 4 group))
     (or_default (within 1 1000) 10 batch))
@@ -59,7 +68,8 @@ shape_in workers shards batch group cost =
     (or_default (within 1 64) 1 workers)
 
 abbrev pub shape_of : List Given → Option Shape
-shape_of given = shape_in (value_of (codes "workers") given) (value_of (codes "shards") given) (value_of (codes "batch") given)
+shape_of given = shape_in (value_of (codes "workers") given) (value_of (codes "shards") given)
+    (value_of (codes "batch") given)
     (value_of (codes "group") given) (value_of (codes "cost") given)
 
 -- a number of seconds, up to the last one of the year 9999
@@ -101,7 +111,8 @@ abbrev pub replay_by : List Given → Option Order
 replay_by given =
     option_and_then (λ folder.
     option_and_then (λ shape.
-    option_map (λ date. replay folder shape date (has_flag (codes "journal") given) (has_flag (codes "schedule") given)) (date_of given))
+    option_map (λ date. replay folder shape date (has_flag (codes "journal") given)
+    (has_flag (codes "schedule") given)) (date_of given))
     (shape_of given))
     (only_place (places given))
 
@@ -142,8 +153,12 @@ bench_by given =
 abbrev pub order_of : List Text → Option Order
 order_of [] = None
 order_of (command ∷ words) =
-    if bytes_eq command (codes "answer") then option_and_then answer_by (given_of answer_known words)
-    else if bytes_eq command (codes "replay") then option_and_then replay_by (given_of replay_known words)
-    else if bytes_eq command (codes "serve") then option_and_then serve_by (given_of serve_known words)
-    else if bytes_eq command (codes "bench") then option_and_then bench_by (given_of bench_known words)
+    if bytes_eq command (codes "answer") then option_and_then answer_by
+    (given_of answer_known words)
+    else if bytes_eq command (codes "replay") then option_and_then replay_by
+    (given_of replay_known words)
+    else if bytes_eq command (codes "serve") then option_and_then serve_by
+    (given_of serve_known words)
+    else if bytes_eq command (codes "bench") then option_and_then bench_by
+    (given_of bench_known words)
     else None

@@ -6,10 +6,18 @@ use Rattle.sws_words.specs.declared.order.Order.TheVariants.{Answer, Replay, Ser
 use Rattle.sws_words.specs.Orders as orders
 
 abbrev pub told_shape : Shape → orders.Shape
-told_shape shape = record { cores = shape.cores; shards = shape.shards; batch = shape.batch; group = shape.group; steal_cost = shape.steal_cost }
+told_shape shape = record {
+  cores = shape.cores;
+  shards = shape.shards;
+  batch = shape.batch;
+  group = shape.group;
+  steal_cost = shape.steal_cost;
+}
 
 abbrev pub told : Order → orders.Order
 told (Answer folder date) = orders.answer (string_bytes folder) date
-told (Replay folder shape date journal schedule) = orders.replay (string_bytes folder) (told_shape shape) date journal schedule
-told (Serve folder port connections shape date) = orders.serve (string_bytes folder) port connections (told_shape shape) date
+told (Replay folder shape date journal schedule) =
+    orders.replay (string_bytes folder) (told_shape shape) date journal schedule
+told (Serve folder port connections shape date) =
+    orders.serve (string_bytes folder) port connections (told_shape shape) date
 told (Bench connections number shape) = orders.bench connections number (told_shape shape)

@@ -10,7 +10,8 @@ use clap::{ArgMatches, Command};
 /// What the words give the command's arguments.
 pub fn parsed<'a>(command: Command<'a>, words: &'a [String]) -> Result<ArgMatches<'a>, WordFault>
     requires { is_simple_and_free (app_of command) ≡ true }
-    ensures taken { IfOk result (λ _. fault_of (app_of command.entry) (map string_bytes words.now) ≡ []) }
+    ensures taken { IfOk result (λ _.
+        fault_of (app_of command.entry) (map string_bytes words.now) ≡ []) }
     ensures rows { IfOk result (λ matches. rows_of (found_of matches)
         ≡ matches_of (app_of command.entry) (map string_bytes words.now)) }
     ensures refused { IfErr result (λ fault. fault ≡ WordFault.Usage

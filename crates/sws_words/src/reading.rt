@@ -27,10 +27,12 @@ fn number_or(
     default: u64,
 ) -> Result<u64, WordFault>
     requires { default ≤ most }
-    ensures read { IfOk result (λ number. or_default (within least most) default (first_value (found_of matches.now) name.now)
+    ensures read { IfOk result (λ number.
+        or_default (within least most) default (first_value (found_of matches.now) name.now)
         ≡ Some number) }
     ensures range { IfOk result (λ number. number ≤ most) }
-    ensures refused { IfErr result (λ _. or_default (within least most) default (first_value (found_of matches.now) name.now)
+    ensures refused { IfErr result (λ _.
+        or_default (within least most) default (first_value (found_of matches.now) name.now)
         ≡ None) }
     ensures usage { IfErr result (λ fault. fault ≡ WordFault.Usage) }
 {
@@ -45,10 +47,12 @@ fn number_or(
 
 /// The number that an argument gives, which must be there.
 fn number_of(matches: &ArgMatches<'_>, name: &str, least: u64, most: u64) -> Result<u64, WordFault>
-    ensures read { IfOk result (λ number. option_and_then (within least most) (first_value (found_of matches.now) name.now)
+    ensures read { IfOk result (λ number.
+        option_and_then (within least most) (first_value (found_of matches.now) name.now)
         ≡ Some number) }
     ensures range { IfOk result (λ number. number ≤ most) }
-    ensures refused { IfErr result (λ _. option_and_then (within least most) (first_value (found_of matches.now) name.now)
+    ensures refused { IfErr result (λ _.
+        option_and_then (within least most) (first_value (found_of matches.now) name.now)
         ≡ None) }
 {
     let Some(word) = matches.get_str(name) else {
@@ -63,9 +67,11 @@ fn number_of(matches: &ArgMatches<'_>, name: &str, least: u64, most: u64) -> Res
 /// The same, of a range that 16 bits hold.
 fn small_of(matches: &ArgMatches<'_>, name: &str, least: u64, most: u64) -> Result<u16, WordFault>
     requires { most < 65536 }
-    ensures read { IfOk result (λ number. option_and_then (within least most) (first_value (found_of matches.now) name.now)
+    ensures read { IfOk result (λ number.
+        option_and_then (within least most) (first_value (found_of matches.now) name.now)
         ≡ Some number) }
-    ensures refused { IfErr result (λ _. option_and_then (within least most) (first_value (found_of matches.now) name.now)
+    ensures refused { IfErr result (λ _.
+        option_and_then (within least most) (first_value (found_of matches.now) name.now)
         ≡ None) }
 {
     let number = number_of(matches, name, least, most)?;
@@ -74,9 +80,11 @@ fn small_of(matches: &ArgMatches<'_>, name: &str, least: u64, most: u64) -> Resu
 
 /// The number of a generated site and script.
 fn seed_of(matches: &ArgMatches<'_>) -> Result<u32, WordFault>
-    ensures read { IfOk result (λ number. option_and_then (within 0 4294967295) (first_value (found_of matches.now) (codes "number"))
+    ensures read { IfOk result (λ number.
+        option_and_then (within 0 4294967295) (first_value (found_of matches.now) (codes "number"))
         ≡ Some number) }
-    ensures refused { IfErr result (λ _. option_and_then (within 0 4294967295) (first_value (found_of matches.now) (codes "number"))
+    ensures refused { IfErr result (λ _.
+        option_and_then (within 0 4294967295) (first_value (found_of matches.now) (codes "number"))
         ≡ None) }
 {
     let number = number_of(matches, "number", 0, 4_294_967_295)?;
@@ -85,8 +93,10 @@ fn seed_of(matches: &ArgMatches<'_>) -> Result<u32, WordFault>
 
 /// The date, where it is given.
 fn date_of(matches: &ArgMatches<'_>) -> Result<Option<u64>, WordFault>
-    ensures read { IfOk result (λ date. date_in (first_value (found_of matches.now) (codes "date")) ≡ Some date) }
-    ensures refused { IfErr result (λ _. date_in (first_value (found_of matches.now) (codes "date")) ≡ None) }
+    ensures read { IfOk result (λ date. date_in (first_value (found_of matches.now) (codes "date"))
+        ≡ Some date) }
+    ensures refused { IfErr result (λ _.
+        date_in (first_value (found_of matches.now) (codes "date")) ≡ None) }
 {
     let Some(word) = matches.get_str("date") else {
         return Ok(None);
@@ -99,11 +109,13 @@ fn date_of(matches: &ArgMatches<'_>) -> Result<Option<u64>, WordFault>
 
 /// The shape of a run, whose options have defaults.
 fn shape_of(matches: &ArgMatches<'_>) -> Result<Shape, WordFault>
-    ensures read { IfOk result (λ shape. shape_in (first_value (found_of matches.now) (codes "workers"))
+    ensures read { IfOk result (λ shape.
+        shape_in (first_value (found_of matches.now) (codes "workers"))
         (first_value (found_of matches.now) (codes "shards")) (first_value (found_of matches.now) (codes "batch"))
         (first_value (found_of matches.now) (codes "group")) (first_value (found_of matches.now) (codes "cost"))
         ≡ Some (told_shape shape)) }
-    ensures refused { IfErr result (λ _. shape_in (first_value (found_of matches.now) (codes "workers"))
+    ensures refused { IfErr result (λ _.
+        shape_in (first_value (found_of matches.now) (codes "workers"))
         (first_value (found_of matches.now) (codes "shards")) (first_value (found_of matches.now) (codes "batch"))
         (first_value (found_of matches.now) (codes "group")) (first_value (found_of matches.now) (codes "cost"))
         ≡ None) }
@@ -124,7 +136,8 @@ fn shape_of(matches: &ArgMatches<'_>) -> Result<Shape, WordFault>
 
 /// The folder's name.
 fn folder_of(alloc: Global, matches: &ArgMatches<'_>) -> Result<String, WordFault>
-    ensures read { IfOk result (λ folder. first_value (found_of matches.now) (codes "folder") ≡ Some (string_bytes folder)) }
+    ensures read { IfOk result (λ folder. first_value (found_of matches.now) (codes "folder")
+        ≡ Some (string_bytes folder)) }
     ensures refused { IfErr result (λ fault. fault ≡ WordFault.Usage
         → first_value (found_of matches.now) (codes "folder") ≡ None) }
 {
@@ -137,7 +150,8 @@ fn folder_of(alloc: Global, matches: &ArgMatches<'_>) -> Result<String, WordFaul
 /// The order of the words behind `answer`.
 fn read_answer(alloc: Global, words: &[String]) -> Result<Order, WordFault>
     requires { have_bundle (map string_bytes words.now) ≡ false }
-    ensures read { IfOk result (λ order. option_and_then answer_by (given_of answer_known (map string_bytes words.now))
+    ensures read { IfOk result (λ order.
+        option_and_then answer_by (given_of answer_known (map string_bytes words.now))
         ≡ Some (told order)) }
     ensures refused { IfErr result (λ fault. fault ≡ WordFault.Usage
         → option_and_then answer_by (given_of answer_known (map string_bytes words.now)) ≡ None) }
@@ -152,7 +166,8 @@ fn read_answer(alloc: Global, words: &[String]) -> Result<Order, WordFault>
 /// The order of the words behind `replay`.
 fn read_replay(alloc: Global, words: &[String]) -> Result<Order, WordFault>
     requires { have_bundle (map string_bytes words.now) ≡ false }
-    ensures read { IfOk result (λ order. option_and_then replay_by (given_of replay_known (map string_bytes words.now))
+    ensures read { IfOk result (λ order.
+        option_and_then replay_by (given_of replay_known (map string_bytes words.now))
         ≡ Some (told order)) }
     ensures refused { IfErr result (λ fault. fault ≡ WordFault.Usage
         → option_and_then replay_by (given_of replay_known (map string_bytes words.now)) ≡ None) }
@@ -176,7 +191,8 @@ fn read_replay(alloc: Global, words: &[String]) -> Result<Order, WordFault>
 /// The order of the words behind `serve`.
 fn read_serve(alloc: Global, words: &[String]) -> Result<Order, WordFault>
     requires { have_bundle (map string_bytes words.now) ≡ false }
-    ensures read { IfOk result (λ order. option_and_then serve_by (given_of serve_known (map string_bytes words.now))
+    ensures read { IfOk result (λ order.
+        option_and_then serve_by (given_of serve_known (map string_bytes words.now))
         ≡ Some (told order)) }
     ensures refused { IfErr result (λ fault. fault ≡ WordFault.Usage
         → option_and_then serve_by (given_of serve_known (map string_bytes words.now)) ≡ None) }
@@ -200,7 +216,8 @@ fn read_serve(alloc: Global, words: &[String]) -> Result<Order, WordFault>
 /// The order of the words behind `bench`.
 fn read_bench(alloc: Global, words: &[String]) -> Result<Order, WordFault>
     requires { have_bundle (map string_bytes words.now) ≡ false }
-    ensures read { IfOk result (λ order. option_and_then bench_by (given_of bench_known (map string_bytes words.now))
+    ensures read { IfOk result (λ order.
+        option_and_then bench_by (given_of bench_known (map string_bytes words.now))
         ≡ Some (told order)) }
     ensures refused { IfErr result (λ fault. fault ≡ WordFault.Usage
         → option_and_then bench_by (given_of bench_known (map string_bytes words.now)) ≡ None) }
@@ -222,8 +239,10 @@ fn read_bench(alloc: Global, words: &[String]) -> Result<Order, WordFault>
 /// `Err(WordFault::Usage)` comes exactly where the words are no command line, `Err(WordFault::Memory)` where there was no
 /// memory.
 pub fn read_words(alloc: Global, words: &[String]) -> Result<Order, WordFault>
-    ensures read { IfOk result (λ order. order_of (map string_bytes words.now) ≡ Some (told order)) }
-    ensures refused { IfErr result (λ fault. fault ≡ WordFault.Usage → order_of (map string_bytes words.now) ≡ None) }
+    ensures read { IfOk result (λ order. order_of (map string_bytes words.now)
+        ≡ Some (told order)) }
+    ensures refused { IfErr result (λ fault. fault ≡ WordFault.Usage
+        → order_of (map string_bytes words.now) ≡ None) }
 {
     let [command, rest @ ..] = words else {
         return Err(WordFault::Usage);

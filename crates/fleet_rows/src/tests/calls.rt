@@ -130,9 +130,12 @@ fn last_of(
     fleet: &Fleet<Tally, u8>,
     passes: &mut Vec<Passes<Tally, u8>>,
 ) -> Result<Passes<Tally, u8>, Fail>
-    requires { AtEach (λ n own. AreFirstPasses (shard_frame ⟦<Tally as Trail>⟧.frame_of) fleet.now n own) passes.old.items }
-    ensures rest { AtEach (λ n own. AreFirstPasses (shard_frame ⟦<Tally as Trail>⟧.frame_of) fleet.now n own) passes.new.items }
-    ensures own { IfOk result (λ own. ArePasses (shard_frame ⟦<Tally as Trail>⟧.frame_of) fleet.now own) }
+    requires { AtEach (λ n own.
+        AreFirstPasses (shard_frame ⟦<Tally as Trail>⟧.frame_of) fleet.now n own) passes.old.items }
+    ensures rest { AtEach (λ n own.
+        AreFirstPasses (shard_frame ⟦<Tally as Trail>⟧.frame_of) fleet.now n own) passes.new.items }
+    ensures own { IfOk result (λ own.
+        ArePasses (shard_frame ⟦<Tally as Trail>⟧.frame_of) fleet.now own) }
     ensures number { IfOk result (λ own. own.number ≡ length passes.new.items) }
     ensures fewer { IfOk result (λ _. length passes.old.items ≡ length passes.new.items + 1) }
 {

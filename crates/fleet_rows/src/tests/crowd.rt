@@ -62,7 +62,8 @@ impl Run {
 
 /// The worker of a core, at rest, and none for a number that is no core's.
 fn worker_for(alloc: Global, setup: &Setup, number: u16) -> Result<Option<Rested<u8>>, Memory>
-    ensures { IfOk result (λ worker. number < (shape_of setup.now).cores → worker ≡ Some (first_rest setup.now number)) }
+    ensures { IfOk result (λ worker. number < (shape_of setup.now).cores
+        → worker ≡ Some (first_rest setup.now number)) }
 {
     if number >= setup.cores() {
         return Ok(None);
@@ -79,7 +80,8 @@ fn callers_of(
     setup: &Setup,
     passes: Vec<Passes<Tally, u8>>,
 ) -> Result<Vec<Seat<Tally, u8>>, Memory>
-    requires are { AreCallers (shard_frame ⟦<Tally as Trail>⟧.frame_of) setup.now fleet.now.passes fleet.now passes.items }
+    requires are { AreCallers (shard_frame ⟦<Tally as Trail>⟧.frame_of) setup.now fleet.now.passes
+        fleet.now passes.items }
     ensures many { IfOk result (λ callers. length callers.items ≡ length passes.items) }
     ensures each { IfOk result (λ callers. AtEach (λ n caller. IsCaller ⟦<Tally as Trail>⟧.frame_of
         ⟦<Tally as Fits<u8>>⟧.fits_under fleet.now n caller.passes caller.worker) callers.items) }
@@ -98,7 +100,8 @@ fn callers_of(
 /// Posts what a caller is to post.
 fn post_all<R: Wait>(rt: &R, fleet: &Fleet<Tally, u8>, own: &mut Passes<Tally, u8>, run: &Run)
     requires colours { run.now.app.colours ≡ colours_of fleet.now.setup }
-    requires row { IsRow (shape_of fleet.now.setup).cores (colours_of fleet.now.setup) fleet.now.setup }
+    requires row { IsRow (shape_of fleet.now.setup).cores
+        (colours_of fleet.now.setup) fleet.now.setup }
     requires own { ArePasses (shard_frame ⟦<Tally as Trail>⟧.frame_of) fleet.now own.old }
     ensures own { ArePasses (shard_frame ⟦<Tally as Trail>⟧.frame_of) fleet.now own.new }
     ensures number { own.new.number ≡ own.old.number }
@@ -125,6 +128,7 @@ fn post_all<R: Wait>(rt: &R, fleet: &Fleet<Tally, u8>, own: &mut Passes<Tally, u
 #[derive(Clone, Copy, PartialEq, Eq)]
 enum Who {
     Others,
+    FirstCore,
     Cores,
     All,
 }
@@ -142,19 +146,20 @@ fn act<R: Wait>(
     requires of_setup { fleet.now.setup ≡ setup.now }
     requires colours { run.now.app.colours ≡ colours_of setup.now }
     requires row { IsRow (shape_of setup.now).cores (colours_of setup.now) setup.now }
-    requires caller { IsCaller ⟦<Tally as Trail>⟧.frame_of ⟦<Tally as Fits<u8>>⟧.fits_under fleet.now number
+    requires caller { IsCaller ⟦<Tally as Trail>⟧.frame_of
+        ⟦<Tally as Fits<u8>>⟧.fits_under fleet.now number
         caller.old.passes caller.old.worker }
     ensures { IsCaller ⟦<Tally as Trail>⟧.frame_of ⟦<Tally as Fits<u8>>⟧.fits_under fleet.now number
         caller.new.passes caller.new.worker }
 {
     if number >= setup.cores() as usize {
-        if who == Who::Cores {
+        if who == Who::Cores || who == Who::FirstCore {
             return;
         }
         post_all(rt, fleet, &mut caller.passes, run);
         return;
     }
-    if who == Who::Others {
+    if who == Who::Others || (who == Who::FirstCore && number != 0) {
         return;
     }
     if fleet.work_at(rt, caller, &run.app, &OpenGate) == Worked::Quiet {
@@ -192,7 +197,8 @@ fn act_all<R: Threads + Wait + Sync>(
             requires of_setup { fleet.now.setup ≡ setup.now }
             requires colours { run.now.app.colours ≡ colours_of setup.now }
             requires row { IsRow (shape_of setup.now).cores (colours_of setup.now) setup.now }
-            requires caller { IsCaller (λ s. tt) (λ f c e l. Unit {0}) fleet.now number caller.now.passes caller.now.worker }
+            requires caller { IsCaller (λ s. tt) (λ f c e l. Unit {0}) fleet.now number
+                caller.now.passes caller.now.worker }
             ensures { IsCaller (λ s. tt) (λ f c e l. Unit {0}) fleet.entry.now number
                 caller.exit.now.passes caller.exit.now.worker }
         { act(rt, fleet, setup, number, caller, run, who) },
@@ -209,13 +215,17 @@ fn part(
     requires of_setup { fleet.now.setup ≡ setup.now }
     requires some { (shape_of setup.now).cores ≤ length callers.old.items }
     requires callers { AtEach (λ n caller. IsCaller ⟦<Tally as Trail>⟧.frame_of
-        ⟦<Tally as Fits<u8>>⟧.fits_under fleet.now n caller.passes caller.worker) callers.old.items }
+        ⟦<Tally as Fits<u8>>⟧.fits_under fleet.now n caller.passes caller.worker)
+        callers.old.items }
     ensures callers { AtEach (λ n caller. IsCaller ⟦<Tally as Trail>⟧.frame_of
-        ⟦<Tally as Fits<u8>>⟧.fits_under fleet.now n caller.passes caller.worker) callers.new.items }
+        ⟦<Tally as Fits<u8>>⟧.fits_under fleet.now n caller.passes caller.worker)
+        callers.new.items }
     ensures cores { IfOk result (λ _. length callers.new.items ≡ (shape_of setup.now).cores) }
-    ensures all { IfOk result (λ outside. length outside.items + length callers.new.items ≡ length callers.old.items) }
+    ensures all { IfOk result (λ outside. length outside.items + length callers.new.items
+        ≡ length callers.old.items) }
     ensures outside { IfOk result (λ outside.
-        AtEach (λ n own. IsOutsider (shard_frame ⟦<Tally as Trail>⟧.frame_of) fleet.now own) outside.items) }
+        AtEach (λ n own. IsOutsider (shard_frame ⟦<Tally as Trail>⟧.frame_of) fleet.now own)
+        outside.items) }
 {
     let cores = setup.cores() as usize;
     let mut outside = Vec::with_capacity(alloc, callers.len())?;
@@ -249,7 +259,8 @@ fn run_once<R: Threads + Wait + Sync>(
     requires app { run.now.app.colours ≡ colours }
     requires row { IsRow (shape_of setup.now).cores colours setup.now }
     requires few { (shape_of setup.now).cores + outsiders ≤ 65535 }
-    ensures free { IfOk result (λ left. AtEach (λ core w. IsTrue (is_free w.phase)) left.weave.workers) }
+    ensures free { IfOk result (λ left.
+        AtEach (λ core w. IsTrue (is_free w.phase)) left.weave.workers) }
     ensures setup { IfOk result (λ left. left.weave.setup ≡ setup.now) }
 {
     let room = Room::new(alloc, setup, outsiders)?;
@@ -306,6 +317,37 @@ fn two_workers_run_what_one_outsider_posted(rt: HostRuntime) -> Result<(), Fail>
         lengths.push(state.log.trail().len())?;
     }
     assert_eq!(rt; lengths.as_slice(), [10, 0, 10].as_slice());
+    Ok(())
+}
+
+/// A machine that refuses a thread leaves a fleet like this.
+#[test]
+fn a_worker_whose_fellow_never_begins_gives_up_and_nothing_is_lost(
+    rt: HostRuntime,
+) -> Result<(), Fail> {
+    let shape = Shape {
+        cores: 2,
+        shards: 1,
+        batch: 1,
+        steal_cost: 1_000_000,
+        group: 2,
+    };
+    let setup = setup_of(&shape, 3, 10)?;
+    let run = Run::new(3, 30, 0, None);
+    let room = Room::new(rt.alloc(), &setup, 1)?;
+    let (fleet, passes) = fleet_of(rt.alloc(), &setup, 3, 1)?;
+    let mut callers = callers_of(rt.alloc(), &fleet, &setup, passes)?;
+    act_all(&rt, &fleet, &setup, &mut callers, &run, Who::Others);
+    act_all(&rt, &fleet, &setup, &mut callers, &run, Who::FirstCore);
+    assert_eq!(rt; run.app.ran.load(Ordering::SeqCst), 20);
+    act_all(&rt, &fleet, &setup, &mut callers, &run, Who::Cores);
+    assert_eq!(rt; run.app.ran.load(Ordering::SeqCst), 20);
+    assert_eq!(rt; run.quiet.load(Ordering::SeqCst), 0);
+    let outside = part(rt.alloc(), &fleet, &setup, &mut callers)?;
+    let mut weave = fleet.close_seats(rt.alloc(), room, callers, outside)?;
+    assert_eq!(rt; weave.drain(&rt, &run.app), Drained::Empty);
+    assert_eq!(rt; run.app.ran.load(Ordering::SeqCst), 30);
+    drop(weave.into_parts());
     Ok(())
 }
 

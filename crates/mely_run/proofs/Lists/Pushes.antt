@@ -15,7 +15,7 @@ use Rattle.mely_run.proofs.Lists.Elements.{all_weaker, all_push}
 
 -- ---- numbers that increase
 
-pub increases_push : (ns : List ℕ) (n : ℕ) → Increases ns → AllByRecursion (λ k. k < n) ns → Increases (ns ++ n ∷ [])
+increases_push : (ns : List ℕ) (n : ℕ) → Increases ns → AllByRecursion (λ k. k < n) ns → Increases (ns ++ n ∷ [])
 increases_push [] n up below = (tt, tt)
 increases_push (k ∷ ns) n up below = (all_push (λ other. k < other) ns n up.0 below.0, increases_push ns n up.1 below.1)
 
@@ -47,7 +47,7 @@ pub entering_other : (since : ℕ → ℕ) (colour now k : ℕ) → eqb k colour
 entering_other since colour now k e = cond-false (eqb k colour) now (since k) e
 
 -- where no mark is of the colour, nothing else changes
-pub times_other : (since : ℕ → ℕ) (c : Colour) (now : ℕ) (xs : List Mark) → mark_of c xs ≡ None → times (entering since c.0 now) xs ≡ times since xs
+times_other : (since : ℕ → ℕ) (c : Colour) (now : ℕ) (xs : List Mark) → mark_of c xs ≡ None → times (entering since c.0 now) xs ≡ times since xs
 times_other since c now [] none = refl
 times_other since c now (x ∷ xs) none =
     let parts = none-parts c x xs none in
@@ -55,7 +55,7 @@ times_other since c now (x ∷ xs) none =
     let rest = times_other since c now xs parts.1 in
     λ i. head i ∷ rest i
 
-pub listed_other : (since : ℕ → ℕ) (c : Colour) (now : ℕ) (xs : List Mark) → mark_of c xs ≡ None → map (listed (entering since c.0 now)) xs ≡ map (listed since) xs
+listed_other : (since : ℕ → ℕ) (c : Colour) (now : ℕ) (xs : List Mark) → mark_of c xs ≡ None → map (listed (entering since c.0 now)) xs ≡ map (listed since) xs
 listed_other since c now [] none = refl
 listed_other since c now (x ∷ xs) none =
     let parts = none-parts c x xs none in

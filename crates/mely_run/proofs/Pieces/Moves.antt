@@ -26,7 +26,7 @@ regroup lane more shards worker workers =
     (IsPermutation-append_right lane ((more ++ shards) ++ (worker ++ workers)) (worker ++ ((more ++ shards) ++ workers)) (past (more ++ shards) worker workers))
 
 -- the place of a colour in its shard is the colour's
-pub own_place : {S P : Type 0} (has : Contents S P) (c : Colour) → IsOwn has c → colour_at has.setup has.shard (0 + place has.setup c) ≡ c
+own_place : {S P : Type 0} (has : Contents S P) (c : Colour) → IsOwn has c → colour_at has.setup has.shard (0 + place has.setup c) ≡ c
 own_place has c own =
     let at : 0 + place has.setup c ≡ place has.setup c = omega arith in
     ap (λ (n : ℕ). colour_at has.setup has.shard n) at

@@ -38,7 +38,7 @@ use Rattle.mely_weave.proofs.WeaveWords.{step_on_side}
 use Rattle.mely_weave.proofs.RunLaws.{step_stays}
 
 -- a step met want of memory or it didn't
-pub want_or_not : (made : Made) → (made ≡ names.Memory) ⊎ (made ≢ names.Memory)
+want_or_not : (made : Made) → (made ≡ names.Memory) ⊎ (made ≢ names.Memory)
 want_or_not (names.Pushed colour core) = inr (λ e. cc)
 want_or_not (names.Told colour core found) = inr (λ e. cc)
 want_or_not (names.Registered colour) = inr (λ e. cc)

@@ -86,18 +86,21 @@ impl App for Paying {
 
     ghost serves = { λ app frame. 0 < app.colours };
 
-    ghost runs = { λ app before event load after puts. after.coins + sum_by (λ way. unwrap_or way.1 0) (carried_by puts) ≡ before.coins + unwrap_or load 0 };
+    ghost runs = { λ app before event load after puts. after.coins + sum_by (λ way.
+        unwrap_or way.1 0) (carried_by puts) ≡ before.coins + unwrap_or load 0 };
 
     fn run(&self, state: &mut Purse, event: Event, load: Option<u64>, outs: &mut Outs<u64>)
         requires serves { 0 < self.now.colours }
         requires room { 1 ≤ state.old.log.spare }
         requires empty { outs.old ≡ [] }
-        ensures ran { state.new.coins + sum_by (λ way. unwrap_or way.1 0) (carried_by outs.new) ≡ state.old.coins + unwrap_or load 0 }
+        ensures ran { state.new.coins + sum_by (λ way. unwrap_or way.1 0) (carried_by outs.new)
+            ≡ state.old.coins + unwrap_or load 0 }
         ensures colour { state.new.log.colour ≡ state.old.log.colour }
         ensures frame { Unit {0} }
         ensures trail { state.new.log.events ≡ state.old.log.events ++ event ∷ [] }
         ensures spare { state.old.log.spare ≡ state.new.log.spare + 1 }
-        ensures puts { AllByRecursion (FitsIn self.now.colours 1 (λ colour event load. Unit {0})) outs.new }
+        ensures puts { AllByRecursion
+            (FitsIn self.now.colours 1 (λ colour event load. Unit {0})) outs.new }
         ensures few { length outs.new ≤ 2 }
     {
         state.log.push(event);

@@ -26,7 +26,8 @@ impl<'a, S: Fits<P>, P, A: Access<S, P>> Access<S, P> for Lent<'a, A> {
 
     ghost keeps = { λ a b. b.inner.ghost_name ≡ a.inner.ghost_name };
 
-    ghost registers = { λ a c event load answer b. A.registers a.inner.now c event load answer b.inner.now };
+    ghost registers = { λ a c event load answer b.
+        A.registers a.inner.now c event load answer b.inner.now };
 
     ghost takes = { λ a c answer b. A.takes a.inner.now c answer b.inner.now };
 
@@ -38,7 +39,8 @@ impl<'a, S: Fits<P>, P, A: Access<S, P>> Access<S, P> for Lent<'a, A> {
 
     ghost pops = { λ a answer b. A.pops a.inner.now answer b.inner.now };
 
-    ghost retells = { λ a core colour started worth found b. A.retells a.inner.now core colour started worth found b.inner.now };
+    ghost retells = { λ a core colour started worth found b.
+        A.retells a.inner.now core colour started worth found b.inner.now };
 
     ghost picks = { λ a core answer b. A.picks a.inner.now core answer b.inner.now };
 
@@ -52,12 +54,17 @@ impl<'a, S: Fits<P>, P, A: Access<S, P>> Access<S, P> for Lent<'a, A> {
         event: Event,
         load: Option<P>,
     ) -> Result<Registered, Unregistered<P>>
-        requires fits { FitsSetup S.fits_under (A.setup_of self.old.inner.now) (A.frame_of self.old.inner.now) (colour, event, load) }
-        ensures called { A.registers self.old.inner.now colour event load result self.new.inner.now }
-        ensures answer { MatchResult result (NamesCore (A.setup_of self.old.inner.now)) (GivesBack event load) }
-        ensures stays { Stays (λ a. A.setup_of a.inner.now) (λ a. A.core_of a.inner.now) (λ a. A.frame_of a.inner.now) self.old self.new }
+        requires fits { FitsSetup S.fits_under (A.setup_of self.old.inner.now)
+            (A.frame_of self.old.inner.now) (colour, event, load) }
+        ensures called { A.registers self.old.inner.now colour event load
+            result self.new.inner.now }
+        ensures answer { MatchResult result (NamesCore (A.setup_of self.old.inner.now))
+            (GivesBack event load) }
+        ensures stays { Stays (λ a. A.setup_of a.inner.now) (λ a. A.core_of a.inner.now) (λ a.
+            A.frame_of a.inner.now) self.old self.new }
         ensures kept { self.new.inner.ghost_name ≡ self.old.inner.ghost_name }
-        ensures owed { StillOwes (λ a c core count trail. A.owes a.inner.now c core count trail) self.old self.new }
+        ensures owed { StillOwes (λ a c core count trail.
+            A.owes a.inner.now c core count trail) self.old self.new }
     {
         self.inner.register(colour, event, load)
     }
@@ -67,9 +74,11 @@ impl<'a, S: Fits<P>, P, A: Access<S, P>> Access<S, P> for Lent<'a, A> {
     }
 
     fn finish(&mut self, turn: Turn<S, P>) -> After
-        requires spent { IsSpent S.Trail (λ a. A.setup_of a.inner.now) (λ a. A.frame_of a.inner.now) (λ a c core count trail. A.owes a.inner.now c core count trail) self.old turn }
+        requires spent { IsSpent S.Trail (λ a. A.setup_of a.inner.now) (λ a. A.frame_of a.inner.now)
+            (λ a c core count trail. A.owes a.inner.now c core count trail) self.old turn }
         ensures called { A.finishes self.old.inner.now turn result self.new.inner.now }
-        ensures stays { Stays (λ a. A.setup_of a.inner.now) (λ a. A.core_of a.inner.now) (λ a. A.frame_of a.inner.now) self.old self.new }
+        ensures stays { Stays (λ a. A.setup_of a.inner.now) (λ a. A.core_of a.inner.now) (λ a.
+            A.frame_of a.inner.now) self.old self.new }
         ensures kept { self.new.inner.ghost_name ≡ self.old.inner.ghost_name }
     {
         self.inner.finish(turn)
@@ -108,7 +117,8 @@ pub(super) fn step_lent<S: Fits<P> + Drop, P: Drop, A: Access<S, P>, R: App<Stat
 ) -> Made
     requires may { MayStepAt S.Trail S.fits_under A.Access access.old worker.old }
     requires served { AppServesAt A.Access R.App access.old app.now }
-    ensures steps { Steps A.Access R.App app.now access.old worker.old result access.new worker.new }
+    ensures steps { Steps A.Access R.App app.now access.old worker.old result
+        access.new worker.new }
     ensures may { MayStepAt S.Trail S.fits_under A.Access access.new worker.new }
     ensures same { Stays A.setup_of A.core_of A.frame_of access.old access.new }
 {

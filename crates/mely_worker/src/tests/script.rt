@@ -75,7 +75,8 @@ fn turn_of(alloc: Global, colour: Colour) -> Option<Turn<Ledger, u8>>
     ensures colour { IfSome result (λ turn. turn.colour ≡ colour) }
     ensures core { IfSome result (λ turn. turn.core ≡ 0) }
     ensures count { IfSome result (λ turn. turn.count ≡ 2) }
-    ensures events { IfSome result (λ turn. turn.events ≡ (record { handler = 1; arg = 5 }, Some 7) ∷ (record { handler = 0; arg = 6 }, None) ∷ []) }
+    ensures events { IfSome result (λ turn. turn.events ≡ (record { handler = 1; arg = 5 }, Some 7)
+        ∷ (record { handler = 0; arg = 6 }, None) ∷ []) }
     ensures of_colour { IfSome result (λ turn. turn.state.log.colour ≡ colour) }
     ensures room { IfSome result (λ turn. 2 ≤ turn.state.log.spare) }
 {
@@ -132,7 +133,8 @@ impl Access<Ledger, u8> for Script {
     ) -> Result<Registered, Unregistered<u8>>
         ensures called { Unit {0} }
         ensures answer { MatchResult result (NamesCore self.old.setup) (GivesBack event load) }
-        ensures stays { Stays {F = Unit {0}} (λ (a : Script). a.setup) (λ a. 0) (λ a. tt) self.old self.new }
+        ensures stays { Stays {F = Unit {0}} (λ (a : Script). a.setup) (λ a. 0) (λ a.
+            tt) self.old self.new }
         ensures kept { Unit {0} }
         ensures owed { Unit {0} }
     {
@@ -166,7 +168,8 @@ impl Access<Ledger, u8> for Script {
 
     fn finish(&mut self, turn: Turn<Ledger, u8>) -> After
         ensures called { Unit {0} }
-        ensures stays { Stays {F = Unit {0}} (λ (a : Script). a.setup) (λ a. 0) (λ a. tt) self.old self.new }
+        ensures stays { Stays {F = Unit {0}} (λ (a : Script). a.setup) (λ a. 0) (λ a.
+            tt) self.old self.new }
         ensures kept { Unit {0} }
     {
         let state = turn.into_state();

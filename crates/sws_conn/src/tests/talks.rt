@@ -87,7 +87,8 @@ fn serve_next(
 ) -> Option<(End, Vec<u8>)>
     requires more { (mem_world_tells world.old).accepted < (mem_world_tells world.old).total }
     ensures total { (mem_world_tells world.new).total ≡ (mem_world_tells world.old).total }
-    ensures counted { (mem_world_tells world.new).accepted ≤ (mem_world_tells world.old).accepted + 1 }
+    ensures counted { (mem_world_tells world.new).accepted
+        ≤ (mem_world_tells world.old).accepted + 1 }
 {
     match world.accept() {
         Accepted::Link(link) => match serve_one(rt.alloc(), site, link) {

@@ -104,7 +104,7 @@ path_opened c (event ∷ later) is from = (
   path_opened (scripted_step c) later (step_opened c.standing.pending c refl is) from.1,
 )
 
-pub path_opens : (site : SiteFiles) (script : Script) → IsWithinLimits site.files → (later : List Handler) × (path_of site script ≡ open_link ∷ later) × HasNoOpening later
+path_opens : (site : SiteFiles) (script : Script) → IsWithinLimits site.files → (later : List Handler) × (path_of site script ≡ open_link ∷ later) × HasNoOpening later
 unfolding IsPathBy
 path_opens site script limits = by_path (path_of site script) (path_of-path site script limits)
   where

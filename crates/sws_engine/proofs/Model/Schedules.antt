@@ -19,7 +19,7 @@ both : (a b : Bool) → (not a && b) ≡ true → (a ≡ false) × (b ≡ true)
 both true b h = cc
 both false b h = (refl, h)
 
-pub busy_at : {X : Type 0} (rules : Rules) (act : Acts X) (k : ℕ) (m : Machine X) → busy_below rules act k m ≡ true → (n : ℕ) → n < k → is_quiet (rounds rules act n m) ≡ false
+busy_at : {X : Type 0} (rules : Rules) (act : Acts X) (k : ℕ) (m : Machine X) → busy_below rules act k m ≡ true → (n : ℕ) → n < k → is_quiet (rounds rules act n m) ≡ false
 busy_at rules act zero m h n low = absurd (omega (arith, low))
 busy_at rules act (suc k) m h n low =
     let parts = both (is_quiet (rounds rules act k m)) (busy_below rules act k m) h in
