@@ -8,12 +8,12 @@ printed, and the status is then 1.
 
 The journal is what `sws replay FOLDER --journal` writes behind its transcript; a transcript in front is skipped. With `--entries`
 only so many entries are changed, from the first on; the default is 1,000. With `--long N` it doesn't compare, but makes a legal
-journal of N entries, and prints how long PROGRAM takes over it and the memory that it holds.
+journal of N entries, and prints how long PROGRAM takes over it, in seconds on a processor (the least of three runs), and the memory that it
+holds.
 """
 
 import os
 import random
-import resource
 import subprocess
 import sys
 import tempfile
@@ -212,43 +212,54 @@ def long_journal(setup, entries, path):
             colours = [c for c in range(2 + connections) if c % shards == shard]
             owner = {c: c % workers for c in colours}
             left = per[shard]
-            while left >= 4:
+            while left:
                 colour = chance.choice(colours)
-                want = min(chance.randint(1, batch), left - 3)
+                want = chance.randint(1, batch)
+                steals = 1 if colour >= 1 and workers > 1 and want * WEIGHTS[5] > cost else 0
+                if left - want - 2 - steals < 3:
+                    steals = 0
+                    want = next(n for n in range(min(batch, left - 2), 0, -1) if left - n - 2 in (0, 3, 4, 5) or left - n - 2 > 5)
                 for _ in range(want):
                     out.write(b"reg %d 5 0 %d\n" % (colour, chance.randrange(workers)))
-                left -= want
-                if colour >= 1 and workers > 1 and want * 80 > cost and left > 2:
+                if steals:
                     to = (owner[colour] + 1) % workers
                     out.write(b"steal %d %d %d\n" % (colour, owner[colour], to))
                     owner[colour] = to
-                    left -= 1
                 out.write(b"take %d %d %d\nfin %d %d %d\n" % (colour, owner[colour], want, colour, owner[colour], want))
-                left -= 2
-            if left == 3:
-                colour = colours[0]
-                out.write(b"reg %d 5 0 0\ntake %d %d 1\nfin %d %d 1\n" % ((colour,) + (colour, owner[colour]) * 2))
-                left = 0
-            for _ in range(left):
-                raise SystemExit(f"choose another number of entries: {left} are left over")
+                left -= want + 2 + steals
+
+
+def held_by(pid):
+    """The most memory that a process has held so far, in KiB."""
+    try:
+        with open(f"/proc/{pid}/status") as status:
+            return next((int(line.split()[1]) for line in status if line.startswith("VmHWM")), 0)
+    except OSError:
+        return 0
 
 
 def measure(program, setup, entries):
-    """Prints how long the program takes over a long journal, and the memory that it holds."""
+    """Prints how long the program takes over a long journal on a processor, and the memory that it holds."""
     with tempfile.NamedTemporaryFile() as file:
         long_journal(setup, entries, file.name)
         size = os.path.getsize(file.name)
-        best = None
+        best, held = None, 0
         for _ in range(3):
             with open(file.name, "rb") as journal:
-                begin = time.perf_counter()
-                run = subprocess.run([program, *map(str, setup)], stdin=journal, capture_output=True)
-                took = time.perf_counter() - begin
-            if run.returncode != 0:
-                raise SystemExit(run.stderr.decode())
+                child = subprocess.Popen([program, *map(str, setup)], stdin=journal, stdout=subprocess.DEVNULL)
+                pid = 0
+                while pid == 0:
+                    held = held_by(child.pid) or held
+                    time.sleep(0.02)
+                    pid, status, usage = os.wait4(child.pid, os.WNOHANG)
+            if status != 0:
+                raise SystemExit(f"the program ended with {status}")
+            took = usage.ru_utime + usage.ru_stime
             best = took if best is None else min(best, took)
-        held = resource.getrusage(resource.RUSAGE_CHILDREN).ru_maxrss
-        print(f"{entries} entries, {size} bytes: {best:.2f} s, {entries / best / 1e6:.2f} million entries a second, {held} KiB held")
+        print(
+            f"{entries} entries, {size} bytes: {best:.2f} s, {entries / best / 1e6:.2f} million entries a second, "
+            f"{held} KiB held"
+        )
 
 
 def main():

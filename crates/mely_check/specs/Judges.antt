@@ -26,7 +26,8 @@ pub record AreBlank (setup : Setup) (colours : ℕ) (watches : List Watch) : Typ
   pub each : (c : Colour) (watch : Watch) → slice_get watches c.0 ≡ Some watch
       → Tells setup (account_of setup [] c) watch
 
--- the entry is of a colour that there is, of the last of so many shards, and by what is kept of the colour it may follow
+-- the entry is of a colour that there is, of the last of so many shards, and by what is kept of
+-- the colour it may follow
 pub record MayHear (judge : Judge) (begun : ℕ) (entry : Entry) : Type 0 where
   pub watch : Watch
   pub there : slice_get judge.watches.items (colour_of entry).0 ≡ Some watch
@@ -35,8 +36,12 @@ pub record MayHear (judge : Judge) (begun : ℕ) (entry : Entry) : Type 0 where
 
 -- two reports in one
 abbrev pub plus : CoreReport → CoreReport → CoreReport
-plus report more = record { ran = report.ran + more.ran; stolen_in = report.stolen_in
-    + more.stolen_in; stolen_out = report.stolen_out + more.stolen_out }
+plus report more = record {
+  ran = report.ran + more.ran;
+  stolen_in = report.stolen_in
+      + more.stolen_in;
+  stolen_out = report.stolen_out + more.stolen_out;
+}
 
 -- the sums fit their types
 pub record HasRoom (report : CoreReport) (ran stolen_in stolen_out : ℕ) : Type 0 where
@@ -77,12 +82,13 @@ pub record Adds (before : Judge) (entry : Entry) (after : Judge) : Type 0 where
   pub setup : after.setup ≡ before.setup
   pub fault : after.fault ≡ None
 
--- what comes of an entry: nothing behind a fault; else it is heard, or where it isn't allowed its line is the fault
+-- what comes of an entry: nothing behind a fault; else it is heard, or where it isn't allowed its
+-- line is the fault
 abbrev pub Hears : Judge → ℕ → ℕ → Entry → Judge → Type 0
 Hears before begun line entry after =
     MatchOption before.fault
     ((MayHear before begun entry × Adds before entry after)
-        ⊎ ((MayHear before begun entry → ⊥) × (after ≡ record before { fault = Some line })))
+    ⊎ ((MayHear before begun entry → ⊥) × (after ≡ record before { fault = Some line })))
     (λ _. after ≡ before)
 
 -- what comes of a line

@@ -66,7 +66,8 @@ HasRead setup (Some whole) None reader = ⊥
 HasRead setup (Some whole) (Some left) reader = (text : List ℕ) × (whole ≡ text ++ left)
     × Knows setup text reader
 
--- what is said of a text that ends here: it is accepted with the sums that were counted, or what is wrong
+-- what is said of a text that ends here: it is accepted with the sums that were counted, or what
+-- is wrong
 abbrev pub Ends : Setup → List ℕ → Reader → Result (Unit {0}) CheckFault → Type 0
 Ends setup text reader (Ok _) = (report : Report) → report.entries ≡ reader.place.entries
     → report.cores.items ≡ reader.judge.cores.items → IsAccepted setup text report

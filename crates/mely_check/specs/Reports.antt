@@ -31,8 +31,11 @@ loses core (Steal colour from to) = from == core
 
 -- what a core ran and stole, by these entries
 abbrev pub core_report : ℕ → List Entry → CoreReport
-core_report core entries = record { ran = sum_by (finished_by core) entries;
-    stolen_in = count_by (steals core) entries; stolen_out = count_by (loses core) entries }
+core_report core entries = record {
+  ran = sum_by (finished_by core) entries;
+  stolen_in = count_by (steals core) entries;
+  stolen_out = count_by (loses core) entries;
+}
 
 -- the entries of all shards
 abbrev pub all_entries : List (List Entry) → List Entry

@@ -14,8 +14,9 @@ use Rattle.mely_check.specs.declared.fault.CheckFault.{CheckFault}
 use Rattle.mely_check.specs.declared.fault.CheckFault.TheVariants.{Read, BadJournal, NotLegal, NotDrained, Memory}
 use Rattle.mely_check.specs.declared.report.Report.{Report}
 
--- The line of this number, counted from 1, has the first entry that isn't allowed: what stands before it is legal, and the entry is of
--- another shard's colour or may not follow the entries of its shard before it.
+-- The line of this number, counted from 1, has the first entry that isn't allowed: what stands
+-- before it is legal, and the entry is of another shard's colour or may not follow the entries of
+-- its shard before it.
 pub record IsFirstIllegal (setup : Setup) (histories : List (List Entry)) (line : ℕ) : Type 0 where
   pub before : List (List Entry)
   pub front : List Entry
@@ -91,10 +92,11 @@ IsAcceptance found = MatchResult found (λ _. ⊤) (λ fault. (fault ≡ Read) �
 abbrev pub Accepts : Setup → Option (List ℕ) → Result Report CheckFault → Type 0
 Accepts setup told found =
     (text : List ℕ) (histories : List (List Entry)) → told ≡ Some text
-        → IsDrainedRun setup histories text
+    → IsDrainedRun setup histories text
     → IsAcceptance found
 
--- an answer is this one of the three faults of a text, unless the reading failed or there was no memory
+-- an answer is this one of the three faults of a text, unless the reading failed or there was no
+-- memory
 abbrev pub IsFault : CheckFault → Result Report CheckFault → Type 0
 IsFault fault found = MatchResult found (λ _. ⊥) (λ other. (other ≡ fault)
     ⊎ (other ≡ Read) ⊎ (other ≡ Memory))
@@ -112,4 +114,4 @@ AgreesWith (Err Memory) found = ⊤
 abbrev pub IsExact : Setup → Option (List ℕ) → Result Report CheckFault → Type 0
 IsExact setup told found =
     (text : List ℕ) (right : Result Report CheckFault) → told ≡ Some text → Says setup text right
-        → AgreesWith right found
+    → AgreesWith right found

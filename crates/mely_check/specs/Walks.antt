@@ -8,7 +8,8 @@ use Rattle.mely_check.specs.declared.place.Place.{Place}
 use Rattle.mely_check.specs.declared.reading.Line.{Line}
 use Rattle.mely_check.specs.declared.reading.Line.TheVariants as said_line
 
--- no shard has begun; or these were read whole, and of the last one these entries, with so many still to come
+-- no shard has begun; or these were read whole, and of the last one these entries, with so many
+-- still to come
 pub data Walk : Type 0 where
   start : Walk
   within : List (List Entry) → List Entry → ℕ → Walk
@@ -76,7 +77,8 @@ pub record MayStand (lines : List (List ℕ)) (line : List ℕ) (before : Place)
   pub goes : GoesOn at.walk said next.walk
   pub fit : IsFitLine said
 
--- a line was counted: then so many shards have begun, so many entries are left, and so many there were
+-- a line was counted: then so many shards have begun, so many entries are left, and so many there
+-- were
 pub record Moves (before after : Place) (begun left entries : ℕ) : Type 0 where
   pub shards : after.shards ≡ before.shards
   pub begun_is : after.begun ≡ begun
