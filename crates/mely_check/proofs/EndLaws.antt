@@ -1,6 +1,6 @@
 -- What is found of a text that has ended.
-use Rattle.std.proofs.Common.{◌≡◌, ℕ, zero, suc, ◌+◌, ◌<◌, ◌≤◌, ◌%◌, ◌⊎◌, List, [], ◌∷◌, ◌++◌, Option, None, Some, Result, Ok, Err, length, get_or, take, drop, refl, sym, ap, subst, ◌∙◌, arith, inl, inr, append-nil, length-append}
-use Rattle.std.specs.Prelude.{MatchOption, unwrap_or, ⊤}
+use Rattle.std.proofs.Common.{◌≡◌, ℕ, zero, suc, ◌+◌, ◌<◌, ◌≤◌, ◌%◌, List, [], ◌∷◌, ◌++◌, Option, None, Some, Result, Ok, Err, length, get_or, take, drop, refl, sym, ap, subst, ◌∙◌, arith, inl, inr, append-nil, length-append}
+use Rattle.std.specs.Prelude.{MatchOption, unwrap_or}
 use Rattle.std.specs.List.{slice_get, AllByRecursion}
 use Rattle.std.proofs.lemmas.Bool.{cases_eq, cases_lt, cases_order}
 use Rattle.std.proofs.Math.Seq.{take-append_seam}
@@ -9,7 +9,7 @@ use Rattle.mely_event.specs.declared.colour.Colour.{Colour}
 use Rattle.mely_event.specs.declared.event.Event.{Event}
 use Rattle.mely_history.specs.Setup.{shape_of, colours_of}
 use Rattle.mely_history.specs.Entries.{colour_of}
-use Rattle.mely_history.specs.History.{registered_of, begun_of, ended_of, queued_of}
+use Rattle.mely_history.specs.History.{registered_of, begun_of}
 use Rattle.mely_history.specs.Account.{Account, account_of}
 use Rattle.mely_history.specs.Legal.{IsAllowed, IsLegal, IsOfShard, AreLegal, IsDrained, IsDrainedOf}
 use Rattle.mely_history.specs.declared.setup.Setup.{Setup}
@@ -18,13 +18,12 @@ use Rattle.mely_history.proofs.AccountLaws.{account-other}
 use Rattle.mely_history.proofs.LegalLaws.{over_legal}
 use Rattle.mely_history.proofs.LegalAccounts.{begun_within, ended_within}
 use Rattle.mely_history.proofs.BeyondLaws.{none_registered}
-use Rattle.sws_report.specs.Journal.{journal, AreSmall}
 use Rattle.sws_report.proofs.JournalUnique.{journal-unique}
-use Rattle.mely_check.specs.Journals.{IsFitHistory, AreFit, IsRead, IsFirstOutside, joined, entries_in, line_limit}
-use Rattle.mely_check.specs.Reports.{all_entries, AreReports, IsReport}
-use Rattle.mely_check.specs.Verdicts.{IsFirstIllegal, IsLeastLeft, IsJournalOf, IsDrainedRun, IsAccepted, IsNotLegal, IsNotDrained, Says, Finds, IsAcceptance, Accepts, AgreesWith, IsExact}
-use Rattle.mely_check.specs.Walks.{Walk, walk_text, histories_in, IsAt}
-use Rattle.mely_check.specs.Judges.{Judges, LegalFrom, own_of, IsWatched, IsJudged, AreDrainedBelow, IsDrainedAt, IsOpenAt}
+use Rattle.mely_check.specs.Journals.{IsFirstOutside, joined, entries_in}
+use Rattle.mely_check.specs.Reports.{all_entries, AreReports}
+use Rattle.mely_check.specs.Verdicts.{IsFirstIllegal, IsLeastLeft, IsJournalOf, IsDrainedRun, IsNotLegal, IsNotDrained, Says, Finds, IsAcceptance, Accepts, AgreesWith, IsExact}
+use Rattle.mely_check.specs.Walks.{histories_in}
+use Rattle.mely_check.specs.Judges.{Judges, own_of, IsWatched, AreDrainedBelow, IsOpenAt}
 use Rattle.mely_check.specs.Readers.{Knows, Ends}
 use Rattle.mely_check.specs.declared.fault.CheckFault.{CheckFault}
 use Rattle.mely_check.specs.declared.fault.CheckFault.TheVariants.{Read, BadJournal, NotLegal, NotDrained, Memory}

@@ -16,7 +16,7 @@ use Rattle.mely_check.specs.declared.place.Place.{Place}
 use Rattle.mely_check.specs.declared.report.Report.{Report}
 use Rattle.mely_check.specs.declared.reading.Line.{Line}
 use Rattle.mely_check.specs.declared.reading.Line.TheVariants as said_line
-use Rattle.mely_check.specs.Walks.{Walk, start, within, walk_text, begun_in, left_in, count_in, histories_in, IsFitWalk, IsFitLine, IsAt, GoesOn, MayStand, MayNotStand}
+use Rattle.mely_check.specs.Walks.{Walk, start, within, walk_text, begun_in, left_in, count_in, histories_in, IsFitWalk, IsFitLine, IsAt, GoesOn, MayStand}
 use Rattle.mely_check.specs.Readers.{Stands, Refuses, Stops, IsHeard, Knows, HasRead}
 use Rattle.mely_check.specs.declared.fault.CheckFault.{CheckFault}
 use Rattle.mely_check.specs.declared.fault.CheckFault.TheVariants.{Read, BadJournal, NotLegal, NotDrained, Memory}

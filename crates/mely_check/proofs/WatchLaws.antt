@@ -1,14 +1,13 @@
 -- What is kept of a colour allows an entry exactly where it may follow, and goes on behind it.
-use Rattle.std.proofs.Common.{◌≡◌, ◌≢◌, ℕ, ◌+◌, ◌-◌, ◌*◌, ◌^◌, ◌<◌, ◌≤◌, List, [], ◌∷◌, ◌++◌, Option, None, Some, length, take, drop, min, map, sum, unwrap_or, refl, sym, ap, subst, ◌∙◌, arith, length-append, length-drop}
+use Rattle.std.proofs.Common.{◌≡◌, ℕ, ◌+◌, ◌-◌, ◌^◌, ◌<◌, ◌≤◌, List, [], ◌∷◌, ◌++◌, Option, None, Some, length, drop, min, map, sum, unwrap_or, refl, sym, ap, subst, ◌∙◌, arith, length-append, length-drop}
 use Rattle.std.specs.List.{sum_by}
 use Rattle.std.proofs.lemmas.List.{length-map, drop-map, map-append, drop-append-le, drop-drop, nil_from_length}
 use Rattle.std.proofs.lemmas.List.Sums.{sum_by_push, sum_by-take-drop, sum-map}
 use Rattle.mely_event.specs.declared.colour.Colour.{Colour}
-use Rattle.mely_event.specs.declared.event.Event.{Event}
 use Rattle.mely_history.specs.Setup.{shape_of}
 use Rattle.mely_history.specs.Entries.{colour_of}
-use Rattle.mely_history.specs.History.{weight, registered_of, begun_of, ended_of, queued_of, owner_of, last_take, worth_of}
-use Rattle.mely_history.specs.Legal.{IsAllowed, IsReady, IsDrainedOf}
+use Rattle.mely_history.specs.History.{weight, queued_of}
+use Rattle.mely_history.specs.Legal.{IsAllowed, IsDrainedOf}
 use Rattle.mely_history.specs.Account.{Account, account_of, next_account}
 use Rattle.mely_history.specs.declared.setup.Setup.{Setup}
 use Rattle.mely_history.specs.declared.entry.Entry.{Entry}

@@ -1,5 +1,5 @@
 -- What each core ran and stole.
-use Rattle.std.specs.Prelude.{◌≡◌, ◌==◌, ℕ, ◌+◌, ◌<◌, Bool, false, List, [], ◌∷◌, ◌++◌, length, Some, sum_by, count_by, slice_get, if◌then◌else◌}
+use Rattle.std.specs.Prelude.{◌≡◌, ◌==◌, ℕ, ◌<◌, Bool, false, List, length, Some, sum_by, count_by, slice_get, if◌then◌else◌}
 use Rattle.std.specs.List.{flat_map}
 use Rattle.mely_history.specs.Setup.{shape_of}
 use Rattle.mely_history.specs.declared.setup.Setup.{Setup}

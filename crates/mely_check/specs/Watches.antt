@@ -1,6 +1,5 @@
 -- Within the crate: what is kept of one colour.
-use Rattle.std.specs.Prelude.{◌≡◌, ◌≢◌, ◌<◌, ◌≤◌, ◌+◌, ◌-◌, ◌*◌, ◌^◌, ℕ, List, [], ◌∷◌, ◌++◌, Option, None, Some, length, take, drop, min, map, sum}
-use Rattle.mely_event.specs.declared.colour.Colour.{Colour}
+use Rattle.std.specs.Prelude.{◌≡◌, ◌≢◌, ◌<◌, ◌≤◌, ◌+◌, ◌-◌, ◌*◌, ◌^◌, ℕ, [], ◌∷◌, ◌++◌, Option, None, Some, length, take, drop, min, map, sum}
 use Rattle.mely_history.specs.Setup.{shape_of, pinned_of}
 use Rattle.mely_history.specs.History.{weight}
 use Rattle.mely_history.specs.Legal.{MayRegister}

@@ -1,5 +1,5 @@
-use Rattle.std.proofs.Common.{ℕ, ◌∙◌, subst}
-use Rattle.std.proofs.Common.{Ok, Err}
+use Rattle.std.proofs.Common.{◌∙◌}
+use Rattle.std.proofs.Common.{Err}
 use Rattle.mely_check.proofs.ReaderLaws.{piece_read, piece_refused, text_ended}
 use Rattle.mely_check.proofs.checking.find.Goals as goal
 

@@ -1,4 +1,3 @@
-use Rattle.std.proofs.Common.{rules}
 use Rattle.mely_check.proofs.StepLaws.{none_step}
 use Rattle.mely_check.proofs.place.Place.step.Goals as goal
 

@@ -1,5 +1,3 @@
-use Rattle.std.proofs.Common.{ap, sym, subst, refl, List, ℕ, length, ◌<◌, arith}
-use Rattle.mely_check.specs.Journals.{HasNoFeed}
 use Rattle.mely_check.proofs.ReaderLaws.{knows_new}
 use Rattle.mely_check.proofs.reader.Reader.new.Goals as goal
 

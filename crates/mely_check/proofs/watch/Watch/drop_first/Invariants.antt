@@ -1,4 +1,4 @@
-use Rattle.std.proofs.Common.{◌≡◌, ◌+◌, ◌-◌, take, drop, sum}
+use Rattle.std.proofs.Common.{◌≡◌, ◌-◌, take, drop, sum}
 use Rattle.mely_check.proofs.watch.Watch.drop_first.Given as goal
 
 abbrev pub invariant-loop : goal.invariant-loop
