@@ -7,5 +7,5 @@
 mod passing;
 mod tally;
 
-pub use passing::Passing;
+pub use passing::{Passing, pass_on};
 pub use tally::{Tally, blank, blank_states};

@@ -46,13 +46,27 @@ impl App for Passing {
         ensures few { length outs.new ≤ 2 }
     {
         self.ran.fetch_add(1, Ordering::Relaxed);
-        let drawn = state.run(event, self.rounds);
-        if event.arg > 0 && self.colours > 0 {
-            let next = Event {
-                handler: 0,
-                arg: event.arg - 1,
-            };
-            outs.put(Colour(drawn % self.colours), next, None);
-        }
+        pass_on(state, event, self.colours, self.rounds, outs);
+    }
+}
+
+/// Passes an event on to one of so many colours, which the state draws by so many rounds, until its
+/// argument has come down to 0. It is counted nowhere.
+pub fn pass_on(state: &mut Tally, event: Event, colours: u16, rounds: u32, outs: &mut Outs<u8>)
+    requires room { 1 ≤ state.old.log.spare }
+    requires empty { outs.old ≡ [] }
+    ensures colour { state.new.log.colour ≡ state.old.log.colour }
+    ensures trail { state.new.log.events ≡ state.old.log.events ++ event ∷ [] }
+    ensures spare { state.old.log.spare ≡ state.new.log.spare + 1 }
+    ensures puts { AllByRecursion (FitsIn colours 1 (λ colour event load. Unit {0})) outs.new }
+    ensures few { length outs.new ≤ 2 }
+{
+    let drawn = state.run(event, rounds);
+    if event.arg > 0 && colours > 0 {
+        let next = Event {
+            handler: 0,
+            arg: event.arg - 1,
+        };
+        outs.put(Colour(drawn % colours), next, None);
     }
 }

@@ -30,6 +30,7 @@ impl<S, P> Cell<S, P> {
     ghost use Rattle.mely_queue.specs.Waiting.{finished_by};
 
     /// Adds an event at the back, and answers what a registration found.
+    #[inline(always)]
     pub(crate) fn register(
         &mut self,
         event: Event,

@@ -162,6 +162,8 @@ impl<S: Fits<P>, P> Shard<S, P> {
     ///
     /// There was no memory, or the history is at its limit: the event and its load are handed back,
     /// and the shard is as it was, but for a greater spare.
+    // Inlined, its answer isn't written out for the caller to read again.
+    #[inline(always)]
     pub fn register(
         &mut self,
         colour: Colour,

@@ -73,6 +73,8 @@ impl Delivery {
 
     /// Makes the one call on the access that delivers it, and answers whether it arrived: a mark entered the
     /// chain, a report found its mark. With nothing to deliver it makes no call, and answers true.
+    // Inlined, the mark isn't copied for the call.
+    #[inline(always)]
     pub fn deliver<S: Fits<P>, P, A: Access<S, P>>(self, access: &mut A) -> bool
         requires may { MayDeliver (A.setup_of access.old) self }
         ensures delivers { Delivers A.Access access.old self result access.new }

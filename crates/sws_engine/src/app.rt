@@ -80,7 +80,7 @@ impl<W: World + Drop, T: Talk<W::Link> + Drop> App for Sws<W, T> {
         T::a_run_serves();
         let total = self.total;
         state.trail.push_reserved(event);
-        match &mut state.role {
+        match &mut *state.role {
             Role::Polling(desk) => run_desk(desk, event, load, outs),
             Role::Accepting => run_accepting(total, event, load, outs),
             Role::Talking(seat) => serve(seat, state.colour.0 - 2, event, load, outs),

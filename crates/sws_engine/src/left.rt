@@ -62,7 +62,7 @@ fn keep_state<W: World + Drop, T: Talk<W::Link> + Drop>(
         role,
     } = place;
     left.trails.push_reserved(trail);
-    match role {
+    match Box::into_inner(role) {
         Role::Polling(desk) => {
             let Desk {
                 waiting: _,

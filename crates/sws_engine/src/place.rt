@@ -48,7 +48,9 @@ pub struct Place<W: World, T: Talk<W::Link>> {
     pub(crate) trail: Vec<Event>,
     pub(crate) hall: T::Hall,
     pub(crate) first: Snapshot<W>,
-    pub(crate) role: Role<W, T>,
+
+    /// It lies in a box, since a state is moved out of its shard and back in each turn.
+    pub(crate) role: Box<Role<W, T>>,
 }
 
 impl<W: World, T: Talk<W::Link>> Model for Place<W, T> {

@@ -32,45 +32,29 @@ fn fresh_place<W: World + Drop, T: Talk<W::Link> + Drop>(
     ensures { IfOk result (λ place.
         IsFirstPlace T.Talk world.now (T.contents_of hall) number place) }
 {
-    let trail = Vec::new(alloc);
-    let first = Snapshot::of(world);
-    match number {
-        0 => {
-            let waiting = Waiting::new(alloc, total)?;
-            Ok(Place {
-                colour: Colour(number),
-                trail,
-                hall,
-                first,
-                role: Role::Polling(Desk {
-                    waiting,
-                    last: false,
-                    resting: None,
-                }),
-            })
-        }
-        1 => Ok(Place {
-            colour: Colour(number),
-            trail,
-            hall,
-            first,
-            role: Role::Accepting,
+    let role = match number {
+        0 => Role::Polling(Desk {
+            waiting: Waiting::new(alloc, total)?,
+            last: false,
+            resting: None,
         }),
-        _ => {
-            let talk = T::make(alloc, hall)?;
-            Ok(Place {
-                colour: Colour(number),
-                trail,
-                hall,
-                first,
-                role: Role::Talking(Seat {
-                    talk,
-                    next: Next::Open,
-                    stray: None,
-                }),
-            })
-        }
-    }
+        1 => Role::Accepting,
+        _ => Role::Talking(Seat {
+            talk: T::make(alloc, hall)?,
+            next: Next::Open,
+            stray: None,
+        }),
+    };
+    let Ok(role) = Box::new(alloc, role) else {
+        return Err(Memory);
+    };
+    Ok(Place {
+        colour: Colour(number),
+        trail: Vec::new(alloc),
+        hall,
+        first: Snapshot::of(world),
+        role,
+    })
 }
 
 /// The states of all colours at first, in ascending order: colours 0 and 1, and one for each connection.

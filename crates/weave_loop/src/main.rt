@@ -5,6 +5,7 @@
 //! were. It is the smallest program that uses a weave, and what a weave is measured by.
 #![tactic(auto)]
 
+mod hops;
 mod steps;
 
 use std::process::ExitCode;

@@ -2,14 +2,14 @@
 ghost use Rattle.std.specs.Prelude.{◌≡◌, ◌<◌, ◌≤◌, ℕ, IfOk, IfSome};
 ghost use Rattle.weave_loop.specs.Loops.{IsLoop};
 
-use counting_app::{Passing, Tally, blank_states};
+use crate::hops::Hops;
+use counting_app::{Tally, blank_states};
 use mely_event::{Colour, Event, Handlers, Memory, Trail};
 use mely_history::{Setup, Shape};
 use mely_weave::Weave;
 use mely_worker::Made;
 use std::alloc::Global;
 use std::sync::Wait;
-use std::sync::atomic::AtomicU64;
 
 /// Four cores in one group, four shards, batches of 10; a colour is worth a steal where three events wait.
 fn setup_of(colours: u16) -> Option<Setup>
@@ -61,7 +61,7 @@ fn post_all(weave: &mut Weave<Tally, u8>, colours: u16, passes: u16) -> bool
 }
 
 /// Lets the cores make a step in turn until so many events were run, and answers how many steps and events that were.
-fn make_steps(weave: &mut Weave<Tally, u8>, app: &Passing, events: u32) -> (u32, u32)
+fn make_steps(weave: &mut Weave<Tally, u8>, app: &Hops, events: u32) -> (u32, u32)
     requires { IsLoop app.now.colours weave.old.setup }
     ensures { IsLoop app.now.colours weave.new.setup }
 {
@@ -82,11 +82,7 @@ fn make_steps(weave: &mut Weave<Tally, u8>, app: &Passing, events: u32) -> (u32,
 /// nothing for want of memory, or where there is no colour.
 pub fn run<R: Wait>(rt: &R, alloc: Global, colours: u16, passes: u16) -> Option<(u32, u32)> {
     let mut weave = make_weave(alloc, colours)?;
-    let app = Passing {
-        colours,
-        rounds: 0,
-        ran: AtomicU64::new(0),
-    };
+    let app = Hops { colours };
     let is_posted = post_all(&mut weave, colours, passes);
     let events = u32::from(colours) * (u32::from(passes) + 1);
     let went = make_steps(&mut weave, &app, events);

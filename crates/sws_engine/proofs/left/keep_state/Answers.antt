@@ -4,10 +4,10 @@ use Rattle.sws_engine.proofs.LeftLaws.{keep_quiet}
 use Rattle.sws_engine.proofs.left.keep_state.Goals as goal
 
 pub returns-in-Some-clause-keeps : goal.returns-in-Some-clause-keeps
-returns-in-Some-clause-keeps g c = keep_quiet g.T.Talk c.args.place _ c.place.inside.trail c.args.left.now _ (sym (ap (λ p. p.role) c.place.view_is) ∙ c.in-Polling.is) refl (ap (λ p. p.trail) c.place.view_is) refl (ap (λ o. or_else o c.args.left.now.world) (sym c.in-Some.is)) c.push_reserved.ensures.items c.push_reserved.ensures.len c.push_reserved.ensures.capacity
+returns-in-Some-clause-keeps g c = keep_quiet g.T.Talk c.args.place _ c.place.inside.trail c.args.left.now _ (sym (ap (λ p. p.role) c.place.view_is) ∙ (sym c.into_inner.ensures ∙ c.in-Polling.is)) refl (ap (λ p. p.trail) c.place.view_is) refl (ap (λ o. or_else o c.args.left.now.world) (sym c.in-Some.is)) c.push_reserved.ensures.items c.push_reserved.ensures.len c.push_reserved.ensures.capacity
 
 pub returns-in-Polling-clause-keeps : goal.returns-in-Polling-clause-keeps
-returns-in-Polling-clause-keeps g c = keep_quiet g.T.Talk c.args.place _ c.place.inside.trail c.args.left.now _ (sym (ap (λ p. p.role) c.place.view_is) ∙ c.in-Polling.is) refl (ap (λ p. p.trail) c.place.view_is) refl (ap (λ o. or_else o c.args.left.now.world) (sym c.in-None.is)) c.push_reserved.ensures.items c.push_reserved.ensures.len c.push_reserved.ensures.capacity
+returns-in-Polling-clause-keeps g c = keep_quiet g.T.Talk c.args.place _ c.place.inside.trail c.args.left.now _ (sym (ap (λ p. p.role) c.place.view_is) ∙ (sym c.into_inner.ensures ∙ c.in-Polling.is)) refl (ap (λ p. p.trail) c.place.view_is) refl (ap (λ o. or_else o c.args.left.now.world) (sym c.in-None.is)) c.push_reserved.ensures.items c.push_reserved.ensures.len c.push_reserved.ensures.capacity
 
 pub returns-in-Accepting-clause-keeps : goal.returns-in-Accepting-clause-keeps
-returns-in-Accepting-clause-keeps g c = keep_quiet g.T.Talk c.args.place _ c.place.inside.trail c.args.left.now _ (sym (ap (λ p. p.role) c.place.view_is) ∙ c.in-Accepting.is) refl (ap (λ p. p.trail) c.place.view_is) refl refl c.push_reserved.ensures.items c.push_reserved.ensures.len c.push_reserved.ensures.capacity
+returns-in-Accepting-clause-keeps g c = keep_quiet g.T.Talk c.args.place _ c.place.inside.trail c.args.left.now _ (sym (ap (λ p. p.role) c.place.view_is) ∙ (sym c.into_inner.ensures ∙ c.in-Accepting.is)) refl (ap (λ p. p.trail) c.place.view_is) refl refl c.push_reserved.ensures.items c.push_reserved.ensures.len c.push_reserved.ensures.capacity

@@ -1,4 +1,4 @@
-use Rattle.std.proofs.Common.{sym, subst}
+use Rattle.std.proofs.Common.{sym, subst, ◌∙◌}
 use Rattle.sws_engine.specs.declared.place.Place.TheInside.{Inside}
 use Rattle.sws_engine.specs.Kept.{IsKept}
 use Rattle.sws_engine.specs.PlaceShown.{shown}
@@ -8,26 +8,26 @@ use Rattle.sws_engine.proofs.app.SwsApp.run.Goals.{in-Polling, in-Accepting, in-
 
 pub run_desk-requires-clause-few : goal.run_desk-requires-clause-few
 run_desk-requires-clause-few g c =
-    let stands = desk_of g.W.World g.W.Link.Link g.T.Talk _ _ _ _ _ _ c.in-Polling.is c.state.invariant in
+    let stands = desk_of g.W.World g.W.Link.Link g.T.Talk _ _ _ _ _ _ (sym c.deref_mut.ensures.value ∙ c.in-Polling.is) c.state.invariant in
     desk_few g.W.World g.W.Link.Link _ _ (first_few g.W.World _ _ c.args.self.now.total c.state.view_is c.requires.serves) stands.1
 
 pub run_desk-requires-clause-known : goal.run_desk-requires-clause-known
 run_desk-requires-clause-known g c =
-    let stands = desk_of g.W.World g.W.Link.Link g.T.Talk _ _ _ _ _ _ c.in-Polling.is c.state.invariant in
+    let stands = desk_of g.W.World g.W.Link.Link g.T.Talk _ _ _ _ _ _ (sym c.deref_mut.ensures.value ∙ c.in-Polling.is) c.state.invariant in
     desk_known g.W.World g.W.Link.Link _ _ c.args.event c.args.load _ stands.0 stands.1 (fit_of g.W.World g.W.Link.Link _ _ c.args.event c.args.load c.state.view_is c.requires.fits)
 
 pub invariant_of-state : goal.invariant_of-state
-invariant_of-state g c = elim c.match-state.branch [
+invariant_of-state g c = elim c.match-deref_mut.branch [
   | in-Polling w ↦
-      let stands = desk_of g.W.World g.W.Link.Link g.T.Talk _ _ _ _ _ _ w.in-Polling.is c.state.invariant in
+      let stands = desk_of g.W.World g.W.Link.Link g.T.Talk _ _ _ _ _ _ (sym c.deref_mut.ensures.value ∙ w.in-Polling.is) c.state.invariant in
       let fit = fit_of g.W.World g.W.Link.Link _ _ c.args.event c.args.load c.state.view_is c.requires.fits in
       let after = desk_after g.W.World g.W.Link.Link _ _ c.args.event c.args.load _ _ _ stands.0 stands.1 fit w.run_desk.ensures.runs w.run_desk.ensures.room in
       subst (λ (i : Inside _ _ _ _ _). IsKept g.W.World g.W.Link.Link g.T.Talk (shown g.T.Talk.contents_of i)) (sym w.state-inside-is) (stands.0, after.0)
   | in-Accepting w ↦
-      let one = accept_of g.W.World g.W.Link.Link g.T.Talk _ _ _ _ _ w.in-Accepting.is c.state.invariant in
+      let one = accept_of g.W.World g.W.Link.Link g.T.Talk _ _ _ _ _ (sym c.deref_mut.ensures.value ∙ w.in-Accepting.is) c.state.invariant in
       subst (λ (i : Inside _ _ _ _ _). IsKept g.W.World g.W.Link.Link g.T.Talk (shown g.T.Talk.contents_of i)) (sym w.state-inside-is) (accept_back g.W.World g.W.Link.Link g.T.Talk _ _ _ _ _ w.in-Accepting.is one)
   | in-Talking w ↦
-      let stands = seat_of g.W.World g.W.Link.Link g.T.Talk _ _ _ _ _ _ w.in-Talking.is c.state.invariant in
+      let stands = seat_of g.W.World g.W.Link.Link g.T.Talk _ _ _ _ _ _ (sym c.deref_mut.ensures.value ∙ w.in-Talking.is) c.state.invariant in
       let fit = fit_of g.W.World g.W.Link.Link _ _ c.args.event c.args.load c.state.view_is c.requires.fits in
       let after = seat_after g.W.World g.W.Link.Link _ g.T.Talk _ _ c.args.event c.args.load _ _ _ _ stands.0 stands.1 fit w.serve.ensures.runs w.serve.ensures.next w.serve.ensures.once in
       subst (λ (i : Inside _ _ _ _ _). IsKept g.W.World g.W.Link.Link g.T.Talk (shown g.T.Talk.contents_of i)) (sym w.state-inside-is)
@@ -35,40 +35,40 @@ invariant_of-state g c = elim c.match-state.branch [
 ]
 
 pub returns-clause-puts : goal.returns-clause-puts
-returns-clause-puts g c = elim c.match-state.branch [
+returns-clause-puts g c = elim c.match-deref_mut.branch [
   | in-Polling w ↦
-      let stands = desk_of g.W.World g.W.Link.Link g.T.Talk _ _ _ _ _ _ w.in-Polling.is c.state.invariant in
+      let stands = desk_of g.W.World g.W.Link.Link g.T.Talk _ _ _ _ _ _ (sym c.deref_mut.ensures.value ∙ w.in-Polling.is) c.state.invariant in
       let fit = fit_of g.W.World g.W.Link.Link _ _ c.args.event c.args.load c.state.view_is c.requires.fits in
       let after = desk_after g.W.World g.W.Link.Link _ _ c.args.event c.args.load _ _ _ stands.0 stands.1 fit w.run_desk.ensures.runs w.run_desk.ensures.room in
       (puts_of g.W.World g.W.Link.Link _ _ c.args.self.now.total _ _ c.state.view_is c.requires.serves w.outs-is after.1).0
   | in-Accepting w ↦
-      let one = accept_of g.W.World g.W.Link.Link g.T.Talk _ _ _ _ _ w.in-Accepting.is c.state.invariant in
+      let one = accept_of g.W.World g.W.Link.Link g.T.Talk _ _ _ _ _ (sym c.deref_mut.ensures.value ∙ w.in-Accepting.is) c.state.invariant in
       let fit = fit_of g.W.World g.W.Link.Link _ _ c.args.event c.args.load c.state.view_is c.requires.fits in
       let total = first_total g.W.World _ _ c.args.self.now.total c.state.view_is c.requires.serves in
       let after = accept_after_of g.W.World g.W.Link.Link _ c.args.self.now.total total _ c.args.event c.args.load _ one fit w.run_accepting.ensures.runs in
       (puts_of g.W.World g.W.Link.Link _ _ c.args.self.now.total _ _ c.state.view_is c.requires.serves w.outs-is after).0
   | in-Talking w ↦
-      let stands = seat_of g.W.World g.W.Link.Link g.T.Talk _ _ _ _ _ _ w.in-Talking.is c.state.invariant in
+      let stands = seat_of g.W.World g.W.Link.Link g.T.Talk _ _ _ _ _ _ (sym c.deref_mut.ensures.value ∙ w.in-Talking.is) c.state.invariant in
       let fit = fit_of g.W.World g.W.Link.Link _ _ c.args.event c.args.load c.state.view_is c.requires.fits in
       let after = seat_after g.W.World g.W.Link.Link _ g.T.Talk _ _ c.args.event c.args.load _ _ _ _ stands.0 stands.1 fit w.serve.ensures.runs w.serve.ensures.next w.serve.ensures.once in
       (puts_of g.W.World g.W.Link.Link _ _ c.args.self.now.total _ _ c.state.view_is c.requires.serves w.outs-is after.1).0
 ]
 
 pub returns-clause-few : goal.returns-clause-few
-returns-clause-few g c = elim c.match-state.branch [
+returns-clause-few g c = elim c.match-deref_mut.branch [
   | in-Polling w ↦
-      let stands = desk_of g.W.World g.W.Link.Link g.T.Talk _ _ _ _ _ _ w.in-Polling.is c.state.invariant in
+      let stands = desk_of g.W.World g.W.Link.Link g.T.Talk _ _ _ _ _ _ (sym c.deref_mut.ensures.value ∙ w.in-Polling.is) c.state.invariant in
       let fit = fit_of g.W.World g.W.Link.Link _ _ c.args.event c.args.load c.state.view_is c.requires.fits in
       let after = desk_after g.W.World g.W.Link.Link _ _ c.args.event c.args.load _ _ _ stands.0 stands.1 fit w.run_desk.ensures.runs w.run_desk.ensures.room in
       (puts_of g.W.World g.W.Link.Link _ _ c.args.self.now.total _ _ c.state.view_is c.requires.serves w.outs-is after.1).1
   | in-Accepting w ↦
-      let one = accept_of g.W.World g.W.Link.Link g.T.Talk _ _ _ _ _ w.in-Accepting.is c.state.invariant in
+      let one = accept_of g.W.World g.W.Link.Link g.T.Talk _ _ _ _ _ (sym c.deref_mut.ensures.value ∙ w.in-Accepting.is) c.state.invariant in
       let fit = fit_of g.W.World g.W.Link.Link _ _ c.args.event c.args.load c.state.view_is c.requires.fits in
       let total = first_total g.W.World _ _ c.args.self.now.total c.state.view_is c.requires.serves in
       let after = accept_after_of g.W.World g.W.Link.Link _ c.args.self.now.total total _ c.args.event c.args.load _ one fit w.run_accepting.ensures.runs in
       (puts_of g.W.World g.W.Link.Link _ _ c.args.self.now.total _ _ c.state.view_is c.requires.serves w.outs-is after).1
   | in-Talking w ↦
-      let stands = seat_of g.W.World g.W.Link.Link g.T.Talk _ _ _ _ _ _ w.in-Talking.is c.state.invariant in
+      let stands = seat_of g.W.World g.W.Link.Link g.T.Talk _ _ _ _ _ _ (sym c.deref_mut.ensures.value ∙ w.in-Talking.is) c.state.invariant in
       let fit = fit_of g.W.World g.W.Link.Link _ _ c.args.event c.args.load c.state.view_is c.requires.fits in
       let after = seat_after g.W.World g.W.Link.Link _ g.T.Talk _ _ c.args.event c.args.load _ _ _ _ stands.0 stands.1 fit w.serve.ensures.runs w.serve.ensures.next w.serve.ensures.once in
       (puts_of g.W.World g.W.Link.Link _ _ c.args.self.now.total _ _ c.state.view_is c.requires.serves w.outs-is after.1).1
