@@ -157,7 +157,10 @@ fn a_run_that_is_refused_memory_leaves_fronts(rt: HostRuntime) {
         };
         assert!(rt; whole.starts_with(held.link.written()));
         if ended.verdict == Verdict::Ok {
-            assert_eq!(rt; (served.end, held.link.written()), (Some(End::Done), whole.as_slice()));
+            assert_eq!(rt;
+                (served.end, held.link.written()),
+                (Some(End::Done), whole.as_slice())
+            );
         }
     }
 }

@@ -142,7 +142,11 @@ fn hostile_bytes_are_answered_as_any_others(rt: HostRuntime) -> Result<(), Fail>
         put(&mut input, end, 1)?;
         let said = say(&rt, "answer S", input)?;
         assert_eq!(rt; said.status, 0, "{middle:?} {times} times");
-        assert_eq!(rt; said.written, bytes_of(rt.alloc(), wanted)?, "{middle:?} {times} times");
+        assert_eq!(rt;
+            said.written,
+            bytes_of(rt.alloc(), wanted)?,
+            "{middle:?} {times} times"
+        );
     }
     assert_eq!(rt; bytes_of(rt.alloc(), BAD_REQUEST)?.len(), 122);
     assert_eq!(rt; bytes_of(rt.alloc(), TOO_LARGE)?.len(), 162);
