@@ -12,6 +12,15 @@ use sws_conn::End;
 use sws_engine::{Ended, Verdict, serve_steps};
 use sws_link::{Link, MemWorld, World};
 
+/// Two workers, who steal what is worth more than 5.
+const TWO_CORES: Shape = Shape {
+    cores: 2,
+    shards: 1,
+    batch: 10,
+    steal_cost: 5,
+    group: 4,
+};
+
 /// Two connections that ask for the same, of which the second may find no memory to write.
 fn two<R: AllocGlobal + Abort + Wait>(rt: &R, refuses: u16) -> Ended<Starving> {
     let site = site(rt, None);
@@ -109,29 +118,53 @@ fn a_link_without_memory_ends_its_own_connection(rt: HostRuntime) {
     stands(&rt, &ended, &PLAIN);
 }
 
-/// Whatever request for memory is refused in the run: it answers `Ok` with all of it, or `Memory` with fronts. Two cores serve by a
-/// schedule in which a connection is stolen.
-#[test]
-fn a_run_that_is_refused_memory_leaves_fronts(rt: HostRuntime) {
-    let site = site(&rt, None);
+/// Two workers serve a connection of one request and one of two, by a schedule in which one is stolen.
+fn by_schedule<R: AllocGlobal + Abort + Wait>(rt: &R) -> Ended<Starving> {
+    let site = site(rt, None);
     let mut links = Vec::new(rt.alloc());
     links
-        .push(link(&rt, &[Part::Send(G)], None, None))
-        .expect(&rt, "memory");
+        .push(link(rt, &[Part::Send(G)], None, None))
+        .expect(rt, "memory");
     links
-        .push(link(&rt, &[Part::Send(GET_EMPTY), Part::Send(G)], None, None))
-        .expect(&rt, "memory");
+        .push(link(rt, &[Part::Send(GET_EMPTY), Part::Send(G)], None, None))
+        .expect(rt, "memory");
     let world = Starving {
         world: MemWorld::new(links, Vec::new(rt.alloc())),
         refuses: 0,
         given: 0,
     };
-    let shape = Shape {
-        cores: 2,
-        steal_cost: 5,
-        ..PLAIN
+    serve_steps(rt, rt.alloc(), &site, &TWO_CORES, world, &[(0, 6), (1, 12)])
+}
+
+/// A connection was written a front of these answers, and all of them where the run was not refused.
+fn has_front(
+    rt: &(impl AllocGlobal + Abort),
+    ended: &Ended<Starving>,
+    number: usize,
+    answers: &[&[u8]],
+) {
+    let mut whole: Vec<u8> = Vec::new(rt.alloc());
+    for answer in answers {
+        whole.extend_from_slice(answer).expect(rt, "memory");
+    }
+    let Some(served) = ended.served.get(number) else {
+        panic!(rt; "a connection is gone");
     };
-    let ended = serve_steps(&rt, rt.alloc(), &site, &shape, world, &[(0, 6), (1, 12)]);
+    let Some(held) = &served.link else {
+        assert_eq!(rt; (ended.verdict, served.written), (Verdict::Memory, 0));
+        return;
+    };
+    assert!(rt; whole.starts_with(held.link.written()));
+    if ended.verdict == Verdict::Ok {
+        assert_eq!(rt; served.end, Some(End::Done));
+        assert_eq!(rt; held.link.written(), whole.as_slice());
+    }
+}
+
+/// Whatever request for memory is refused in the run: it answers `Ok` with all of it, or `Memory` with fronts.
+#[test]
+fn a_run_that_is_refused_memory_leaves_fronts(rt: HostRuntime) {
+    let ended = by_schedule(&rt);
     match ended.verdict {
         Verdict::Ok | Verdict::Memory => {}
         Verdict::World => panic!(rt; "the world doesn't fail"),
@@ -143,24 +176,8 @@ fn a_run_that_is_refused_memory_leaves_fronts(rt: HostRuntime) {
         assert_eq!(rt; (ended.served.len(), ended.trails.len()), (0, 0));
         return;
     }
-    stands(&rt, &ended, &shape);
+    stands(&rt, &ended, &TWO_CORES);
     assert_eq!(rt; (ended.served.len(), ended.trails.len()), (2, 4));
-    let bytes: [&[&[u8]]; 2] = [&[A], &[EMPTY, A]];
-    for (number, served) in ended.served.iter().enumerate() {
-        let mut whole: Vec<u8> = Vec::new(rt.alloc());
-        for part in bytes[number % 2] {
-            whole.extend_from_slice(part).expect(&rt, "memory");
-        }
-        let Some(held) = &served.link else {
-            assert_eq!(rt; (ended.verdict, served.written), (Verdict::Memory, 0));
-            continue;
-        };
-        assert!(rt; whole.starts_with(held.link.written()));
-        if ended.verdict == Verdict::Ok {
-            assert_eq!(rt;
-                (served.end, held.link.written()),
-                (Some(End::Done), whole.as_slice())
-            );
-        }
-    }
+    has_front(&rt, &ended, 0, &[A]);
+    has_front(&rt, &ended, 1, &[EMPTY, A]);
 }
