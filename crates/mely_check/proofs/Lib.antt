@@ -1,9 +1,14 @@
+pub mod ListLaws
+pub mod WatchLaws
+pub mod HearingLaws
 pub mod NumberLaws
 pub mod ReadingLaws
 pub mod WalkLaws
 pub mod LineLaws
 pub mod StepLaws
+pub mod JudgeLaws
 pub mod BeginLaws
 pub mod OutsideLaws
 pub mod ReaderLaws
 pub mod ExactLaws
+pub mod EndLaws

@@ -8,8 +8,8 @@ use Rattle.mely_history.specs.declared.entry.Entry.{Entry}
 use Rattle.mely_history.specs.declared.entry.Entry.TheVariants.{Reg, Take, Fin, Steal}
 use Rattle.sws_report.specs.Journal.{entry_line, shard_line, journal}
 use Rattle.mely_check.specs.Journals.{IsFit, IsFitHistory, IsLine, IsJournal, BeginsJournal, joined, entries_in}
-use Rattle.mely_check.specs.Walks.{Walk, start, within, walk_text, begun_in, left_in, count_in, IsFitWalk, IsAt, Moves, MayNotStand}
-use Rattle.mely_check.specs.Reading.{Says}
+use Rattle.mely_check.specs.Walks.{Walk, start, within, walk_text, begun_in, left_in, count_in, IsFitWalk, IsAt, GoesOn, MayStand, Moves, MayNotStand}
+use Rattle.mely_check.specs.Reading.{Says as SaysLine}
 use Rattle.mely_check.specs.declared.reading.Line.{Line}
 use Rattle.mely_check.specs.declared.reading.Line.TheVariants as says_
 use Rattle.mely_check.specs.declared.place.Place.{Place}
@@ -98,23 +98,33 @@ unfolding shard_walk
 shard_walk-count start count = refl
 shard_walk-count (within done last left) count = let more = entries_in-push done last in omega (arith, more)
 
+shard_walk-goes : (walk : Walk) (number count : ℕ) → GoesOn walk (says_.Shard number count) (shard_walk walk count)
+unfolding shard_walk
+shard_walk-goes start number count = refl
+shard_walk-goes (within done last left) number count = refl
+
 -- the line of the next shard
-pub at_shard : (lines : List (List ℕ)) (line : List ℕ) (before after : Place) (count : ℕ) → IsAt lines before → IsLine line → line ≡ shard_line before.begun count → count < 2 ^ 64 → before.left ≡ 0 → Moves before after (before.begun + 1) count before.entries
-    → IsAt (lines ++ line ∷ []) after
+pub at_shard : (lines : List (List ℕ)) (line : List ℕ) (before after : Place) (count : ℕ) → (at : IsAt lines before) → IsLine line → line ≡ shard_line before.begun count → count < 2 ^ 64 → before.left ≡ 0 → Moves before after (before.begun + 1) count before.entries
+    → MayStand lines line before at after (says_.Shard before.begun count)
 at_shard lines line before after count at is says small none moves =
     let walk : Walk = at.walk in
     let number = moves.number in
     let counted = at.number in
     let long = length-append lines (line ∷ []) in
     record {
-      walk = shard_walk walk count;
-      is = joined-push lines line ∙ ap (λ t. t ++ line) at.is ∙ ap (λ t. walk_text walk ++ t) (says ∙ ap (λ n. shard_line n count) at.begun) ∙ sym (shard_walk-text walk count (sym at.left ∙ none));
-      are = all_append IsLine lines (line ∷ []) at.are (is, tt);
-      fit = shard_walk-fit walk count at.fit small;
-      begun = moves.begun_is ∙ ap (λ n. n + 1) at.begun ∙ sym (shard_walk-begun walk count);
-      left = moves.left_is ∙ sym (shard_walk-left walk count);
-      entries = moves.entries_are ∙ at.entries ∙ sym (shard_walk-count walk count);
-      number = omega (arith, number, counted, long);
+      goes = shard_walk-goes at.walk before.begun count;
+      fit = tt;
+      next = record {
+        walk = shard_walk walk count;
+        is = joined-push lines line ∙ ap (λ t. t ++ line) at.is ∙ ap (λ t. walk_text walk ++ t) (says ∙ ap (λ n. shard_line n count) at.begun) ∙ sym (shard_walk-text walk count (sym at.left ∙ none));
+        are = all_append IsLine lines (line ∷ []) at.are (is, tt);
+        fit = shard_walk-fit walk count at.fit small;
+        begun = moves.begun_is ∙ ap (λ n. n + 1) at.begun ∙ sym (shard_walk-begun walk count);
+        left = moves.left_is ∙ sym (shard_walk-left walk count);
+        entries = moves.entries_are ∙ at.entries ∙ sym (shard_walk-count walk count);
+        number = omega (arith, number, counted, long);
+        counted = (let lines_are = at.counted in let more = shard_walk-begun walk count in let same = shard_walk-count walk count in omega (arith, long, lines_are, more, same));
+      };
     }
 
 entry_walk-text : (walk : Walk) (e : Entry) (left : ℕ) → 0 < left_in walk → left ≡ left_in walk - 1 → walk_text (entry_walk walk e left) ≡ walk_text walk ++ entry_line e
@@ -152,9 +162,14 @@ unfolding entry_walk
 entry_walk-count start e left some = absurd (omega arith)
 entry_walk-count (within done last before) e left some = let long = length-append last (e ∷ []) in omega (arith, long)
 
+entry_walk-goes : (walk : Walk) (e : Entry) (left : ℕ) → 0 < left_in walk → GoesOn walk (says_.Entry e) (entry_walk walk e left)
+unfolding entry_walk
+entry_walk-goes start e left some = absurd (omega arith)
+entry_walk-goes (within done last before) e left some = refl
+
 -- the line of an entry
-at_entry : (lines : List (List ℕ)) (line : List ℕ) (before after : Place) (e : Entry) → IsAt lines before → IsLine line → line ≡ entry_line e → IsFit e → 0 < before.left → Moves before after before.begun (before.left - 1) (before.entries + 1)
-    → IsAt (lines ++ line ∷ []) after
+pub at_entry : (lines : List (List ℕ)) (line : List ℕ) (before after : Place) (e : Entry) → (at : IsAt lines before) → IsLine line → line ≡ entry_line e → IsFit e → 0 < before.left → Moves before after before.begun (before.left - 1) (before.entries + 1)
+    → MayStand lines line before at after (says_.Entry e)
 at_entry lines line before after e at is says fit some moves =
     let walk : Walk = at.walk in
     let number = moves.number in
@@ -164,14 +179,23 @@ at_entry lines line before after e at is says fit some moves =
     let some' : 0 < left_in walk = omega arith in
     let less : before.left - 1 ≡ left_in walk - 1 = omega arith in
     record {
-      walk = entry_walk walk e (before.left - 1);
-      is = joined-push lines line ∙ ap (λ t. t ++ line) at.is ∙ ap (λ t. walk_text walk ++ t) says ∙ sym (entry_walk-text walk e (before.left - 1) some' less);
-      are = all_append IsLine lines (line ∷ []) at.are (is, tt);
-      fit = entry_walk-fit walk e (before.left - 1) at.fit fit some' less;
-      begun = moves.begun_is ∙ at.begun ∙ sym (entry_walk-begun walk e (before.left - 1));
-      left = moves.left_is ∙ sym (entry_walk-left walk e (before.left - 1) some');
-      entries = moves.entries_are ∙ ap (λ n. n + 1) at.entries ∙ sym (entry_walk-count walk e (before.left - 1) some');
-      number = omega (arith, number, counted, long);
+      goes = entry_walk-goes at.walk e (before.left - 1) some';
+      fit = fit;
+      next = record {
+        walk = entry_walk walk e (before.left - 1);
+        is = joined-push lines line ∙ ap (λ t. t ++ line) at.is ∙ ap (λ t. walk_text walk ++ t) says ∙ sym (entry_walk-text walk e (before.left - 1) some' less);
+        are = all_append IsLine lines (line ∷ []) at.are (is, tt);
+        fit = entry_walk-fit walk e (before.left - 1) at.fit fit some' less;
+        begun = moves.begun_is ∙ at.begun ∙ sym (entry_walk-begun walk e (before.left - 1));
+        left = moves.left_is ∙ sym (entry_walk-left walk e (before.left - 1) some');
+        entries = moves.entries_are ∙ ap (λ n. n + 1) at.entries ∙ sym (entry_walk-count walk e (before.left - 1) some');
+        number = omega (arith, number, counted, long);
+        counted = (
+            let lines_are = at.counted in
+            let same = entry_walk-begun walk e (before.left - 1) in
+            let more = entry_walk-count walk e (before.left - 1) some' in omega (arith, long, lines_are, more, same)
+            );
+      };
     }
 
 -- ---- what a step does
@@ -188,26 +212,27 @@ entry_not_shard (Steal c from to) number count is = no_head 116 104 _ _ (λ s. o
 same_shard : (m n a b : ℕ) → m < 65536 → n < 65536 → a < 2 ^ 64 → b < 2 ^ 64 → shard_line m a ≡ shard_line n b → m ≡ n
 same_shard m n a b few few' small small' is = (shard_line-split m n a b [] [] (omega arith) (omega arith) small small' (ap (λ t. t ++ []) is)).0
 
-pub shard_step : (lines : List (List ℕ)) (before after : Place) (line : List ℕ) (number count : ℕ) (result : Bool) → before.shards < 65536 → before.begun ≤ before.shards → IsLine line → Says line (says_.Shard number count)
+pub shard_step : (lines : List (List ℕ)) (before after : Place) (line : List ℕ) (number count : ℕ) (result : Bool) → before.shards < 65536 → before.begun ≤ before.shards → IsLine line → SaysLine line (says_.Shard number count)
     → MatchBool result ((before.left ≡ 0) × (number ≡ before.begun) × (before.begun < before.shards) × Moves before after (before.begun + 1) count before.entries)
     ((after ≡ before) × (before.left ≡ 0 → number ≡ before.begun → before.begun < before.shards → ⊥))
-    → IsAt lines before → MatchBool result (IsAt (lines ++ line ∷ []) after) (MayNotStand lines line before)
+    → (at : IsAt lines before) → MatchBool result (MayStand lines line before at after (says_.Shard number count)) (MayNotStand lines line before)
 shard_step lines before after line number count true few begun is says did at =
-    at_shard lines line before after count at is (says.0 ∙ ap (λ n. shard_line n count) did.1) says.2 did.0 did.3
+    subst (λ n. MayStand lines line before at after (says_.Shard n count)) (sym did.1)
+    (at_shard lines line before after count at is (says.0 ∙ ap (λ n. shard_line n count) did.1) says.2 did.0 did.3)
 shard_step lines before after line number count false few begun is says did at =
     λ within begins.
     refused lines before line few begun at is (λ some e fit same. entry_not_shard e number count (sym same ∙ says.0))
     (λ none below other small same. did.1 none (same_shard number before.begun count other says.1 (omega arith) says.2 small (sym says.0 ∙ same)) below) begins
 
-pub entry_step : (lines : List (List ℕ)) (before after : Place) (line : List ℕ) (e : Entry) (result : Bool) → before.shards < 65536 → before.begun ≤ before.shards → IsLine line → Says line (says_.Entry e)
+pub entry_step : (lines : List (List ℕ)) (before after : Place) (line : List ℕ) (e : Entry) (result : Bool) → before.shards < 65536 → before.begun ≤ before.shards → IsLine line → SaysLine line (says_.Entry e)
     → MatchBool result ((0 < before.left) × Moves before after before.begun (before.left - 1) (before.entries + 1)) ((after ≡ before) × (before.left ≡ 0))
-    → IsAt lines before → MatchBool result (IsAt (lines ++ line ∷ []) after) (MayNotStand lines line before)
+    → (at : IsAt lines before) → MatchBool result (MayStand lines line before at after (says_.Entry e)) (MayNotStand lines line before)
 entry_step lines before after line e true few begun is says did at = at_entry lines line before after e at is says.0 says.1 did.0 did.1
 entry_step lines before after line e false few begun is says did at =
     λ within begins.
     refused lines before line few begun at is (λ some f fit same. (let none = did.1 in omega arith)) (λ none below other small same. entry_not_shard e before.begun other (sym says.0 ∙ same)) begins
 
-pub none_step : (lines : List (List ℕ)) (before : Place) (line : List ℕ) → before.shards < 65536 → before.begun ≤ before.shards → IsLine line → ((says : Line) → Says line says → ⊥) → IsAt lines before → MayNotStand lines line before
+pub none_step : (lines : List (List ℕ)) (before : Place) (line : List ℕ) → before.shards < 65536 → before.begun ≤ before.shards → IsLine line → ((says : Line) → SaysLine line says → ⊥) → IsAt lines before → MayNotStand lines line before
 none_step lines before line few begun is never at =
     λ within begins.
     refused lines before line few begun at is (λ some f fit same. never (says_.Entry f) (same, fit)) (λ none below count small same. never (says_.Shard before.begun count) (same, (omega arith), small)) begins

@@ -25,6 +25,10 @@ small_entries (e ∷ h) all = (small_entry e all.0, small_entries h all.1)
 small_history : (h : List Entry) → IsFitHistory h → AreSmall h
 small_history h fit = (small_entries h fit.0, fit.1)
 
+pub small_histories : (hs : List (List Entry)) → AllByRecursion IsFitHistory hs → AllByRecursion AreSmall hs
+small_histories [] all = tt
+small_histories (h ∷ hs) all = (small_history h all.0, small_histories hs all.1)
+
 -- ---- appending
 
 pub all_append : {A : Type 0} (P : A → Type 0) (a b : List A) → AllByRecursion P a → AllByRecursion P b → AllByRecursion P (a ++ b)

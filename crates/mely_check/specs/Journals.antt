@@ -1,11 +1,9 @@
 -- The texts that are journals, and where a text that is none goes wrong.
-use Rattle.std.specs.Prelude.{◌≡◌, ◌≢◌, ℕ, ◌+◌, ◌^◌, ◌<◌, List, [], ◌∷◌, ◌++◌, length, Option, Some, None, Result, Ok, Err, ⊤}
+use Rattle.std.specs.Prelude.{◌≡◌, ◌≢◌, ℕ, ◌+◌, ◌^◌, ◌<◌, List, [], ◌∷◌, ◌++◌, length}
 use Rattle.std.specs.List.{flat_map, AllByRecursion}
 use Rattle.mely_history.specs.declared.entry.Entry.{Entry}
 use Rattle.mely_history.specs.declared.entry.Entry.TheVariants.{Reg, Take, Fin, Steal}
 use Rattle.sws_report.specs.Journal.{journal}
-use Rattle.mely_check.specs.declared.fault.TextFault.{TextFault}
-use Rattle.mely_check.specs.declared.fault.TextFault.TheVariants.{Read, BadJournal, Memory}
 
 -- the numbers of an entry are within their ranges
 abbrev pub IsFit : Entry → Type 0
@@ -80,11 +78,3 @@ pub record IsRead (shards : ℕ) (text : List ℕ) (entries : ℕ) : Type 0 wher
   pub fit : AreFit shards histories
   pub is : text ≡ journal histories
   pub counted : entries ≡ entries_in histories
-
--- where the text is told: it is a journal, or the line is the first outside
-abbrev pub Finds : ℕ → Option (List ℕ) → Result ℕ TextFault → Type 0
-Finds shards None found = ⊤
-Finds shards (Some text) (Ok entries) = IsRead shards text entries
-Finds shards (Some text) (Err Read) = ⊤
-Finds shards (Some text) (Err (BadJournal number)) = IsFirstOutside shards text number
-Finds shards (Some text) (Err Memory) = ⊤

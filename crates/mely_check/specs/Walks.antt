@@ -1,12 +1,15 @@
 -- Within the crate: how far a journal was read.
-use Rattle.std.specs.Prelude.{◌≡◌, ℕ, ◌+◌, ◌^◌, ◌<◌, List, [], ◌++◌, length, ⊤}
+use Rattle.std.specs.Prelude.{◌≡◌, ℕ, ◌+◌, ◌^◌, ◌<◌, List, [], ◌∷◌, ◌++◌, length, ⊤}
 use Rattle.std.specs.List.{flat_map, AllByRecursion}
 use Rattle.mely_history.specs.declared.entry.Entry.{Entry}
 use Rattle.sws_report.specs.Journal.{entry_line, shard_line, journal}
 use Rattle.mely_check.specs.Journals.{IsFit, IsFitHistory, IsLine, BeginsJournal, joined, entries_in, line_limit}
 use Rattle.mely_check.specs.declared.place.Place.{Place}
+use Rattle.mely_check.specs.declared.reading.Line.{Line}
+use Rattle.mely_check.specs.declared.reading.Line.TheVariants as said_line
 
--- no shard has begun; or these were read whole, and of the last one these entries, with so many still to come
+-- no shard has begun; or these were read whole, and of the last one these entries, with so many
+-- still to come
 pub data Walk : Type 0 where
   start : Walk
   within : List (List Entry) → List Entry → ℕ → Walk
@@ -28,10 +31,20 @@ abbrev pub count_in : Walk → ℕ
 count_in start = 0
 count_in (within done last left) = entries_in done + length last
 
+-- the histories so far
+abbrev pub histories_in : Walk → List (List Entry)
+histories_in start = []
+histories_in (within done last left) = done ++ last ∷ []
+
 abbrev pub IsFitWalk : Walk → Type 0
 IsFitWalk start = ⊤
 IsFitWalk (within done last left) = AllByRecursion IsFitHistory done × AllByRecursion IsFit last
     × (length last + left < 2 ^ 64)
+
+-- the numbers of a line's entry are within their ranges
+abbrev pub IsFitLine : Line → Type 0
+IsFitLine (said_line.Shard number count) = ⊤
+IsFitLine (said_line.Entry entry) = IsFit entry
 
 -- the whole lines of the text were read, as the place says
 pub record IsAt (lines : List (List ℕ)) (place : Place) : Type 0 where
@@ -43,13 +56,29 @@ pub record IsAt (lines : List (List ℕ)) (place : Place) : Type 0 where
   pub left : place.left ≡ left_in walk
   pub entries : place.entries ≡ count_in walk
   pub number : place.number ≡ length lines + 1
+  pub counted : length lines ≡ begun_in walk + count_in walk
 
 -- the line is no next one: with it the lines begin no journal, or it is one too many
 abbrev pub MayNotStand : List (List ℕ) → List ℕ → Place → Type 0
 MayNotStand lines line place = place.number < line_limit
     → BeginsJournal place.shards (joined lines ++ line) → ⊥
 
--- a line was counted: then so many shards have begun, so many entries are left, and so many there were
+-- what a line says was read: the histories go on by it
+abbrev pub GoesOn : Walk → Line → Walk → Type 0
+GoesOn before (said_line.Shard number count) after = histories_in after
+    ≡ histories_in before ++ [] ∷ []
+GoesOn start (said_line.Entry entry) after = ⊥
+GoesOn (within done last left) (said_line.Entry entry) after = histories_in after
+    ≡ done ++ (last ++ entry ∷ []) ∷ []
+
+-- the line is a next one, and says this
+pub record MayStand (lines : List (List ℕ)) (line : List ℕ) (before : Place) (at : IsAt lines before) (after : Place) (said : Line) : Type 0 where
+  pub next : IsAt (lines ++ line ∷ []) after
+  pub goes : GoesOn at.walk said next.walk
+  pub fit : IsFitLine said
+
+-- a line was counted: then so many shards have begun, so many entries are left, and so many there
+-- were
 pub record Moves (before after : Place) (begun left entries : ℕ) : Type 0 where
   pub shards : after.shards ≡ before.shards
   pub begun_is : after.begun ≡ begun

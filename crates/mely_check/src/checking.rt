@@ -1,24 +1,54 @@
-//! Reading a journal piece by piece.
+//! Checking a journal piece by piece.
 ghost use Rattle.std.specs.Prelude.{◌≡◌, ◌≢◌, ◌+◌, ◌≤◌, ◌++◌, ℕ, List, length, OnOk, IfErr, Err, MatchResult};
 ghost use Rattle.sws_link.specs.Counts.{HasCause};
-ghost use Rattle.mely_check.specs.Journals.{Finds};
-ghost use Rattle.mely_check.specs.Readers.{Stands, IsOpen, Refuses, reach};
+ghost use Rattle.mely_history.specs.declared.setup.Setup.{Setup as SetupValue};
+ghost use Rattle.mely_check.specs.Verdicts.{Finds, Accepts, IsExact};
+ghost use Rattle.mely_check.specs.Readers.{Stands, IsOpen, Refuses, Knows, reach};
 
-use crate::fault::TextFault;
+use crate::fault::CheckFault;
 use crate::reader::Reader;
+use crate::report::Report;
+use mely_history::Setup;
 use std::alloc::Global;
 use sws_link::{Got, Source};
 
 /// How many bytes are asked for at a time.
 const PIECE: usize = 4_096;
 
-/// Reads a journal of so many shards to its end, and gives the number of its entries.
-pub fn check_text<R: Source>(alloc: Global, shards: u16, source: &mut R) -> Result<u64, TextFault>
-    ensures finds { Finds shards (R.left source.old) result }
+/// Reads a journal to its end, and says whether it is that of a legal and drained run of the setup.
+///
+/// A journal has the setup's shards, numbered from 0, each with a line for each entry that it says it has. What is read is not kept:
+/// of each colour there are its owner, its take and the weights of its queued events. The time grows with the journal alone.
+///
+/// # Errors
+///
+/// The first of these that holds: `Read` only where the source failed in this call; `BadJournal` exactly where that line is the first
+/// that no journal has there; `NotLegal` exactly where the text is a journal and that line is the first whose entry has a colour of
+/// another shard or isn't allowed after the entries of its shard before it; `NotDrained` exactly where the text is the journal of a
+/// legal run and that colour is the least that runs or has something queued. `Memory` where an allocation was refused.
+pub fn check_journal<R: Source>(
+    alloc: Global,
+    setup: &Setup,
+    source: &mut R,
+) -> Result<Report, CheckFault>
+    ensures finds { Finds setup.now (R.left source.old) result }
+    ensures accepts { Accepts setup.now (R.left source.old) result }
+    ensures exact { IsExact setup.now (R.left source.old) result }
     ensures cause { HasCause (R.faults source.old) (R.faults source.new)
-        (result ≡ Err TextFault.Read) }
+        (result ≡ Err CheckFault.Read) }
 {
-    let mut reader = Reader::new(alloc, shards);
+    find(alloc, setup, source)
+}
+
+/// What is found of a journal.
+fn find<R: Source>(alloc: Global, setup: &Setup, source: &mut R) -> Result<Report, CheckFault>
+    ensures finds { Finds setup.now (R.left source.old) result }
+    ensures cause { HasCause (R.faults source.old) (R.faults source.new)
+        (result ≡ Err CheckFault.Read) }
+{
+    let Ok(mut reader) = Reader::new(alloc, setup) else {
+        return Err(CheckFault::Memory);
+    };
     let mut room = [0; PIECE];
     'pieces: loop {
         match source.read(&mut room) {
@@ -26,22 +56,29 @@ pub fn check_text<R: Source>(alloc: Global, shards: u16, source: &mut R) -> Resu
                 Ok(()) => {}
                 Err(fault) => return Err(fault),
             },
-            Got::End => return reader.end(),
-            Got::Failed => return Err(TextFault::Read),
+            Got::End => {
+                return match reader.end() {
+                    Ok(()) => Ok(reader.report()),
+                    Err(fault) => Err(fault),
+                };
+            }
+            Got::Failed => return Err(CheckFault::Read),
         }
     }
 }
 
 /// Goes on behind all these bytes.
-fn take_all(reader: &mut Reader, bytes: &[u8]) -> Result<(), TextFault>
+fn take_all(reader: &mut Reader, bytes: &[u8]) -> Result<(), CheckFault>
     requires { IsOpen reader.old }
     ensures goes { (text : List ℕ) → Stands text reader.old
         → MatchResult result (λ _. Stands (text ++ bytes.now) reader.new)
         (Refuses reader.old.place.shards (text ++ bytes.now)) }
+    ensures knows { (setup : SetupValue) (text : List ℕ) → Knows setup text reader.old
+        → OnOk result (Knows setup (text ++ bytes.now) reader.new) }
     ensures open_line { OnOk result (IsOpen reader.new) }
     ensures further { OnOk result (reach reader.old + length bytes.now ≤ reach reader.new) }
     ensures shards { reader.new.place.shards ≡ reader.old.place.shards }
-    ensures sound { IfErr result (λ fault. fault ≢ TextFault.Read) }
+    ensures sound { IfErr result (λ fault. fault ≢ CheckFault.Read) }
 {
     for byte in bytes {
         match reader.take(*byte) {

@@ -1,21 +1,26 @@
 //! A checker of printed journals, for whoever doesn't trust the program that printed one.
 //!
-//! [`check_text`] reads a text piece by piece and says whether it is a journal of so many shards, or which line is the first that
-//! no journal has there. It holds one line at a time.
+//! [`check_journal`] reads a text piece by piece and says whether it is the journal of a legal and drained run of a setup, and what each
+//! core ran and stole; or which line is the first that no journal has there, which has the first entry that isn't allowed, or which
+//! colour was left running or waiting. It holds one line at a time, and of each colour its owner, its take and its queued weights.
 //!
 //! ```text
-//! let entries = check_text(alloc, 1, &mut source)?;
+//! let report = check_journal(alloc, &setup, &mut source)?;
 //! ```
 #![tactic(auto)]
 
 mod checking;
 mod fault;
+mod judge;
 pub mod laws;
 mod place;
 mod reader;
 mod reading;
+mod report;
 #[cfg(test)]
 mod tests;
+mod watch;
 
-pub use checking::check_text;
-pub use fault::TextFault;
+pub use checking::check_journal;
+pub use fault::CheckFault;
+pub use report::{CoreReport, Report};

@@ -1,5 +1,5 @@
 //! How far a journal was read.
-ghost use Rattle.std.specs.Prelude.{◌≡◌, ◌<◌, ◌≤◌, ◌+◌, ◌-◌, ◌++◌, ◌∷◌, ◌↔◌, [], List, ℕ, MatchBool, IsTrue};
+ghost use Rattle.std.specs.Prelude.{◌≡◌, ◌<◌, ◌≤◌, ◌+◌, ◌-◌, ◌++◌, ◌∷◌, ◌↔◌, [], List, ℕ, MatchBool, MatchOption, IfNone, OnSome, IsTrue};
 ghost use Rattle.std.specs.Bool.{OnFalse, OnTrue};
 
 use crate::reading::{Line, read_line};
@@ -21,7 +21,8 @@ pub(crate) struct Place {
 
 impl Place {
     ghost use Rattle.mely_check.specs.Journals.{IsLine, BeginsJournal, joined, line_limit};
-    ghost use Rattle.mely_check.specs.Walks.{IsAt, MayNotStand, Moves};
+    ghost use Rattle.mely_check.specs.Reading.{Says};
+    ghost use Rattle.mely_check.specs.Walks.{IsAt, MayNotStand, MayStand, Moves};
 
     /// Before the first line.
     pub(crate) fn new(shards: u16) -> Place
@@ -37,23 +38,43 @@ impl Place {
         }
     }
 
-    /// Goes on behind a line with its LF, if it may stand here.
-    pub(crate) fn step(&mut self, line: &[u8]) -> bool
+    /// Goes on behind a line with its LF and answers what it says, or nothing where it may not stand here.
+    pub(crate) fn step(&mut self, line: &[u8]) -> Option<Line>
         requires { IsLine line.now }
-        ensures stands { (lines : List (List ℕ)) → IsAt lines self.old
-            → MatchBool result (IsAt (lines ++ line.now ∷ []) self.new)
+        ensures stands { (lines : List (List ℕ)) (at : IsAt lines self.old)
+            → MatchOption result (MayNotStand lines line.now self.old)
+            (MayStand lines line.now self.old at self.new) }
+        ensures shards { self.new.shards ≡ self.old.shards }
+        ensures kept { IfNone result (self.new ≡ self.old) }
+        ensures counted { OnSome result (self.new.number ≡ self.old.number + 1) }
+    {
+        if self.number == u32::MAX {
+            return None;
+        }
+        let said = read_line(line)?;
+        if self.goes_on(line, &said) {
+            Some(said)
+        } else {
+            None
+        }
+    }
+
+    /// Goes on behind a line that says this, if it may stand here.
+    fn goes_on(&mut self, line: &[u8], said: &Line) -> bool
+        requires is_line { IsLine line.now }
+        requires says { Says line.now said.now }
+        requires within { self.old.number < line_limit }
+        ensures stands { (lines : List (List ℕ)) (at : IsAt lines self.old)
+            → MatchBool result (MayStand lines line.now self.old at self.new said.now)
             (MayNotStand lines line.now self.old) }
         ensures shards { self.new.shards ≡ self.old.shards }
         ensures kept { OnFalse result (self.new ≡ self.old) }
         ensures counted { OnTrue result (self.new.number ≡ self.old.number + 1) }
     {
-        if self.number == u32::MAX {
-            return false;
-        }
-        match read_line(line) {
-            Some(Line::Shard(number, count)) => self.begin(number, count),
-            Some(Line::Entry(_)) => self.count_entry(),
-            None => false,
+        let _ = line;
+        match *said {
+            Line::Shard(number, count) => self.begin(number, count),
+            Line::Entry(_) => self.count_entry(),
         }
     }
 

@@ -1,35 +1,46 @@
 //! Reading a journal byte by byte.
-ghost use Rattle.std.specs.Prelude.{◌≡◌, ◌≢◌, ◌+◌, ◌≤◌, ◌++◌, ◌∷◌, [], ℕ, List, Some, OnOk, IfErr, MatchResult};
+ghost use Rattle.std.specs.Prelude.{◌≡◌, ◌≢◌, ◌+◌, ◌≤◌, ◌++◌, ◌∷◌, [], ℕ, List, IfOk, OnOk, IfErr, MatchResult};
 
-use crate::fault::TextFault;
+use crate::fault::CheckFault;
+use crate::judge::Judge;
 use crate::place::Place;
-use std::alloc::Global;
+use crate::report::Report;
+use mely_history::Setup;
+use std::alloc::{AllocError, Global};
 
 /// The most bytes of a line, with its LF.
 const MAX_LINE: usize = 64;
 
-/// What was read of a text: its whole lines, and the bytes behind them.
+/// What was read of a text: its whole lines, what was heard of their entries, and the bytes behind them.
 #[derive(Drop)]
 pub(crate) struct Reader {
     place: Place,
     line: Vec<u8>,
+    judge: Judge,
 }
 
 impl Reader {
-    ghost use Rattle.mely_check.specs.Journals.{IsLine, Finds};
-    ghost use Rattle.mely_check.specs.Walks.{IsAt, MayNotStand};
-    ghost use Rattle.mely_check.specs.Readers.{Stands, IsOpen, Refuses, reach};
+    ghost use Rattle.mely_history.specs.Setup.{shape_of};
+    ghost use Rattle.mely_history.specs.declared.setup.Setup.{Setup as SetupValue};
+    ghost use Rattle.mely_check.specs.Journals.{IsLine};
+    ghost use Rattle.mely_check.specs.Walks.{IsAt};
+    ghost use Rattle.mely_check.specs.Readers.{Stands, IsOpen, Refuses, Stops, IsHeard, Knows, Ends, reach};
 
-    /// Before a text of so many shards.
-    pub(crate) fn new(alloc: Global, shards: u16) -> Reader
-        ensures stands { Stands [] result }
-        ensures open_line { IsOpen result }
-        ensures shards { result.place.shards ≡ shards }
+    /// Before a journal of the setup.
+    ///
+    /// # Errors
+    ///
+    /// There was no memory.
+    pub(crate) fn new(alloc: Global, setup: &Setup) -> Result<Reader, AllocError>
+        ensures knows { IfOk result (Knows setup.now []) }
+        ensures open_line { IfOk result IsOpen }
+        ensures shards { IfOk result (λ reader. reader.place.shards ≡ (shape_of setup.now).shards) }
     {
-        Reader {
-            place: Place::new(shards),
+        Ok(Reader {
+            place: Place::new(setup.shards()),
             line: Vec::new(alloc),
-        }
+            judge: Judge::new(alloc, setup)?,
+        })
     }
 
     /// Goes on behind a byte.
@@ -37,21 +48,23 @@ impl Reader {
     /// # Errors
     ///
     /// The line of the byte may not stand, or there was no memory.
-    pub(crate) fn take(&mut self, byte: u8) -> Result<(), TextFault>
+    pub(crate) fn take(&mut self, byte: u8) -> Result<(), CheckFault>
         requires { IsOpen self.old }
         ensures goes { (text : List ℕ) → Stands text self.old
             → MatchResult result (λ _. Stands (text ++ byte ∷ []) self.new)
             (Refuses self.old.place.shards (text ++ byte ∷ [])) }
+        ensures knows { (setup : SetupValue) (text : List ℕ) → Knows setup text self.old
+            → OnOk result (Knows setup (text ++ byte ∷ []) self.new) }
         ensures open_line { OnOk result (IsOpen self.new) }
         ensures further { OnOk result (reach self.old + 1 ≤ reach self.new) }
         ensures shards { self.new.place.shards ≡ self.old.place.shards }
-        ensures sound { IfErr result (λ fault. fault ≢ TextFault.Read) }
+        ensures sound { IfErr result (λ fault. fault ≢ CheckFault.Read) }
     {
         if byte != b'\n' && self.line.len() + 1 == MAX_LINE {
             return Err(self.bad());
         }
         if self.line.push(byte).is_err() {
-            return Err(TextFault::Memory);
+            return Err(CheckFault::Memory);
         }
         if byte == b'\n' {
             return self.end_line();
@@ -60,46 +73,69 @@ impl Reader {
     }
 
     /// Goes on behind a line, which has its LF.
-    fn end_line(&mut self) -> Result<(), TextFault>
+    ///
+    /// # Errors
+    ///
+    /// The line may not stand, or there was no memory.
+    fn end_line(&mut self) -> Result<(), CheckFault>
         requires { IsLine self.old.line.items }
         ensures goes { (lines : List (List ℕ)) → IsAt lines self.old.place
             → MatchResult result (λ _. IsAt (lines ++ self.old.line.items ∷ []) self.new.place)
-            (λ fault. (fault ≡ TextFault.BadJournal self.old.place.number)
-            × MayNotStand lines self.old.line.items self.old.place) }
+            (Stops lines self.old.line.items self.old.place) }
+        ensures hears { (setup : SetupValue) (lines : List (List ℕ))
+            → IsHeard setup lines self.old.place self.old.judge
+            → OnOk result (IsHeard setup (lines ++ self.old.line.items ∷ [])
+            self.new.place self.new.judge) }
         ensures empty { OnOk result (self.new.line.items ≡ []) }
         ensures counted { OnOk result (self.new.place.number ≡ self.old.place.number + 1) }
-        ensures sound { IfErr result (λ fault. fault ≢ TextFault.Read) }
+        ensures sound { IfErr result (λ fault. fault ≢ CheckFault.Read) }
         ensures shards { self.new.place.shards ≡ self.old.place.shards }
     {
-        if !self.place.step(&self.line) {
-            return Err(self.bad());
+        let number = self.place.number;
+        let Some(said) = self.place.step(&self.line) else {
+            return Err(CheckFault::BadJournal { line: number });
+        };
+        let begun = self.place.begun;
+        if self.judge.hear_line(begun, number, &said).is_err() {
+            return Err(CheckFault::Memory);
         }
         self.line.clear();
         Ok(())
     }
 
     /// That the line that is being read may not stand here.
-    fn bad(&self) -> TextFault
-        ensures { result ≡ TextFault.BadJournal self.now.place.number }
+    fn bad(&self) -> CheckFault
+        ensures { result ≡ CheckFault.BadJournal self.now.place.number }
     {
-        TextFault::BadJournal {
+        CheckFault::BadJournal {
             line: self.place.number,
         }
     }
 
-    /// How many entries there are in all, where the text has ended.
+    /// Whether the text that ends here is the journal of a legal and drained run.
     ///
     /// # Errors
     ///
-    /// A line isn't ended, or there are too few.
-    pub(crate) fn end(&self) -> Result<u64, TextFault>
-        ensures finds { (text : List ℕ) → Stands text self.now
-            → Finds self.now.place.shards (Some text) result }
-        ensures sound { IfErr result (λ fault. fault ≢ TextFault.Read) }
+    /// A line isn't ended, or there are too few; an entry isn't allowed; a colour runs or has something queued.
+    pub(crate) fn end(&self) -> Result<(), CheckFault>
+        ensures ends { (setup : SetupValue) (text : List ℕ) → Knows setup text self.now
+            → self.now.place.shards ≡ (shape_of setup).shards → Ends setup text self.now result }
+        ensures sound { IfErr result (λ fault. fault ≢ CheckFault.Read) }
     {
         if !self.line.is_empty() || !self.place.is_whole() {
             return Err(self.bad());
         }
-        Ok(u64::from(self.place.entries))
+        self.judge.verdict()
+    }
+
+    /// What was counted.
+    pub(crate) fn report(self) -> Report
+        ensures entries { result.entries ≡ self.place.entries }
+        ensures cores { result.cores.items ≡ self.judge.cores.items }
+    {
+        Report {
+            entries: u64::from(self.place.entries),
+            cores: self.judge.into_reports(),
+        }
     }
 }

@@ -1,5 +1,6 @@
 use Rattle.std.proofs.Common.{◌≡◌, ◌+◌, ◌≤◌, ◌++◌, ℕ, List, take}
-use Rattle.mely_check.specs.Readers.{Stands, IsOpen, reach}
+use Rattle.mely_check.specs.Readers.{Stands, Knows, IsOpen, reach}
+use Rattle.mely_history.specs.declared.setup.Setup.{Setup}
 use Rattle.mely_check.proofs.checking.take_all.Given as goal
 
 abbrev pub invariant-loop-byte : goal.invariant-loop-byte
@@ -7,5 +8,6 @@ invariant-loop-byte l = record {
   open_line : IsOpen l.reader;
   further : reach l.fn.reader + l.byte-index ≤ reach l.reader;
   stands : (text : List ℕ) → Stands text l.fn.reader → Stands (text ++ take l.byte-index l.bytes) l.reader;
+  knows : (setup : Setup) (text : List ℕ) → Knows setup text l.fn.reader → Knows setup (text ++ take l.byte-index l.bytes) l.reader;
   shards : l.reader.place.shards ≡ l.fn.reader.place.shards;
 }

@@ -1,13 +1,14 @@
 use Rattle.std.proofs.Common.{◌≡◌, ◌*◌, ◌-◌, length}
+use Rattle.mely_history.specs.Setup.{shape_of}
 use Rattle.mely_check.specs.Readers.{IsOpen, HasRead, reach}
-use Rattle.mely_check.proofs.checking.check_text.Given as goal
+use Rattle.mely_check.proofs.checking.find.Given as goal
 
 abbrev pub invariant-pieces : goal.invariant-pieces
 invariant-pieces g l = record {
   open_line : IsOpen l.reader;
-  shards : l.reader.place.shards ≡ l.shards;
+  shards : l.reader.place.shards ≡ (shape_of l.setup).shards;
   faults : g.R.Source.faults l.source ≡ g.R.Source.faults l.fn.source;
-  read : HasRead (g.R.Source.left l.fn.source) (g.R.Source.left l.source) l.reader;
+  read : HasRead l.setup (g.R.Source.left l.fn.source) (g.R.Source.left l.source) l.reader;
   room : length l.room ≡ 4096;
 }
 

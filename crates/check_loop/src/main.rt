@@ -1,0 +1,62 @@
+//! `check_loop CONNECTIONS WORKERS SHARDS BATCH COST < JOURNAL`: checking a printed journal.
+//!
+//! The file is read as the journal of a run of the server with so many connections, and it prints how many entries that has, and
+//! what each core ran and stole; or it says what is wrong, and ends with a status of its own for each fault. It is the smallest
+//! program that uses the checker, and what that is measured by.
+#![tactic(auto)]
+
+mod input;
+mod setups;
+
+use input::Input;
+use mely_check::{CheckFault, Report, check_journal};
+use mely_history::Setup;
+use std::process::ExitCode;
+use std::{env, io};
+
+/// The setup of the command line.
+fn read_words(rt: &HostRuntime) -> Option<Setup> {
+    let mut words = env::args(rt).ok()?.skip(1);
+    let mut numbers = [0; 5];
+    for number in numbers.iter_mut() {
+        *number = words.next()?.as_str().parse::<u32>().ok()?;
+    }
+    match words.next() {
+        Some(_) => None,
+        None => setups::setup(numbers),
+    }
+}
+
+/// Prints what a journal says.
+fn print(rt: &HostRuntime, report: &Report) -> io::Result<()> {
+    println!(rt; "accepted {}", report.entries)?;
+    for (core, sums) in report.cores.iter().enumerate() {
+        let (ran, stolen_in, stolen_out) = (sums.ran, sums.stolen_in, sums.stolen_out);
+        println!(rt; "core {core} ran {ran} in {stolen_in} out {stolen_out}")?;
+    }
+    Ok(())
+}
+
+fn main(rt: HostRuntime) -> io::Result<ExitCode> {
+    let Some(setup) = read_words(&rt) else {
+        eprintln!(rt; "usage: check_loop CONNECTIONS WORKERS SHARDS BATCH COST < JOURNAL")?;
+        return Ok(ExitCode::from(2));
+    };
+    let mut input = Input::new(rt.reader());
+    match check_journal(rt.alloc(), &setup, &mut input) {
+        Ok(report) => {
+            print(&rt, &report)?;
+            Ok(ExitCode::SUCCESS)
+        }
+        Err(fault) => {
+            eprintln!(rt; "check_loop: {fault:?}")?;
+            Ok(ExitCode::from(match fault {
+                CheckFault::Read => 4,
+                CheckFault::Memory => 7,
+                CheckFault::BadJournal { .. } => 10,
+                CheckFault::NotLegal { .. } => 11,
+                CheckFault::NotDrained { .. } => 12,
+            }))
+        }
+    }
+}
