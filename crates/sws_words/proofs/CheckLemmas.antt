@@ -64,7 +64,7 @@ adds : (given : List Given) → AllKnown check_known given → add_all check_sha
 adds given is = rows_given check_shape check_known adds_value adds_flag place_names 1 has_places tt given is
 
 defaults : TakeDefaults check_shape.rules
-defaults = (refl, (refl, (refl, (refl, (refl, (refl, (refl, tt)))))))
+defaults = (refl, (refl, (refl, (refl, (refl, (refl, tt))))))
 
 -- the rows with the defaults
 abbrev found : List Given → List Row
@@ -75,32 +75,32 @@ same_row name leave given = defaults_leave name check_shape.rules (rows_of place
 
 first_connections : (given : List Given) → AllKnown check_known given → first_of (codes "connections") (found given) ≡ value_of (codes "connections") given
 first_connections given is =
-    ap (option_and_then (λ (r : Row). slice_get r.values 0)) (same_row (codes "connections") (inl refl, (inl refl, (inl refl, (inl refl, (inl refl, (inl refl, (inl refl, tt))))))) given)
+    ap (option_and_then (λ (r : Row). slice_get r.values 0)) (same_row (codes "connections") (inl refl, (inl refl, (inl refl, (inl refl, (inl refl, (inl refl, tt)))))) given)
     ∙ first_option check_known place_names (codes "connections") tt refl given is
 
 first_workers : (given : List Given) → AllKnown check_known given → first_of (codes "workers") (found given) ≡ value_of (codes "workers") given
 first_workers given is =
-    ap (option_and_then (λ (r : Row). slice_get r.values 0)) (same_row (codes "workers") (inl refl, (inl refl, (inl refl, (inl refl, (inl refl, (inl refl, (inl refl, tt))))))) given)
+    ap (option_and_then (λ (r : Row). slice_get r.values 0)) (same_row (codes "workers") (inl refl, (inl refl, (inl refl, (inl refl, (inl refl, (inl refl, tt)))))) given)
     ∙ first_option check_known place_names (codes "workers") tt refl given is
 
 first_shards : (given : List Given) → AllKnown check_known given → first_of (codes "shards") (found given) ≡ value_of (codes "shards") given
 first_shards given is =
-    ap (option_and_then (λ (r : Row). slice_get r.values 0)) (same_row (codes "shards") (inl refl, (inl refl, (inl refl, (inl refl, (inl refl, (inl refl, (inl refl, tt))))))) given)
+    ap (option_and_then (λ (r : Row). slice_get r.values 0)) (same_row (codes "shards") (inl refl, (inl refl, (inl refl, (inl refl, (inl refl, (inl refl, tt)))))) given)
     ∙ first_option check_known place_names (codes "shards") tt refl given is
 
 first_batch : (given : List Given) → AllKnown check_known given → first_of (codes "batch") (found given) ≡ value_of (codes "batch") given
 first_batch given is =
-    ap (option_and_then (λ (r : Row). slice_get r.values 0)) (same_row (codes "batch") (inl refl, (inl refl, (inl refl, (inl refl, (inl refl, (inl refl, (inl refl, tt))))))) given)
+    ap (option_and_then (λ (r : Row). slice_get r.values 0)) (same_row (codes "batch") (inl refl, (inl refl, (inl refl, (inl refl, (inl refl, (inl refl, tt)))))) given)
     ∙ first_option check_known place_names (codes "batch") tt refl given is
 
 first_group : (given : List Given) → AllKnown check_known given → first_of (codes "group") (found given) ≡ value_of (codes "group") given
 first_group given is =
-    ap (option_and_then (λ (r : Row). slice_get r.values 0)) (same_row (codes "group") (inl refl, (inl refl, (inl refl, (inl refl, (inl refl, (inl refl, (inl refl, tt))))))) given)
+    ap (option_and_then (λ (r : Row). slice_get r.values 0)) (same_row (codes "group") (inl refl, (inl refl, (inl refl, (inl refl, (inl refl, (inl refl, tt)))))) given)
     ∙ first_option check_known place_names (codes "group") tt refl given is
 
 first_cost : (given : List Given) → AllKnown check_known given → first_of (codes "cost") (found given) ≡ value_of (codes "cost") given
 first_cost given is =
-    ap (option_and_then (λ (r : Row). slice_get r.values 0)) (same_row (codes "cost") (inl refl, (inl refl, (inl refl, (inl refl, (inl refl, (inl refl, (inl refl, tt))))))) given)
+    ap (option_and_then (λ (r : Row). slice_get r.values 0)) (same_row (codes "cost") (inl refl, (inl refl, (inl refl, (inl refl, (inl refl, (inl refl, tt)))))) given)
     ∙ first_option check_known place_names (codes "cost") tt refl given is
 
 checked_at : (given : List Given) → checked check_shape (rows_of place_names given) ≡ Some (found given)
