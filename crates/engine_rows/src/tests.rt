@@ -1,5 +1,6 @@
 //! Worked rows: whatever the runtime does, each connection is served as if it were alone.
 
+mod failing;
 mod replaying;
 mod starving;
 mod threading;

@@ -7,6 +7,8 @@ ghost use Rattle.fleet_rows.specs.Callers.{AreCallers, IsRow};
 
 mod calls;
 mod crowd;
+mod grudging;
+mod wanting;
 
 use counting_app::{Tally, blank_states};
 use mely_event::{Colour, Event, Fits, Handlers, Kept, Trail};

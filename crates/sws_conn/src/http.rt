@@ -54,6 +54,9 @@ impl<'s> Speech for Http<'s> {
     }
 
     fn has_request(&mut self) -> bool {
+        if self.buffer.stays_quiet() {
+            return false;
+        }
         match self.buffer.cut() {
             Cut::Head { .. } | Cut::TooLong => true,
             Cut::NotYet => false,

@@ -50,13 +50,18 @@ fn file(alloc: Global, name: &[u8], bytes: &[u8]) -> Result<(Vec<u8>, Vec<u8>), 
     Ok((name.to_vec(alloc)?, bytes.to_vec(alloc)?))
 }
 
-/// A site of an index, a text in a folder, and an empty style sheet.
-fn small_site(alloc: Global) -> Result<SureFolder, AllocError> {
+/// An index, a text in a folder, and an empty style sheet.
+fn small_files(alloc: Global) -> Result<Vec<(Vec<u8>, Vec<u8>)>, AllocError> {
     let mut files = Vec::new(alloc);
     files.push(file(alloc, b"index.html", b"hi\n")?)?;
     files.push(file(alloc, b"a/b.txt", b"0123456789")?)?;
     files.push(file(alloc, b"empty.css", b"")?)?;
-    Ok(SureFolder::new(alloc, files))
+    Ok(files)
+}
+
+/// A site of them.
+fn small_site(alloc: Global) -> Result<SureFolder, AllocError> {
+    Ok(SureFolder::new(alloc, small_files(alloc)?))
 }
 
 /// The words of a line, which stand one space apart.

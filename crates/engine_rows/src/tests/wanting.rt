@@ -1,16 +1,25 @@
 //! Want of memory in a run.
-ghost use Rattle.std.specs.Prelude.{◌≡◌};
+ghost use Rattle.std.specs.Prelude.{◌≡◌, ◌≤◌, ◌<◌, ◌^◌, All, sum_by};
 
 use super::replaying::{Part, link, site};
 use super::starving::{Starving, Thrifty};
-use super::{A, G, PLAIN};
-use mely_event::Handlers;
-use mely_history::{Judged, Setup, judge};
+use super::{A, EMPTY, G, GET_EMPTY, PLAIN};
+use mely_event::{Colour, Handlers};
+use mely_history::{Entry, Judged, Setup, Shape, judge};
 use std::process::Abort;
 use std::sync::Wait;
 use sws_conn::End;
 use sws_engine::{Ended, Verdict, serve_steps};
 use sws_link::{Link, MemWorld, World};
+
+/// Two workers, who steal what is worth more than 5.
+const TWO_CORES: Shape = Shape {
+    cores: 2,
+    shards: 1,
+    batch: 10,
+    steal_cost: 5,
+    group: 4,
+};
 
 /// Two connections that ask for the same, of which the second may find no memory to write.
 fn two<R: AllocGlobal + Abort + Wait>(rt: &R, refuses: u16) -> Ended<Starving> {
@@ -30,20 +39,8 @@ fn two<R: AllocGlobal + Abort + Wait>(rt: &R, refuses: u16) -> Ended<Starving> {
     serve_steps(rt, rt.alloc(), &site, &PLAIN, world, &[])
 }
 
-#[test]
-fn a_link_without_memory_ends_its_own_connection(rt: HostRuntime) {
-    let ended = two(&rt, 2);
-    assert_eq!(rt; ended.verdict, Verdict::Memory);
-    assert_eq!(rt; ended.served.len(), 2);
-    let ends = [End::Done, End::Memory];
-    let bytes: [&[u8]; 2] = [A, b""];
-    for (number, served) in ended.served.iter().enumerate() {
-        assert_eq!(rt; served.end, Some(ends[number % 2]));
-        match &served.link {
-            Some(held) => assert_eq!(rt; held.link.written(), bytes[number % 2]),
-            None => panic!(rt; "a link is gone"),
-        }
-    }
+/// The server's setup of so many colours.
+fn setup_of(rt: &impl Abort, shape: &Shape, colours: u32) -> Setup {
     let Ok(handlers) = Handlers::new(&[
         (40, 4),
         (10, 1),
@@ -58,28 +55,129 @@ fn a_link_without_memory_ends_its_own_connection(rt: HostRuntime) {
     ]) else {
         panic!(rt; "no table");
     };
-    let Ok(setup) = Setup::new(&PLAIN, 4, handlers, 1) else {
-        panic!(rt; "no setup");
-    };
+    match Setup::new(shape, colours, handlers, 1) {
+        Ok(setup) => setup,
+        Err(_) => panic!(rt; "no setup"),
+    }
+}
+
+/// How many events of a colour were finished, by a history.
+fn finished(history: &[Entry], sought: Colour) -> u64 {
+    let mut finished = 0u64;
+    for entry in history {
+        match entry {
+            Entry::Fin { colour, count, .. } if *colour == sought => {
+                finished = finished.wrapping_add(u64::from(*count));
+            }
+            _ => {}
+        }
+    }
+    finished
+}
+
+/// What a run leaves that had begun, whatever it was refused: legal histories, of each colour a trail of what was finished,
+/// the world, and each link that it gave.
+fn stands(rt: &(impl AllocGlobal + Abort), ended: &Ended<Starving>, shape: &Shape) {
+    let setup = setup_of(rt, shape, 4);
     for history in &ended.histories {
         assert_eq!(rt; judge(&setup, history), Judged::Legal);
+    }
+    for (colour, trail) in ended.trails.iter().enumerate() {
+        let mut count = 0u64;
+        for history in &ended.histories {
+            count = count.wrapping_add(finished(history, Colour((colour % 4) as u16)));
+        }
+        assert_eq!(rt; trail.len() as u64, count, "colour {colour}");
+    }
+    let mut links = 0u16;
+    for served in &ended.served {
+        if served.link.is_some() {
+            links = links.wrapping_add(1);
+        }
+    }
+    match &ended.world {
+        Some(world) => assert_eq!(rt; (ended.accepted, links), (world.given, world.given)),
+        None => panic!(rt; "the world is gone"),
+    }
+}
+
+#[test]
+fn a_link_without_memory_ends_its_own_connection(rt: HostRuntime) {
+    let ended = two(&rt, 2);
+    assert_eq!(rt; ended.verdict, Verdict::Memory);
+    assert_eq!(rt; ended.served.len(), 2);
+    let ends = [End::Done, End::Memory];
+    let bytes: [&[u8]; 2] = [A, b""];
+    for (number, served) in ended.served.iter().enumerate() {
+        assert_eq!(rt; served.end, Some(ends[number % 2]));
+        match &served.link {
+            Some(held) => assert_eq!(rt; held.link.written(), bytes[number % 2]),
+            None => panic!(rt; "a link is gone"),
+        }
+    }
+    stands(&rt, &ended, &PLAIN);
+}
+
+/// Two workers serve a connection of one request and one of two, by a schedule in which one is stolen.
+fn by_schedule<R: AllocGlobal + Abort + Wait>(rt: &R) -> Ended<Starving> {
+    let site = site(rt, None);
+    let mut links = Vec::new(rt.alloc());
+    links
+        .push(link(rt, &[Part::Send(G)], None, None))
+        .expect(rt, "memory");
+    links
+        .push(link(rt, &[Part::Send(GET_EMPTY), Part::Send(G)], None, None))
+        .expect(rt, "memory");
+    let world = Starving {
+        world: MemWorld::new(links, Vec::new(rt.alloc())),
+        refuses: 0,
+        given: 0,
+    };
+    serve_steps(rt, rt.alloc(), &site, &TWO_CORES, world, &[(0, 6), (1, 12)])
+}
+
+/// A connection was written a front of these answers, and all of them where the run was not refused.
+fn has_front(
+    rt: &(impl AllocGlobal + Abort),
+    ended: &Ended<Starving>,
+    number: usize,
+    answers: &[&[u8]],
+) {
+    let mut whole: Vec<u8> = Vec::new(rt.alloc());
+    for answer in answers {
+        whole.extend_from_slice(answer).expect(rt, "memory");
+    }
+    let Some(served) = ended.served.get(number) else {
+        panic!(rt; "a connection is gone");
+    };
+    let Some(held) = &served.link else {
+        assert_eq!(rt; (ended.verdict, served.written), (Verdict::Memory, 0));
+        return;
+    };
+    assert!(rt; whole.starts_with(held.link.written()));
+    if ended.verdict == Verdict::Ok {
+        assert_eq!(rt; served.end, Some(End::Done));
+        assert_eq!(rt; held.link.written(), whole.as_slice());
     }
 }
 
 /// Whatever request for memory is refused in the run: it answers `Ok` with all of it, or `Memory` with fronts.
 #[test]
 fn a_run_that_is_refused_memory_leaves_fronts(rt: HostRuntime) {
-    let ended = two(&rt, 0);
+    let ended = by_schedule(&rt);
     match ended.verdict {
-        Verdict::Ok => assert!(rt; ended.world.is_some()),
-        Verdict::Memory => {}
+        Verdict::Ok | Verdict::Memory => {}
         Verdict::World => panic!(rt; "the world doesn't fail"),
         Verdict::Apart { conn: _ } => panic!(rt; "a connection is amiss"),
     }
-    for served in &ended.served {
-        match &served.link {
-            Some(held) => assert!(rt; A.starts_with(held.link.written())),
-            None => assert!(rt; ended.verdict == Verdict::Memory),
-        }
+    if ended.histories.is_empty() {
+        assert_eq!(rt; ended.verdict, Verdict::Memory);
+        assert!(rt; ended.world.is_some());
+        assert_eq!(rt; (ended.served.len(), ended.trails.len()), (0, 0));
+        return;
     }
+    stands(&rt, &ended, &TWO_CORES);
+    assert_eq!(rt; (ended.served.len(), ended.trails.len()), (2, 4));
+    has_front(&rt, &ended, 0, &[A]);
+    has_front(&rt, &ended, 1, &[EMPTY, A]);
 }

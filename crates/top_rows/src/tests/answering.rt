@@ -1,10 +1,10 @@
 //! The command `answer`.
-use super::{INDEX, INDEX_SENT, bytes_of, file, put, say, small_site, words_of};
+use super::{INDEX, INDEX_SENT, bytes_of, file, put, say, small_files, small_site, words_of};
 use std::alloc::AllocError;
 use std::sync::Wait;
 use std::test::Fail;
 use std::thread::Threads;
-use sws_link::{MemSink, MemSource, SureFolder, SureSink, SureSource, SureWorld};
+use sws_link::{MemFolder, MemSink, MemSource, SureFolder, SureSink, SureSource, SureWorld};
 use sws_top::{SiteLimit, TopFault, sws};
 
 const INDEX_SENT_LAST: &str =
@@ -110,18 +110,46 @@ fn long_heads_and_many_heads_are_answered_up_to_their_limits(rt: HostRuntime) ->
     Ok(())
 }
 
+/// As much of two requests as has come: each is answered once it is whole.
 #[test]
 fn a_head_is_answered_once_it_is_whole(rt: HostRuntime) -> Result<(), Fail> {
-    let whole = bytes_of(rt.alloc(), INDEX)?;
-    let sent = bytes_of(rt.alloc(), INDEX_SENT)?;
-    for len in 0..whole.len() {
-        let said = say(&rt, "answer S", whole[..len].to_vec(rt.alloc())?)?;
-        assert_eq!(rt; said.written.len(), 0, "{len} bytes");
-        let mut both = whole.clone()?;
-        both.extend_from_slice(&whole[..len])?;
-        let said = say(&rt, "answer S", both)?;
-        assert_eq!(rt; said.written, sent, "{len} bytes more");
+    let mut two = Vec::new(rt.alloc());
+    put(&mut two, INDEX, 2)?;
+    let one = two.len() / 2;
+    for len in 0..=two.len() {
+        let said = say(&rt, "answer S", two[..len].to_vec(rt.alloc())?)?;
+        let mut wanted = Vec::new(rt.alloc());
+        put(&mut wanted, INDEX_SENT, len.checked_div(one).unwrap_or(0))?;
+        assert_eq!(rt; said.status, 0, "{len} bytes");
+        assert_eq!(rt; said.written, wanted, "{len} bytes");
     }
+    Ok(())
+}
+
+/// Empty lines before a request, a field too many, a byte that no field has, and lines without end.
+#[test]
+fn hostile_bytes_are_answered_as_any_others(rt: HostRuntime) -> Result<(), Fail> {
+    let rows = [
+        ("", "~~", 1, INDEX, INDEX_SENT),
+        ("GET / HTTP/1.1~Host: x~", "a: b~", 63, "~", INDEX_SENT),
+        ("GET / HTTP/1.1~Host: x~", "a: b~", 64, "~", BAD_REQUEST),
+        ("GET / HTTP/1.1~Host: x~X: a", "\0", 1, "b~~", BAD_REQUEST),
+        ("", "\n", 65_536, "", TOO_LARGE),
+    ];
+    for (start, middle, times, end, wanted) in rows {
+        let mut input = bytes_of(rt.alloc(), start)?;
+        put(&mut input, middle, times)?;
+        put(&mut input, end, 1)?;
+        let said = say(&rt, "answer S", input)?;
+        assert_eq!(rt; said.status, 0, "{middle:?} {times} times");
+        assert_eq!(rt;
+            said.written,
+            bytes_of(rt.alloc(), wanted)?,
+            "{middle:?} {times} times"
+        );
+    }
+    assert_eq!(rt; bytes_of(rt.alloc(), BAD_REQUEST)?.len(), 122);
+    assert_eq!(rt; bytes_of(rt.alloc(), TOO_LARGE)?.len(), 162);
     Ok(())
 }
 
@@ -208,5 +236,57 @@ fn what_was_read_is_answered_before_a_fault(rt: HostRuntime) -> Result<(), Fail>
     );
     assert_eq!(rt; outcome.status, 5);
     assert_eq!(rt; sink.written().len(), 0);
+    Ok(())
+}
+
+/// A request is answered out of a folder that fails at a call: nothing is written; and out of one that does not fail.
+#[test]
+fn a_folder_that_fails_at_any_call_gives_no_answer(rt: HostRuntime) -> Result<(), Fail> {
+    let alloc = rt.alloc();
+    let words = words_of(alloc, "answer S")?;
+    let sent = bytes_of(alloc, INDEX_SENT)?;
+    let mut failed: u32 = 0;
+    for number in 1..=100u32 {
+        let mut folder = MemFolder::new(alloc, small_files(alloc)?, vec![in alloc; number]?);
+        let mut source = SureSource::new(bytes_of(alloc, INDEX)?);
+        let mut sink = SureSink::new(alloc);
+        let world = SureWorld::new(Vec::new(alloc));
+        let outcome = sws(&rt, &words, &mut folder, &mut source, world, &mut sink);
+        if outcome.status == 0 {
+            assert_eq!(rt; sink.written(), sent.as_slice(), "call {number}");
+            break;
+        }
+        assert_eq!(rt; outcome.status, 4, "call {number}");
+        assert_eq!(rt; sink.written().len(), 0, "call {number}");
+        failed = number;
+    }
+    // It is opened, each of three files is named and read to its end, and no other file follows.
+    assert!(rt; (9..100).contains(&failed), "{failed} calls");
+    Ok(())
+}
+
+/// A request is answered into a sink that fails at a call: a front is written; and into one that does not fail.
+#[test]
+fn a_sink_that_fails_at_any_call_has_a_front_of_the_answer(rt: HostRuntime) -> Result<(), Fail> {
+    let alloc = rt.alloc();
+    let words = words_of(alloc, "answer S")?;
+    let sent = bytes_of(alloc, INDEX_SENT)?;
+    let mut failed: u32 = 0;
+    for number in 1..=100u32 {
+        let mut source = SureSource::new(bytes_of(alloc, INDEX)?);
+        let mut sink = MemSink::new(alloc, vec![in alloc; number]?);
+        let world = SureWorld::new(Vec::new(alloc));
+        let mut folder = small_site(alloc)?;
+        let outcome = sws(&rt, &words, &mut folder, &mut source, world, &mut sink);
+        if outcome.status == 0 {
+            assert_eq!(rt; sink.written(), sent.as_slice(), "call {number}");
+            break;
+        }
+        assert_eq!(rt; outcome.status, 5, "call {number}");
+        assert!(rt; sent.starts_with(sink.written()), "call {number}");
+        assert!(rt; sink.written().len() < sent.len(), "call {number}");
+        failed = number;
+    }
+    assert!(rt; (1..100).contains(&failed), "{failed} calls");
     Ok(())
 }

@@ -1,0 +1,33 @@
+//! `hello_colours TIMES`: one colour greets another, so many times, on two workers, and the program
+//! prints what each of them counted.
+//!
+//! It is the smallest app of the runtime on threads; `docs/FIRST_APP.md` walks it.
+#![tactic(auto)]
+
+mod counter;
+mod greeting;
+
+use greeting::greet;
+use std::process::ExitCode;
+use std::{env, io};
+
+/// The number of the command line.
+fn times(rt: &HostRuntime) -> Option<u16> {
+    let mut words = env::args(rt).ok()?.skip(1);
+    words.next()?.as_str().parse::<u16>().ok()
+}
+
+fn main(rt: HostRuntime) -> io::Result<ExitCode> {
+    let Some(times) = times(&rt).filter(|times| *times > 0) else {
+        eprintln!(rt; "usage: hello_colours TIMES, from 1 to 65535")?;
+        return Ok(ExitCode::from(2));
+    };
+    let Ok(ended) = greet(&rt, rt.alloc(), times) else {
+        eprintln!(rt; "hello_colours: no memory")?;
+        return Ok(ExitCode::from(7));
+    };
+    for (colour, state) in ended.states.iter().enumerate() {
+        println!(rt; "colour {colour} counted {} events", state.count())?;
+    }
+    Ok(ExitCode::SUCCESS)
+}

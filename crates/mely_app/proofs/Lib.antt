@@ -1,0 +1,2 @@
+mod FreshLaws
+mod RanLaws

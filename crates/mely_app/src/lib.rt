@@ -1,0 +1,27 @@
+//! The front door of the runtime: an app is run on threads, from nothing to what it leaves.
+//!
+//! An app is its handlers ([`App`](mely_worker::App), of `mely_worker`) over states, one for each
+//! colour. Here a state says how it begins ([`Fresh`]), and [`run_app`] does all the rest: it makes
+//! the states and the fleet, posts the first event, lets a thread for each core work until nothing
+//! is left, closes the fleet, and hands out the states with the histories ([`Ended`]).
+//! `docs/FIRST_APP.md` walks a whole program, the crate `hello_colours`.
+//!
+//! ```text
+//! let setup = Setup::new(&shape, 2, handlers, 0)?;
+//! let ended = run_app(&rt, rt.alloc(), &setup, &app, Colour(0), event, None)?;
+//! ended.states[1] // what colour 1 has come to
+//! ```
+//!
+//! What is promised is [`RanAll`](../specs/RanAll.antt): every event that was registered was run,
+//! on the state of its colour, once, in the order in which its colour's events were registered,
+//! however the threads ran. So whatever the type of a state keeps over its trail, as that a count
+//! is the trail's length, is so of all that was registered. Not promised is that the run ends (an
+//! app may register for ever), nor which events were registered: a handler's puts are, but no
+//! contract of a running fleet says so.
+#![tactic(auto)]
+
+mod fresh;
+mod running;
+
+pub use fresh::{Fresh, fresh_states};
+pub use running::{Ended, run_app};

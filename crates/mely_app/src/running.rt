@@ -1,0 +1,78 @@
+//! An app on threads, from its fresh states to its end.
+ghost use Rattle.std.specs.Prelude.{IfOk, map};
+ghost use Rattle.mely_worker.specs.Access.{FitsSetup};
+ghost use Rattle.mely_worker.specs.Conditions.{AppServes};
+ghost use Rattle.mely_app.specs.RanAll.{RanAll};
+
+use crate::fresh::{Fresh, fresh_states};
+use mely_event::{Colour, Event, Fits, Memory, Trail};
+use mely_fleet::run_crew;
+use mely_history::{Entry, Setup};
+use mely_tally::the_parts_are_what_the_weave_had;
+use mely_weave::{Drained, WeaveParts};
+use mely_worker::{App, OpenGate};
+use std::alloc::Global;
+use std::sync::Wait;
+use std::thread::Threads;
+
+/// What a run leaves that came to its end.
+#[derive(Drop)]
+pub struct Ended<S> {
+    /// The state of each colour.
+    pub states: Vec<S>,
+
+    /// The history of each shard; the entries of a colour stand in that of its number modulo the
+    /// number of shards.
+    pub histories: Vec<Vec<Entry>>,
+}
+
+/// Runs an app on fresh states, from its first event on, with a thread for each core, until nothing
+/// is left. It need not return: an app may register for ever.
+///
+/// # Errors
+///
+/// There was no memory, to begin or for an event on the way: what was done is dropped.
+pub fn run_app<
+    R: Threads + Wait + Sync,
+    S: Fresh<P> + Drop + Send,
+    P: Drop + Send,
+    A: App<State = S, Load = P> + Sync,
+>(
+    rt: &R,
+    alloc: Global,
+    setup: &Setup,
+    app: &A,
+    colour: Colour,
+    event: Event,
+    load: Option<P>,
+) -> Result<Ended<S>, Memory>
+    requires served { AppServes A.App setup.now S.first_frame app.now }
+    requires fits { FitsSetup S.fits_under setup.now S.first_frame (colour, event, load) }
+    ensures { IfOk result (λ ended. RanAll S.Trail setup.now
+        (map (λ history. history.items) ended.histories.items) ended.states.items) }
+{
+    let states = fresh_states::<S, P>(alloc, setup)?;
+    let Ok((weave, drained)) = run_crew(
+        rt,
+        alloc,
+        setup,
+        states,
+        (colour, event, load),
+        app,
+        &OpenGate,
+    ) else {
+        return Err(Memory);
+    };
+    weave.stands_well();
+    the_parts_are_what_the_weave_had::<S, P>();
+    let WeaveParts {
+        histories,
+        states,
+        queued: _,
+        lost,
+    } = weave.into_parts();
+    match drained {
+        Drained::Empty if lost.is_empty() => Ok(Ended { states, histories }),
+        _ => Err(Memory),
+    }
+}
