@@ -548,7 +548,6 @@ module _ {F R W L O T G : Type 0} (f : FolderWords F) (r : SourceWords R) (x : W
       by_phase (inr (site, loaded, inr (input, read, writes))) = text_done writes.answer writes.ended writes.cause.rose nothing
   done_as (serve path port connections shape date) ran sound nothing = serve_done path port connections (run_shape shape) date ran.0 ran.1 sound nothing
   done_as (bench connections number shape) ran sound nothing = text_done ran.2.answer ran.2.ended ran.2.cause.rose nothing
-
   done_as (check connections shape) ran sound nothing =
       let checked = ran.1 in
       check_done checked.found checked.cause checked.writes

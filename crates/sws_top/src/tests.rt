@@ -35,10 +35,7 @@ fn each_fault_prints_its_line(rt: HostRuntime) -> Result<(), Fail> {
             TopFault::BadJournal { line: 23 },
             "sws: line 23 is not a journal line",
         ),
-        (
-            TopFault::NotLegal { line: 8 },
-            "sws: line 8 is not allowed",
-        ),
+        (TopFault::NotLegal { line: 8 }, "sws: line 8 is not allowed"),
         (
             TopFault::NotDrained { colour: 2 },
             "sws: colour 2 is not drained",

@@ -1,7 +1,9 @@
 //! The command `check`.
 use super::{file, say, small_site, words_of};
 use std::alloc::{AllocError, Global};
+use std::sync::Wait;
 use std::test::Fail;
+use std::thread::Threads;
 use sws_bench::bench_script;
 use sws_link::{MemSink, MemSource, SureFolder, SureSink, SureSource, SureWorld};
 use sws_script::{Input, Sequence, print};
@@ -61,9 +63,27 @@ fn a_journal_is_accepted_with_its_sums(rt: HostRuntime) -> Result<(), Fail> {
 fn a_changed_journal_is_refused_where_it_goes_wrong(rt: HostRuntime) -> Result<(), Fail> {
     let rows = [
         ("shard 0 21\n", 4, "", 11, TopFault::NotLegal { line: 8 }),
-        ("shard 0 21\n", 21, "", 12, TopFault::NotDrained { colour: 2 }),
-        ("shard 0 22\n", 21, "", 10, TopFault::BadJournal { line: 23 }),
-        ("shard 0 22\n", 8, "steal 0 0 1\n", 11, TopFault::NotLegal { line: 10 }),
+        (
+            "shard 0 21\n",
+            21,
+            "",
+            12,
+            TopFault::NotDrained { colour: 2 },
+        ),
+        (
+            "shard 0 22\n",
+            21,
+            "",
+            10,
+            TopFault::BadJournal { line: 23 },
+        ),
+        (
+            "shard 0 22\n",
+            8,
+            "steal 0 0 1\n",
+            11,
+            TopFault::NotLegal { line: 10 },
+        ),
     ];
     for (first, at, instead, status, fault) in rows {
         let said = say(&rt, LINE, journal(rt.alloc(), first, at, instead)?)?;
@@ -98,52 +118,59 @@ fn a_check_tells_faults_of_the_outside(rt: HostRuntime) -> Result<(), Fail> {
     Ok(())
 }
 
-/// The files that a bench asks for: the one of number n has 64 letters more than that before it, from the n-th letter on.
+/// The letters of the bench's file of this number: 64 more than those of the file before it, from a later letter on.
+fn letters(alloc: Global, number: u8) -> Result<Vec<u8>, AllocError> {
+    let first = u16::from(number);
+    let mut bytes = Vec::new(alloc);
+    for place in 0..64 * (first + 1) {
+        bytes.push(b'a' + ((place + first) % 26) as u8)?;
+    }
+    Ok(bytes)
+}
+
+/// The files that a bench asks for.
 fn bench_folder(alloc: Global) -> Result<SureFolder, AllocError> {
-    let letters = b"abcdefghijklmnopqrstuvwxyz";
-    let names = [
-        "f0.txt", "f1.txt", "f2.txt", "f3.txt", "f4.txt", "f5.txt", "f6.txt", "f7.txt", "f8.txt",
-        "f9.txt", "f10.txt", "f11.txt", "f12.txt", "f13.txt", "f14.txt", "f15.txt",
-    ];
     let mut files = Vec::new(alloc);
-    for (number, name) in names.iter().enumerate() {
-        let mut bytes = Vec::new(alloc);
-        for letter in letters.iter().cycle().skip(number).take(64 * (number + 1)) {
-            bytes.push(*letter)?;
-        }
-        files.push(file(alloc, name.as_bytes(), &bytes)?)?;
+    for number in 0..16 {
+        let name = format!(in alloc; "f{number}.txt")?;
+        files.push(file(alloc, name.as_bytes(), &letters(alloc, number)?)?)?;
     }
     Ok(SureFolder::new(alloc, files))
 }
 
-/// What a run of a bench's script on its site prints as its journal is accepted.
-#[test]
-fn the_journal_of_a_bench_is_accepted(rt: HostRuntime) -> Result<(), Fail> {
+/// What these words give for a bench's script of eight connections, on its site.
+fn replayed<T: AllocGlobal + Threads + Wait + Sync>(rt: &T, line: &str) -> Result<Vec<u8>, Fail> {
     let alloc = rt.alloc();
+    let (Ok(conns), words) = (bench_script(alloc, 8, 7), words_of(alloc, line)?) else {
+        return Ok(Vec::new(alloc));
+    };
     let input = Input {
         steps: Sequence::new(Vec::new(alloc)),
-        conns: Sequence::new(bench_script(alloc, 8, 7)?),
+        conns: Sequence::new(conns),
     };
-    let words = words_of(alloc, "replay B --workers 8 --shards 4 --journal")?;
-    let mut source = SureSource::new(print(alloc, &input, false)?);
+    let Ok(script) = print(alloc, &input, false) else {
+        return Ok(Vec::new(alloc));
+    };
+    let mut folder = bench_folder(alloc)?;
+    let mut source = SureSource::new(script);
     let mut sink = SureSink::new(alloc);
     let world = SureWorld::new(Vec::new(alloc));
-    let outcome = sws(
-        &rt,
-        &words,
-        &mut bench_folder(alloc)?,
-        &mut source,
-        world,
-        &mut sink,
-    );
-    assert_eq!(rt; outcome.status, 0);
+    let outcome = sws(rt, &words, &mut folder, &mut source, world, &mut sink);
+    assert_eq!(rt; outcome.status, 0, "{line}");
+    Ok(sink.written().to_vec(alloc)?)
+}
 
-    let mark: &[u8] = b"\nshard 0 ";
-    let found = sink.written().windows(mark.len()).position(|it| it == mark);
-    let journal = found.and_then(|at| sink.written().get(at + 1..)).unwrap_or(&[]);
-    assert!(rt; !journal.is_empty());
+/// What a run on eight threads prints behind its transcript is the journal of a legal and drained run.
+#[test]
+fn the_journal_of_a_bench_is_accepted(rt: HostRuntime) -> Result<(), Fail> {
+    let transcript = replayed(&rt, "replay B")?;
+    let text = replayed(&rt, "replay B --workers 8 --shards 4 --journal")?;
+    assert!(rt; text.starts_with(&transcript));
+    let journal = text.get(transcript.len()..).unwrap_or(&[]);
+    assert!(rt; journal.starts_with(b"shard 0 "));
+
     let line = "check --connections 8 --workers 8 --shards 4";
-    let said = say(&rt, line, journal.to_vec(alloc)?)?;
+    let said = say(&rt, line, journal.to_vec(rt.alloc())?)?;
     assert_eq!(rt; said.fault, None);
     assert_eq!(rt; said.status, 0);
     assert!(rt; said.written.starts_with(b"accepted "));
