@@ -1,5 +1,5 @@
 //! The command `check`.
-use super::{file, say, small_site, words_of};
+use super::{Said, file, say, small_site, words_of};
 use std::alloc::{AllocError, Global};
 use std::sync::Wait;
 use std::test::Fail;
@@ -138,35 +138,47 @@ fn bench_folder(alloc: Global) -> Result<SureFolder, AllocError> {
     Ok(SureFolder::new(alloc, files))
 }
 
-/// What these words give for a bench's script of eight connections, on its site.
-fn replayed<T: AllocGlobal + Threads + Wait + Sync>(rt: &T, line: &str) -> Result<Vec<u8>, Fail> {
-    let alloc = rt.alloc();
-    let (Ok(conns), words) = (bench_script(alloc, 8, 7), words_of(alloc, line)?) else {
-        return Ok(Vec::new(alloc));
-    };
+/// The script of a bench of eight connections, or nothing where there was no memory.
+fn bench_text(alloc: Global) -> Option<Vec<u8>> {
+    let conns = bench_script(alloc, 8, 7).ok()?;
     let input = Input {
         steps: Sequence::new(Vec::new(alloc)),
         conns: Sequence::new(conns),
     };
-    let Ok(script) = print(alloc, &input, false) else {
-        return Ok(Vec::new(alloc));
-    };
+    print(alloc, &input, false).ok()
+}
+
+/// Runs these words on the site of a bench, with this input.
+fn say_on_bench<T: AllocGlobal + Threads + Wait + Sync>(
+    rt: &T,
+    line: &str,
+    input: &[u8],
+) -> Result<Said, AllocError> {
+    let alloc = rt.alloc();
+    let words = words_of(alloc, line)?;
     let mut folder = bench_folder(alloc)?;
-    let mut source = SureSource::new(script);
+    let mut source = SureSource::new(input.to_vec(alloc)?);
     let mut sink = SureSink::new(alloc);
     let world = SureWorld::new(Vec::new(alloc));
     let outcome = sws(rt, &words, &mut folder, &mut source, world, &mut sink);
-    assert_eq!(rt; outcome.status, 0, "{line}");
-    Ok(sink.written().to_vec(alloc)?)
+    Ok(Said {
+        status: outcome.status,
+        fault: outcome.fault,
+        written: sink.written().to_vec(alloc)?,
+    })
 }
 
 /// What a run on eight threads prints behind its transcript is the journal of a legal and drained run.
 #[test]
 fn the_journal_of_a_bench_is_accepted(rt: HostRuntime) -> Result<(), Fail> {
-    let transcript = replayed(&rt, "replay B")?;
-    let text = replayed(&rt, "replay B --workers 8 --shards 4 --journal")?;
-    assert!(rt; text.starts_with(&transcript));
-    let journal = text.get(transcript.len()..).unwrap_or(&[]);
+    let script = bench_text(rt.alloc()).unwrap_or(Vec::new(rt.alloc()));
+    let alone = say_on_bench(&rt, "replay B", &script)?;
+    assert_eq!(rt; alone.status, 0);
+    let line = "replay B --workers 8 --shards 4 --journal";
+    let shown = say_on_bench(&rt, line, &script)?;
+    assert_eq!(rt; shown.status, 0);
+    assert!(rt; shown.written.starts_with(&alone.written));
+    let journal = shown.written.get(alone.written.len()..).unwrap_or(&[]);
     assert!(rt; journal.starts_with(b"shard 0 "));
 
     let line = "check --connections 8 --workers 8 --shards 4";
