@@ -1,6 +1,11 @@
 -- What follows of a run, whatever its order: the cause of its fault, and that without a cause all was done.
 use Rattle.std.specs.Prelude.{Ok, Err, is_some}
 use Rattle.std.proofs.Common.{◌≡◌, ◌≢◌, ◌⊎◌, inl, inr, ℕ, ◌≤◌, Bool, false, true, List, length, Option, Some, None, IsSome, refl, sym, ap, ◌∙◌, subst, Result}
+use Rattle.mely_check.specs.Verdicts.{Accepts, IsAcceptance}
+use Rattle.mely_check.specs.declared.fault.CheckFault.{CheckFault}
+use Rattle.mely_check.specs.declared.fault.CheckFault.TheVariants as check_fault
+use Rattle.mely_check.specs.declared.report.Report.{Report}
+use Rattle.mely_history.specs.declared.setup.Setup.{Setup}
 use Rattle.mely_history.specs.declared.shape.Shape.{Shape}
 use Rattle.sws_link.proofs.CountLaws.{HasCause-none, HasCause-as, IsLater-same}
 use Rattle.sws_link.specs.Counts.{Count, Rose, HasCause}
@@ -26,17 +31,19 @@ use Rattle.sws_script.specs.declared.input.Input.{Input}
 use Rattle.sws_site.proofs.LimitLaws.{limit_of-none}
 use Rattle.sws_site.specs.Limits.{limit_of}
 use Rattle.sws_site.specs.Sites.{SiteFiles}
-use Rattle.sws_words.specs.Orders.{Order, answer, replay, serve, bench}
+use Rattle.sws_words.specs.Orders.{Order, answer, replay, serve, bench, check}
 use Rattle.sws_top.specs.declared.faults.SiteLimit.{SiteLimit}
 use Rattle.sws_top.specs.declared.faults.TopFault.{TopFault}
-use Rattle.sws_top.specs.declared.faults.TopFault.TheVariants.{Usage, BadScript, ReadFault, WriteFault, WorldFault, Memory, SiteFull, TooMany, Apart}
+use Rattle.sws_top.specs.declared.faults.TopFault.TheVariants.{Usage, BadScript, ReadFault, WriteFault, WorldFault, Memory, SiteFull, TooMany, BadJournal, NotLegal, NotDrained, Apart}
 use Rattle.sws_top.specs.declared.outcomes.Outcome.{Outcome}
 use Rattle.sws_top.specs.Answered.{AnswersInput}
 use Rattle.sws_top.specs.Causes.{TellsInput, IsLast, HasLost, HasCauses, IsSound, NothingFailed, IsDone}
+use Rattle.sws_top.specs.Checked.{IsServerSetup, TellsDrainedRun, report_text}
 use Rattle.sws_top.specs.Faults.{refusal_of, run_fault_of, ended_with, EndsAnswering}
 use Rattle.sws_top.specs.Hands.{Hands}
 use Rattle.sws_top.specs.Ran.{IsUntouched, Ran, RanAs}
 use Rattle.sws_top.specs.RanAnswer.{RanAnswer}
+use Rattle.sws_top.specs.RanCheck.{WritesFound}
 use Rattle.sws_top.specs.RanReplay.{RanReplay, IsReplayText}
 use Rattle.sws_top.specs.RanServe.{IsBack, LacksWorld, EndsBy, HasServed, RanServe}
 use Rattle.sws_bench.specs.BenchSummary.{bench_summary}
@@ -66,6 +73,9 @@ module _ {F : Type 0} (f : FolderWords F) (path : List ℕ) (before now : F) (so
   site_reads WriteFault lacks = absurd lacks.why
   site_reads WorldFault lacks = absurd lacks.why
   site_reads (TooMany line) lacks = absurd lacks.why
+  site_reads (BadJournal line) lacks = absurd lacks.why
+  site_reads (NotLegal line) lacks = absurd lacks.why
+  site_reads (NotDrained colour) lacks = absurd lacks.why
   site_reads (Apart conn) lacks = absurd lacks.why
 
 module _ {R : Type 0} (r : SourceWords R) (schedule : Bool) (cores : ℕ) (before now : R) (folder folder_now : Count) (same : folder_now ≡ folder) where
@@ -78,6 +88,9 @@ module _ {R : Type 0} (r : SourceWords R) (schedule : Bool) (cores : ℕ) (befor
   input_reads WriteFault lacks = absurd lacks.why
   input_reads WorldFault lacks = absurd lacks.why
   input_reads (SiteFull limit) lacks = absurd lacks.why
+  input_reads (BadJournal line) lacks = absurd lacks.why
+  input_reads (NotLegal line) lacks = absurd lacks.why
+  input_reads (NotDrained colour) lacks = absurd lacks.why
   input_reads (Apart conn) lacks = absurd lacks.why
 
 -- the causes of a text's end
@@ -113,6 +126,9 @@ site_fault_kind f path before now (BadScript line) lacks = absurd lacks
 site_fault_kind f path before now WriteFault lacks = absurd lacks
 site_fault_kind f path before now WorldFault lacks = absurd lacks
 site_fault_kind f path before now (TooMany line) lacks = absurd lacks
+site_fault_kind f path before now (BadJournal line) lacks = absurd lacks
+site_fault_kind f path before now (NotLegal line) lacks = absurd lacks
+site_fault_kind f path before now (NotDrained colour) lacks = absurd lacks
 site_fault_kind f path before now (Apart conn) lacks = absurd lacks
 
 input_fault_kind : {R : Type 0} (r : SourceWords R) (schedule : Bool) (cores : ℕ) (before now : R) (cause : TopFault) → LacksInput r schedule cores before now cause
@@ -125,6 +141,9 @@ input_fault_kind r schedule cores before now Usage lacks = absurd lacks
 input_fault_kind r schedule cores before now WriteFault lacks = absurd lacks
 input_fault_kind r schedule cores before now WorldFault lacks = absurd lacks
 input_fault_kind r schedule cores before now (SiteFull limit) lacks = absurd lacks
+input_fault_kind r schedule cores before now (BadJournal line) lacks = absurd lacks
+input_fault_kind r schedule cores before now (NotLegal line) lacks = absurd lacks
+input_fault_kind r schedule cores before now (NotDrained colour) lacks = absurd lacks
 input_fault_kind r schedule cores before now (Apart conn) lacks = absurd lacks
 
 answer_kind : (fault : Option TopFault) → EndsAnswering fault → NotTheWorlds fault
@@ -137,6 +156,9 @@ answer_kind (Some (BadScript line)) ends = absurd ends
 answer_kind (Some WorldFault) ends = absurd ends
 answer_kind (Some (SiteFull limit)) ends = absurd ends
 answer_kind (Some (TooMany line)) ends = absurd ends
+answer_kind (Some (BadJournal line)) ends = absurd ends
+answer_kind (Some (NotLegal line)) ends = absurd ends
+answer_kind (Some (NotDrained colour)) ends = absurd ends
 answer_kind (Some (Apart conn)) ends = absurd ends
 
 text_kind : {T : Type 0} (answer : Result T RunFault) (fault : Option TopFault) → fault ≡ ended_with answer → NotTheWorlds fault
@@ -189,6 +211,37 @@ module _ {F R O : Type 0} (f : FolderWords F) (r : SourceWords R) (o : SinkWords
 
   fate_as : (fault : Option TopFault) (cause : TopFault) → fault ≡ Some cause → Fate (Some cause) → Fate fault
   fate_as fault cause is fate = subst (λ (k : Option TopFault). Fate k) (sym is) fate
+
+  -- a run of `check` that has found this fault of its journal, or no memory to judge it
+  unread_fate : (cause : TopFault) → Some cause ≢ Some ReadFault → Some cause ≢ Some WriteFault → NotTheWorlds (Some cause) → f.faults now.folder ≡ f.faults before.folder
+      → r.faults now.source ≡ r.faults before.source → now.out ≡ before.out → Fate (Some cause)
+  unread_fate cause read write kind folder source out = record {
+    reads = not_read (Some cause) read folder source;
+    write = HasCause-none (o.faults before.out) (o.faults now.out) (Some cause ≡ Some WriteFault) (ap o.faults out) write;
+    kind = kind;
+  }
+
+  check_fate : (found : Result Report CheckFault) (fault : Option TopFault) → f.faults now.folder ≡ f.faults before.folder
+      → HasCause (r.faults before.source) (r.faults now.source) (found ≡ Err check_fault.Read) → WritesFound o before.out now.out fault found → Fate fault
+  check_fate (Ok report) fault folder cause writes = text_fate fault (λ text. text ≡ report_text report) folder (cause.stays (λ e. cc)) writes
+  check_fate (Err check_fault.Read) fault folder cause writes =
+      fate_as fault ReadFault writes.0 (record {
+        reads = record { rose = λ _. inr (cause.rose refl); stays = λ other. absurd (other refl) };
+        write = HasCause-none (o.faults before.out) (o.faults now.out) (Some ReadFault ≡ Some WriteFault) (ap o.faults writes.1) (λ e. cc);
+        kind = record { unfailed = λ e. cc; unlost = λ conn e. cc };
+      })
+  check_fate (Err (check_fault.BadJournal line)) fault folder cause writes =
+      fate_as fault (BadJournal line) writes.0
+      (unread_fate (BadJournal line) (λ e. cc) (λ e. cc) (record { unfailed = λ e. cc; unlost = λ conn e. cc }) folder (cause.stays (λ e. cc)) writes.1)
+  check_fate (Err (check_fault.NotLegal line)) fault folder cause writes =
+      fate_as fault (NotLegal line) writes.0
+      (unread_fate (NotLegal line) (λ e. cc) (λ e. cc) (record { unfailed = λ e. cc; unlost = λ conn e. cc }) folder (cause.stays (λ e. cc)) writes.1)
+  check_fate (Err (check_fault.NotDrained colour)) fault folder cause writes =
+      fate_as fault (NotDrained colour) writes.0
+      (unread_fate (NotDrained colour) (λ e. cc) (λ e. cc) (record { unfailed = λ e. cc; unlost = λ conn e. cc }) folder (cause.stays (λ e. cc)) writes.1)
+  check_fate (Err check_fault.Memory) fault folder cause writes =
+      fate_as fault Memory writes.0
+      (unread_fate Memory (λ e. cc) (λ e. cc) (record { unfailed = λ e. cc; unlost = λ conn e. cc }) folder (cause.stays (λ e. cc)) writes.1)
 
 -- ---- causes
 
@@ -369,6 +422,7 @@ module _ {F R W L O T G : Type 0} (f : FolderWords F) (r : SourceWords R) (x : W
   causes_as (serve path port connections shape date) ran = serve_causes path port connections (run_shape shape) date ran.0 ran.1
   causes_as (bench connections number shape) ran =
       by_fate (text_fate f r o before now outcome.fault (λ text. text ≡ bench_summary number connections) (ap f.faults ran.0) (ap r.faults ran.1) ran.2) ran.3
+  causes_as (check connections shape) ran = by_fate (check_fate f r o before now ran.1.found outcome.fault (ap f.faults ran.0) ran.1.cause ran.1.writes) ran.2
 
   -- each fault has its cause
   pub causes_of : (order : Order) → Ran f r x l o y before now world outcome order → Caused
@@ -408,6 +462,9 @@ module _ {F R W L O T G : Type 0} (f : FolderWords F) (r : SourceWords R) (x : W
   site_done path WriteFault is lacks within nothing = absurd lacks
   site_done path WorldFault is lacks within nothing = absurd lacks
   site_done path (TooMany line) is lacks within nothing = absurd lacks
+  site_done path (BadJournal line) is lacks within nothing = absurd lacks
+  site_done path (NotLegal line) is lacks within nothing = absurd lacks
+  site_done path (NotDrained colour) is lacks within nothing = absurd lacks
   site_done path (Apart conn) is lacks within nothing = absurd lacks
 
   input_done : (schedule : Bool) (cores : ℕ) (cause : TopFault) → outcome.fault ≡ Some cause → LacksInput r schedule cores before.source now.source cause
@@ -420,6 +477,9 @@ module _ {F R W L O T G : Type 0} (f : FolderWords F) (r : SourceWords R) (x : W
   input_done schedule cores WriteFault is lacks tells nothing = absurd lacks
   input_done schedule cores WorldFault is lacks tells nothing = absurd lacks
   input_done schedule cores (SiteFull limit) is lacks tells nothing = absurd lacks
+  input_done schedule cores (BadJournal line) is lacks tells nothing = absurd lacks
+  input_done schedule cores (NotLegal line) is lacks tells nothing = absurd lacks
+  input_done schedule cores (NotDrained colour) is lacks tells nothing = absurd lacks
   input_done schedule cores (Apart conn) is lacks tells nothing = absurd lacks
 
   text_done : {T : Type 0} (answer : Result T RunFault) → outcome.fault ≡ ended_with answer → (answer ≡ Err run_fault.Write → Rose (o.faults before.out) (o.faults now.out))
@@ -438,6 +498,9 @@ module _ {F R W L O T G : Type 0} (f : FolderWords F) (r : SourceWords R) (x : W
   answer_done site (Some WorldFault) is answers nothing = absurd answers.ends
   answer_done site (Some (SiteFull limit)) is answers nothing = absurd answers.ends
   answer_done site (Some (TooMany line)) is answers nothing = absurd answers.ends
+  answer_done site (Some (BadJournal line)) is answers nothing = absurd answers.ends
+  answer_done site (Some (NotLegal line)) is answers nothing = absurd answers.ends
+  answer_done site (Some (NotDrained colour)) is answers nothing = absurd answers.ends
   answer_done site (Some (Apart conn)) is answers nothing = absurd answers.ends
 
   unready_done : (port connections : ℕ) (reply : Opened) (last : W) → Listens x.tells x.faults x.waits world port connections reply last → LacksWorld reply outcome.fault
@@ -454,6 +517,23 @@ module _ {F R W L O T G : Type 0} (f : FolderWords F) (r : SourceWords R) (x : W
   serve_done path port connections shape date source (inr (site, loaded, inr served)) within nothing =
       served_done f r x l o y before now world outcome loaded.no_fault (ap r.faults source) port connections shape site served served.ended.verdict refl served.ends nothing
 
+  check_accepts : (connections : ℕ) (shape : Shape) (setup : Setup) (told : Option (List ℕ)) (found : Result Report CheckFault) → IsServerSetup connections shape setup
+      → TellsDrainedRun connections shape told → Accepts setup told found → IsAcceptance found
+  check_accepts connections shape setup None found is tells accepts = absurd tells
+  check_accepts connections shape setup (Some text) found is tells accepts = accepts text tells.0 refl (tells.1 setup is)
+
+  check_done : (found : Result Report CheckFault) → HasCause (r.faults before.source) (r.faults now.source) (found ≡ Err check_fault.Read)
+      → WritesFound o before.out now.out outcome.fault found → IsAcceptance found → Undisturbed → AllDone
+  check_done (Ok report) cause writes accepted nothing = text_done writes.answer writes.ended writes.cause.rose nothing
+  check_done (Err check_fault.Read) cause writes accepted nothing = absurd (nothing.source (cause.rose refl))
+  check_done (Err check_fault.Memory) cause writes accepted nothing = inr (inl writes.0)
+  check_done (Err (check_fault.BadJournal line)) cause writes (inl other) nothing = cc
+  check_done (Err (check_fault.BadJournal line)) cause writes (inr other) nothing = cc
+  check_done (Err (check_fault.NotLegal line)) cause writes (inl other) nothing = cc
+  check_done (Err (check_fault.NotLegal line)) cause writes (inr other) nothing = cc
+  check_done (Err (check_fault.NotDrained colour)) cause writes (inl other) nothing = cc
+  check_done (Err (check_fault.NotDrained colour)) cause writes (inr other) nothing = cc
+
   done_as : (order : Order) → RanAs f r x l o y before now world outcome order → IsSound f r x o before now world outcome order → Undisturbed → AllDone
   done_as (answer path date) ran sound nothing = by_phase ran.0
     where
@@ -468,6 +548,10 @@ module _ {F R W L O T G : Type 0} (f : FolderWords F) (r : SourceWords R) (x : W
       by_phase (inr (site, loaded, inr (input, read, writes))) = text_done writes.answer writes.ended writes.cause.rose nothing
   done_as (serve path port connections shape date) ran sound nothing = serve_done path port connections (run_shape shape) date ran.0 ran.1 sound nothing
   done_as (bench connections number shape) ran sound nothing = text_done ran.2.answer ran.2.ended ran.2.cause.rose nothing
+  done_as (check connections shape) ran sound nothing =
+      let checked = ran.1 in
+      check_done checked.found checked.cause checked.writes
+      (check_accepts connections (run_shape shape) checked.setup (r.left before.source) checked.found checked.of_server sound checked.accepts) nothing
 
   -- with words, site and script in order, and no fault of the outside, all is done, or there was no memory, or a connection was lost
   pub done_of : (order : Order) → Ran f r x l o y before now world outcome order → IsSound f r x o before now world outcome order → Undisturbed → AllDone

@@ -3,7 +3,7 @@ use Rattle.std.specs.Prelude.{if◌then◌else◌, option_and_then, option_map, 
 use Rattle.std.specs.Str.{bytes_eq}
 use Rattle.std.proofs.Common.{◌≡◌, ℕ, ◌≤◌, ◌&&◌, nat_le, Bool, true, false, cond, List, [], ◌∷◌, Option, Some, None, refl, sym, ◌∙◌, ap, subst, codes, arith, leb-true}
 use Rattle.sws_words.specs.Grammar.{Text, Given, given_of, places, value_of, has_flag}
-use Rattle.sws_words.specs.Orders.{Order, Shape, answer, replay, serve, bench, within, or_default, optional, number_in, shape_in, shape_of, date_in, date_of, only_place, two_places, order_of, answer_by, answer_known, replay_by, replay_known, serve_by, serve_known, bench_by, bench_known}
+use Rattle.sws_words.specs.Orders.{Order, Shape, answer, replay, serve, bench, check, within, or_default, optional, number_in, shape_in, shape_of, date_in, date_of, only_place, two_places, order_of, answer_by, answer_known, replay_by, replay_known, serve_by, serve_known, bench_by, bench_known, check_in, check_by, check_known}
 use Rattle.sws_top.specs.Ranges.{IsBetween, IsDate, IsShape, IsInRange, last_second}
 
 -- what an answer that is there came from
@@ -111,6 +111,21 @@ bench_range given order e =
     let range : IsInRange (bench many.0 number.0 shape.0) = (within_some 1 1024 words.0.0 many.0 many.1, shape_given given shape.0 shape.1) in
     subst IsInRange shape.2 range
 
+check_form : (words : List Text) (connections : Option ℕ) (shape : Option Shape) (order : Order) → ((most : ℕ) → connections ≡ Some most → most ≤ 1024)
+    → ((form : Shape) → shape ≡ Some form → IsShape form) → check_in words connections shape ≡ Some order → IsInRange order
+check_form (word ∷ words) connections shape order few formed e = cc
+check_form [] connections shape order few formed e =
+    let many = and_then_some (λ most. option_map (λ form. check most form) shape) connections order e in
+    let form = map_some (λ form. check many.0 form) shape order many.2 in
+    let range : IsInRange (check many.0 form.0) = (few many.0 many.1, formed form.0 form.1) in
+    subst IsInRange form.2 range
+
+check_range : (given : List Given) (order : Order) → check_by given ≡ Some order → IsInRange order
+check_range given order e =
+    check_form (places given) (option_and_then (within 0 1024) (value_of (codes "connections") given)) (shape_of given) order
+    (λ most is. let count = and_then_some (within 0 1024) (value_of (codes "connections") given) most is in (within_some 0 1024 count.0 most count.2).1)
+    (λ form is. shape_given given form is) e
+
 by_given : (by : List Given → Option Order) (given : Option (List Given)) (order : Order) → ((g : List Given) → by g ≡ Some order → IsInRange order)
     → option_and_then by given ≡ Some order → IsInRange order
 by_given by given order all e = let from = and_then_some by given order e in all from.0 from.2
@@ -128,4 +143,5 @@ order_in_range (command ∷ words) order e =
     (by_command (bytes_eq command (codes "replay")) _ _ order (by_given replay_by (given_of replay_known words) order (λ g. replay_range g order))
     (by_command (bytes_eq command (codes "serve")) _ _ order (by_given serve_by (given_of serve_known words) order (λ g. serve_range g order))
     (by_command (bytes_eq command (codes "bench")) _ _ order (by_given bench_by (given_of bench_known words) order (λ g. bench_range g order))
-    (λ none. cc)))) e
+    (by_command (bytes_eq command (codes "check")) _ _ order (by_given check_by (given_of check_known words) order (λ g. check_range g order))
+    (λ none. cc))))) e

@@ -9,10 +9,12 @@ use Rattle.sws_engine.specs.declared.ended.Ended.{Ended}
 use Rattle.sws_engine.specs.declared.ended.Verdict.TheVariants as verdict
 use Rattle.sws_script.specs.Grammar.{Spells, conn_limit}
 use Rattle.sws_script.specs.declared.input.Input.{Input}
-use Rattle.sws_words.specs.Orders.{Order, answer, replay, serve, bench}
+use Rattle.sws_words.specs.Orders.{Order, answer, replay, serve, bench, check}
 use Rattle.sws_top.specs.declared.faults.TopFault.TheVariants.{ReadFault, WriteFault, WorldFault, Memory, Apart}
 use Rattle.sws_top.specs.declared.outcomes.Outcome.{Outcome}
+use Rattle.sws_top.specs.Checked.{TellsDrainedRun}
 use Rattle.sws_top.specs.Hands.{Hands}
+use Rattle.sws_top.specs.Ranges.{run_shape}
 use Rattle.sws_top.specs.Sites.{TellsWithinLimits}
 
 -- the bytes are a text of an input that has no more connections than a script may
@@ -52,7 +54,8 @@ module _ {F R W L O : Type 0} (f : FolderWords F) (r : SourceWords R) (x : World
 
   -- ---- when all is done
 
-  -- the site and the script of the order are within their grammar and their limits
+  -- the site and the script of the order are within their grammar and their limits, and its journal
+  -- is that of a legal and drained run
   abbrev pub IsSound : Order → Type 0
   IsSound (answer path date) = TellsWithinLimits (f.tells before.folder)
   IsSound (replay path shape date journal schedule) =
@@ -60,6 +63,8 @@ module _ {F R W L O : Type 0} (f : FolderWords F) (r : SourceWords R) (x : World
       × TellsInput schedule shape.cores (r.left before.source)
   IsSound (serve path port connections shape date) = TellsWithinLimits (f.tells before.folder)
   IsSound (bench connections number shape) = ⊤
+  IsSound (check connections shape) =
+      TellsDrainedRun connections (run_shape shape) (r.left before.source)
 
   -- nothing of the outside failed
   pub record NothingFailed : Type 0 where

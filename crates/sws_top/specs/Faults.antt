@@ -10,10 +10,12 @@ use Rattle.sws_replay.specs.declared.fault.RunFault.{RunFault}
 use Rattle.sws_replay.specs.declared.fault.RunFault.TheVariants as run_fault
 use Rattle.sws_script.specs.declared.fault.ScriptFault.{ScriptFault}
 use Rattle.sws_script.specs.declared.fault.ScriptFault.TheVariants as script_fault
+use Rattle.mely_check.specs.declared.fault.CheckFault.{CheckFault}
+use Rattle.mely_check.specs.declared.fault.CheckFault.TheVariants as check_fault
 use Rattle.sws_top.specs.declared.faults.SiteLimit.{SiteLimit}
 use Rattle.sws_top.specs.declared.faults.SiteLimit.TheVariants.{Files, Bytes, Name}
 use Rattle.sws_top.specs.declared.faults.TopFault.{TopFault}
-use Rattle.sws_top.specs.declared.faults.TopFault.TheVariants.{Usage, BadScript, ReadFault, WriteFault, WorldFault, Memory, SiteFull, TooMany, Apart}
+use Rattle.sws_top.specs.declared.faults.TopFault.TheVariants.{Usage, BadScript, ReadFault, WriteFault, WorldFault, Memory, SiteFull, TooMany, BadJournal, NotLegal, NotDrained, Apart}
 
 -- the status of a fault
 abbrev pub fault_status : TopFault → ℕ
@@ -25,6 +27,9 @@ fault_status WorldFault = 6
 fault_status Memory = 7
 fault_status (SiteFull limit) = 8
 fault_status (TooMany line) = 9
+fault_status (BadJournal line) = 10
+fault_status (NotLegal line) = 11
+fault_status (NotDrained colour) = 12
 fault_status (Apart conn) = 13
 
 -- the status of a run that ended by this fault, or by none
@@ -78,6 +83,14 @@ run_fault_of run_fault.Memory = Memory
 abbrev pub ended_with : {T : Type 0} → Result T RunFault → Option TopFault
 ended_with (Ok value) = None
 ended_with (Err fault) = Some (run_fault_of fault)
+
+-- how a run ends whose journal was not accepted
+abbrev pub check_fault_of : CheckFault → TopFault
+check_fault_of check_fault.Read = ReadFault
+check_fault_of (check_fault.BadJournal line) = BadJournal line
+check_fault_of (check_fault.NotLegal line) = NotLegal line
+check_fault_of (check_fault.NotDrained colour) = NotDrained colour
+check_fault_of check_fault.Memory = Memory
 
 -- how the answering of an input can end
 abbrev pub EndsAnswering : Option TopFault → Type 0

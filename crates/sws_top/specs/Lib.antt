@@ -10,6 +10,8 @@ pub mod Answered
 pub mod RanAnswer
 pub mod RanReplay
 pub mod RanBench
+pub mod Checked
+pub mod RanCheck
 pub mod RanServe
 pub mod Ran
 pub mod Causes

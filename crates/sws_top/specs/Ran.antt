@@ -7,13 +7,14 @@ use Rattle.sws_link.specs.declared.Sink.{Ghosts as SinkWords}
 use Rattle.sws_link.specs.declared.world.World.{Ghosts as WorldWords}
 use Rattle.sws_conn.specs.declared.talk.Talk.{Ghosts as TalkWords}
 use Rattle.sws_site.specs.Sites.{SiteFiles}
-use Rattle.sws_words.specs.Orders.{Order, answer, replay, serve, bench}
+use Rattle.sws_words.specs.Orders.{Order, answer, replay, serve, bench, check}
 use Rattle.sws_top.specs.declared.faults.TopFault.TheVariants.{Usage, Memory}
 use Rattle.sws_top.specs.declared.outcomes.Outcome.{Outcome}
 use Rattle.sws_top.specs.Hands.{Hands}
 use Rattle.sws_top.specs.Ranges.{run_shape}
 use Rattle.sws_top.specs.RanAnswer.{RanAnswer}
 use Rattle.sws_top.specs.RanBench.{RanBench}
+use Rattle.sws_top.specs.RanCheck.{RanCheck}
 use Rattle.sws_top.specs.RanReplay.{RanReplay}
 use Rattle.sws_top.specs.RanServe.{IsBack, RanServe}
 
@@ -41,6 +42,11 @@ module _ {F R W L O T G : Type 0} (f : FolderWords F) (r : SourceWords R) (x : W
   RanAs (bench connections number shape) =
       (now.folder ≡ before.folder) × (now.source ≡ before.source)
       × RanBench o before.out now.out outcome.fault connections number × IsBack world outcome
+  RanAs (check connections shape) =
+      (now.folder ≡ before.folder)
+      × RanCheck r o before.source now.source before.out now.out outcome.fault connections
+      (run_shape shape)
+      × IsBack world outcome
 
   -- the order was run, or there was no memory to read it
   abbrev pub Ran : Order → Type 0

@@ -1,7 +1,7 @@
 -- The ranges of the numbers in an order.
 use Rattle.std.specs.Prelude.{ℕ, ◌≤◌, IfSome, Option}
 use Rattle.mely_history.specs.declared.shape.Shape.{Shape as RunShape}
-use Rattle.sws_words.specs.Orders.{Order, Shape, answer, replay, serve, bench}
+use Rattle.sws_words.specs.Orders.{Order, Shape, answer, replay, serve, bench, check}
 
 abbrev pub IsBetween : ℕ → ℕ → ℕ → Type 0
 IsBetween least most number = (least ≤ number) × (number ≤ most)
@@ -40,3 +40,4 @@ IsInRange (replay folder shape date journal schedule) = IsShape shape × IsDate 
 IsInRange (serve folder port connections shape date) = IsBetween 1 65535 port
     × IsBetween 1 1024 connections × IsShape shape × IsDate date
 IsInRange (bench connections number shape) = IsBetween 1 1024 connections × IsShape shape
+IsInRange (check connections shape) = (connections ≤ 1024) × IsShape shape

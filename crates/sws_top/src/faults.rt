@@ -1,7 +1,8 @@
 //! Why a run has ended.
 ghost use Rattle.std.specs.Prelude.{◌≡◌};
-ghost use Rattle.sws_top.specs.Faults.{fault_status, run_fault_of};
+ghost use Rattle.sws_top.specs.Faults.{fault_status, run_fault_of, check_fault_of};
 
+use mely_check::CheckFault;
 use std::fmt;
 use sws_replay::RunFault;
 
@@ -35,6 +36,12 @@ pub enum TopFault {
     SiteFull(SiteLimit),
     /// This line of the script begins connection 1,025.
     TooMany { line: u32 },
+    /// This line of the journal, counted from 1, is the first that no journal has there.
+    BadJournal { line: u32 },
+    /// The text is a journal, and this line of it is the first whose entry is not allowed.
+    NotLegal { line: u32 },
+    /// The text is the journal of a legal run, and this colour is the least that runs or waits.
+    NotDrained { colour: u16 },
     /// A run on threads lost this connection, or, where the number is that of all connections, its world.
     Apart { conn: u16 },
 }
@@ -53,6 +60,9 @@ impl TopFault {
             TopFault::Memory => 7,
             TopFault::SiteFull(_) => 8,
             TopFault::TooMany { .. } => 9,
+            TopFault::BadJournal { .. } => 10,
+            TopFault::NotLegal { .. } => 11,
+            TopFault::NotDrained { .. } => 12,
             TopFault::Apart { .. } => 13,
         }
     }
@@ -65,6 +75,19 @@ pub(crate) fn run_fault(fault: RunFault) -> TopFault
     match fault {
         RunFault::Write => TopFault::WriteFault,
         RunFault::Memory => TopFault::Memory,
+    }
+}
+
+/// The fault of a run whose journal was not accepted.
+pub(crate) fn check_fault(fault: CheckFault) -> TopFault
+    ensures { result ≡ check_fault_of fault }
+{
+    match fault {
+        CheckFault::Read => TopFault::ReadFault,
+        CheckFault::BadJournal { line } => TopFault::BadJournal { line },
+        CheckFault::NotLegal { line } => TopFault::NotLegal { line },
+        CheckFault::NotDrained { colour } => TopFault::NotDrained { colour },
+        CheckFault::Memory => TopFault::Memory,
     }
 }
 
@@ -93,6 +116,9 @@ impl fmt::Display for TopFault {
             TopFault::Memory => write!(f, "sws: no memory"),
             TopFault::SiteFull(limit) => write!(f, "{limit}"),
             TopFault::TooMany { line } => write!(f, "sws: line {line} begins connection 1025"),
+            TopFault::BadJournal { line } => write!(f, "sws: line {line} is not a journal line"),
+            TopFault::NotLegal { line } => write!(f, "sws: line {line} is not allowed"),
+            TopFault::NotDrained { colour } => write!(f, "sws: colour {colour} is not drained"),
             TopFault::Apart { conn } => write!(f, "sws: the run lost connection {conn}"),
         }
     }

@@ -9,6 +9,7 @@
 //! replay FOLDER .. [--journal] [--schedule]     a script of the source's, run in memory; its transcript is written
 //! serve FOLDER --port P --connections N ..      the connections that the world gives; a summary is written
 //! bench N NUMBER ..                             a generated site and script, run in memory; a summary is written
+//! check --connections N ..                      a printed journal of the source's, checked; what each core did is written
 //! ```
 //!
 //! ```text
@@ -21,6 +22,8 @@
 
 mod answering;
 mod benching;
+mod checked;
+mod checking;
 mod faults;
 mod ordering;
 mod outcomes;

@@ -10,6 +10,7 @@ ghost use Rattle.sws_top.specs.Ranges.{IsInRange};
 
 use crate::answering::answer;
 use crate::benching::bench_shape;
+use crate::checking::check;
 use crate::faults::TopFault;
 use crate::outcomes::Outcome;
 use crate::replaying::{Replaying, replay_source};
@@ -36,6 +37,8 @@ use sws_words::{Order, WordFault, read_words};
 /// - `Memory` (7) where an allocation was refused.
 /// - `SiteFull` (8) exactly at the first file that is more than a site holds; nothing is read or written.
 /// - `TooMany` (9) exactly where this line begins connection 1,025, and no earlier one is outside the grammar.
+/// - `BadJournal` (10), `NotLegal` (11) and `NotDrained` (12) exactly where the source's bytes are no accepted journal, and the first
+///   of these three that is so of them.
 /// - `Apart` (13) exactly where a run on the world that was handed in has lost a connection, which `ended` shows.
 pub fn sws<
     T: AllocGlobal + Threads + Wait + Sync,
@@ -137,6 +140,10 @@ where
             shape,
         } => {
             let ended = bench_shape(rt, *connections, *number, shape, out);
+            Outcome::without_run(world, ended)
+        }
+        Order::Check { connections, shape } => {
+            let ended = check(rt.alloc(), *connections, shape, source, out);
             Outcome::without_run(world, ended)
         }
     }

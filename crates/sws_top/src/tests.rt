@@ -32,6 +32,15 @@ fn each_fault_prints_its_line(rt: HostRuntime) -> Result<(), Fail> {
             "sws: line 1026 begins connection 1025",
         ),
         (
+            TopFault::BadJournal { line: 23 },
+            "sws: line 23 is not a journal line",
+        ),
+        (TopFault::NotLegal { line: 8 }, "sws: line 8 is not allowed"),
+        (
+            TopFault::NotDrained { colour: 2 },
+            "sws: colour 2 is not drained",
+        ),
+        (
             TopFault::Apart { conn: 3 },
             "sws: the run lost connection 3",
         ),

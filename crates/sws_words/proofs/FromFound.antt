@@ -11,9 +11,9 @@ use Rattle.clap.specs.Kinds.{Kinds}
 use Rattle.clap.specs.Faults.{fault_of}
 use Rattle.clap.specs.declared.parser.matches.Found.{Found}
 use Rattle.clap.proofs.WalkLemmas.{first_value-rows, one_text-rows}
-use Rattle.sws_words.specs.Commands.{answer_app, replay_app, serve_app, bench_app}
+use Rattle.sws_words.specs.Commands.{answer_app, replay_app, serve_app, bench_app, check_app}
 use Rattle.sws_words.specs.Grammar.{given_of, has_bundle}
-use Rattle.sws_words.specs.Orders.{Order, answer, replay, serve, bench, answer_by, answer_known, replay_by, replay_known, serve_by, serve_known, bench_by, bench_known, date_in, order_of, shape_in, within}
+use Rattle.sws_words.specs.Orders.{Order, answer, replay, serve, bench, answer_by, answer_known, replay_by, replay_known, serve_by, serve_known, bench_by, bench_known, check, check_by, check_known, check_in, date_in, order_of, shape_in, within}
 use Rattle.sws_words.specs.Orders as orders
 use Rattle.sws_words.specs.declared.order.WordFault.{WordFault}
 use Rattle.sws_words.specs.declared.order.WordFault.TheVariants.{Usage}
@@ -22,6 +22,7 @@ use Rattle.sws_words.proofs.AnswerLemmas.{answer_order, answer_at, answer_bundle
 use Rattle.sws_words.proofs.ReplayLemmas.{replay_order, replay_at, replay_bundle, replay_flags, flag_of, flag_got}
 use Rattle.sws_words.proofs.ServeLemmas.{serve_order, serve_at, serve_bundle}
 use Rattle.sws_words.proofs.BenchLemmas.{bench_order, bench_at, bench_bundle}
+use Rattle.sws_words.proofs.CheckLemmas.{check_order, check_at, check_bundle}
 
 -- what is so whatever the fault is
 pub of_any_fault : {T P : Type 0} (r : Result T WordFault) → P → IfErr r (λ fault. fault ≡ Usage → P)
@@ -294,13 +295,39 @@ bench_complete app words f v_connections v_number v_shape is clear taken rows e_
 
 -- ---- words with a bundle
 
-no_order : (a b c d : Bool) {w x y z : Option Order} → w ≡ None → x ≡ None → y ≡ None → z ≡ None
-    → (if a then w else if b then x else if c then y else if d then z else None) ≡ None
-no_order true b c d p q r s = p
-no_order false true c d p q r s = q
-no_order false false true d p q r s = r
-no_order false false false true p q r s = s
-no_order false false false false p q r s = refl
+-- ---- `check`
+
+check_found : (app : App) (words : List Text) (f : Found) → app ≡ check_app → has_bundle words ≡ false → fault_of app words ≡ [] → rows_of f ≡ matches_of app words
+    → option_and_then check_by (given_of check_known words) ≡ check_in [] (option_and_then (within 0 1024) (first_value f (codes "connections"))) (shape_in (first_value f (codes "workers")) (first_value f (codes "shards")) (first_value f (codes "batch")) (first_value f (codes "group")) (first_value f (codes "cost")))
+check_found app words f is clear taken rows =
+    taken_order check_at app check_app words f is (check_order words clear) taken rows
+    ∙ ap (λ o. check_in [] (option_and_then (within 0 1024) o) (shape_in (first_of (codes "workers") (rows_of f)) (first_of (codes "shards") (rows_of f)) (first_of (codes "batch") (rows_of f)) (first_of (codes "group") (rows_of f)) (first_of (codes "cost") (rows_of f)))) (sym (first_value-rows f (codes "connections")))
+    ∙ ap (check_in [] (option_and_then (within 0 1024) (first_value f (codes "connections")))) (shape_rows f)
+
+pub check_refused : (app : App) (words : List Text) → app ≡ check_app → has_bundle words ≡ false → fault_of app words ≢ []
+    → option_and_then check_by (given_of check_known words) ≡ None
+check_refused app words is clear faults = refused_order check_at app check_app words is (check_order words clear) faults
+
+pub check_lacks_connections : (app : App) (words : List Text) (f : Found) → app ≡ check_app → has_bundle words ≡ false → fault_of app words ≡ [] → rows_of f ≡ matches_of app words
+    → option_and_then (within 0 1024) (first_value f (codes "connections")) ≡ None → option_and_then check_by (given_of check_known words) ≡ None
+check_lacks_connections app words f is clear taken rows e = check_found app words f is clear taken rows ∙ ap (λ o. check_in [] o (shape_in (first_value f (codes "workers")) (first_value f (codes "shards")) (first_value f (codes "batch")) (first_value f (codes "group")) (first_value f (codes "cost")))) e
+
+pub check_lacks_shape : (app : App) (words : List Text) (f : Found) → app ≡ check_app → has_bundle words ≡ false → fault_of app words ≡ [] → rows_of f ≡ matches_of app words
+    → shape_in (first_value f (codes "workers")) (first_value f (codes "shards")) (first_value f (codes "batch")) (first_value f (codes "group")) (first_value f (codes "cost")) ≡ None → option_and_then check_by (given_of check_known words) ≡ None
+check_lacks_shape app words f is clear taken rows e = check_found app words f is clear taken rows ∙ ap (check_in [] (option_and_then (within 0 1024) (first_value f (codes "connections")))) e ∙ none_after _ (option_and_then (within 0 1024) (first_value f (codes "connections"))) (λ n. refl)
+
+pub check_complete : (app : App) (words : List Text) (f : Found) (connections : ℕ) (shape : orders.Shape) → app ≡ check_app → has_bundle words ≡ false → fault_of app words ≡ [] → rows_of f ≡ matches_of app words
+    → option_and_then (within 0 1024) (first_value f (codes "connections")) ≡ Some connections → shape_in (first_value f (codes "workers")) (first_value f (codes "shards")) (first_value f (codes "batch")) (first_value f (codes "group")) (first_value f (codes "cost")) ≡ Some shape → option_and_then check_by (given_of check_known words) ≡ Some (check connections shape)
+check_complete app words f connections shape is clear taken rows e1 e2 = check_found app words f is clear taken rows ∙ ap (λ o. check_in [] o (shape_in (first_value f (codes "workers")) (first_value f (codes "shards")) (first_value f (codes "batch")) (first_value f (codes "group")) (first_value f (codes "cost")))) e1 ∙ ap (check_in [] (Some connections)) e2
+
+no_order : (a b c d f : Bool) {w x y z v : Option Order} → w ≡ None → x ≡ None → y ≡ None → z ≡ None → v ≡ None
+    → (if a then w else if b then x else if c then y else if d then z else if f then v else None) ≡ None
+no_order true b c d f p q r s t = p
+no_order false true c d f p q r s t = q
+no_order false false true d f p q r s t = r
+no_order false false false true f p q r s t = s
+no_order false false false false true p q r s t = t
+no_order false false false false false p q r s t = refl
 
 -- the words behind the first one, as a slice of all
 abbrev pub behind : {W : Type 0} → List W → List W
@@ -314,5 +341,5 @@ bundle_orders_none text [] e = refl
 bundle_orders_none text (word ∷ words) e =
     let rest = map text words in
     let is : has_bundle rest ≡ true = ap (λ ws. has_bundle (map text ws)) (sym (all_behind word words)) ∙ e in
-    no_order (bytes_eq (text word) (codes "answer")) (bytes_eq (text word) (codes "replay")) (bytes_eq (text word) (codes "serve")) (bytes_eq (text word) (codes "bench"))
-    (answer_bundle rest is) (replay_bundle rest is) (serve_bundle rest is) (bench_bundle rest is)
+    no_order (bytes_eq (text word) (codes "answer")) (bytes_eq (text word) (codes "replay")) (bytes_eq (text word) (codes "serve")) (bytes_eq (text word) (codes "bench")) (bytes_eq (text word) (codes "check"))
+    (answer_bundle rest is) (replay_bundle rest is) (serve_bundle rest is) (bench_bundle rest is) (check_bundle rest is)

@@ -12,4 +12,5 @@ pub mod Taken
 pub mod Found
 pub mod ServeLemmas
 pub mod BenchLemmas
+pub mod CheckLemmas
 pub mod FromFound

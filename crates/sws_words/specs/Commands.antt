@@ -49,3 +49,6 @@ abbrev pub bench_app : App
 bench_app =
     shape_app (with_rule (with_rule (bare_app (codes "bench")) (place_rule (codes "connections")))
     (place_rule (codes "number")))
+
+abbrev pub check_app : App
+check_app = shape_app (with_rule (bare_app (codes "check")) (option_rule (codes "connections")))

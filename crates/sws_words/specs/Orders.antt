@@ -42,6 +42,7 @@ pub data Order : Type 0 where
   replay : (folder : Text) → (shape : Shape) → (date : Option ℕ) → (journal schedule : Bool) → Order
   serve : (folder : Text) → (port connections : ℕ) → (shape : Shape) → (date : Option ℕ) → Order
   bench : (connections number : ℕ) → (shape : Shape) → Order
+  check : (connections : ℕ) → (shape : Shape) → Order
 
 -- the options that shape a run
 abbrev pub shape_options : List Text
@@ -149,6 +150,19 @@ bench_by given =
     (within 1 1024 words.0))
     (two_places (places given))
 
+-- check --connections N, with the options of the shape
+abbrev pub check_known : Known
+check_known = record { options = codes "connections" ∷ shape_options; flags = [] }
+
+abbrev pub check_in : List Text → Option ℕ → Option Shape → Option Order
+check_in [] connections shape =
+    option_and_then (λ most. option_map (λ form. check most form) shape) connections
+check_in (word ∷ words) connections shape = None
+
+abbrev pub check_by : List Given → Option Order
+check_by given =
+    check_in (places given) (option_and_then (within 0 1024) (value_of (codes "connections") given)) (shape_of given)
+
 -- the words of a command line: the command, and what is behind it
 abbrev pub order_of : List Text → Option Order
 order_of [] = None
@@ -161,4 +175,5 @@ order_of (command ∷ words) =
     (given_of serve_known words)
     else if bytes_eq command (codes "bench") then option_and_then bench_by
     (given_of bench_known words)
+    else if bytes_eq command (codes "check") then option_and_then check_by (given_of check_known words)
     else None

@@ -2,7 +2,7 @@
 use Rattle.std.specs.Prelude.{string_bytes}
 use Rattle.mely_history.specs.declared.shape.Shape.{Shape}
 use Rattle.sws_words.specs.declared.order.Order.{Order}
-use Rattle.sws_words.specs.declared.order.Order.TheVariants.{Answer, Replay, Serve, Bench}
+use Rattle.sws_words.specs.declared.order.Order.TheVariants.{Answer, Replay, Serve, Bench, Check}
 use Rattle.sws_words.specs.Orders as orders
 
 abbrev pub told_shape : Shape → orders.Shape
@@ -21,3 +21,4 @@ told (Replay folder shape date journal schedule) =
 told (Serve folder port connections shape date) =
     orders.serve (string_bytes folder) port connections (told_shape shape) date
 told (Bench connections number shape) = orders.bench connections number (told_shape shape)
+told (Check connections shape) = orders.check connections (told_shape shape)

@@ -61,4 +61,10 @@ pub enum Order {
         number: u32,
         shape: Shape,
     },
+    /// A printed journal, checked.
+    Check {
+        /// How many connections its run had, 0 to 1,024.
+        connections: u16,
+        shape: Shape,
+    },
 }

@@ -4,10 +4,12 @@ ghost use Rattle.std.specs.Prelude.{option_and_then, is_some};
 ghost use Rattle.clap.specs.Words.{found_of, first_of, first_value, one_of, rows_of};
 ghost use Rattle.sws_words.specs.Grammar.{given_of, has_bundle as have_bundle};
 ghost use Rattle.sws_words.specs.Orders.{within, or_default, shape_in, date_in, order_of, answer_by, answer_known, replay_by, replay_known};
-ghost use Rattle.sws_words.specs.Orders.{serve_by, serve_known, bench_by, bench_known};
+ghost use Rattle.sws_words.specs.Orders.{serve_by, serve_known, bench_by, bench_known, check_by, check_known};
 ghost use Rattle.sws_words.specs.Told.{told, told_shape};
 
-use crate::commands::{answer_command, bench_command, replay_command, serve_command};
+use crate::commands::{
+    answer_command, bench_command, check_command, replay_command, serve_command,
+};
 use crate::numbers::number_within;
 use crate::parsing::{has_bundle, parsed};
 use crate::{Order, WordFault};
@@ -234,6 +236,21 @@ fn read_bench(alloc: Global, words: &[String]) -> Result<Order, WordFault>
     })
 }
 
+/// The order of the words behind `check`.
+fn read_check(alloc: Global, words: &[String]) -> Result<Order, WordFault>
+    requires { have_bundle (map string_bytes words.now) ≡ false }
+    ensures read { IfOk result (λ order. option_and_then check_by (given_of check_known (map string_bytes words.now))
+        ≡ Some (told order)) }
+    ensures refused { IfErr result (λ fault. fault ≡ WordFault.Usage
+        → option_and_then check_by (given_of check_known (map string_bytes words.now)) ≡ None) }
+{
+    let command = check_command(alloc)?;
+    let matches = parsed(command, words)?;
+    let connections = small_of(&matches, "connections", 0, 1024)?;
+    let shape = shape_of(&matches)?;
+    Ok(Order::Check { connections, shape })
+}
+
 /// The order that the words behind the program's name give.
 ///
 /// `Err(WordFault::Usage)` comes exactly where the words are no command line, `Err(WordFault::Memory)` where there was no
@@ -255,6 +272,7 @@ pub fn read_words(alloc: Global, words: &[String]) -> Result<Order, WordFault>
         "replay" => read_replay(alloc, rest),
         "serve" => read_serve(alloc, rest),
         "bench" => read_bench(alloc, rest),
+        "check" => read_check(alloc, rest),
         _ => Err(WordFault::Usage),
     }
 }

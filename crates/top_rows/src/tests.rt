@@ -1,6 +1,7 @@
 //! What each command writes for these words and this input, and how it ends.
 
 mod answering;
+mod checking;
 mod meeting;
 mod replaying;
 mod serving;
@@ -111,6 +112,9 @@ fn words_out_of_the_grammar_are_refused(rt: HostRuntime) -> Result<(), Fail> {
         "replay S --workers 1 --workers 1",
         "serve S --port 8080",
         "bench 1",
+        "check",
+        "check S --connections 1",
+        "check --connections 1025",
     ];
     for line in rows {
         let said = say(&rt, line, bytes_of(rt.alloc(), INDEX)?)?;

@@ -2,6 +2,7 @@ use Rattle.std.proofs.Common.{ℕ, List, Option, refl, sym, subst, string_bytes}
 use Rattle.sws_top.specs.declared.faults.TopFault.{TopFault}
 use Rattle.sws_top.specs.Faults.{fault_of}
 use Rattle.sws_top.specs.Hands.{hands}
+use Rattle.sws_top.specs.RanCheck.{RanCheck}
 use Rattle.sws_top.specs.RanReplay.{RanReplay}
 use Rattle.sws_top.proofs.ordering.run.Goals as goal
 
@@ -22,3 +23,15 @@ returns-in-Replay-clause-ran g c =
 
 pub returns-in-Serve-clause-ran : goal.returns-in-Serve-clause-ran
 returns-in-Serve-clause-ran g c = rw c.in-Serve.is (refl, rw c.as_str-in-Serve.ensures.value at c.serve.ensures.ran)
+
+pub returns-in-Check-clause-ran : goal.returns-in-Check-clause-ran
+returns-in-Check-clause-ran g c =
+    let ended = c.check-ended in
+    let how = c.in-Check in
+    let outcome = c.without_run-in-Check in
+    rw c.in-Check.is (
+      refl,
+      subst (λ (fault : Option TopFault). RanCheck g.R.Source g.O.Sink c.args.source.now ended.new.source c.args.out.now ended.new.out fault how.connections how.shape)
+          (sym outcome.ensures.fault) ended.ensures,
+      record { none_ended = outcome.ensures.none_ended; back = outcome.ensures.back },
+    )
