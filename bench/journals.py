@@ -238,28 +238,34 @@ def held_by(pid):
         return 0
 
 
+def timed(words, given):
+    """The least seconds on a processor of three runs, and the most KiB that one held."""
+    best, held = None, 0
+    for _ in range(3):
+        with open(given, "rb") as read:
+            child = subprocess.Popen(words, stdin=read, stdout=subprocess.DEVNULL)
+            pid = 0
+            while pid == 0:
+                held = max(held, held_by(child.pid))
+                time.sleep(0.02)
+                pid, status, usage = os.wait4(child.pid, os.WNOHANG)
+        if status != 0:
+            raise SystemExit(f"the program ended with {status}")
+        took = usage.ru_utime + usage.ru_stime
+        best = took if best is None else min(best, took)
+    return best, held
+
+
 def measure(program, setup, entries):
-    """Prints how long the program takes over a long journal on a processor, and the memory that it holds."""
+    """Prints how long the program takes over a long journal on a processor, and the memory that it holds; and beside it how long it
+    takes to make a history of as many entries in memory and to judge that."""
     with tempfile.NamedTemporaryFile() as file:
         long_journal(setup, entries, file.name)
         size = os.path.getsize(file.name)
-        best, held = None, 0
-        for _ in range(3):
-            with open(file.name, "rb") as journal:
-                child = subprocess.Popen([program, *map(str, setup)], stdin=journal, stdout=subprocess.DEVNULL)
-                pid = 0
-                while pid == 0:
-                    held = held_by(child.pid) or held
-                    time.sleep(0.02)
-                    pid, status, usage = os.wait4(child.pid, os.WNOHANG)
-            if status != 0:
-                raise SystemExit(f"the program ended with {status}")
-            took = usage.ru_utime + usage.ru_stime
-            best = took if best is None else min(best, took)
-        print(
-            f"{entries} entries, {size} bytes: {best:.2f} s, {entries / best / 1e6:.2f} million entries a second, "
-            f"{held} KiB held"
-        )
+        words = [program, *map(str, setup)]
+        for what, more in ((f"a journal of {entries} entries, {size} bytes", []), ("as many made and judged in memory", [str(entries // 3)])):
+            took, held = timed(words + more, file.name)
+            print(f"{what}: {took:.2f} s, {entries / took / 1e6:.2f} million entries a second, {held} KiB held")
 
 
 def main():
