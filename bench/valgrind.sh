@@ -87,5 +87,6 @@ check 'replay --workers 2' "$script" replay "$site" --workers 2 --shards 2
 check 'replay --schedule' "$schedule$script" replay "$site" --workers 2 --cost 5 --schedule
 check bench '' bench 4 1
 check 'bench --workers 2' '' bench 4 1 --workers 2
+check check 'shard 0 3\nreg 0 0 1 2\ntake 0 0 1\nfin 0 0 1\n' check --connections 0 --workers 2
 check_server
 exit "$wrong"
