@@ -1,7 +1,7 @@
 //! The state and the app of the programs that measure a weave and a fleet, and of the fleet's tests.
 //!
 //! A [`Tally`] keeps its trail, which is all that a runtime asks of a state, and draws numbers. The handler of [`Passing`] passes
-//! its event on to a colour that the state draws.
+//! its event on to a colour that the state draws, or to its own.
 #![tactic(auto)]
 
 mod passing;

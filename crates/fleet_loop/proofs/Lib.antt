@@ -1,1 +1,1 @@
-mod LoopLaws
+mod LoopLemmas

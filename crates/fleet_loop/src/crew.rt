@@ -25,6 +25,9 @@ pub struct Order {
     pub passes: u16,
     pub rounds: u32,
     pub batch: u16,
+
+    /// Whether an event stays on its colour.
+    pub stays: bool,
 }
 
 /// A core for each worker, in groups of four; a colour is worth a steal where three events wait.
@@ -142,6 +145,7 @@ pub fn run<R: Threads + Wait + Sync>(rt: &R, alloc: Global, order: &Order) -> Op
     let mut outside = passes.pop()?;
     let app = Passing {
         colours: order.colours,
+        stays: order.stays,
         rounds: order.rounds,
         ran: AtomicU64::new(0),
     };

@@ -1,8 +1,9 @@
-//! `fleet_loop WORKERS SHARDS COLOURS PASSES ROUNDS BATCH`: events that are passed on at random, over
-//! a fleet with a thread for each worker.
+//! `fleet_loop WORKERS SHARDS COLOURS PASSES ROUNDS BATCH [stay]`: events that are passed on, over a fleet with a thread for each
+//! worker.
 //!
 //! It registers one event on each of so many colours. The handler of an event computes so many rounds,
-//! draws a colour and registers an event there, until an event was passed on so often. The workers take
+//! draws a colour and registers an event there, until an event was passed on so often; with the word `stay`
+//! it registers it on its own colour, as a handler of a connection does. The workers take
 //! up to BATCH events of a colour at a time, and end once all were run. It prints how many handlers ran,
 //! which are as many in whatever order. It is the smallest program that uses a fleet, and what a fleet is measured by.
 #![tactic(auto)]
@@ -13,7 +14,7 @@ use crew::Order;
 use std::process::ExitCode;
 use std::{env, io};
 
-/// The six numbers of the command line.
+/// The six numbers of the command line, and the word behind them.
 fn order(rt: &HostRuntime) -> Option<Order> {
     let mut words = env::args(rt).ok()?.skip(1);
     Some(Order {
@@ -23,12 +24,17 @@ fn order(rt: &HostRuntime) -> Option<Order> {
         passes: words.next()?.as_str().parse::<u16>().ok()?,
         rounds: words.next()?.as_str().parse::<u32>().ok()?,
         batch: words.next()?.as_str().parse::<u16>().ok()?,
+        stays: match words.next() {
+            Some(word) if word.as_str() == "stay" => true,
+            Some(_) => return None,
+            None => false,
+        },
     })
 }
 
 fn main(rt: HostRuntime) -> io::Result<ExitCode> {
     let Some(order) = order(&rt) else {
-        eprintln!(rt; "usage: fleet_loop WORKERS SHARDS COLOURS PASSES ROUNDS BATCH")?;
+        eprintln!(rt; "usage: fleet_loop WORKERS SHARDS COLOURS PASSES ROUNDS BATCH [stay]")?;
         return Ok(ExitCode::from(2));
     };
     match crew::run(&rt, rt.alloc(), &order) {

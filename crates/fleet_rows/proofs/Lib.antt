@@ -1,1 +1,1 @@
-mod RowLaws
+mod RowLemmas

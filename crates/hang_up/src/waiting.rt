@@ -2,11 +2,12 @@
 ghost use Rattle.std.specs.Prelude.{false, ◌≡◌, ◌≢◌, ◌≤◌, ◌<◌, ◌↔◌, ◌∷◌, [], IfOk, IsSome, Some, None, length};
 ghost use Rattle.std.specs.Option.{option_copied};
 ghost use Rattle.sws_link.specs.Links.{IsFresh};
-ghost use Rattle.sws_conn.specs.Standing.{told_by, end_at};
+ghost use Rattle.sws_conn.specs.Responses.{input_limit};
+ghost use Rattle.sws_conn.specs.Conn.{reported_by, end_at};
 ghost use Rattle.sws_conn.specs.Path.{open_link};
 ghost use Rattle.sws_conn.specs.Talks.{OpensTalk};
-ghost use Rattle.hang_up.specs.Hanging.{HangUpState, hang_view, HasRun, unopened, is_waiting_by, ReadsOnce, ShutsOnce, StepsFrom, Steps, IsSound, IsReadyTo};
-ghost use Rattle.hang_up.specs.Shown.{shown};
+ghost use Rattle.hang_up.specs.HangUp.{HangUpState, hang_view, HasRun, unopened, is_waiting_by, ReadsOnce, ShutsOnce, StepsFrom, Steps, IsSound, IsReadyTo};
+ghost use Rattle.hang_up.specs.Shown.{state_of};
 
 use std::marker::Model;
 use sws_conn::{End, Next};
@@ -32,17 +33,17 @@ pub struct HangUp<L: Link> {
 }
 
 impl<L: Link> Model for HangUp<L> {
-    ghost use Rattle.hang_up.specs.Hanging.{HangUpState};
+    ghost use Rattle.hang_up.specs.HangUp.{HangUpState};
 
     ghost Value = { HangUpState L };
 
-    ghost use Rattle.hang_up.specs.Shown.{shown};
-    ghost use Rattle.hang_up.specs.Hanging.{IsSound};
+    ghost use Rattle.hang_up.specs.Shown.{state_of};
+    ghost use Rattle.hang_up.specs.HangUp.{IsSound};
 
-    ghost view = { λ talk. record { standing = shown talk.waiting; link = talk.link } };
+    ghost view = { λ talk. record { standing = state_of talk.waiting; link = talk.link } };
 
     ghost invariant = { λ talk.
-        IsSound L.Link (record { standing = shown talk.waiting; link = talk.link }) };
+        IsSound L.Link (record { standing = state_of talk.waiting; link = talk.link }) };
 }
 
 impl<L: Link + Drop> HangUp<L> {
@@ -81,7 +82,7 @@ impl<L: Link + Drop> HangUp<L> {
     pub fn step(&mut self) -> Next
         ensures steps { Steps L.Link self.old self.new }
         ensures told { result
-            ≡ told_by (is_waiting_by self.new.standing.end self.new.standing.waits)
+            ≡ reported_by (is_waiting_by self.new.standing.end self.new.standing.waits)
             self.new.standing.pending }
         ensures ended { (end : End) → self.old.standing.end ≡ Some end
             → self.new.standing.end ≡ Some end }
@@ -113,7 +114,7 @@ impl<L: Link + Drop> HangUp<L> {
     /// How many bytes were taken.
     pub fn read(&self) -> u64
         ensures read { result ≡ self.now.standing.read }
-        ensures few { result ≤ 65536 }
+        ensures few { result ≤ input_limit }
     {
         self.waiting.read
     }
@@ -136,8 +137,8 @@ impl<L: Link + Drop> HangUp<L> {
 
 /// Does the pending step.
 fn step_over<L: Link>(waiting: &mut Waiting, link: &mut Option<L>)
-    requires { IsSound L.Link (record { standing = shown waiting.old; link = link.old }) }
-    ensures { StepsFrom L.Link (shown waiting.old) (shown waiting.new)
+    requires { IsSound L.Link (record { standing = state_of waiting.old; link = link.old }) }
+    ensures { StepsFrom L.Link (state_of waiting.old) (state_of waiting.new)
         waiting.old.pending link.old link.new }
 {
     match (waiting.pending, link) {
@@ -152,7 +153,7 @@ fn read_step<L: Link>(waiting: &mut Waiting, link: &mut L)
     requires few { waiting.old.waits < 30 }
     requires little { waiting.old.read ≤ 16 }
     requires not_shut { L.is_shut link.old ≡ false }
-    ensures { ReadsOnce L.Link (shown waiting.old) (shown waiting.new) link.old link.new }
+    ensures { ReadsOnce L.Link (state_of waiting.old) (state_of waiting.new) link.old link.new }
 {
     let mut room = [0; 16];
     match link.read(&mut room) {
@@ -182,7 +183,7 @@ fn read_step<L: Link>(waiting: &mut Waiting, link: &mut L)
 /// Shuts the link.
 fn close_step<L: Link>(waiting: &mut Waiting, link: &mut L)
     requires { L.is_shut link.old ≡ false }
-    ensures { ShutsOnce L.Link (shown waiting.old) (shown waiting.new) link.old link.new }
+    ensures { ShutsOnce L.Link (state_of waiting.old) (state_of waiting.new) link.old link.new }
 {
     link.shut();
     waiting.pending = Next::Nothing;
@@ -190,7 +191,7 @@ fn close_step<L: Link>(waiting: &mut Waiting, link: &mut L)
 
 /// What a step answers that leaves this.
 fn told(waiting: &Waiting) -> Next
-    ensures { result ≡ told_by (is_waiting_by waiting.now.end waiting.now.waits)
+    ensures { result ≡ reported_by (is_waiting_by waiting.now.end waiting.now.waits)
         waiting.now.pending }
 {
     if waiting.end.is_none() && waiting.waits > 0 {

@@ -17,7 +17,8 @@ greet event = (record { 0 = 0 }, event, None)
 
 -- where the argument isn't 0 colour 0 greets once more, with an argument that is less by one
 abbrev pub once_more : Event → List Put
-once_more event = if nat_lt 0 event.arg then greet (record event { arg = event.arg - 1 }) ∷ [] else []
+once_more event = if nat_lt 0 event.arg then greet (record event { arg = event.arg - 1 }) ∷ []
+    else []
 
 -- handler 0 greets, and handler 1 hears it and registers nothing
 abbrev pub greetings_of : Event → List Put

@@ -1,2 +1,2 @@
-mod FreshLaws
-mod RanLaws
+mod FreshLemmas
+mod RanLemmas

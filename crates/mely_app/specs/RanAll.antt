@@ -7,7 +7,7 @@ use Rattle.mely_history.specs.Legal.{AreLegal, IsDrained}
 use Rattle.mely_history.specs.Setup.{shape_of, colours_of}
 use Rattle.mely_history.specs.declared.entry.Entry.{Entry}
 use Rattle.mely_history.specs.declared.setup.Setup.{Setup}
-use Rattle.mely_weave.specs.Scene.{shard_of}
+use Rattle.mely_weave.specs.Side.{shard_of}
 
 -- Every event that was registered was run. There is a legal history for each shard, in which nothing
 -- runs or waits, and a state for each colour, of that colour. What was run on the state is what its

@@ -13,6 +13,7 @@ IsFit (Take colour core count) = (colour.0 < 65536) × (core < 65536) × (count 
 IsFit (Fin colour core count) = (colour.0 < 65536) × (core < 65536) × (count < 65536)
 IsFit (Steal colour from to) = (colour.0 < 65536) × (from < 65536) × (to < 65536)
 
+-- the numbers of a history are within their ranges
 abbrev pub IsFitHistory : List Entry → Type 0
 IsFitHistory history = AllByRecursion IsFit history × (length history < 2 ^ 64)
 
@@ -49,6 +50,7 @@ pub record IsLine (line : List ℕ) : Type 0 where
   pub is : line ≡ front ++ 10 ∷ []
   pub no_feed : HasNoFeed front
 
+-- the lines, one behind another
 abbrev pub joined : List (List ℕ) → List ℕ
 joined lines = flat_map (λ line. line) lines
 

@@ -4,7 +4,7 @@ use Rattle.std.specs.List.{AllByRecursion}
 use Rattle.mely_event.specs.declared.colour.Colour.{Colour}
 use Rattle.mely_history.specs.Setup.{shape_of, colours_of}
 use Rattle.mely_history.specs.Entries.{colour_of}
-use Rattle.mely_history.specs.Account.{account_of}
+use Rattle.mely_history.specs.ColourAccount.{account_of}
 use Rattle.mely_history.specs.declared.setup.Setup.{Setup}
 use Rattle.mely_history.specs.declared.entry.Entry.{Entry}
 use Rattle.mely_history.specs.Legal.{IsLegal, IsOfShard}
@@ -107,6 +107,7 @@ pub record IsOpenAt (watches : List Watch) (colour : ℕ) : Type 0 where
   pub there : slice_get watches colour ≡ Some watch
   pub open_is : (watch.running ≡ None) × (watch.queued.items ≡ []) → ⊥
 
+-- of no colour below this number something runs or waits
 abbrev pub AreDrainedBelow : List Watch → ℕ → Type 0
 AreDrainedBelow watches high = (colour : ℕ) → colour < high → IsDrainedAt watches colour
 

@@ -14,19 +14,23 @@ pub data Walk : Type 0 where
   start : Walk
   within : List (List Entry) → List Entry → ℕ → Walk
 
+-- the text that was walked over
 abbrev pub walk_text : Walk → List ℕ
 walk_text start = []
 walk_text (within done last left) =
     journal done ++ (shard_line (length done) (length last + left) ++ flat_map entry_line last)
 
+-- how many histories were begun
 abbrev pub begun_in : Walk → ℕ
 begun_in start = 0
 begun_in (within done last left) = length done + 1
 
+-- how many entries of the current history are left
 abbrev pub left_in : Walk → ℕ
 left_in start = 0
 left_in (within done last left) = left
 
+-- how many entries were walked over
 abbrev pub count_in : Walk → ℕ
 count_in start = 0
 count_in (within done last left) = entries_in done + length last
@@ -36,6 +40,7 @@ abbrev pub histories_in : Walk → List (List Entry)
 histories_in start = []
 histories_in (within done last left) = done ++ last ∷ []
 
+-- the numbers of what was walked over are within their ranges
 abbrev pub IsFitWalk : Walk → Type 0
 IsFitWalk start = ⊤
 IsFitWalk (within done last left) = AllByRecursion IsFitHistory done × AllByRecursion IsFit last

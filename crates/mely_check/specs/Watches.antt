@@ -3,20 +3,20 @@ use Rattle.std.specs.Prelude.{◌≡◌, ◌≢◌, ◌<◌, ◌≤◌, ◌+◌,
 use Rattle.mely_history.specs.Setup.{shape_of, pinned_of}
 use Rattle.mely_history.specs.History.{weight}
 use Rattle.mely_history.specs.Legal.{MayRegister}
-use Rattle.mely_history.specs.Account.{Account}
+use Rattle.mely_history.specs.ColourAccount.{ColourAccount}
 use Rattle.mely_history.specs.declared.setup.Setup.{Setup}
 use Rattle.mely_history.specs.declared.entry.Entry.{Entry}
 use Rattle.mely_history.specs.declared.entry.Entry.TheVariants.{Reg, Take, Fin, Steal}
 use Rattle.mely_check.specs.declared.watch.Watch.{Watch}
 
 -- the colour rests, or runs since this take
-abbrev pub RunsAs : Account → Option (ℕ × ℕ) → Type 0
+abbrev pub RunsAs : ColourAccount → Option (ℕ × ℕ) → Type 0
 RunsAs account None = account.begun ≡ account.ended
 RunsAs account (Some turn) = (account.last ≡ Some turn) × (account.begun ≡ account.ended + turn.1)
     × (0 < turn.1)
 
 -- what is kept is what the account says
-pub record Tells (setup : Setup) (account : Account) (watch : Watch) : Type 0 where
+pub record Tells (setup : Setup) (account : ColourAccount) (watch : Watch) : Type 0 where
   pub owner : watch.owner ≡ account.owner
   pub runs : RunsAs account watch.running
   pub some : (core count : ℕ) → account.last ≡ Some (core, count) → 0 < count

@@ -1,4 +1,6 @@
 //! Why a journal was not accepted.
+use std::error::Error;
+use std::fmt;
 
 /// Why a journal was not accepted.
 #[derive(Clone, Copy, Debug, PartialEq, Eq)]
@@ -19,3 +21,17 @@ pub enum CheckFault {
     /// An allocation was refused.
     Memory,
 }
+
+impl fmt::Display for CheckFault {
+    fn fmt<W: fmt::Write>(&self, f: &mut fmt::Formatter<W>) -> fmt::Result {
+        match self {
+            CheckFault::Read => write!(f, "the journal could not be read"),
+            CheckFault::BadJournal { line } => write!(f, "line {line} is not a journal line"),
+            CheckFault::NotLegal { line } => write!(f, "line {line} is not allowed"),
+            CheckFault::NotDrained { colour } => write!(f, "colour {colour} is not drained"),
+            CheckFault::Memory => write!(f, "there was no memory"),
+        }
+    }
+}
+
+impl Error for CheckFault {}

@@ -2,7 +2,7 @@
 ghost use Rattle.std.specs.Prelude.{◌≡◌, ◌<◌, ◌≤◌, ◌%◌, ◌^◌, ◌↔◌, ℕ, List, IsTrue, MatchBool, IfOk, OnOk, length, replicate};
 ghost use Rattle.mely_event.specs.declared.colour.Colour.{Colour};
 ghost use Rattle.mely_history.specs.Setup.{shape_of, colours_of};
-ghost use Rattle.mely_history.specs.Account.{account_of};
+ghost use Rattle.mely_history.specs.ColourAccount.{account_of};
 ghost use Rattle.mely_check.specs.Judges.{Hears, HearsLine, Judges, AddsTo, Counts, MayHear, AreBlank, IsDrainedAt, IsOpenAt, IsFirstOpen};
 ghost use Rattle.mely_check.specs.Watches.{Tells};
 

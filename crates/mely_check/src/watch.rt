@@ -1,7 +1,7 @@
 //! What is kept of one colour.
 ghost use Rattle.std.specs.Prelude.{◌≡◌, ◌<◌, ◌-◌, ◌↔◌, [], IsTrue, None, OnOk, length, take, drop, sum};
 ghost use Rattle.mely_event.specs.declared.colour.Colour.{Colour};
-ghost use Rattle.mely_history.specs.Account.{account_of};
+ghost use Rattle.mely_history.specs.ColourAccount.{account_of};
 ghost use Rattle.mely_history.specs.History.{weight};
 ghost use Rattle.mely_check.specs.Watches.{Tells, Allows, Follows};
 

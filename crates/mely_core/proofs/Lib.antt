@@ -1,1 +1,1 @@
-pub mod ChainLaws
+pub mod ChainLemmas

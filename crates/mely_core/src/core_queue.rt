@@ -1,7 +1,7 @@
 //! A chain of marks with its stealing queue.
 ghost use Rattle.std.specs.Prelude.{◌≡◌, ◌<◌, ◌≤◌, ◌↔◌, None, Some, [], ◌∷◌, ◌++◌, All, IfOk, IfErr, OnOk, OnErr, IfSome, IsErr, IsNone, IsSome, IsTrue, MatchOption, is_some, slice_get};
 ghost use Rattle.mely_steal.specs.Marks.{mark_of, without, replaced};
-ghost use Rattle.mely_steal.specs.Stealing.{entered, changed, pick_of};
+ghost use Rattle.mely_steal.specs.StealQueue.{entered, changed, pick_of};
 
 use mely_event::{Colour, Mark, Memory, There};
 use mely_steal::{ColourList, StealTable};
@@ -22,12 +22,12 @@ pub struct CoreQueue {
 }
 
 impl Model for CoreQueue {
-    ghost use Rattle.mely_core.specs.Chains.{Chain, HoldTogether};
+    ghost use Rattle.mely_core.specs.CoreQueue.{CoreQueueState, HoldTogether};
 
-    ghost Value = { Chain };
+    ghost Value = { CoreQueueState };
 
     ghost use Rattle.std.specs.Prelude.{◌≡◌};
-    ghost use Rattle.mely_core.specs.Chains.{chain_of};
+    ghost use Rattle.mely_core.specs.CoreQueue.{chain_of};
 
     ghost view = { λ q. chain_of q.chain.list q.worthy };
 
@@ -36,7 +36,7 @@ impl Model for CoreQueue {
 }
 
 impl CoreQueue {
-    ghost use Rattle.mely_core.specs.Chains.{Chain, HoldTogether, KeepsNumbers, empty_core, told_of};
+    ghost use Rattle.mely_core.specs.CoreQueue.{CoreQueueState, HoldTogether, KeepsNumbers, empty_core, told_of};
 
     /// An empty chain with room for this many colours, at this cost of a steal, in the unit of the weights of events. The
     /// colours below `pinned` are never stolen.

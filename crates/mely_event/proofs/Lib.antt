@@ -1,1 +1,1 @@
-mod Penalties
+mod PenaltiesLemmas

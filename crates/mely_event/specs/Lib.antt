@@ -1,2 +1,3 @@
+pub mod TableLimit
 pub mod HandlerTable
 pub mod TrailLog

@@ -1,3 +1,5 @@
+//! Colours, which keep events apart in time.
+
 /// What keeps events apart in time: events of one colour run one after another, in the order in
 /// which they were registered, and events of different colours may run on different cores at once.
 ///

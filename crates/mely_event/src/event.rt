@@ -1,3 +1,5 @@
+//! Events, which name a handler and its argument.
+
 /// What is to be run: the number of a handler in the [`Handlers`](crate::Handlers) table and the
 /// argument that it is called with. A load, which is a value that moves with an event, stands
 /// beside it.

@@ -1,3 +1,4 @@
+//! States whose events may carry loads.
 ghost use Rattle.std.specs.Prelude.{Option};
 ghost use Rattle.mely_event.specs.declared.colour.Colour.{Colour};
 ghost use Rattle.mely_event.specs.declared.event.Event.{Event};

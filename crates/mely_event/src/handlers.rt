@@ -1,4 +1,6 @@
+//! The table of handlers: what each of them weighs.
 ghost use Rattle.std.specs.Prelude.{◌≡◌, ◌<◌, ◌≤◌, ℕ, length, take, slice_index_or, IfOk, IfErr};
+ghost use Rattle.mely_event.specs.TableLimit.{most_handlers};
 
 use crate::table_fault::{TableFault, find_fault};
 
@@ -14,13 +16,13 @@ pub const MOST_HANDLERS: usize = 32;
 pub struct Handlers {
     rows: [(u32, u32); MOST_HANDLERS],
     count: usize,
-    pub ghost few: { count ≤ 32 },
+    pub ghost few: { count ≤ most_handlers },
     pub ghost divisors: { (h : ℕ) → h < count → 0 < (slice_index_or rows h (0, 1)).1 },
 }
 
 /// The rows in a table of the full size, whose places behind them are never read.
 fn padded(given: &[(u32, u32)]) -> [(u32, u32); MOST_HANDLERS]
-    requires { length given.now ≤ 32 }
+    requires { length given.now ≤ most_handlers }
     ensures { take (length given.now) result ≡ given.now }
 {
     let mut rows = [(0, 1); MOST_HANDLERS];
@@ -36,7 +38,7 @@ impl Handlers {
     ///
     /// # Errors
     ///
-    /// `TooMany` exactly where there are more than 32 rows, else `ZeroPenalty` exactly where a row
+    /// `TooMany` exactly where there are more than [`MOST_HANDLERS`] rows, else `ZeroPenalty` exactly where a row
     /// has penalty 0, with the number of the first such row. It takes no memory.
     pub fn new(rows: &[(u32, u32)]) -> Result<Handlers, TableFault>
         ensures made { IfOk result (λ table. (fault_in rows.now ≡ None)
@@ -55,7 +57,7 @@ impl Handlers {
     /// How many handlers there are.
     pub fn len(&self) -> usize
         ensures value { result ≡ length (rows_of self.now) }
-        ensures few { result ≤ 32 }
+        ensures few { result ≤ most_handlers }
     {
         self.count
     }

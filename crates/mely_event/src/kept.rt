@@ -1,3 +1,4 @@
+//! Values that a lock keeps.
 ghost use Rattle.std.specs.Prelude.{◌≡◌, ℕ, List, length};
 
 /// A value that a lock keeps: its history grows by notes, each made by the pass that was inside, and

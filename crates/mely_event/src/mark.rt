@@ -1,3 +1,4 @@
+//! Marks, which lie in the chains of the cores.
 use crate::colour::Colour;
 
 /// A promise that a colour is ready to be taken, as it lies in the chain of a core.

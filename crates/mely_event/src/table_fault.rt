@@ -1,7 +1,11 @@
+//! Why rows make no table of handlers, and the search for it.
 ghost use Rattle.std.specs.Prelude.{◌≡◌, ◌<◌, ◌≤◌, ◌==◌, ℕ, length, position, IfNone};
 ghost use Rattle.mely_event.specs.HandlerTable.{row_at, fault_in};
+ghost use Rattle.mely_event.specs.TableLimit.{most_handlers};
 
 use crate::handlers::MOST_HANDLERS;
+use std::error::Error;
+use std::fmt;
 
 /// Why rows make no table of handlers.
 #[derive(Clone, Copy, Debug, PartialEq, Eq)]
@@ -13,6 +17,21 @@ pub enum TableFault {
     ZeroPenalty { handler: u8 },
 }
 
+impl fmt::Display for TableFault {
+    fn fmt<W: fmt::Write>(&self, f: &mut fmt::Formatter<W>) -> fmt::Result {
+        match self {
+            TableFault::TooMany { count } => {
+                write!(f, "a table of {count} handlers is too long")
+            }
+            TableFault::ZeroPenalty { handler } => {
+                write!(f, "the penalty of handler {handler} is 0")
+            }
+        }
+    }
+}
+
+impl Error for TableFault {}
+
 /// The first handler whose penalty is 0.
 fn first_without_penalty(rows: &[(u32, u32)]) -> Option<usize>
     ensures { result ≡ position (λ row. row.1 == 0) rows.now }
@@ -23,7 +42,7 @@ fn first_without_penalty(rows: &[(u32, u32)]) -> Option<usize>
 /// Why the rows make no table, and nothing where they do.
 pub(crate) fn find_fault(rows: &[(u32, u32)]) -> Option<TableFault>
     ensures fault { result ≡ fault_in rows.now }
-    ensures few { IfNone result (length rows.now ≤ 32) }
+    ensures few { IfNone result (length rows.now ≤ most_handlers) }
     ensures divisors { IfNone result ((h : ℕ) → h < length rows.now → 0 < (row_at rows.now h).1) }
 {
     if rows.len() > MOST_HANDLERS {

@@ -150,3 +150,25 @@ fn a_trail_is_a_state_of_its_own(rt: HostRuntime) -> Result<(), Fail> {
     assert_eq!(rt; log.colour(), Colour(5));
     Ok(())
 }
+
+#[test]
+fn faults_print_their_cause(rt: HostRuntime) -> Result<(), Fail> {
+    let rows = [
+        (
+            TableFault::TooMany { count: 33 },
+            "a table of 33 handlers is too long",
+        ),
+        (
+            TableFault::ZeroPenalty { handler: 1 },
+            "the penalty of handler 1 is 0",
+        ),
+    ];
+    for (fault, text) in rows {
+        assert_eq!(rt; fault.to_string(rt.alloc())?.as_str(), text);
+    }
+    assert_eq!(rt;
+        Memory.to_string(rt.alloc())?.as_str(),
+        "there was no memory"
+    );
+    Ok(())
+}

@@ -1,3 +1,4 @@
+//! States that keep the events that were run on them.
 ghost use Rattle.std.specs.Prelude.{◌≡◌, ◌≤◌, ℕ, List, OnOk};
 ghost use Rattle.mely_event.specs.declared.colour.Colour.{Colour};
 ghost use Rattle.mely_event.specs.declared.event.Event.{Event};

@@ -1,3 +1,4 @@
+//! A trail for states that need no other.
 ghost use Rattle.std.specs.Prelude.{◌≡◌, ◌≤◌, ◌-◌, ◌++◌, ◌∷◌, []};
 
 use crate::colour::Colour;

@@ -1,8 +1,8 @@
 -- Locks and their columns of passes, by place.
 use Rattle.std.proofs.Common.{◌≡◌, ℕ, zero, suc, ◌+◌, ◌<◌, ◌≤◌, ⊎_elim, List, [], ◌∷◌, ◌++◌, Some, length, get_or, drop, refl, sym, ◌∙◌, ap, subst, arith}
 use Rattle.std.specs.Prelude.{slice_get}
-use Rattle.mely_weave.proofs.DealLaws.{both_push}
-use Rattle.mely_weave.proofs.GatherLaws.{get_there}
+use Rattle.mely_weave.proofs.Wholes.DealLemmas.{both_push}
+use Rattle.mely_weave.proofs.Wholes.GatherLemmas.{get_there}
 use Rattle.std.proofs.lemmas.Option.{slice_get-get_or}
 use Rattle.std.proofs.Math.ListN.{get_or-append}
 use Rattle.std.proofs.Math.Seq.{get_or-append_seam}

@@ -1,11 +1,11 @@
-pub mod Keeping
+pub mod KeepLemmas
 pub mod Rows
-pub mod Siding
-pub mod WorkLaws
-pub mod OpeningLaws
+pub mod SideLemmas
+pub mod WorkLemmas
+pub mod OpeningLemmas
 mod ClosingRows
-mod ClosingLaws
-mod GatherClosed
-pub mod Seating
-mod Calling
-pub mod CrewLaws
+mod ClosingLemmas
+mod GatherClosedLemmas
+pub mod SeatLemmas
+mod CallLemmas
+pub mod CrewLemmas

@@ -4,8 +4,8 @@ use Rattle.mely_event.specs.declared.colour.Colour.{Colour}
 use Rattle.mely_event.specs.declared.mark.Mark.{Mark}
 use Rattle.mely_event.specs.declared.there.There.{There}
 use Rattle.mely_steal.specs.Marks.{mark_of}
-use Rattle.mely_steal.specs.Stealing.{pick_of}
-use Rattle.mely_core.specs.Chains.{told_of}
+use Rattle.mely_steal.specs.StealQueue.{pick_of}
+use Rattle.mely_core.specs.CoreQueue.{told_of}
 use Rattle.mely_lock.specs.Seen.{OthersSince}
 use Rattle.mely_worker.specs.declared.delivery.Delivery.{Delivery}
 use Rattle.mely_worker.specs.declared.delivery.Delivery.TheVariants.{Nothing, PushMark, Report}

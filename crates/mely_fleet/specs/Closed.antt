@@ -8,8 +8,9 @@ use Rattle.mely_history.specs.declared.setup.Setup.{Setup}
 use Rattle.mely_history.specs.Setup.{shape_of}
 use Rattle.mely_history.specs.LeftOver.{IsLeftOver}
 use Rattle.mely_history.specs.Legal.{IsLegal, IsDrained}
-use Rattle.mely_shard.specs.Contents.{Contents, givens}
-use Rattle.mely_fleet.specs.Frames.{KeptContents, HaveFrame}
+use Rattle.mely_shard.specs.Shard.{ShardState, givens}
+use Rattle.mely_fleet.specs.Frames.{HaveFrame}
+use Rattle.mely_fleet.specs.KeptShard.{KeptShardState}
 use Rattle.mely_fleet.specs.declared.kept_shard.ShardFrame.{ShardFrame}
 use Rattle.mely_fleet.specs.declared.passes.PassesOf.{PassesOf}
 use Rattle.mely_fleet.specs.Calls.{front_in}
@@ -48,7 +49,7 @@ pub record AreFilled {A C : Type 0} (items : C → List A) (len room : C → ℕ
       ≤ room (slice_index_or columns k d)
 
 -- a shard that was taken out of what its lock kept
-pub record IsTakenOut {S P F : Type 0} (frame_of : S → F) (kept : KeptContents S P) (has : Contents S P) : Type 0 where
+pub record IsTakenOut {S P F : Type 0} (frame_of : S → F) (kept : KeptShardState S P) (has : ShardState S P) : Type 0 where
   pub is : has ≡ kept.has
   pub framed : HaveFrame frame_of (frame_of kept.sample) (givens has)
   pub legal : IsLegal has.setup has.history

@@ -2,48 +2,40 @@
 use Rattle.std.specs.Prelude.{◌≡◌, ◌<◌, ◌%◌, ℕ, List, [], ◌∷◌, ◌++◌, Option, None, Some, drop, fold, slice_get}
 use Rattle.mely_event.specs.declared.mark.Mark.{Mark}
 use Rattle.mely_steal.specs.Marks.{without, replaced}
-use Rattle.mely_steal.specs.Stealing.{entered, changed}
+use Rattle.mely_steal.specs.StealQueue.{entered, changed}
 use Rattle.mely_event.specs.declared.colour.Colour.{Colour}
 use Rattle.mely_history.specs.Setup.{shape_of, colours_of}
-use Rattle.mely_shard.specs.Contents.{Contents}
-use Rattle.mely_core.specs.Chains.{Chain, empty_core, told_of}
+use Rattle.mely_shard.specs.Shard.{ShardState}
+use Rattle.mely_core.specs.CoreQueue.{CoreQueueState, empty_core, told_of}
 use Rattle.mely_fleet.specs.declared.chain_note.ChainNote.{ChainNote}
 use Rattle.mely_fleet.specs.declared.chain_note.ChainNote.TheVariants.{Pushed, Popped, Retold, Picked}
 use Rattle.mely_fleet.specs.declared.kept_shard.ShardFrame.{ShardFrame}
 use Rattle.mely_fleet.specs.declared.kept_chain.ChainFrame.{ChainFrame}
-
--- what a shard behind its lock has, and a state whose frame all its states have
-pub record KeptContents (S P : Type 0) : Type 0 where
-  pub has : Contents S P
-  pub sample : S
+use Rattle.mely_fleet.specs.KeptShard.{KeptShardState}
+use Rattle.mely_fleet.specs.KeptChain.{KeptChainState}
 
 -- all these states have one frame
 abbrev pub HaveFrame : {S F : Type 0} → (S → F) → F → List S → Type 0
 HaveFrame frame f states = (i : ℕ) (state : _) → slice_get states i ≡ Some state → frame state ≡ f
 
 -- what stays the same of a shard behind its lock
-abbrev pub shard_frame : {S P F : Type 0} → (S → F) → KeptContents S P → ShardFrame F
+abbrev pub shard_frame : {S P F : Type 0} → (S → F) → KeptShardState S P → ShardFrame F
 shard_frame frame kept = record {
   setup = kept.has.setup;
   shard = kept.has.shard;
   states = frame kept.sample;
 }
 
--- what a chain behind its lock has, and the changes that were made of it, each with the number of the pass that made it
-pub record KeptMarks : Type 0 where
-  pub has : Chain
-  pub changes : List (ℕ × ChainNote)
-
 -- the numbers with which a chain was made
-abbrev pub numbers_of : Chain → ChainFrame
+abbrev pub numbers_of : CoreQueueState → ChainFrame
 numbers_of queue = record { colours = queue.colours; cost = queue.cost; pinned = queue.pinned }
 
 -- what stays the same of a chain behind its lock
-abbrev pub chain_frame : KeptMarks → ChainFrame
+abbrev pub chain_frame : KeptChainState → ChainFrame
 chain_frame kept = numbers_of kept.has
 
 -- a chain after a report, where that found its mark
-abbrev pub after_report : Chain → Option Mark → Chain
+abbrev pub after_report : CoreQueueState → Option Mark → CoreQueueState
 after_report queue None = queue
 after_report queue (Some told) = record queue {
   chain = replaced told queue.chain;
@@ -51,7 +43,7 @@ after_report queue (Some told) = record queue {
 }
 
 -- what a change makes of a chain
-abbrev pub after_change : Chain → ChainNote → Chain
+abbrev pub after_change : CoreQueueState → ChainNote → CoreQueueState
 after_change queue (Pushed mark) = record queue {
   chain = queue.chain ++ mark ∷ [];
   worthy = entered queue.cost queue.pinned mark queue.worthy;
@@ -66,7 +58,7 @@ after_change queue (Picked mark) = record queue {
 }
 
 -- the chain of these numbers after these changes, by which it is what it is
-abbrev pub chain_after : ChainFrame → List (ℕ × ChainNote) → Chain
+abbrev pub chain_after : ChainFrame → List (ℕ × ChainNote) → CoreQueueState
 chain_after of changes =
     fold (λ queue change. after_change queue change.1)
     (empty_core of.colours of.cost of.pinned) changes

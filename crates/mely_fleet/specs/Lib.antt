@@ -1,3 +1,5 @@
+pub mod KeptShard
+pub mod KeptChain
 pub mod Frames
 pub mod Calls
 pub mod Chains

@@ -4,27 +4,28 @@ use Rattle.mely_event.specs.declared.colour.Colour.{Colour}
 use Rattle.mely_event.specs.declared.event.Event.{Event}
 use Rattle.mely_history.specs.declared.entry.Entry.{Entry}
 use Rattle.mely_history.specs.Setup.{shape_of}
-use Rattle.mely_worker.specs.Rest.{Rest, woken}
+use Rattle.mely_worker.specs.IdleWorker.{IdleWorkerState, resumed_worker}
 use Rattle.mely_weave.specs.Gathering.{MayGatherWorker}
 use Rattle.mely_fleet.specs.declared.fleet.FleetOf.{FleetOf}
 use Rattle.mely_fleet.specs.declared.passes.PassesOf.{PassesOf}
 use Rattle.mely_fleet.specs.declared.kept_shard.ShardFrame.{ShardFrame}
-use Rattle.mely_fleet.specs.Frames.{KeptContents, shard_frame}
+use Rattle.mely_fleet.specs.Frames.{shard_frame}
+use Rattle.mely_fleet.specs.KeptShard.{KeptShardState}
 use Rattle.mely_fleet.specs.Fleets.{ArePasses, frame_in}
 use Rattle.mely_fleet.specs.Work.{HasFinishedBut, standpoint}
 
 -- a core's passes and its worker at rest: the passes are of the fleet, with the finish of each turn that the core took, and the worker is the setup's for this core
-pub record MaySit {S P F : Type 0} {g : _} (frame_of : S → F) (fits : F → Colour → Event → Option P → Type 0) (fleet : FleetOf (KeptContents S P) Entry (ShardFrame F)) (own : PassesOf (KeptContents S P) Entry (ShardFrame F) g) (worker : Option (Rest P)) : Type 0 where
+pub record MaySit {S P F : Type 0} {g : _} (frame_of : S → F) (fits : F → Colour → Event → Option P → Type 0) (fleet : FleetOf (KeptShardState S P) Entry (ShardFrame F)) (own : PassesOf (KeptShardState S P) Entry (ShardFrame F) g) (worker : Option (IdleWorkerState P)) : Type 0 where
   pub passes : ArePasses (shard_frame frame_of) fleet own
   pub core : own.number < (shape_of fleet.setup).cores
   pub finished : HasFinishedBut (standpoint (shard_frame frame_of) fleet own) None
-  pub rest : Rest P
+  pub rest : IdleWorkerState P
   pub rested : worker ≡ Some rest
   pub may : MayGatherWorker {S = S} fits fleet.setup (frame_in (shard_frame frame_of) fleet)
-      own.number (woken rest)
+      own.number (resumed_worker rest)
 
--- the same of the core of this number
-pub record IsSeatOf {S P F : Type 0} {g : _} (frame_of : S → F) (fits : F → Colour → Event → Option P → Type 0) (fleet : FleetOf (KeptContents S P) Entry (ShardFrame F)) (n : ℕ) (own : PassesOf (KeptContents S P) Entry (ShardFrame F) g) (worker : Option (Rest P)) : Type 0 where
+-- passes and a worker of the core of this number, as `MaySit` says
+pub record IsSeatOf {S P F : Type 0} {g : _} (frame_of : S → F) (fits : F → Colour → Event → Option P → Type 0) (fleet : FleetOf (KeptShardState S P) Entry (ShardFrame F)) (n : ℕ) (own : PassesOf (KeptShardState S P) Entry (ShardFrame F) g) (worker : Option (IdleWorkerState P)) : Type 0 where
   pub sits : MaySit frame_of fits fleet own worker
   pub numbered : own.number ≡ n
 

@@ -10,9 +10,9 @@ use Rattle.mely_history.specs.Setup.{shape_of}
 use Rattle.mely_history.specs.Legal.{IsDrained}
 use Rattle.mely_history.specs.Owing.{last_change, IsOwed}
 use Rattle.mely_worker.specs.declared.access.Access.{Ghosts as AccessWords}
-use Rattle.mely_worker.specs.WorkerView.{WorkerView}
+use Rattle.mely_worker.specs.Worker.{WorkerState}
 use Rattle.mely_weave.specs.Hands.{colour_run_by}
-use Rattle.mely_weave.specs.Scene.{shard_of}
+use Rattle.mely_weave.specs.Side.{shard_of}
 use Rattle.mely_fleet.specs.declared.fleet.FleetOf.{FleetOf}
 use Rattle.mely_fleet.specs.declared.passes.PassesOf.{PassesOf}
 use Rattle.mely_fleet.specs.declared.kept_shard.ShardFrame.{ShardFrame}
@@ -21,7 +21,8 @@ use Rattle.mely_fleet.specs.Rows.{fronts}
 use Rattle.mely_fleet.specs.declared.chain_note.ChainNote.{ChainNote}
 use Rattle.mely_fleet.specs.Chains.{ReachesChain, PushesAt, PopsAt, RetellsAt, PicksAt}
 use Rattle.mely_fleet.specs.Fleets.{chain_frame_for, frame_in}
-use Rattle.mely_fleet.specs.Frames.{KeptContents, shard_frame}
+use Rattle.mely_fleet.specs.Frames.{shard_frame}
+use Rattle.mely_fleet.specs.KeptShard.{KeptShardState}
 use Rattle.mely_worker.specs.Conditions.{MayStepAt}
 
 -- where a caller stands: the setup, its number, the frame of the states, and what it has seen, shard by shard and chain by chain
@@ -90,25 +91,25 @@ HasFinishedBut a running = (c : Colour) (core count : ℕ)
     → running ≡ Some c
 
 -- each take of the worker's core has its finish, but that of the worker's turn
-abbrev pub HasFinished : {S P F : Type 0} → Standpoint F → WorkerView S P → Type 0
+abbrev pub HasFinished : {S P F : Type 0} → Standpoint F → WorkerState S P → Type 0
 HasFinished a w = HasFinishedBut a (colour_run_by w)
 
 -- what a caller does at work: it sees more, and each take has its finish still, but that of the worker's turn
-pub record WorksOn {S P F : Type 0} (a : Standpoint F) (w : WorkerView S P) (b : Standpoint F) (v : WorkerView S P) : Type 0 where
+pub record WorksOn {S P F : Type 0} (a : Standpoint F) (w : WorkerState S P) (b : Standpoint F) (v : WorkerState S P) : Type 0 where
   pub more : SeesMore a b
   pub finished : HasFinished a w → HasFinished b v
 
 -- the worker may make a step with these passes
 abbrev pub MayWork : {S P F : Type 0} {g : _} → TrailWords S F
-    → (F → Colour → Event → Option P → Type 0) → FleetOf (KeptContents S P) Entry (ShardFrame F)
-    → PassesOf (KeptContents S P) Entry (ShardFrame F) g → WorkerView S P → Type 0
+    → (F → Colour → Event → Option P → Type 0) → FleetOf (KeptShardState S P) Entry (ShardFrame F)
+    → PassesOf (KeptShardState S P) Entry (ShardFrame F) g → WorkerState S P → Type 0
 MayWork t fits fleet passes w =
     MayStepAt t fits (words t fits) (standpoint (shard_frame t.frame_of) fleet passes) w
 
 -- what the worker does with these passes
 abbrev pub Works : {S P F : Type 0} {g : _} → (S → F)
-    → FleetOf (KeptContents S P) Entry (ShardFrame F)
-    → PassesOf (KeptContents S P) Entry (ShardFrame F) g → WorkerView S P
-    → PassesOf (KeptContents S P) Entry (ShardFrame F) g → WorkerView S P → Type 0
+    → FleetOf (KeptShardState S P) Entry (ShardFrame F)
+    → PassesOf (KeptShardState S P) Entry (ShardFrame F) g → WorkerState S P
+    → PassesOf (KeptShardState S P) Entry (ShardFrame F) g → WorkerState S P → Type 0
 Works frame_of fleet before w after v = WorksOn (standpoint (shard_frame frame_of) fleet before) w
     (standpoint (shard_frame frame_of) fleet after) v

@@ -10,12 +10,12 @@ use std::{hint, thread};
 /// costs ten.
 const LOOKS: u32 = 500;
 
-/// How many whole hunts in a row find nothing before a worker gives up a fleet whose workers haven't all begun, and after how many
-/// of them it lets another thread have the processor: a tenth of a second in all on a machine at rest, and some seconds on one
-/// where many threads wait for a processor.
-const PATIENCE: u32 = 1_000_000;
+/// How many looks at chains in a row find nothing before a worker gives up a fleet whose workers haven't all begun, and after how
+/// many of them it lets another thread have the processor: a tenth of a second in all on a machine at rest, whatever the number of
+/// cores, and some seconds on one where many threads wait for a processor.
+const PATIENCE: u32 = 2_000_000;
 
-const HUNTS_A_YIELD: u32 = 1_000;
+const LOOKS_A_YIELD: u32 = 2_000;
 
 /// What one worker writes, and whoever wakes it.
 #[derive(Drop)]
@@ -44,8 +44,10 @@ pub(crate) struct Watch {
     /// Where it said that it is about to sleep: how often it had been woken before.
     rings: Option<u64>,
 
-    /// After how many hunts in a row it would have slept, had all workers begun.
+    /// How many looks found nothing since it would have slept, had all workers begun, and how many since it last let another thread
+    /// have the processor.
     vain: u32,
+    unyielded: u32,
 }
 
 impl Watch {
@@ -55,6 +57,7 @@ impl Watch {
             misses: 0,
             rings: None,
             vain: 0,
+            unyielded: 0,
         }
     }
 
@@ -157,10 +160,25 @@ impl Bell {
         self.begun.fetch_add(1, Ordering::SeqCst);
     }
 
+    /// How many cores there are: each has a bed, and the other callers share one more.
+    fn cores(&self) -> u32 {
+        u32::try_from(self.beds.len().saturating_sub(1)).unwrap_or(u32::MAX)
+    }
+
     /// Whether so many workers began as there are cores.
     fn is_manned(&self) -> bool {
-        let cores = self.beds.len().saturating_sub(1) as u64;
-        self.begun.load(Ordering::SeqCst) >= cores
+        self.begun.load(Ordering::SeqCst) >= u64::from(self.cores())
+    }
+
+    /// A whole hunt, which looks at each chain once, found nothing where not all workers have begun. Whether its worker gives up.
+    fn hunts_in_vain(&self, watch: &mut Watch) -> bool {
+        watch.vain = watch.vain.saturating_add(self.cores());
+        watch.unyielded = watch.unyielded.saturating_add(self.cores());
+        if watch.unyielded >= LOOKS_A_YIELD {
+            watch.unyielded = 0;
+            thread::yield_now();
+        }
+        watch.vain >= PATIENCE
     }
 
     /// Whether a worker met want of memory, or gave up.
@@ -266,13 +284,7 @@ impl Bell {
                 bed.asleep.store(true, Ordering::SeqCst);
                 self.sleepers.fetch_add(1, Ordering::SeqCst);
             }
-            Some(_) if !self.is_manned() => {
-                watch.vain = watch.vain.saturating_add(1);
-                if watch.vain.is_multiple_of(HUNTS_A_YIELD) {
-                    thread::yield_now();
-                }
-                return watch.vain >= PATIENCE;
-            }
+            Some(_) if !self.is_manned() => return self.hunts_in_vain(watch),
             Some(seen) => {
                 let rings = bed
                     .rung

@@ -1,3 +1,4 @@
+//! The notes on a chain behind its lock.
 use mely_event::{Colour, Mark};
 
 /// One change of the chain of a core. The history of a chain behind its lock is the list of its changes,

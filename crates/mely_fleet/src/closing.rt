@@ -14,7 +14,8 @@ use mely_shard::Shard;
 pub(crate) fn hand_in<V: Kept>(row: Vec<Pass<V>>, columns: &mut Vec<Vec<Pass<V>>>)
     requires as_many { length columns.old.items ≡ length row.items }
     requires room { (k : ℕ) (d : _) → k < length columns.old.items →
-        vec_len (slice_index_or columns.old.items k d) < vec_capacity (slice_index_or columns.old.items k d) }
+        vec_len (slice_index_or columns.old.items k d) < vec_capacity
+        (slice_index_or columns.old.items k d) }
     ensures many { length columns.new.items ≡ length columns.old.items }
     ensures each { (k : ℕ) (d : _) (p : _) → k < length columns.old.items →
         (slice_index_or columns.new.items k d).items

@@ -19,7 +19,7 @@ use crate::seat::{Seat, SeatOf};
 use mely_event::{Colour, Event, Fits, Kept, Memory, Trail, Unregistered};
 use mely_history::Setup;
 use mely_weave::{Drained, Weave};
-use mely_worker::{App, Gate, Rested, Worker};
+use mely_worker::{App, Gate, IdleWorker, Worker};
 use std::alloc::Global;
 use std::sync::Wait;
 use std::thread;
@@ -29,13 +29,13 @@ use std::thread::Threads;
 /// locks of the shards keep.
 struct CrewOf<S: Fits<P>, P, V: Kept> {
     fleet: FleetOf<V>,
-    seats: Vec<SeatOf<V, Option<Rested<P>>>>,
+    seats: Vec<SeatOf<V, Option<IdleWorker<P>>>>,
     outside: PassesOf<V>,
     room: RoomOf<S, P, V>,
 
     /// Empty lists with room for all callers, and for a worker of each core.
     outsiders: Vec<PassesOf<V>>,
-    rested: Vec<Rested<P>>,
+    rested: Vec<IdleWorker<P>>,
     workers: Vec<Worker<S, P>>,
 }
 

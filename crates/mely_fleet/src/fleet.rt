@@ -1,3 +1,4 @@
+//! All shards and chains behind their locks, and the calls on them.
 ghost use Rattle.std.specs.Prelude.{◌≡◌, ◌<◌, ◌≤◌, [], length, IsTrue, IfOk, OnErr, IfSome, vec_capacity};
 ghost use Rattle.mely_history.specs.Setup.{shape_of};
 ghost use Rattle.mely_fleet.specs.Rows.{HavePasses};
@@ -48,7 +49,7 @@ impl<S: Fits<P>, P> FleetOf<KeptShard<S, P>> {
     ghost use Rattle.mely_history.specs.Legal.{IsDrained};
     ghost use Rattle.mely_worker.specs.Access.{IsColour, IsCore, FitsSetup};
     ghost use Rattle.mely_worker.specs.Delivery.{MayDeliver, delivery_after};
-    ghost use Rattle.mely_weave.specs.Scene.{shard_of};
+    ghost use Rattle.mely_weave.specs.Side.{shard_of};
     ghost use Rattle.mely_fleet.specs.Calls.{RegistersAt, TakesAt, FinishesAt, StealsAt, LooksAt, front_in};
     ghost use Rattle.mely_fleet.specs.Chains.{PushesAt, PopsAt, RetellsAt, PicksAt};
     ghost use Rattle.mely_fleet.specs.Frames.{shard_frame};
@@ -60,7 +61,7 @@ impl<S: Fits<P>, P> FleetOf<KeptShard<S, P>> {
         ensures value { result ≡ shard_of self.now.setup colour }
         ensures within { result < length self.now.shards.items }
     {
-        (colour.0 % self.setup.shards()) as usize
+        self.setup.shard_of(colour)
     }
 
     /// Registers an event behind the others of its colour.

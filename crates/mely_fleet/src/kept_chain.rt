@@ -1,3 +1,4 @@
+//! What the lock of a chain keeps.
 ghost use Rattle.std.specs.Prelude.{◌≡◌, ◌<◌, IfSome};
 
 use crate::chain_note::ChainNote;
@@ -28,9 +29,10 @@ pub struct KeptChain {
 
 impl Model for KeptChain {
     ghost use Rattle.std.specs.Prelude.{◌≡◌, length};
-    ghost use Rattle.mely_fleet.specs.Frames.{KeptMarks, chain_after, numbers_of};
+    ghost use Rattle.mely_fleet.specs.Frames.{chain_after, numbers_of};
+    ghost use Rattle.mely_fleet.specs.KeptChain.{KeptChainState};
 
-    ghost Value = { KeptMarks };
+    ghost Value = { KeptChainState };
 
     ghost view = { λ k. record { has = k.queue.value; changes = k.log.items } };
 
@@ -58,7 +60,7 @@ impl Kept for KeptChain {
 
 impl KeptChain {
     ghost use Rattle.std.specs.Prelude.{◌+◌, ◌^◌, ◌↔◌, [], IfOk, IsTrue, is_some, length, slice_get};
-    ghost use Rattle.mely_core.specs.Chains.{empty_core};
+    ghost use Rattle.mely_core.specs.CoreQueue.{empty_core};
     ghost use Rattle.mely_fleet.specs.Chains.{PushesAt, PopsAt, RetellsAt, PicksAt};
     ghost use Rattle.mely_fleet.specs.Frames.{chain_frame};
 

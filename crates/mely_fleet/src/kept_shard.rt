@@ -1,3 +1,4 @@
+//! What the lock of a shard keeps.
 ghost use Rattle.std.specs.Prelude.{◌≡◌, ◌<◌, ◌≤◌, ◌↔◌, [], List, IfOk, IsTrue, OnOk, slice_get};
 
 use mely_event::{Colour, Event, Fits, Kept, Memory, Trail, Unregistered};
@@ -28,10 +29,11 @@ pub struct KeptShard<S: Fits<P>, P> {
 }
 
 impl<S: Fits<P>, P> Model for KeptShard<S, P> {
-    ghost use Rattle.mely_shard.specs.Contents.{givens};
-    ghost use Rattle.mely_fleet.specs.Frames.{KeptContents, HaveFrame};
+    ghost use Rattle.mely_shard.specs.Shard.{givens};
+    ghost use Rattle.mely_fleet.specs.Frames.{HaveFrame};
+    ghost use Rattle.mely_fleet.specs.KeptShard.{KeptShardState};
 
-    ghost Value = { KeptContents S P };
+    ghost Value = { KeptShardState S P };
 
     ghost view = { λ k. record { has = k.shard.value; sample = k.sample.value.value } };
 
@@ -65,7 +67,7 @@ impl<S: Fits<P>, P> KeptShard<S, P> {
     ghost use Rattle.mely_history.specs.Setup.{shape_of};
     ghost use Rattle.mely_history.specs.declared.entry.Entry.{Entry};
     ghost use Rattle.mely_lock.specs.Seen.{OthersSince};
-    ghost use Rattle.mely_shard.specs.Contents.{givens};
+    ghost use Rattle.mely_shard.specs.Shard.{givens};
     ghost use Rattle.mely_fleet.specs.Frames.{HaveFrame, IsColourOf, shard_frame};
     ghost use Rattle.mely_fleet.specs.Calls.{RegistersAt, TakesAt, FinishesAt, StealsAt};
 

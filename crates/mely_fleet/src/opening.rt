@@ -1,7 +1,7 @@
 //! How a fleet is made.
 ghost use Rattle.std.specs.Prelude.{◌≡◌, ◌<◌, ◌≤◌, ℕ, [], Some, IfOk, length, slice_get};
-ghost use Rattle.mely_core.specs.Chains.{empty_core};
-ghost use Rattle.mely_shard.specs.Contents.{givens};
+ghost use Rattle.mely_core.specs.CoreQueue.{empty_core};
+ghost use Rattle.mely_shard.specs.Shard.{givens};
 ghost use Rattle.mely_weave.specs.Dealing.{AtEach};
 ghost use Rattle.mely_fleet.specs.Frames.{HaveFrame};
 

@@ -9,7 +9,7 @@ ghost use Rattle.mely_fleet.specs.Opening.{AreFirstPasses};
 ghost use Rattle.mely_fleet.specs.Seats.{MaySit, IsSeatOf, IsOutsider};
 ghost use Rattle.mely_fleet.specs.Closed.{IsClosedOver, IsLeftByOthers};
 ghost use Rattle.mely_weave.specs.Gathering.{AreChainedAnew, MayGatherShard};
-ghost use Rattle.mely_worker.specs.Rest.{woken};
+ghost use Rattle.mely_worker.specs.IdleWorker.{resumed_worker};
 ghost use Rattle.mely_worker.specs.Phase.{is_free};
 ghost use Rattle.mely_fleet.specs.Work.{SeesAllDrained, SeesMore, standpoint};
 
@@ -20,7 +20,7 @@ use crate::room::Room;
 use crate::working::Worked;
 use mely_event::{Fits, Kept, Memory, Trail};
 use mely_weave::{Weave, rested_of};
-use mely_worker::{App, Gate, Rested, Worker};
+use mely_worker::{App, Gate, IdleWorker, Worker};
 use std::alloc::Global;
 use std::sync::Wait;
 
@@ -34,14 +34,14 @@ pub struct SeatOf<V: Kept, W> {
 
 /// What the thread of a core is given, and gives back: the passes of the core, and its worker at rest,
 /// which is missing only while it works.
-pub type Seat<S, P> = SeatOf<KeptShard<S, P>, Option<Rested<P>>>;
+pub type Seat<S, P> = SeatOf<KeptShard<S, P>, Option<IdleWorker<P>>>;
 
 /// Passes and workers side by side.
 fn seat_all<V: Kept + Drop, P: Drop>(
     alloc: Global,
     passes: Vec<PassesOf<V>>,
-    rested: Vec<Rested<P>>,
-) -> Result<Vec<SeatOf<V, Option<Rested<P>>>>, Memory>
+    rested: Vec<IdleWorker<P>>,
+) -> Result<Vec<SeatOf<V, Option<IdleWorker<P>>>>, Memory>
     requires as_many { length rested.items ≡ length passes.items }
     ensures many { IfOk result (λ seats. length seats.items ≡ length passes.items) }
     ensures passes { IfOk result (λ seats. (n : ℕ) (own : _) (seat : _)
@@ -117,10 +117,10 @@ impl<S: Fits<P> + Drop, P: Drop> FleetOf<KeptShard<S, P>> {
 
 /// The passes of seats, behind those in a list that has room, and their workers.
 fn leave_all<V: Kept + Drop, P: Drop>(
-    seats: Vec<SeatOf<V, Option<Rested<P>>>>,
+    seats: Vec<SeatOf<V, Option<IdleWorker<P>>>>,
     passes: Vec<PassesOf<V>>,
-    rested: Vec<Rested<P>>,
-) -> (Vec<PassesOf<V>>, Vec<Rested<P>>)
+    rested: Vec<IdleWorker<P>>,
+) -> (Vec<PassesOf<V>>, Vec<IdleWorker<P>>)
     requires rest { AtEach (λ n seat. IsSome seat.worker) seats.items }
     requires empty { rested.items ≡ [] }
     requires room { vec_len passes + length seats.items ≤ vec_capacity passes }
@@ -144,10 +144,10 @@ fn leave_all<V: Kept + Drop, P: Drop>(
 }
 
 /// Workers that were at rest, into a list that has room for them.
-fn wake_all<S, P: Drop>(rested: Vec<Rested<P>>, workers: Vec<Worker<S, P>>) -> Vec<Worker<S, P>>
+fn wake_all<S, P: Drop>(rested: Vec<IdleWorker<P>>, workers: Vec<Worker<S, P>>) -> Vec<Worker<S, P>>
     requires empty { workers.items ≡ [] }
     requires room { length rested.items ≤ vec_capacity workers }
-    ensures { result.items ≡ map (λ rest. woken rest) rested.items }
+    ensures { result.items ≡ map (λ rest. resumed_worker rest) rested.items }
 {
     let mut workers = workers;
     'rested: for rest in rested {
@@ -167,7 +167,7 @@ impl<S: Fits<P> + Drop, P: Drop> FleetOf<KeptShard<S, P>> {
         room: Room<S, P>,
         seats: Vec<Seat<S, P>>,
         outsiders: Vec<Passes<S, P>>,
-        rested: Vec<Rested<P>>,
+        rested: Vec<IdleWorker<P>>,
         workers: Vec<Worker<S, P>>,
     ) -> Weave<S, P>
         requires of_setup { room.setup ≡ self.setup }
@@ -193,7 +193,8 @@ impl<S: Fits<P> + Drop, P: Drop> FleetOf<KeptShard<S, P>> {
             AtEach (λ k has. MayGatherShard S.Trail self.setup frame k has) result.shards }
         ensures free { AtEach (λ core w. IsTrue (is_free w.phase)) result.workers }
         ensures workers { let rested = map (λ seat. seat.worker) seats.items in
-            map (λ w. Some w) result.workers ≡ map (λ rest. option_map (λ r. woken r) rest) rested }
+            map (λ w. Some w) result.workers
+            ≡ map (λ rest. option_map (λ r. resumed_worker r) rest) rested }
         ensures chains { AreChainedAnew result.setup result.shards result.chains }
         ensures stands { StandsWell S.Trail S.fits_under result }
     {
@@ -202,7 +203,7 @@ impl<S: Fits<P> + Drop, P: Drop> FleetOf<KeptShard<S, P>> {
         self.close(room, callers, workers)
     }
 
-    /// The same, with lists that are made here.
+    /// Ends a fleet as [`close_home`](FleetOf::close_home) does, with lists of passes and workers that are made here.
     ///
     /// # Errors
     ///
@@ -234,7 +235,7 @@ impl<S: Fits<P> + Drop, P: Drop> FleetOf<KeptShard<S, P>> {
             AtEach (λ core w. IsTrue (is_free w.phase)) weave.workers) }
         ensures workers { let rested = map (λ seat. seat.worker) seats.items in
             IfOk result (λ weave. map (λ w. Some w) weave.workers
-            ≡ map (λ rest. option_map (λ r. woken r) rest) rested) }
+            ≡ map (λ rest. option_map (λ r. resumed_worker r) rest) rested) }
         ensures chains { IfOk result (λ weave.
             AreChainedAnew weave.setup weave.shards weave.chains) }
         ensures stands { IfOk result (λ weave. StandsWell S.Trail S.fits_under weave) }

@@ -1,7 +1,8 @@
+//! The access of a worker in a fleet.
 ghost use Rattle.std.specs.Prelude.{◌≡◌, ◌<◌, MatchResult};
 ghost use Rattle.mely_history.specs.Setup.{shape_of};
 ghost use Rattle.mely_worker.specs.Access.{Stays, FitsSetup, IsSpent, StillOwes, NamesCore, GivesBack};
-ghost use Rattle.mely_weave.specs.Scene.{shard_of};
+ghost use Rattle.mely_weave.specs.Side.{shard_of};
 ghost use Rattle.mely_fleet.specs.Calls.{RegistersAt, TakesAt, FinishesAt, StealsAt};
 ghost use Rattle.mely_fleet.specs.Chains.{PushesAt, PopsAt, RetellsAt, PicksAt};
 ghost use Rattle.mely_fleet.specs.Rows.{fronts};
@@ -91,7 +92,8 @@ impl<'a, S: Fits<P> + Drop, P: Drop, R: Wait> Access<S, P> for Side<'a, S, P, R>
         requires fits { let frame = frame_in (shard_frame S.frame_of) self.old.fleet.now in
             FitsSetup S.fits_under self.old.fleet.now.setup frame (colour, event, load) }
         ensures called { let before = self.old in
-            SeesOn before.fleet.now (shard_of before.fleet.now.setup colour) before.passes.now self.new.passes.now
+            SeesOn before.fleet.now (shard_of before.fleet.now.setup colour) before.passes.now
+            self.new.passes.now
             (λ setup n. RegistersAt setup n colour event load result) }
         ensures answer { MatchResult result (NamesCore self.old.fleet.now.setup)
             (GivesBack event load) }
@@ -117,7 +119,8 @@ impl<'a, S: Fits<P> + Drop, P: Drop, R: Wait> Access<S, P> for Side<'a, S, P, R>
             (λ a c core count trail.
             owed_by a.fleet.now a.passes.now c core count trail) self.old turn }
         ensures called { let before = self.old in
-            SeesOn before.fleet.now (shard_of before.fleet.now.setup turn.colour) before.passes.now self.new.passes.now
+            SeesOn before.fleet.now (shard_of before.fleet.now.setup turn.colour) before.passes.now
+            self.new.passes.now
             (λ setup n. FinishesAt setup n turn.colour turn.count result) }
         ensures stays { Stays (λ a. a.fleet.now.setup) (λ a. a.passes.now.number)
             (λ a. frame_in (shard_frame S.frame_of) a.fleet.now) self.old self.new }

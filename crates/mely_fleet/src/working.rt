@@ -1,7 +1,8 @@
+//! A worker at work on its own thread.
 ghost use Rattle.std.specs.Prelude.{◌≡◌, None, IsTrue, IfSome};
 ghost use Rattle.mely_worker.specs.Conditions.{AppServes};
 ghost use Rattle.mely_worker.specs.Phase.{is_free};
-ghost use Rattle.mely_worker.specs.WorkerView.{IsSameWorker};
+ghost use Rattle.mely_worker.specs.Worker.{IsSameWorker};
 ghost use Rattle.mely_fleet.specs.Frames.{shard_frame};
 ghost use Rattle.mely_fleet.specs.Fleets.{ArePasses, frame_in};
 ghost use Rattle.mely_fleet.specs.Work.{standpoint, SeesMore, SeesAllDrained, HasFinishedBut, MayWork, Works};

@@ -1,10 +1,11 @@
-mod RegistrationLaws
-pub mod AccountLaws
-pub mod LegalLaws
-pub mod LegalAccounts
-pub mod BeyondLaws
-pub mod OwingLaws
-pub mod LeftOverLaws
-mod BatchLaws
-mod TallyLaws
-mod JudgeLaws
+mod RegistrationLemmas
+pub mod ColourAccountLemmas
+pub mod LegalLemmas
+pub mod LegalAccountLemmas
+pub mod BeyondLemmas
+pub mod OwingLemmas
+pub mod LeftOverLemmas
+mod BatchLemmas
+mod ColourCountsLemmas
+mod JudgeLemmas
+mod SetupLemmas

@@ -1,3 +1,4 @@
+-- The batches of a colour. That of a take is as many events as it counts, from those that were begun before it on, in the order of registration.
 use Rattle.std.specs.Prelude.{◌≡◌, ◌<◌, ◌≤◌, ◌+◌, ℕ, List, ◌++◌, Some, length, take, slice_get}
 use Rattle.mely_event.specs.declared.colour.Colour.{Colour}
 use Rattle.mely_event.specs.declared.event.Event.{Event}
@@ -5,12 +6,11 @@ use Rattle.mely_history.specs.History.{registered_of, begun_of, ended_of, ran_of
 use Rattle.mely_history.specs.declared.entry.Entry.{Entry}
 use Rattle.mely_history.specs.declared.entry.Entry.TheVariants.{Take, Fin}
 
--- The batches of a colour. That of a take is as many events as it counts, from those that were begun before it on, in the order of registration.
-
 -- the entry at the place is a take of the colour
 abbrev pub IsTakeAt : List Entry → Colour → ℕ → ℕ → ℕ → Type 0
 IsTakeAt history c at core count = slice_get history at ≡ Some (Take c core count)
 
+-- the batches of a colour follow one another, as the law of histories says
 pub record FollowOneAnother (history : List Entry) (c : Colour) : Type 0 where
   -- between two takes there is the finish of the first
   pub finished_before : (i j core count core' count' : ℕ) → i < j → IsTakeAt history c i core count

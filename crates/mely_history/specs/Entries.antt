@@ -1,10 +1,9 @@
+-- What one entry says, alone.
 use Rattle.std.specs.Prelude.{◌==◌, ◌&&◌, ℕ, List, Option, None, Some, filter, if◌then◌else◌}
 use Rattle.mely_event.specs.declared.colour.Colour.{Colour}
 use Rattle.mely_event.specs.declared.event.Event.{Event}
 use Rattle.mely_history.specs.declared.entry.Entry.{Entry}
 use Rattle.mely_history.specs.declared.entry.Entry.TheVariants.{Reg, Take, Fin, Steal}
-
--- What one entry says, alone.
 
 -- the colour of an entry
 abbrev pub colour_of : Entry → Colour

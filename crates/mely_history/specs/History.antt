@@ -1,3 +1,4 @@
+-- What a history says of one colour (the rules on colours and on stealing whole colours of libasync-smp).
 use Rattle.std.specs.Prelude.{◌<◌, ◌%◌, ℕ, List, Option, None, take, drop, unwrap_or, filter_map, sum_by, fold}
 use Rattle.std.specs.Option.{option_or}
 use Rattle.mely_event.specs.HandlerTable.{rows_of, weight_of}
@@ -7,8 +8,6 @@ use Rattle.mely_history.specs.Setup.{shape_of, handlers_of}
 use Rattle.mely_history.specs.Entries.{registration_on, take_on, taken_on, finished_on, thief_on}
 use Rattle.mely_history.specs.declared.setup.Setup.{Setup}
 use Rattle.mely_history.specs.declared.entry.Entry.{Entry}
-
--- What a history says of one colour (the rules on colours and on stealing whole colours of libasync-smp).
 
 -- the events that were registered on it, in order
 abbrev pub registered_of : List Entry → Colour → List Event

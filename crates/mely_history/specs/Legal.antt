@@ -1,3 +1,4 @@
+-- Which entry may follow which history.
 use Rattle.std.specs.Prelude.{◌≡◌, ◌≢◌, ◌<◌, ◌≤◌, ◌+◌, ◌%◌, ℕ, List, [], Some, length, take, min, slice_get}
 use Rattle.std.specs.List.{AllByRecursion}
 use Rattle.mely_event.specs.HandlerTable.{rows_of}
@@ -9,8 +10,6 @@ use Rattle.mely_history.specs.History.{begun_of, ended_of, last_take, owner_of, 
 use Rattle.mely_history.specs.declared.setup.Setup.{Setup}
 use Rattle.mely_history.specs.declared.entry.Entry.{Entry}
 use Rattle.mely_history.specs.declared.entry.Entry.TheVariants.{Reg, Take, Fin, Steal}
-
--- Which entry may follow which history.
 
 -- the colour runs on a core, since a take of this many events
 pub record IsRunningOn (history : List Entry) (c : Colour) (core count : ℕ) : Type 0 where

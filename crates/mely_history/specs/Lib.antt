@@ -4,7 +4,7 @@ pub mod History
 pub mod Legal
 pub mod Judging
 pub mod Tallies
-pub mod Account
+pub mod ColourAccount
 pub mod Owing
 pub mod LeftOver
 pub mod Batches

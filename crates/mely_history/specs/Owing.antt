@@ -1,3 +1,4 @@
+-- What a pass may rely on for a colour that it took and has not finished.
 use Rattle.std.specs.Prelude.{◌≡◌, ℕ, List, Option, None, Some, take, fold}
 use Rattle.std.specs.Option.{option_or}
 use Rattle.mely_event.specs.declared.colour.Colour.{Colour}
@@ -6,8 +7,6 @@ use Rattle.mely_history.specs.Entries.{change_on}
 use Rattle.mely_history.specs.History.{registered_of, begun_of}
 use Rattle.mely_history.specs.declared.entry.Entry.{Entry}
 use Rattle.mely_history.specs.declared.entry.Entry.TheVariants.{Take, Fin}
-
--- What a pass may rely on for a colour that it took and has not finished.
 
 -- the last take, finish or steal of a colour by a pass
 abbrev pub last_change : ℕ → Colour → List Entry → Option Entry

@@ -1,4 +1,6 @@
-use Rattle.std.specs.Prelude.{ℕ, Bool, ◌&&◌, Option, None, Some, nat_le, if◌then◌else◌}
+-- What contracts read off a setup.
+use Rattle.std.specs.Prelude.{◌/◌, ◌%◌, ℕ, Bool, ◌&&◌, Option, None, Some, nat_le, if◌then◌else◌}
+use Rattle.mely_event.specs.declared.colour.Colour.{Colour}
 use Rattle.mely_event.specs.declared.handlers.Handlers.{Handlers}
 use Rattle.mely_history.specs.declared.shape.Shape.{Shape}
 use Rattle.mely_history.specs.declared.setup.Setup.{Setup}
@@ -9,15 +11,25 @@ use Rattle.mely_history.specs.declared.setup_fault.SetupFault.TheVariants.{OutOf
 abbrev pub shape_of : Setup → Shape
 shape_of s = s.shape
 
+-- how many colours there are
 abbrev pub colours_of : Setup → ℕ
 colours_of s = s.colours
 
+-- the table of the handlers
 abbrev pub handlers_of : Setup → Handlers
 handlers_of s = s.handlers
 
 -- how many colours, from colour 0 on, are never stolen
 abbrev pub pinned_of : Setup → ℕ
 pinned_of s = s.pinned
+
+-- the shard of a colour
+abbrev pub shard_of : Setup → Colour → ℕ
+shard_of setup c = c.0 % (shape_of setup).shards
+
+-- the place of a colour among the colours of its shard, in ascending order
+abbrev pub place : Setup → Colour → ℕ
+place setup c = c.0 / (shape_of setup).shards
 
 -- the number is in the range
 abbrev pub is_between : ℕ → ℕ → ℕ → Bool

@@ -7,12 +7,12 @@ use Rattle.mely_history.specs.Legal.{MayRegister}
 use Rattle.mely_history.specs.declared.setup.Setup.{Setup}
 use Rattle.mely_history.specs.declared.entry.Entry.{Entry}
 use Rattle.mely_history.specs.declared.entry.Entry.TheVariants.{Reg, Take, Fin, Steal}
-use Rattle.mely_history.specs.declared.tally.Tally.{Tally}
+use Rattle.mely_history.specs.declared.colour_counts.ColourCounts.{ColourCounts}
 
 -- The numbers that a judge keeps of one colour.
 
 -- the numbers are those of the colour after the entries; the events behind the front's place are those that wait
-pub record Tells (setup : Setup) (entries : List Entry) (c : Colour) (tally : Tally) : Type 0 where
+pub record Tells (setup : Setup) (entries : List Entry) (c : Colour) (tally : ColourCounts) : Type 0 where
   pub owner : tally.owner ≡ owner_of setup entries c
   pub last : tally.last ≡ last_take entries c
   pub registered : tally.registered ≡ length (registered_of entries c)
@@ -28,7 +28,7 @@ pub record Tells (setup : Setup) (entries : List Entry) (c : Colour) (tally : Ta
   pub worth_within : tally.worth ≤ 4294967295 * tally.registered
 
 -- by these numbers the entry may follow
-abbrev pub Allows : Setup → Tally → Entry → Type 0
+abbrev pub Allows : Setup → ColourCounts → Entry → Type 0
 Allows setup tally (Reg c event by) = MayRegister setup c event
 Allows setup tally (Take c core count) = (core ≡ tally.owner) × (tally.begun ≡ tally.ended)
     × (tally.begun < tally.registered)

@@ -1,3 +1,5 @@
+//! What a finish leaves.
+
 /// What is left of a colour after a finish.
 #[derive(Clone, Copy, Debug, PartialEq, Eq)]
 pub enum After {

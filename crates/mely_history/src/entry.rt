@@ -1,3 +1,4 @@
+//! The entries of a history.
 ghost use Rattle.std.specs.Prelude.{◌≡◌};
 ghost use Rattle.mely_history.specs.Entries.{colour_of, pass_of};
 

@@ -1,3 +1,5 @@
+//! The answer of a judgement.
+
 /// What a judgement of a history says.
 #[derive(Clone, Copy, Debug, PartialEq, Eq)]
 pub enum Judged {

@@ -1,13 +1,14 @@
+//! Judging a list of entries: whether it is a legal history.
 ghost use Rattle.std.specs.Prelude.{◌≡◌, ◌<◌, ◌≤◌, ◌↔◌, ℕ, IsTrue, Option, length, take, slice_get, Any};
 ghost use Rattle.mely_event.specs.declared.colour.Colour.{Colour};
 ghost use Rattle.mely_history.specs.declared.entry.Entry.{Entry};
 ghost use Rattle.mely_history.specs.Entries.{colour_of};
 ghost use Rattle.mely_history.specs.Judging.{Judges, IsColourFault, HasColour};
 
+use crate::colour_counts::ColourCounts;
 use crate::entry::Entry;
 use crate::judged::Judged;
 use crate::setup::Setup;
-use crate::tally::Tally;
 use mely_event::Colour;
 
 /// Whether some entry is of the colour. It looks at the last entries first, since a colour that was
@@ -28,7 +29,7 @@ fn first_fault(setup: &Setup, history: &[Entry], from: usize, until: usize, colo
     requires none { ¬ HasColour colour (take from history.now) }
     ensures { IsColourFault setup.now history.now colour until result }
 {
-    let mut tally = Tally::new(setup, colour);
+    let mut tally = ColourCounts::new(setup, colour);
     for at in from..until {
         let entry = history[at];
         if entry.colour().0 == colour.0 {

@@ -1,3 +1,4 @@
+//! The law of legal histories, as a function for contracts alone.
 ghost use Rattle.mely_event.specs.declared.colour.Colour.{Colour};
 ghost use Rattle.mely_history.specs.Legal.{IsLegal};
 ghost use Rattle.mely_history.specs.Batches.{FollowOneAnother};

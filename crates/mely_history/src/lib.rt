@@ -24,6 +24,7 @@
 #![tactic(auto)]
 
 mod after;
+mod colour_counts;
 mod entry;
 mod judged;
 mod judging;
@@ -35,7 +36,6 @@ mod setup;
 mod setup_fault;
 mod shape;
 mod stolen;
-mod tally;
 #[cfg(test)]
 mod tests;
 

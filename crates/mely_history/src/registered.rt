@@ -1,3 +1,5 @@
+//! What a registration answers.
+
 /// What a registration found. Core numbers, and the colour's account after the registration.
 #[derive(Clone, Copy, Debug, PartialEq, Eq)]
 pub enum Registered {

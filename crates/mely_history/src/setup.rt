@@ -1,8 +1,13 @@
-ghost use Rattle.std.specs.Prelude.{◌≡◌, ◌≤◌, IfOk, IfErr};
+//! What a run is made with.
+ghost use Rattle.std.specs.Prelude.{◌≡◌, ◌≤◌, ◌+◌, ◌/◌, IfOk, IfErr};
 
 use crate::setup_fault::SetupFault;
 use crate::shape::Shape;
-use mely_event::Handlers;
+use mely_event::{Colour, Handlers};
+
+/// What a reciprocal is a part of. It is a power of 2 above the product of the greatest colour and the
+/// greatest number of shards, so that no quotient is rounded up.
+const WHOLE: u64 = 4_194_304;
 
 /// What a run is made with: its shape, how many colours there are, the table of its handlers, and
 /// how many of the colours are pinned, from colour 0 on.
@@ -12,17 +17,22 @@ pub struct Setup {
     colours: u32,
     handlers: Handlers,
     pinned: u32,
+
+    /// By it a colour is multiplied rather than divided by the number of shards, which takes several
+    /// times as long.
+    reciprocal: u64,
     pub ghost cores_in: { (1 ≤ shape.cores) × (shape.cores ≤ 64) },
     pub ghost shards_in: { (1 ≤ shape.shards) × (shape.shards ≤ 64) },
     pub ghost colours_in: { (1 ≤ colours) × (colours ≤ 65536) },
     pub ghost batch_in: { (1 ≤ shape.batch) × (shape.batch ≤ 1000) },
     pub ghost group_in: { (1 ≤ shape.group) × (shape.group ≤ 64) },
     pub ghost pinned_in: { pinned ≤ colours },
+    pub ghost reciprocal_in: { reciprocal ≡ 4194304 / shape.shards + 1 },
 }
 
 impl Setup {
     ghost use Rattle.std.specs.Prelude.{None, Some};
-    ghost use Rattle.mely_history.specs.Setup.{first_out_of_range, shape_of, colours_of, handlers_of, pinned_of};
+    ghost use Rattle.mely_history.specs.Setup.{first_out_of_range, shape_of, colours_of, handlers_of, pinned_of, shard_of, place};
 
     /// A setup of these numbers. The colours below `pinned` stay on the core that they begin on: they
     /// are never stolen. It takes no memory.
@@ -69,6 +79,7 @@ impl Setup {
             colours,
             handlers,
             pinned,
+            reciprocal: WHOLE / u64::from(shape.shards) + 1,
         })
     }
 
@@ -86,6 +97,23 @@ impl Setup {
         ensures range { (1 ≤ result) × (result ≤ 64) }
     {
         self.shape.shards
+    }
+
+    /// The number of the shard that a colour is in: `colour.0 % shards`.
+    #[inline(always)]
+    pub fn shard_of(&self, colour: Colour) -> usize
+        ensures { result ≡ shard_of self.now colour }
+    {
+        let place = self.place_of(colour);
+        usize::from(colour.0) - place * usize::from(self.shape.shards)
+    }
+
+    /// The place of a colour among the colours of its shard in ascending order: `colour.0 / shards`.
+    #[inline(always)]
+    pub fn place_of(&self, colour: Colour) -> usize
+        ensures { result ≡ place self.now colour }
+    {
+        (u64::from(colour.0) * self.reciprocal / WHOLE) as usize
     }
 
     /// How many events a turn runs at most.

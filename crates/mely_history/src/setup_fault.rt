@@ -1,3 +1,7 @@
+//! Why numbers make no setup.
+use std::error::Error;
+use std::fmt;
+
 /// Why numbers make no setup.
 #[derive(Clone, Copy, Debug, PartialEq, Eq)]
 pub enum SetupFault {
@@ -5,3 +9,15 @@ pub enum SetupFault {
     /// pinned colours.
     OutOfRange { field: u8 },
 }
+
+impl fmt::Display for SetupFault {
+    fn fmt<W: fmt::Write>(&self, f: &mut fmt::Formatter<W>) -> fmt::Result {
+        match self {
+            SetupFault::OutOfRange { field } => {
+                write!(f, "number {field} of the setup is out of range")
+            }
+        }
+    }
+}
+
+impl Error for SetupFault {}

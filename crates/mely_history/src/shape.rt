@@ -1,3 +1,5 @@
+//! The numbers that a run is shaped by.
+
 /// The numbers that a run is shaped by.
 #[derive(Clone, Copy, Debug, PartialEq, Eq)]
 pub struct Shape {

@@ -1,4 +1,4 @@
-use crate::{Entry, Judged, Setup, SetupFault, Shape, judge};
+use crate::{Entry, Judged, NoSteal, NoTake, Setup, SetupFault, Shape, judge};
 use mely_event::{Colour, Event, Handlers};
 use std::test::Fail;
 
@@ -211,6 +211,13 @@ fn a_setup_is_made_at_the_limits_and_refused_just_beyond(rt: HostRuntime) -> Res
         (7, 64, 65_536)
     );
     assert_eq!(rt; setup.pinned(), 3);
+    assert_eq!(rt;
+        (
+            setup.shard_of(Colour(65_535)),
+            setup.place_of(Colour(65_535))
+        ),
+        (63, 1_023)
+    );
     assert_eq!(rt; setup.handlers().len(), 1);
     let cases = [
         (Shape { cores: 0, ..most }, 1, 1),
@@ -253,5 +260,45 @@ fn a_setup_is_made_at_the_limits_and_refused_just_beyond(rt: HostRuntime) -> Res
             Some(SetupFault::OutOfRange { field })
         );
     }
+    Ok(())
+}
+
+#[test]
+fn refusals_print_their_cause(rt: HostRuntime) -> Result<(), Fail> {
+    let takes = [
+        (NoTake::Elsewhere { owner: 3 }, "the colour is core 3's"),
+        (NoTake::Busy { core: 2 }, "the colour runs on core 2"),
+        (
+            NoTake::Empty { registered: 7 },
+            "none of 7 events of the colour waits",
+        ),
+        (NoTake::Memory, "there was no memory"),
+    ];
+    for (why, text) in takes {
+        assert_eq!(rt; why.to_string(rt.alloc())?.as_str(), text);
+    }
+    let steals = [
+        (NoSteal::Pinned { colour: Colour(1) }, "colour 1 is pinned"),
+        (NoSteal::Own, "the core owns the colour already"),
+        (NoSteal::Busy { core: 2 }, "the colour runs on core 2"),
+        (
+            NoSteal::Empty { registered: 0 },
+            "none of 0 events of the colour waits",
+        ),
+        (
+            NoSteal::Cheap { worth: 20 },
+            "a time left of 20 is not worth a steal",
+        ),
+        (NoSteal::Memory, "there was no memory"),
+    ];
+    for (why, text) in steals {
+        assert_eq!(rt; why.to_string(rt.alloc())?.as_str(), text);
+    }
+    assert_eq!(rt;
+        SetupFault::OutOfRange { field: 3 }
+            .to_string(rt.alloc())?
+            .as_str(),
+        "number 3 of the setup is out of range"
+    );
     Ok(())
 }

@@ -1,5 +1,5 @@
-pub mod SeenLaws
-mod Lists
-mod Claims
-mod Keeps
-mod Calls
+pub mod SeenLemmas
+mod ListsLemmas
+mod ClaimsLemmas
+mod KeepsLemmas
+mod CallsLemmas

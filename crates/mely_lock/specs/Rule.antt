@@ -6,7 +6,7 @@ use mathlib.Core.Option.{some}
 use lib.ListN.{get_elem?}
 use Rattle.atomic_table.specs.Table.{State}
 use Rattle.mely_lock.specs.declared.claim.Claim.{Claim}
-use Rattle.mely_lock.specs.declared.view.View.{View}
+use Rattle.mely_lock.specs.declared.seat_knowledge.SeatKnowledge.{SeatKnowledge}
 use Rattle.mely_lock.specs.Seen.{notes_of, OthersSince}
 use Rattle.mely_lock.specs.Views.{within, times_held, claims_held}
 
@@ -15,17 +15,17 @@ abbrev pub EachAt : {A : Type 0} → (ℕ → A → Type 0) → List A → Type 
 EachAt {A} P xs = (k : ℕ) (x : A) → get_elem? xs k ≡ some x → P k x
 
 -- P holds of each claim of each seat
-abbrev pub EachClaim : {N F : Type 0} → (Claim N F → Type 0) → List (View N F) → Type 0
+abbrev pub EachClaim : {N F : Type 0} → (Claim N F → Type 0) → List (SeatKnowledge N F) → Type 0
 EachClaim P views = EachAt (λ _ v. AllByRecursion P v.claims) views
 
 module _ {W N F : Type 0} where
   -- nobody is inside
-  pub record IsOpen (s : State (Option W) (View N F)) : Type 0 where
+  pub record IsOpen (s : State (Option W) (SeatKnowledge N F)) : Type 0 where
     pub free : slice_index s.words 0 ≡ 0
     pub all_outside : EachAt (λ _ v. v.inside ≡ false) s.views
 
   -- one seat is inside, which has one claim
-  pub record IsShut (s : State (Option W) (View N F)) : Type 0 where
+  pub record IsShut (s : State (Option W) (SeatKnowledge N F)) : Type 0 where
     pub seat : ℕ
     pub holder : Claim N F
     pub taken : slice_index s.words 0 ≡ holder.number + 1
@@ -33,31 +33,31 @@ module _ {W N F : Type 0} where
     pub alone : EachAt (λ k v. v.inside ≡ true → k ≡ seat) s.views
 
   -- the value is in the slot
-  abbrev pub IsHome : W → State (Option W) (View N F) → Type 0
+  abbrev pub IsHome : W → State (Option W) (SeatKnowledge N F) → Type 0
   IsHome x s = s.homes ≡ some (Some x) ∷ []
 
   -- the first part: word 0 names who is inside
-  abbrev pub DoorTells : State (Option W) (View N F) → Type 0
+  abbrev pub DoorTells : State (Option W) (SeatKnowledge N F) → Type 0
   DoorTells s = IsOpen s ⊎ IsShut s
 
   -- the second part: the value is away from the slot only while a seat is inside
-  abbrev pub AwayWhileInside : State (Option W) (View N F) → Type 0
+  abbrev pub AwayWhileInside : State (Option W) (SeatKnowledge N F) → Type 0
   AwayWhileInside s = IsOpen s → (x : W) × IsHome x s
 
   -- the third part: word 1 has the length of the history, which is that of the value while nobody is inside, and which a seat inside has seen whole
-  pub record TellsHistory (history_of : W → List N) (history : List N) (s : State (Option W) (View N F)) : Type 0 where
+  pub record TellsHistory (history_of : W → List N) (history : List N) (s : State (Option W) (SeatKnowledge N F)) : Type 0 where
     pub counted : slice_index s.words 1 ≡ length history
     pub home : IsOpen s → (x : W) → IsHome x s → history_of x ≡ history
     pub inside : EachAt (λ _ v. v.inside ≡ true
         → AllByRecursion (λ c. c.front ≡ history) v.claims) s.views
 
   -- the fifth part: each claim has the frame that the value had when the lock was made, and the value at home has it
-  pub record KeepsFrame (frame_of : W → F) (frame : F) (s : State (Option W) (View N F)) : Type 0 where
+  pub record KeepsFrame (frame_of : W → F) (frame : F) (s : State (Option W) (SeatKnowledge N F)) : Type 0 where
     pub told : EachClaim (λ c. c.frame ≡ frame) s.views
     pub home : (x : W) → IsHome x s → frame_of x ≡ frame
 
 -- the fourth part: each number below that of the passes is in one claim of one seat, and its notes are those in the front of that claim, with which the history begins; other numbers have neither claims nor notes
-pub record EachOnce {N F : Type 0} (pass_of : N → ℕ) (passes : ℕ) (history : List N) (views : List (View N F)) : Type 0 where
+pub record EachOnce {N F : Type 0} (pass_of : N → ℕ) (passes : ℕ) (history : List N) (views : List (SeatKnowledge N F)) : Type 0 where
   pub once : (n : ℕ) → n < passes → times_held n views ≡ 1
   pub never : (n : ℕ) → passes ≤ n → times_held n views ≡ 0
   pub together : claims_held views ≡ passes
@@ -65,7 +65,7 @@ pub record EachOnce {N F : Type 0} (pass_of : N → ℕ) (passes : ℕ) (history
   pub strangers : (n : ℕ) → passes ≤ n → notes_of pass_of n history ≡ []
 
 -- the rule of a lock with so many passes, round a value that had this frame
-pub record Locked {W N F : Type 0} (history_of : W → List N) (pass_of : N → ℕ) (frame_of : W → F) (frame : F) (passes : ℕ) (s : State (Option W) (View N F)) : Type 0 where
+pub record Locked {W N F : Type 0} (history_of : W → List N) (pass_of : N → ℕ) (frame_of : W → F) (frame : F) (passes : ℕ) (s : State (Option W) (SeatKnowledge N F)) : Type 0 where
   pub history : List N
   pub words : length s.words ≡ 2
   pub door : DoorTells s

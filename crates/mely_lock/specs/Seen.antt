@@ -17,7 +17,7 @@ module _ {N : Type 0} (pass_of : N → ℕ) where
   GrewByAtMostOne n front history = (history ≡ front)
       ⊎ ((note : N) × (history ≡ front ++ note ∷ []) × (pass_of note ≡ n))
 
-  -- the same, where `grown` says which
+  -- the history has one note more than the front, of the pass n, where `grown` says so, and is the front where it does not
   abbrev pub GrewIf : Bool → ℕ → List N → List N → Type 0
   GrewIf grown n front history = (grown ≡ true → (note : N) × (history ≡ front ++ note ∷ [])
       × (pass_of note ≡ n)) × (grown ≡ false → history ≡ front)

@@ -3,7 +3,7 @@ use Rattle.std.specs.Prelude.{◌≡◌, ◌≢◌, ◌<◌, ◌≤◌, ℕ, fal
 use Rattle.std.specs.List.{AllByRecursion}
 use Rattle.atomic_table.specs.Table.{Me}
 use Rattle.mely_lock.specs.declared.claim.Claim.{Claim}
-use Rattle.mely_lock.specs.declared.view.View.{View}
+use Rattle.mely_lock.specs.declared.seat_knowledge.SeatKnowledge.{SeatKnowledge}
 use Rattle.mely_lock.specs.Seen.{notes_of, OthersSince}
 use Rattle.mely_lock.specs.Views.{view, outside, within, shares_of}
 
@@ -13,25 +13,25 @@ module _ {N F : Type 0} where
   having_seen c history = record c { front = history }
 
   -- dealing out a pass: the seat keeps its claims but the first, which a new seat has
-  abbrev pub kept_of : View N F → View N F
+  abbrev pub kept_of : SeatKnowledge N F → SeatKnowledge N F
   kept_of v = view (others v.claims) v.inside where
     others : List (Claim N F) → List (Claim N F)
     others [] = []
     others (c ∷ cs) = cs
 
-  abbrev pub dealt_of : View N F → View N F
+  abbrev pub dealt_of : SeatKnowledge N F → SeatKnowledge N F
   dealt_of v = view (first v.claims) false where
     first : List (Claim N F) → List (Claim N F)
     first [] = []
     first (c ∷ cs) = c ∷ []
 
   -- taking in another seat: the claims of both
-  abbrev pub joined : View N F → View N F → View N F
+  abbrev pub joined : SeatKnowledge N F → SeatKnowledge N F → SeatKnowledge N F
   joined v w = view (v.claims ++ w.claims) v.inside
 
 -- a seat: what it knows, and the slots in its hand
 abbrev pub Seat : Type 0 → Type 0 → Type 0 → Type 0
-Seat W N F = Me (Option W) (View N F)
+Seat W N F = Me (Option W) (SeatKnowledge N F)
 
 module _ {W N F : Type 0} where
   -- a pass outside, with nothing in its hand

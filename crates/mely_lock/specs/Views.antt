@@ -3,24 +3,24 @@ use Rattle.std.specs.Prelude.{◌≡◌, ◌==◌, ℕ, zero, suc, ◌+◌, Bool
 use mathlib.Core.Option.{some}
 use lib.ListN.{get_elem?}
 use Rattle.mely_lock.specs.declared.claim.Claim.{Claim}
-use Rattle.mely_lock.specs.declared.view.View.{View}
+use Rattle.mely_lock.specs.declared.seat_knowledge.SeatKnowledge.{SeatKnowledge}
 
 module _ {N F : Type 0} where
   abbrev pub claim : ℕ → List N → F → Claim N F
   claim n front frame = record { number = n; front = front; frame = frame }
 
-  abbrev pub view : List (Claim N F) → Bool → View N F
+  abbrev pub view : List (Claim N F) → Bool → SeatKnowledge N F
   view claims inside = record { claims = claims; inside = inside }
 
   -- a pass that is outside, and one that is inside
-  abbrev pub outside : Claim N F → View N F
+  abbrev pub outside : Claim N F → SeatKnowledge N F
   outside c = view (c ∷ []) false
 
-  abbrev pub within : Claim N F → View N F
+  abbrev pub within : Claim N F → SeatKnowledge N F
   within c = view (c ∷ []) true
 
   -- a seat that is no pass's
-  abbrev pub nobody : View N F
+  abbrev pub nobody : SeatKnowledge N F
   nobody = view [] false
 
   -- the claims of m passes from the number n on, which have seen nothing
@@ -29,7 +29,7 @@ module _ {N F : Type 0} where
   first_claims n (suc m) frame = claim n [] frame ∷ first_claims (n + 1) m frame
 
   -- the first seat has the claims of all passes, until they are dealt out
-  abbrev pub first_view : ℕ → F → View N F
+  abbrev pub first_view : ℕ → F → SeatKnowledge N F
   first_view passes frame = view (first_claims 0 passes frame) false
 
   -- how many of the claims are of the number n
@@ -37,11 +37,11 @@ module _ {N F : Type 0} where
   shares_of n claims = count_by (λ c. c.number == n) claims
 
   -- how often the seats have the number n, together
-  abbrev pub times_held : ℕ → List (View N F) → ℕ
+  abbrev pub times_held : ℕ → List (SeatKnowledge N F) → ℕ
   times_held n views = sum_by (λ v. shares_of n v.claims) views
 
   -- how many claims the seats have, together
-  abbrev pub claims_held : List (View N F) → ℕ
+  abbrev pub claims_held : List (SeatKnowledge N F) → ℕ
   claims_held views = sum_by (λ v. length v.claims) views
 
   -- one of these claims is of this number, and has this front

@@ -1,3 +1,4 @@
+//! What one pass knows of a lock.
 use std::collections::LinkedList;
 
 /// What one pass knows. It is for contracts alone: no value of it is made.

@@ -6,13 +6,13 @@ ghost use Rattle.mely_lock.specs.Steps.{Closes};
 ghost use Rattle.mely_lock.specs.Views.{HasClaim, shares_of};
 ghost use Rattle.mely_lock.specs.Words.{front, IsOutside};
 
+use crate::lock_rule::{LockTable, PassSeat};
 use crate::pass::Pass;
-use crate::steps::{Sitting, TakingIn};
-use crate::ticketing::{Place, Room};
+use crate::steps::{JoinPass, NewSeat};
 use mely_event::Kept;
 
 /// A seat that is outside, with the claims of all these passes.
-pub(crate) fn gather<V: Kept>(room: &Room<V>, passes: Vec<Pass<V>>) -> Place<V>
+pub(crate) fn gather<V: Kept>(room: &LockTable<V>, passes: Vec<Pass<V>>) -> PassSeat<V>
     requires size { 0 < room.now.shared.table_id.words }
     requires each { (k : ℕ) (p : _) → get_elem? passes.items k ≡ some p
         → (p.place.table_id ≡ room.now.shared.table_id) × IsOutside p }
@@ -25,20 +25,20 @@ pub(crate) fn gather<V: Kept>(room: &Room<V>, passes: Vec<Pass<V>>) -> Place<V>
         → HasClaim result.me.0.claims p.number (front p) }
 {
     let mut passes = passes;
-    let (_, mut seat) = room.shared.load_new_seat::<Sitting>(0);
+    let (_, mut seat) = room.shared.load_new_seat::<NewSeat>(0);
     while let Some(pass) = passes.pop() {
         let Pass {
             number: _,
             seen: _,
             place,
         } = pass;
-        room.shared.join_seat::<TakingIn>(&mut seat, place);
+        room.shared.join_seat::<JoinPass>(&mut seat, place);
     }
     seat
 }
 
 /// Closes the lock with a seat that has the claims of all passes, and takes the value out.
-pub(crate) fn take_back<V: Kept>(room: Room<V>, seat: Place<V>) -> V
+pub(crate) fn take_back<V: Kept>(room: LockTable<V>, seat: PassSeat<V>) -> V
     requires table { seat.table_id ≡ room.shared.table_id }
     requires slot { room.shared.table_id.slots ≡ 1 }
     requires outside { seat.me.0.inside ≡ false }

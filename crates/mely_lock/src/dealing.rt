@@ -5,17 +5,17 @@ ghost use lib.ListN.{get_elem?};
 ghost use Rattle.mely_lock.specs.Views.{first_view};
 ghost use Rattle.mely_lock.specs.Words.{front, told_frame, IsOutside};
 
+use crate::lock_rule::{LockTable, PassSeat};
 use crate::pass::Pass;
-use crate::steps::Dealing;
-use crate::ticketing::{Place, Room};
+use crate::steps::SplitPass;
 use mely_event::{Kept, Memory};
 use std::alloc::Global;
 
 /// One pass for each number, out of the first seat, which has all claims.
 pub(crate) fn deal<V: Kept>(
     alloc: Global,
-    room: &Room<V>,
-    rest: &mut Place<V>,
+    room: &LockTable<V>,
+    rest: &mut PassSeat<V>,
     passes: u16,
 ) -> Result<Vec<Pass<V>>, Memory>
     requires table { (rest.old.table_id ≡ room.now.shared.table_id)
@@ -29,7 +29,7 @@ pub(crate) fn deal<V: Kept>(
 {
     let mut dealt = Vec::new(alloc);
     for number in 0..passes {
-        let place = room.shared.split_seat::<Dealing>(rest);
+        let place = room.shared.split_seat::<SplitPass>(rest);
         dealt.push(Pass {
             number,
             seen: 0,

@@ -1,3 +1,4 @@
+//! The value of a lock while a pass is inside.
 ghost use Rattle.std.specs.Prelude.{◌≡◌};
 
 use crate::pass::Pass;

@@ -36,25 +36,25 @@
 //! what it has in a box.
 #![tactic(auto)]
 
-mod about;
 mod claim;
 mod closing;
 mod dealing;
 mod held;
 mod lending;
+mod lock_key;
+mod lock_rule;
 mod pass;
 mod passing;
+mod seat_knowledge;
 mod steps;
 #[cfg(test)]
 mod tests;
 mod ticketed;
-mod ticketing;
-mod view;
 
-pub use about::About;
 pub use claim::Claim;
 pub use held::Held;
+pub use lock_key::LockKey;
+pub use lock_rule::LockRule;
 pub use pass::Pass;
+pub use seat_knowledge::SeatKnowledge;
 pub use ticketed::Ticketed;
-pub use ticketing::Ticketing;
-pub use view::View;

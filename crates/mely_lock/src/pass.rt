@@ -1,7 +1,8 @@
+//! What lets a caller into a lock.
 ghost use Rattle.std.specs.Prelude.{◌≡◌, length};
 ghost use Rattle.mely_lock.specs.Views.{head_number, head_front};
 
-use crate::ticketing::Place;
+use crate::lock_rule::PassSeat;
 use mely_event::Kept;
 
 /// Lets whoever has it into one lock, one at a time.
@@ -13,7 +14,7 @@ use mely_event::Kept;
 pub struct Pass<V: Kept> {
     pub(crate) number: u16,
     pub(crate) seen: u64,
-    pub(crate) place: Place<V>,
+    pub(crate) place: PassSeat<V>,
     ghost single: { length place.me.0.claims ≡ 1 },
     ghost numbered: { head_number place.me.0.claims ≡ number },
     ghost counted: { length (head_front place.me.0.claims) ≡ seen },

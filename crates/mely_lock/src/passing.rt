@@ -5,9 +5,9 @@ ghost use Rattle.mely_lock.specs.Steps.{waiting, holding, Enters, Leaves};
 ghost use Rattle.mely_lock.specs.Words.{lock_id};
 
 use crate::claim::Claim;
-use crate::steps::{Leaving, Noting, Trying};
+use crate::lock_rule::PassSeat;
+use crate::steps::{AddNote, Leave, TryEnter};
 use crate::ticketed::Ticketed;
-use crate::ticketing::Place;
 use mely_event::Kept;
 use std::hint::spin_loop;
 use std::sync::Wait;
@@ -22,7 +22,7 @@ const SPINS: u32 = 100;
 
 impl<V: Kept> Ticketed<V> {
     /// Goes in if nobody is inside, and takes the value out.
-    fn try_enter(&self, place: &mut Place<V>, number: u16) -> Option<V>
+    fn try_enter(&self, place: &mut PassSeat<V>, number: u16) -> Option<V>
         requires table { place.old.table_id ≡ lock_id self.now }
         requires outside { (c : Claim V.Note V.Frame) × (place.old.me ≡ waiting c)
             × (c.number ≡ number) }
@@ -33,7 +33,7 @@ impl<V: Kept> Ticketed<V> {
     {
         let shared = &self.room.shared;
         let ticket = u64::from(number) + 1;
-        let found = shared.compare_exchange::<Trying<V>>(place, 0, 0, ticket);
+        let found = shared.compare_exchange::<TryEnter<V>>(place, 0, 0, ticket);
         if found != 0 {
             return None;
         }
@@ -41,7 +41,7 @@ impl<V: Kept> Ticketed<V> {
     }
 
     /// Tries a while without sleeping, since who is inside mostly leaves soon.
-    fn spin_in(&self, place: &mut Place<V>, number: u16) -> Option<V>
+    fn spin_in(&self, place: &mut PassSeat<V>, number: u16) -> Option<V>
         requires table { place.old.table_id ≡ lock_id self.now }
         requires outside { (c : Claim V.Note V.Frame) × (place.old.me ≡ waiting c)
             × (c.number ≡ number) }
@@ -71,7 +71,7 @@ impl<V: Kept> Ticketed<V> {
     }
 
     /// Tries until nobody else is inside, and sleeps between two tries.
-    fn wait_in<R: Wait>(&self, rt: &R, place: &mut Place<V>, number: u16) -> V
+    fn wait_in<R: Wait>(&self, rt: &R, place: &mut PassSeat<V>, number: u16) -> V
         requires table { place.old.table_id ≡ lock_id self.now }
         requires outside { (c : Claim V.Note V.Frame) × (place.old.me ≡ waiting c)
             × (c.number ≡ number) }
@@ -95,7 +95,7 @@ impl<V: Kept> Ticketed<V> {
     }
 
     /// Tries until nobody else is inside.
-    pub(crate) fn go_in<R: Wait>(&self, rt: &R, place: &mut Place<V>, number: u16) -> V
+    pub(crate) fn go_in<R: Wait>(&self, rt: &R, place: &mut PassSeat<V>, number: u16) -> V
         requires table { place.old.table_id ≡ lock_id self.now }
         requires outside { (c : Claim V.Note V.Frame) × (place.old.me ≡ waiting c)
             × (c.number ≡ number) }
@@ -117,7 +117,7 @@ impl<V: Kept> Ticketed<V> {
     }
 
     /// Puts the value back, makes a note if its history has grown, and goes out.
-    pub(crate) fn put_back(&self, place: &mut Place<V>, value: V, grown: bool)
+    pub(crate) fn put_back(&self, place: &mut PassSeat<V>, value: V, grown: bool)
         requires table { place.old.table_id ≡ lock_id self.now }
         requires inside { (c : Claim V.Note V.Frame) × (place.old.me ≡ holding c None)
             × (V.frame_of value ≡ c.frame)
@@ -130,9 +130,9 @@ impl<V: Kept> Ticketed<V> {
         let taken = shared.exchange(place, 0, Some(value));
         let None = taken else { unreachable!() };
         if grown {
-            shared.fetch_add::<Noting<V>>(place, 1, 1);
+            shared.fetch_add::<AddNote<V>>(place, 1, 1);
         }
-        shared.store::<Leaving>(place, 0, 0);
+        shared.store::<Leave>(place, 0, 0);
         self.wake_one();
     }
 }

@@ -3,7 +3,7 @@
 //!
 //! Two more steps touch the slot alone: who has come in takes the value out of it, and puts it back before a note. Nobody else
 //! can: the slot is then in that seat's hand.
-use crate::view::View;
+use crate::seat_knowledge::SeatKnowledge;
 use atomic_table::{Join, Play, Split};
 use mely_event::Kept;
 use std::marker::PhantomData;
@@ -12,11 +12,11 @@ use std::marker::PhantomData;
 ///
 /// Where it found another number than 0 somebody is inside, and nothing changes. Where it found 0 nobody was, so the value was at
 /// home: the pass has its slot, and has seen its whole history.
-pub(crate) struct Trying<V> {
+pub(crate) struct TryEnter<V> {
     kept: PhantomData<V>,
 }
 
-impl<V: Kept> Play<Option<V>, View<V::Note, V::Frame>> for Trying<V> {
+impl<V: Kept> Play<Option<V>, SeatKnowledge<V::Note, V::Frame>> for TryEnter<V> {
     ghost use Rattle.mely_lock.specs.Steps.{Tried};
 
     ghost then = { λ _. Tried V.history_of V.pass_of V.frame_of };
@@ -25,11 +25,11 @@ impl<V: Kept> Play<Option<V>, View<V::Note, V::Frame>> for Trying<V> {
 /// One more in word 1, made by the pass inside once its value has one note more and is back in the slot.
 ///
 /// While a pass is inside no other changes word 1, so it has the length of the history again.
-pub(crate) struct Noting<V> {
+pub(crate) struct AddNote<V> {
     kept: PhantomData<V>,
 }
 
-impl<V: Kept> Play<Option<V>, View<V::Note, V::Frame>> for Noting<V> {
+impl<V: Kept> Play<Option<V>, SeatKnowledge<V::Note, V::Frame>> for AddNote<V> {
     ghost use Rattle.mely_lock.specs.Steps.{Noted};
 
     ghost then = { λ _ m _. Noted V.history_of m };
@@ -38,18 +38,18 @@ impl<V: Kept> Play<Option<V>, View<V::Note, V::Frame>> for Noting<V> {
 /// A store of 0 in word 0, made by the pass inside, with the value in the slot.
 ///
 /// The value goes home with the history that the pass has seen, and whoever comes in next finds it so.
-pub(crate) struct Leaving;
+pub(crate) struct Leave;
 
-impl<V, N, F> Play<Option<V>, View<N, F>> for Leaving {
+impl<V, N, F> Play<Option<V>, SeatKnowledge<N, F>> for Leave {
     ghost use Rattle.mely_lock.specs.Steps.{Left};
 
     ghost then = { λ _ m _. Left m };
 }
 
 /// A load that makes a new seat. It is no pass's, so it claims nothing.
-pub(crate) struct Sitting;
+pub(crate) struct NewSeat;
 
-impl<S, N, F> Play<S, View<N, F>> for Sitting {
+impl<S, N, F> Play<S, SeatKnowledge<N, F>> for NewSeat {
     ghost use Rattle.std.specs.Prelude.{◌≡◌};
     ghost use Rattle.mely_lock.specs.Views.{nobody};
 
@@ -59,9 +59,9 @@ impl<S, N, F> Play<S, View<N, F>> for Sitting {
 /// The cut of a seat in two, made by `new` for each pass: the first claim goes to the new seat.
 ///
 /// No number is in two seats afterwards, since the first seat keeps the others alone.
-pub(crate) struct Dealing;
+pub(crate) struct SplitPass;
 
-impl<N, F> Split<View<N, F>> for Dealing {
+impl<N, F> Split<SeatKnowledge<N, F>> for SplitPass {
     ghost use Rattle.mely_lock.specs.Steps.{kept_of, dealt_of};
 
     ghost left = { kept_of };
@@ -70,9 +70,9 @@ impl<N, F> Split<View<N, F>> for Dealing {
 }
 
 /// The join of two seats that are outside, made by `close` for each pass: one has the claims of both, and the other none.
-pub(crate) struct TakingIn;
+pub(crate) struct JoinPass;
 
-impl<N, F> Join<View<N, F>> for TakingIn {
+impl<N, F> Join<SeatKnowledge<N, F>> for JoinPass {
     ghost use Rattle.mely_lock.specs.Steps.{joined};
     ghost use Rattle.mely_lock.specs.Views.{nobody};
 

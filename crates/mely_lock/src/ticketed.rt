@@ -1,11 +1,12 @@
+//! The lock itself.
 ghost use Rattle.std.specs.Prelude.{◌≡◌};
 
-use crate::about::About;
 use crate::closing::{gather, take_back};
 use crate::dealing::deal;
 use crate::held::Held;
+use crate::lock_key::LockKey;
+use crate::lock_rule::{LockTable, PassSeat};
 use crate::pass::Pass;
-use crate::ticketing::{Place, Room};
 use atomic_table::Table;
 use mely_event::{Kept, Memory};
 use std::alloc::Global;
@@ -19,7 +20,7 @@ use std::sync::atomic::AtomicU32;
 /// Callers share it by `&`. Its passes are made with it, and no others fit it.
 #[derive(Drop)]
 pub struct Ticketed<V: Kept> {
-    pub(crate) room: Room<V>,
+    pub(crate) room: LockTable<V>,
     pub(crate) passes: u16,
     /// How many passes sleep, or look once more before they do. It is under no part of the rule: it only saves the call that
     /// wakes a sleeper where there is none.
@@ -49,13 +50,13 @@ impl<V: Kept + Drop> Ticketed<V> {
         ensures numbers { IfOk result (λ r. (n : ℕ) (p : _) → n < passes
             → (slice_index_or r.1.items n p).number ≡ n) }
     {
-        let about = About {
+        let about = LockKey {
             value: Snapshot::of(&value),
             passes,
         };
         let mut slots = Vec::new(alloc);
         slots.push(Some(value))?;
-        let (room, mut rest): (Room<V>, Place<V>) = match Table::new(
+        let (room, mut rest): (LockTable<V>, PassSeat<V>) = match Table::new(
             alloc,
             &[0, 0],
             slots,

@@ -1,2 +1,2 @@
 mod Rows
-pub mod OneRun
+pub mod OneRunLemmas

@@ -5,7 +5,7 @@ use Rattle.mely_event.specs.declared.colour.Colour.{Colour}
 use Rattle.mely_event.specs.declared.mark.Mark.{Mark}
 use Rattle.mely_steal.specs.Classes.{class_of}
 use Rattle.mely_steal.specs.Marks.{is_of}
-use Rattle.mely_steal.specs.Stealing.{is_worthy}
+use Rattle.mely_steal.specs.StealQueue.{is_worthy}
 
 -- a mark in the list of a core, and the number of the step in which it entered its class
 pub record Listed : Type 0 where

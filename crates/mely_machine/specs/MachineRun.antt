@@ -26,6 +26,7 @@ first_machine rules app = record {
   made = 0;
 }
 
+-- the worker looks for a mark
 abbrev pub is_free : Doing → Bool
 is_free (Free place) = true
 is_free (Popped mark) = false
@@ -34,6 +35,7 @@ is_free (Landing mark) = false
 is_free (Pushing to mark) = false
 is_free (Turning c count left hand puts) = false
 
+-- there is no mark
 abbrev pub is_empty : List Listed → Bool
 is_empty [] = true
 is_empty (l ∷ list) = false

@@ -10,12 +10,15 @@ use Rattle.mely_machine.specs.Listing.{Listed, hears, first_to_steal, without_co
 use Rattle.mely_machine.specs.Machine.{Acts, Machine}
 use Rattle.mely_machine.specs.MachineRun.{first_machine, post, steps, rounds, is_quiet, spelled_out}
 
+-- the colour of this number
 abbrev pub col : ℕ → Colour
 col n = record { 0 = n }
 
+-- an event of this handler and this argument
 abbrev pub event : ℕ → ℕ → Event
 event h a = record { handler = h; arg = a }
 
+-- a mark of this colour
 abbrev pub mark : ℕ → ℕ → ℕ → Mark
 mark c started worth = record { colour = col c; started = started; worth = worth }
 
@@ -32,13 +35,15 @@ abbrev pub puts_of : ℕ → ℕ → List (Colour × Event)
 puts_of zero arg = []
 puts_of (suc h) arg = (col arg, event 0 0) ∷ []
 
+-- an app whose handlers put events
 abbrev pub sends : Acts (Unit {0})
 sends x c e = record { puts = puts_of e.handler e.arg; becomes = x }
 
--- a machine after posts, and after a schedule
+-- a machine after posts
 abbrev pub posted : Rules → List (Colour × Event) → Machine (Unit {0})
 posted rules posts = fold (λ m p. post rules p.0 p.1 m) (first_machine rules tt) posts
 
+-- a machine after posts and a schedule
 abbrev pub after : Rules → List (Colour × Event) → List (ℕ × ℕ) → Machine (Unit {0})
 after rules posts schedule = steps rules sends (spelled_out schedule) (posted rules posts)
 
@@ -69,10 +74,12 @@ abbrev pub colour_taken : Option Listed → List ℕ
 colour_taken None = []
 colour_taken (Some l) = l.mark.colour.0 ∷ []
 
+-- a list of marks without the one that was found
 abbrev pub left_after : Option Listed → List Listed → List Listed
 left_after None list = list
 left_after (Some l) list = without_colour l.mark.colour list
 
+-- the colours of so many picks, one after another
 abbrev pub picks : ℕ → ℕ → List Listed → List ℕ
 picks zero cost list = []
 picks (suc n) cost list = let found = first_to_steal cost 0 list in
@@ -85,6 +92,7 @@ four =
     (record { mark = mark 0 0 30; since = 0 } ∷ record { mark = mark 1 0 20; since = 1 }
     ∷ record { mark = mark 2 0 50; since = 2 } ∷ record { mark = mark 3 0 90; since = 3 } ∷ []))
 
+-- what small machines come to
 pub record WorkedRows : Type 0 where
   -- the highest class first; within a class the mark that is longer in it, though another was pushed before it; and none of class 0
   pub picked : picks 4 20 four ≡ 3 ∷ 2 ∷ 0 ∷ []

@@ -1,3 +1,3 @@
-pub mod Waiting
-pub mod Kept
-pub mod Taken
+pub mod ColourQueue
+pub mod Invariant
+pub mod Turn

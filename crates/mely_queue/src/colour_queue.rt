@@ -50,12 +50,12 @@ pub struct ColourQueue<P> {
 }
 
 impl<P> Model for ColourQueue<P> {
-    ghost use Rattle.mely_queue.specs.Waiting.{Waiting};
+    ghost use Rattle.mely_queue.specs.ColourQueue.{ColourQueueState};
 
-    ghost Value = { Waiting P };
+    ghost Value = { ColourQueueState P };
 
     ghost use Rattle.std.specs.Prelude.{◌≡◌, ◌≤◌, ◌<◌, ◌+◌, ◌^◌, length, sum};
-    ghost use Rattle.mely_queue.specs.Kept.{IsKept};
+    ghost use Rattle.mely_queue.specs.Invariant.{IsConsistent};
 
     ghost view = { λ q. record {
       events = q.events.items;
@@ -65,11 +65,11 @@ impl<P> Model for ColourQueue<P> {
     } };
 
     ghost invariant = { λ q.
-        IsKept q.events.items q.weights.items q.started q.finished q.time_left };
+        IsConsistent q.events.items q.weights.items q.started q.finished q.time_left };
 }
 
 impl<P> ColourQueue<P> {
-    ghost use Rattle.mely_queue.specs.Waiting.{Waiting, registered_in, pushed, taken, finished_by};
+    ghost use Rattle.mely_queue.specs.ColourQueue.{ColourQueueState, registered_in, pushed, taken, finished_by};
 
     /// A queue on which nothing waits and nothing was registered. It takes no memory.
     pub fn new(alloc: Global) -> ColourQueue<P>

@@ -24,9 +24,9 @@ pub struct Turn<S, P> {
 }
 
 impl<S, P> Model for Turn<S, P> {
-    ghost use Rattle.mely_queue.specs.Taken.{Taken};
+    ghost use Rattle.mely_queue.specs.Turn.{TurnState};
 
-    ghost Value = { Taken S P };
+    ghost Value = { TurnState S P };
 
     ghost use Rattle.std.specs.Prelude.{reverse};
 
@@ -41,7 +41,7 @@ impl<S, P> Model for Turn<S, P> {
 }
 
 impl<S: Fits<P>, P> Turn<S, P> {
-    ghost use Rattle.mely_queue.specs.Taken.{Taken, EachFits};
+    ghost use Rattle.mely_queue.specs.Turn.{TurnState, EachFits};
 
     /// A turn of these events, of which there are 1 to 1,000. The state is of this colour.
     pub fn new(colour: Colour, core: u16, state: S, events: Vec<(Event, Option<P>)>) -> Turn<S, P>
@@ -74,7 +74,7 @@ impl<S: Fits<P>, P> Turn<S, P> {
 }
 
 impl<S, P> Turn<S, P> {
-    ghost use Rattle.mely_queue.specs.Taken.{Taken};
+    ghost use Rattle.mely_queue.specs.Turn.{TurnState};
     ghost use Rattle.mely_queue.specs.contracts.turn.Turn.{the_row};
 
     /// The colour that was taken.

@@ -1,3 +1,3 @@
-pub mod Shown
-pub mod Deliveries
-pub mod Follows
+pub mod ShownLemmas
+pub mod DeliveriesLemmas
+pub mod FollowsLemmas

@@ -1,4 +1,4 @@
-pub mod Elements
-pub mod Pushes
-pub mod Picks
-pub mod Reports
+pub mod ElementsLemmas
+pub mod PushesLemmas
+pub mod PicksLemmas
+pub mod ReportsLemmas

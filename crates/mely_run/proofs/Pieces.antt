@@ -1,7 +1,7 @@
-pub mod Permuting
-pub mod Moves
-pub mod Changes
-pub mod Handing
-pub mod First
-pub mod Posted
-pub mod Last
+pub mod PermutingLemmas
+pub mod MovesLemmas
+pub mod ChangesLemmas
+pub mod HandingLemmas
+pub mod FirstLemmas
+pub mod PostedLemmas
+pub mod LastLemmas

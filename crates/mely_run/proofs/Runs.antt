@@ -1,6 +1,6 @@
-pub mod Step
-pub mod Want
-pub mod Run
-pub mod Start
-pub mod Whole
-pub mod Frame
+pub mod StepLemmas
+pub mod WantLemmas
+pub mod RunLemmas
+pub mod StartLemmas
+pub mod WholeLemmas
+pub mod FrameLemmas

@@ -5,12 +5,12 @@ use Rattle.mely_event.specs.declared.colour.Colour.{Colour}
 use Rattle.mely_event.specs.declared.event.Event.{Event}
 use Rattle.mely_event.specs.declared.trail.Trail.{Ghosts as TrailWords}
 use Rattle.mely_history.specs.declared.setup.Setup.{Setup}
-use Rattle.mely_shard.specs.Contents.{Contents, Lane, colour_at}
+use Rattle.mely_shard.specs.Shard.{ShardState, ColourState, colour_at}
 use Rattle.mely_worker.specs.declared.app.App.{Ghosts as AppWords}
 use Rattle.mely_worker.specs.declared.phase.Phase.{Phase}
 use Rattle.mely_worker.specs.declared.phase.Phase.TheVariants as at
-use Rattle.mely_worker.specs.WorkerView.{WorkerView}
-use Rattle.mely_weave.specs.StandsWell.{Loom}
+use Rattle.mely_worker.specs.Worker.{WorkerState}
+use Rattle.mely_weave.specs.Weave.{WeaveState}
 use Rattle.mely_machine.specs.Machine.{Acts}
 use Rattle.mely_run.specs.Corresponds.{without_loads}
 
@@ -18,9 +18,11 @@ use Rattle.mely_run.specs.Corresponds.{without_loads}
 abbrev pub Piece : Type 0 → Type 0 → Type 0
 Piece S P = Colour × (S ⊎ (Event × Option P))
 
+-- a state, on its colour
 abbrev pub kept : {S P : Type 0} → Colour → S → Piece S P
 kept c state = (c, inl state)
 
+-- an event that waits, on its colour
 abbrev pub coming : {S P : Type 0} → Colour → Event → Option P → Piece S P
 coming c event load = (c, inr (event, load))
 
@@ -29,21 +31,25 @@ abbrev pub of_state : {S P : Type 0} → Colour → Option S → List (Piece S P
 of_state c None = []
 of_state c (Some state) = kept c state ∷ []
 
-abbrev pub of_lane : {S P : Type 0} → Colour → Lane S P → List (Piece S P)
+-- what a lane has
+abbrev pub of_lane : {S P : Type 0} → Colour → ColourState S P → List (Piece S P)
 of_lane c lane = of_state c lane.state ++ map (λ e. coming c e.0 e.1) lane.events
 
-abbrev pub of_lanes : {S P : Type 0} → Setup → ℕ → ℕ → List (Lane S P) → List (Piece S P)
+-- what lanes have, of which the first is the one at this place of the shard
+abbrev pub of_lanes : {S P : Type 0} → Setup → ℕ → ℕ → List (ColourState S P) → List (Piece S P)
 of_lanes setup shard place [] = []
 of_lanes setup shard place (lane ∷ lanes) =
     of_lane (colour_at setup shard place) lane ++ of_lanes setup shard (place + 1) lanes
 
-abbrev pub of_shard : {S P : Type 0} → Contents S P → List (Piece S P)
+-- what a shard has
+abbrev pub of_shard : {S P : Type 0} → ShardState S P → List (Piece S P)
 of_shard has = of_lanes has.setup has.shard 0 has.lanes
 
 -- what a turning worker has: the state of its turn, the events that are left, and what is left to register
 abbrev pub of_put : {S P : Type 0} → Colour × Event × Option P → Piece S P
 of_put put = coming put.0 put.1 put.2
 
+-- what a phase has: that of a turn, and nothing else has anything
 abbrev pub of_phase : {S P : Type 0} → Phase S P → List (Piece S P)
 of_phase (at.Free place) = []
 of_phase (at.Popped mark) = []
@@ -54,11 +60,13 @@ of_phase (at.Turning turn hand puts) =
     kept turn.colour turn.state
     ∷ (map (λ e. coming turn.colour e.0 e.1) turn.events ++ map of_put puts)
 
-abbrev pub of_worker : {S P : Type 0} → WorkerView S P → List (Piece S P)
+-- what a worker has
+abbrev pub of_worker : {S P : Type 0} → WorkerState S P → List (Piece S P)
 of_worker w = of_phase w.phase
 
-abbrev pub pieces : {S P : Type 0} → Loom S P → List (Piece S P)
-pieces loom = flat_map of_shard loom.shards ++ flat_map of_worker loom.workers
+-- what a weave has: all its states, and all its events under way
+abbrev pub pieces : {S P : Type 0} → WeaveState S P → List (Piece S P)
+pieces weave = flat_map of_shard weave.shards ++ flat_map of_worker weave.workers
 
 -- the given states, each on its colour, of which the first has this number
 abbrev pub kept_from : {S P : Type 0} → ℕ → List S → List (Piece S P)

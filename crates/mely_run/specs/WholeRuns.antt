@@ -8,7 +8,8 @@ use Rattle.mely_history.specs.Setup.{colours_of}
 use Rattle.mely_history.specs.declared.entry.Entry.{Entry}
 use Rattle.mely_history.specs.declared.registered.Registered.{Registered}
 use Rattle.mely_worker.specs.declared.app.App.{Ghosts as AppWords}
-use Rattle.mely_weave.specs.StandsWell.{Loom, StandsWell}
+use Rattle.mely_weave.specs.StandsWell.{StandsWell}
+use Rattle.mely_weave.specs.Weave.{WeaveState}
 use Rattle.mely_weave.specs.Steps.{PostsAt}
 use Rattle.mely_weave.specs.Lanes.{AreByColour}
 use Rattle.mely_weave.specs.Making.{IsFirstWeave}
@@ -19,8 +20,8 @@ use Rattle.mely_weave.specs.Drains.{Drains}
 
 module _ {S P F : Type 0} (t : TrailWords S F) (fits : F → Colour → Event → Option P → Type 0) where
   -- a weave was made of these states, and the event was posted on it
-  pub record IsBegun (setup : Setup) (states : List S) (c : Colour) (event : Event) (load : Option P) (posted : Loom S P) : Type 0 where
-    pub first : Loom S P
+  pub record IsBegun (setup : Setup) (states : List S) (c : Colour) (event : Event) (load : Option P) (posted : WeaveState S P) : Type 0 where
+    pub first : WeaveState S P
     pub reply : Registered
     pub all : length states ≡ colours_of setup
     pub made : IsFirstWeave setup states first
@@ -31,16 +32,16 @@ module _ {S P F : Type 0} (t : TrailWords S F) (fits : F → Colour → Event �
 
   module _ {R : Type 0} (y : AppWords R P S F) (app : R) where
     -- the steps of a schedule were made, and a drain came to its end
-    pub record IsRunOut (posted : Loom S P) (schedule : List (ℕ × ℕ)) (end : Loom S P) : Type 0 where
-      pub ran : Loom S P
+    pub record IsRunOut (posted : WeaveState S P) (schedule : List (ℕ × ℕ)) (end : WeaveState S P) : Type 0 where
+      pub ran : WeaveState S P
       pub runs : RunsTo t fits y app posted (spelled_out schedule) went.All ran
       pub drains : Drains t fits y app ran drained.Empty end
       pub well : StandsWell t fits end
 
     -- a whole run: a weave has these histories at the end, and these states are left
     pub record IsWholeRun (setup : Setup) (states : List S) (c : Colour) (event : Event) (load : Option P) (schedule : List (ℕ × ℕ)) (histories : List (List Entry)) (left : List S) : Type 0 where
-      pub posted : Loom S P
-      pub end : Loom S P
+      pub posted : WeaveState S P
+      pub end : WeaveState S P
       pub begun : IsBegun setup states c event load posted
       pub out : IsRunOut posted schedule end
       pub told : histories ≡ map (λ has. has.history) end.shards

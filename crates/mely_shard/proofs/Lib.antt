@@ -1,12 +1,12 @@
-mod Cells
-mod FirstCells
-mod Ending
-pub mod DrainedLaws
-pub mod TurnLaws
-mod ExampleLaws
-mod Registering
-mod Finishing
-mod Taking
-mod Exposing
-mod Stealing
-mod OnceLaws
+mod SlotLemmas
+mod FirstSlotLemmas
+mod EndLemmas
+pub mod DrainedLemmas
+pub mod TurnLemmas
+mod ExampleLemmas
+mod RegisterLemmas
+mod FinishLemmas
+mod TakeLemmas
+mod ExposeLemmas
+mod StealLemmas
+mod OnceLemmas

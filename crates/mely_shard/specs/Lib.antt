@@ -1,4 +1,4 @@
-pub mod Contents
-pub mod Kept
+pub mod Shard
+pub mod Invariant
 pub mod Replies
 pub mod Examples

@@ -11,20 +11,20 @@ use Rattle.mely_history.specs.declared.after.After.TheVariants.{More, Idle}
 use Rattle.mely_history.specs.declared.no_steal.NoSteal.{NoSteal}
 use Rattle.mely_history.specs.declared.no_steal.NoSteal.TheVariants as steals
 use Rattle.mely_history.specs.declared.no_steal.NoSteal.TheVariants.{Own, Cheap}
-use Rattle.mely_queue.specs.Waiting.{registered_in, taken}
-use Rattle.mely_queue.specs.Taken.{Taken}
-use Rattle.mely_shard.specs.declared.cell.Cell.{Cell}
-use Rattle.mely_shard.specs.Contents.{IsRoomier}
+use Rattle.mely_queue.specs.ColourQueue.{registered_in, taken}
+use Rattle.mely_queue.specs.Turn.{TurnState}
+use Rattle.mely_shard.specs.declared.colour_slot.ColourSlot.{ColourSlot}
+use Rattle.mely_shard.specs.Shard.{IsRoomier}
 
 -- what a registration is told, where events waited before it or not
-abbrev pub reply_of : {S P : Type 0} → Cell S P → Bool → Registered
+abbrev pub reply_of : {S P : Type 0} → ColourSlot S P → Bool → Registered
 reply_of cell waited =
     if is_none cell.home then Running cell.core
     else if waited then Told cell.owner cell.queue.started (sum cell.queue.weights)
     else Woke cell.owner cell.queue.started (sum cell.queue.weights)
 
 -- why a core may not take a colour, memory aside
-abbrev pub no_take_of : {S P : Type 0} → Cell S P → ℕ → Option NoTake
+abbrev pub no_take_of : {S P : Type 0} → ColourSlot S P → ℕ → Option NoTake
 no_take_of cell core =
     if core == cell.owner then
     if is_none cell.home then Some (Busy cell.core)
@@ -33,12 +33,12 @@ no_take_of cell core =
     else Some (Elsewhere cell.owner)
 
 -- what is left after a finish
-abbrev pub after_of : {S P : Type 0} → Cell S P → After
+abbrev pub after_of : {S P : Type 0} → ColourSlot S P → After
 after_of cell = if nat_lt 0 (length cell.queue.events) then More cell.queue.started
     (sum cell.queue.weights) else Idle
 
 -- the state and the first events are moved out
-pub record CellTakes {S P F : Type 0} (t : TrailWords S F) (old new : Cell S P) (colour : Colour) (core batch : ℕ) (turn : Taken S P) : Type 0 where
+pub record CellTakes {S P F : Type 0} (t : TrailWords S F) (old new : ColourSlot S P) (colour : Colour) (core batch : ℕ) (turn : TurnState S P) : Type 0 where
   pub home : S
   pub was : old.home ≡ Some home
   pub alike : IsRoomier t home turn.state
@@ -60,7 +60,7 @@ pub record CellTakes {S P F : Type 0} (t : TrailWords S F) (old new : Cell S P) 
   }
 
 -- only the spare of the state at home may be greater
-pub record CellKeepsState {S P F : Type 0} (t : TrailWords S F) (old new : Cell S P) : Type 0 where
+pub record CellKeepsState {S P F : Type 0} (t : TrailWords S F) (old new : ColourSlot S P) : Type 0 where
   pub home : S
   pub was : old.home ≡ Some home
   pub state : S
@@ -68,7 +68,7 @@ pub record CellKeepsState {S P F : Type 0} (t : TrailWords S F) (old new : Cell 
   pub left : new ≡ record old { home = Some state }
 
 -- why a core may not steal a colour, memory aside
-abbrev pub no_steal_of : {S P : Type 0} → Cell S P → ℕ → ℕ → Option NoSteal
+abbrev pub no_steal_of : {S P : Type 0} → ColourSlot S P → ℕ → ℕ → Option NoSteal
 no_steal_of cell to cost =
     if to == cell.owner then Some Own
     else if is_none cell.home then Some (steals.Busy cell.core)
@@ -77,9 +77,11 @@ no_steal_of cell to cost =
     else Some (Cheap (sum cell.queue.weights))
     else Some (steals.Empty (registered_in cell.queue))
 
-abbrev pub cell_is_drained : {S P : Type 0} → Cell S P → Bool
+-- the state is at home, and nothing waits
+abbrev pub cell_is_drained : {S P : Type 0} → ColourSlot S P → Bool
 cell_is_drained cell = is_some cell.home && (length cell.queue.events == 0)
 
-abbrev pub ready_of : {S P : Type 0} → Cell S P → Option (ℕ × ℕ × ℕ)
+-- the owner, how many events were started, and the time left, where the state is at home and something waits
+abbrev pub ready_of : {S P : Type 0} → ColourSlot S P → Option (ℕ × ℕ × ℕ)
 ready_of cell = if is_some cell.home && nat_lt 0 (length cell.queue.events) then Some
     (cell.owner, cell.queue.started, sum cell.queue.weights) else None

@@ -23,7 +23,7 @@
 //! ```
 #![tactic(auto)]
 
-mod cell;
+mod colour_slot;
 mod room;
 mod shard;
 #[cfg(test)]

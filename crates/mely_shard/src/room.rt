@@ -1,5 +1,6 @@
+//! Room for one more entry of a shard's history.
 ghost use Rattle.std.specs.Prelude.{◌≡◌, ◌<◌, ◌≤◌, ◌+◌, length, vec_capacity, OnOk, OnErr};
-ghost use Rattle.mely_shard.specs.Kept.{most_of};
+ghost use Rattle.mely_shard.specs.Invariant.{most_of};
 ghost use Rattle.mely_shard.specs.declared.room.TheConstants.{MOST_ENTRIES};
 
 use mely_event::Memory;

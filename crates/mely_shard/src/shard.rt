@@ -1,6 +1,7 @@
+//! The colours of one shard as one plain value.
 ghost use Rattle.std.specs.Prelude.{◌≡◌, ◌<◌, ◌≤◌, ◌+◌, ◌-◌, ◌/◌, ◌%◌, ◌^◌, ◌++◌, ◌∷◌, [], ℕ, List, Option, ◌≢◌, length, IfOk, IfErr, OnOk, OnErr, option_copied, IsTrue, ◌↔◌};
 
-use crate::cell::{Cell, all_drained, cells_of, take_apart};
+use crate::colour_slot::{ColourSlot, all_drained, cells_of, take_apart};
 use crate::room::make_room;
 use mely_event::{Colour, Event, Fits, Memory, Trail, Unregistered};
 use mely_history::{After, Entry, NoSteal, NoTake, Registered, Setup, Stolen};
@@ -30,7 +31,7 @@ pub struct Shard<S: Fits<P>, P> {
     setup: Setup,
     shard: u16,
     history: Vec<Entry>,
-    cells: Vec<Cell<S, P>>,
+    cells: Vec<ColourSlot<S, P>>,
     running: usize,
     alloc: Global,
 
@@ -43,12 +44,12 @@ pub struct Shard<S: Fits<P>, P> {
 }
 
 impl<S: Fits<P>, P> Model for Shard<S, P> {
-    ghost use Rattle.mely_shard.specs.Contents.{Contents};
+    ghost use Rattle.mely_shard.specs.Shard.{ShardState};
 
-    ghost Value = { Contents S P };
+    ghost Value = { ShardState S P };
 
     ghost use Rattle.std.specs.Prelude.{map, length, vec_len, vec_capacity, ◌≡◌, ◌+◌, ◌-◌, []};
-    ghost use Rattle.mely_shard.specs.Kept.{lane_of, most_of, IsKeptShard, HasRoom};
+    ghost use Rattle.mely_shard.specs.Invariant.{lane_of, most_of, IsKeptShard, HasRoom};
 
     ghost view = { λ s. record {
       setup = s.setup;
@@ -67,7 +68,7 @@ impl<S: Fits<P>, P> Model for Shard<S, P> {
 }
 
 impl<S: Fits<P>, P> Shard<S, P> {
-    ghost use Rattle.mely_shard.specs.Contents.{Contents, IsOwn, lane_at, Registers, RegisteredAs, HasSameContents, Takes, KeepsStates, NoTakeAs, Finishes, AfterAs, TurnStands, IsKept, ReadyAs, Steals, NoStealAs, AreFirstStates, IsFirst, KeepsFrame, StandsOnce};
+    ghost use Rattle.mely_shard.specs.Shard.{ShardState, IsOwn, lane_at, Registers, RegisteredAs, HasSameContents, Takes, KeepsStates, NoTakeAs, Finishes, AfterAs, TurnStands, IsConsistent, ReadyAs, Steals, NoStealAs, AreFirstStates, IsFirst, KeepsFrame, StandsOnce};
     ghost use Rattle.mely_history.specs.Setup.{shape_of};
     ghost use Rattle.mely_event.specs.declared.colour.Colour.{Colour};
     ghost use Rattle.std.specs.Prelude.{map, Some};
@@ -94,7 +95,7 @@ impl<S: Fits<P>, P> Shard<S, P> {
         requires numbered { shard < (shape_of setup.now).shards }
         requires first { AreFirstStates S.Trail setup.now shard states.items }
         ensures made { IfOk result (λ made. IsFirst setup.now shard states.items made) }
-        ensures kept { IfOk result (λ made. IsKept S.Trail S.fits_under made) }
+        ensures kept { IfOk result (λ made. IsConsistent S.Trail S.fits_under made) }
     {
         let cells = cells_of(alloc, setup, shard, states)?;
         let Ok(states) = Vec::with_capacity(alloc, cells.len()) else {
@@ -151,7 +152,7 @@ impl<S: Fits<P>, P> Shard<S, P> {
     /// The entries so far, the oldest first.
     pub fn history(&self) -> &[Entry]
         ensures value { result.now ≡ self.now.history }
-        ensures kept { IsKept S.Trail S.fits_under self.now }
+        ensures kept { IsConsistent S.Trail S.fits_under self.now }
     {
         &self.history
     }
@@ -182,14 +183,14 @@ impl<S: Fits<P>, P> Shard<S, P> {
         ensures spare_left { self.old.spare ≤ self.new.spare + 1 }
         ensures spare_stays { OnErr result (self.old.spare ≤ self.new.spare) }
         ensures back { IfErr result (λ refused. (refused.event ≡ event) × (refused.load ≡ load)) }
-        ensures kept { IsKept S.Trail S.fits_under self.new }
+        ensures kept { IsConsistent S.Trail S.fits_under self.new }
         ensures frame { KeepsFrame self.old self.new }
     {
         let Ok(()) = make_room(&mut self.history, self.running + 1) else {
             return Err(Unregistered { event, load });
         };
         let weight = self.setup.handlers().weight(event.handler);
-        let place = (colour.0 / self.setup.shards()) as usize;
+        let place = self.setup.place_of(colour);
         let reply = self.cells[place].register(event, load, weight)?;
         self.history.push_reserved(Entry::Reg { colour, event, by });
         Ok(reply)
@@ -213,10 +214,10 @@ impl<S: Fits<P>, P> Shard<S, P> {
         ensures spare_stays { OnErr result (self.old.spare ≤ self.new.spare) }
         ensures refusal { IfErr result (λ refusal.
             NoTakeAs self.old.setup self.old.history colour core refusal) }
-        ensures kept { IsKept S.Trail S.fits_under self.new }
+        ensures kept { IsConsistent S.Trail S.fits_under self.new }
         ensures frame { KeepsFrame self.old self.new }
     {
-        let place = (colour.0 / self.setup.shards()) as usize;
+        let place = self.setup.place_of(colour);
         let cell = &mut self.cells[place];
         if let Some(refusal) = cell.no_take(core) {
             return Err(refusal);
@@ -250,13 +251,13 @@ impl<S: Fits<P>, P> Shard<S, P> {
         ensures home { Finishes self.old self.new turn }
         ensures reply { AfterAs self.old.setup self.new.history turn.colour result }
         ensures spare_stays { self.new.spare ≡ self.old.spare }
-        ensures kept { IsKept S.Trail S.fits_under self.new }
+        ensures kept { IsConsistent S.Trail S.fits_under self.new }
         ensures frame { KeepsFrame self.old self.new }
     {
         let colour = turn.colour();
         let core = turn.core();
         let count = turn.count();
-        let place = (colour.0 / self.setup.shards()) as usize;
+        let place = self.setup.place_of(colour);
         self.history.push_reserved(Entry::Fin {
             colour,
             core,
@@ -277,7 +278,7 @@ impl<S: Fits<P>, P> Shard<S, P> {
         ensures ok { OnOk result (entries ≤ self.new.spare) }
         ensures not_lower { self.old.spare ≤ self.new.spare }
         ensures contents { HasSameContents self.old self.new }
-        ensures kept { IsKept S.Trail S.fits_under self.new }
+        ensures kept { IsConsistent S.Trail S.fits_under self.new }
         ensures frame { KeepsFrame self.old self.new }
     {
         if entries > usize::MAX - self.running {
@@ -292,7 +293,7 @@ impl<S: Fits<P>, P> Shard<S, P> {
         ensures { (lane : _) → lane_at self.now colour ≡ Some lane
             → option_copied result ≡ lane.state }
     {
-        let place = (colour.0 / self.setup.shards()) as usize;
+        let place = self.setup.place_of(colour);
         self.cells[place].home.as_ref()
     }
 
@@ -301,7 +302,7 @@ impl<S: Fits<P>, P> Shard<S, P> {
         requires { IsOwn self.now colour }
         ensures { ReadyAs self.now.setup self.now.history colour result }
     {
-        let place = (colour.0 / self.setup.shards()) as usize;
+        let place = self.setup.place_of(colour);
         self.cells[place].ready()
     }
 
@@ -324,13 +325,13 @@ impl<S: Fits<P>, P> Shard<S, P> {
         ensures spare { 1 ≤ self.old.spare → IfErr result (λ refusal. refusal ≢ NoSteal.Memory) }
         ensures spare_left { self.old.spare ≤ self.new.spare + 1 }
         ensures spare_stays { OnErr result (self.old.spare ≤ self.new.spare) }
-        ensures kept { IsKept S.Trail S.fits_under self.new }
+        ensures kept { IsConsistent S.Trail S.fits_under self.new }
         ensures frame { KeepsFrame self.old self.new }
     {
         if u32::from(colour.0) < self.setup.pinned() {
             return Err(NoSteal::Pinned { colour });
         }
-        let place = (colour.0 / self.setup.shards()) as usize;
+        let place = self.setup.place_of(colour);
         let cell = &mut self.cells[place];
         if let Some(refusal) = cell.no_steal(to, self.setup.steal_cost()) {
             return Err(refusal);

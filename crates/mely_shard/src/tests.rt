@@ -1,5 +1,5 @@
 ghost use Rattle.std.specs.Prelude.{◌≡◌, ◌≤◌, ◌<◌, ◌-◌, ◌++◌, ◌∷◌, [], length, IfOk, OnOk};
-ghost use Rattle.mely_shard.specs.Contents.{IsOwn, KeepsFrame, TurnStands};
+ghost use Rattle.mely_shard.specs.Shard.{IsOwn, KeepsFrame, TurnStands};
 ghost use Rattle.mely_shard.specs.Examples.{IsExample};
 
 use crate::Shard;

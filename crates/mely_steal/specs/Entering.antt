@@ -2,6 +2,7 @@
 use Rattle.std.specs.Prelude.{◌≡◌, ◌≢◌, ◌<◌, ◌≤◌, ◌==◌, ◌⊎◌, ◌++◌, ℕ, Bool, not, nat_lt, List, [], ◌∷◌, map, filter, find, length, slice_index, slice_index_or, if◌then◌else◌}
 use Rattle.std.specs.List.{list_any}
 use Rattle.std.specs.Option.{option_map_or}
+use Rattle.mely_steal.specs.declared.links.TheConstants.{MOST_PLACES}
 use Rattle.mely_steal.specs.declared.links.Link.{Link}
 use Rattle.mely_steal.specs.declared.links.Ends.{Ends}
 use Rattle.mely_steal.specs.Links.{list_at, listed, IsStrung}
@@ -20,6 +21,7 @@ pub record Ranking : Type 0 where
 abbrev pub of_class : ℕ → List Ranked → List Ranked
 of_class class entries = filter (λ entry. entry.class == class) entries
 
+-- the entries but that of the colour
 abbrev pub gone : ℕ → List Ranked → List Ranked
 gone colour entries = filter (λ entry. not (entry.colour == colour)) entries
 
@@ -27,6 +29,7 @@ gone colour entries = filter (λ entry. not (entry.colour == colour)) entries
 abbrev pub has_entry : ℕ → List Ranked → Bool
 has_entry colour entries = list_any (λ entry. entry.colour == colour) entries
 
+-- the class of the colour, and 0 where it has no entry
 abbrev pub class_in : ℕ → List Ranked → ℕ
 class_in colour entries =
     option_map_or (λ entry. entry.class) (find (λ entry. entry.colour == colour) entries) 0
@@ -51,6 +54,7 @@ placed number entry [] = entry ∷ []
 placed number entry (next ∷ entries) = if nat_lt (number entry.colour) (number next.colour) then
     entry ∷ next ∷ entries else next ∷ placed number entry entries
 
+-- the entries in the order of their numbers
 abbrev pub by_number : (ℕ → ℕ) → List Ranked → List Ranked
 by_number number [] = []
 by_number number (entry ∷ entries) = placed number entry (by_number number entries)
@@ -114,7 +118,7 @@ AreBelow number next (entry ∷ entries) = (number entry.colour < next) × AreBe
 -- the next one
 pub record StandInOrder (links : List Link) (ends : List Ends) (numbers : List ℕ) (next : ℕ) : Type 0 where
   pub many : length ends ≡ 3
-  pub small : length links ≤ 65536
+  pub small : length links ≤ MOST_PLACES
   pub numbered : length numbers ≡ length links
   pub classes : (place : ℕ) → list_at links place ≤ 3
   pub one : IsStrung 1 links (ends_at ends 0)

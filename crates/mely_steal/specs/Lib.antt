@@ -1,8 +1,8 @@
 pub mod Classes
 pub mod Victims
 pub mod Marks
-pub mod Stealing
+pub mod StealQueue
 pub mod Links
 pub mod Entering
-pub mod Tables
-pub mod ColourLists
+pub mod StealTable
+pub mod ColourList

@@ -12,9 +12,11 @@ unlinked = record { list = 0; before = 0; after = 0 }
 abbrev pub list_at : List Link → ℕ → ℕ
 list_at links place = (slice_index_or links place unlinked).list
 
+-- the place before this one, by its link
 abbrev pub before_at : List Link → ℕ → ℕ
 before_at links place = (slice_index_or links place unlinked).before
 
+-- the place behind this one, by its link
 abbrev pub after_at : List Link → ℕ → ℕ
 after_at links place = (slice_index_or links place unlinked).after
 
@@ -45,6 +47,7 @@ abbrev pub last_from : ℕ → List ℕ → ℕ
 last_from place [] = place
 last_from place (next ∷ places) = last_from next places
 
+-- the list of places, if it has any, ends with this one
 abbrev pub LastIs : ℕ → List ℕ → Type 0
 LastIs last [] = Unit {0}
 LastIs last (place ∷ places) = last_from place places ≡ last
@@ -55,6 +58,7 @@ AreJoinedFrom after before place [] = Unit {0}
 AreJoinedFrom after before place (next ∷ places) = (after place ≡ next) × (before next ≡ place)
     × AreJoinedFrom after before next places
 
+-- neighbours of the list name one another
 abbrev pub AreJoined : (ℕ → ℕ) → (ℕ → ℕ) → List ℕ → Type 0
 AreJoined after before [] = Unit {0}
 AreJoined after before (place ∷ places) = AreJoinedFrom after before place places

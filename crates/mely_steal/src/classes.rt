@@ -2,7 +2,7 @@
 ghost use Rattle.std.specs.Prelude.{◌≡◌, ◌<◌, ◌≤◌, ◌∷◌, ◌++◌, ◌==◌, [], IfOk, IfSome, min, option_map, find};
 ghost use Rattle.mely_steal.specs.Entering.{class_in, gone};
 
-use crate::links::{Ends, Link, NO_ENDS, UNLINKED};
+use crate::links::{Ends, Link, MOST_PLACES, NO_ENDS, UNLINKED};
 use crate::numbering::next_number;
 use crate::table::{push_back, unlink};
 use mely_event::Memory;
@@ -46,9 +46,9 @@ impl Classes {
     /// There was no memory.
     pub(crate) fn new(alloc: Global, colours: u32) -> Result<Classes, Memory>
         ensures empty { IfOk result (λ classes. classes.entries ≡ []) }
-        ensures places { IfOk result (λ classes. classes.places ≡ min colours 65536) }
+        ensures places { IfOk result (λ classes. classes.places ≡ min colours MOST_PLACES) }
     {
-        let places = colours.min(65_536) as usize;
+        let places = colours.min(MOST_PLACES) as usize;
         Ok(Classes {
             links: vec![in alloc; UNLINKED; places]?,
             ends: [NO_ENDS; 3],

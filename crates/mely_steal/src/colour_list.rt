@@ -2,7 +2,7 @@
 ghost use Rattle.std.specs.Prelude.{◌≡◌, ◌<◌, ◌↔◌, ◌∷◌, ◌++◌, [], false, IfOk, IfSome, IsTrue, option_map, slice_get};
 ghost use Rattle.mely_steal.specs.Links.{dropped, is_in};
 
-use crate::links::{Ends, Link, NO_ENDS, UNLINKED};
+use crate::links::{Ends, Link, MOST_PLACES, NO_ENDS, UNLINKED};
 use crate::table::{push_back, unlink};
 use mely_event::{Colour, Memory};
 use std::alloc::Global;
@@ -21,9 +21,9 @@ pub struct ColourList {
 }
 
 impl Model for ColourList {
-    ghost use Rattle.mely_steal.specs.ColourLists.{Colours, StandsAlone};
+    ghost use Rattle.mely_steal.specs.ColourList.{ColourListState, StandsAlone};
 
-    ghost Value = { Colours };
+    ghost Value = { ColourListState };
 
     ghost use Rattle.mely_steal.specs.Links.{listed};
 
@@ -36,7 +36,7 @@ impl Model for ColourList {
 }
 
 impl ColourList {
-    ghost use Rattle.mely_steal.specs.ColourLists.{Colours};
+    ghost use Rattle.mely_steal.specs.ColourList.{ColourListState};
 
     /// An empty list with room for this many colours.
     ///
@@ -46,7 +46,7 @@ impl ColourList {
     pub fn new(alloc: Global, colours: u32) -> Result<ColourList, Memory>
         ensures { IfOk result (λ list. list ≡ record { list = []; colours = colours }) }
     {
-        let places = colours.min(65_536) as usize;
+        let places = colours.min(MOST_PLACES) as usize;
         Ok(ColourList {
             links: vec![in alloc; UNLINKED; places]?,
             ends: NO_ENDS,

@@ -19,6 +19,9 @@ pub(crate) struct Ends {
     pub(crate) len: u32,
 }
 
+/// The most places of a table, one for each number that a colour may have.
+pub(crate) const MOST_PLACES: u32 = 65_536;
+
 /// A place that is in no list.
 pub(crate) const UNLINKED: Link = Link {
     list: 0,

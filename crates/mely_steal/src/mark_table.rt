@@ -1,7 +1,8 @@
 //! The last mark of each colour.
 ghost use Rattle.std.specs.Prelude.{◌≡◌, ◌<◌, IfOk, length, min};
-ghost use Rattle.mely_steal.specs.Tables.{SetsMark, mark_in};
+ghost use Rattle.mely_steal.specs.StealTable.{SetsMark, mark_in};
 
+use crate::links::MOST_PLACES;
 use mely_event::{Colour, Mark, Memory};
 use std::alloc::Global;
 use std::marker::Model;
@@ -15,7 +16,7 @@ pub(crate) struct MarkTable {
 }
 
 impl Model for MarkTable {
-    ghost use Rattle.mely_steal.specs.Tables.{Told};
+    ghost use Rattle.mely_steal.specs.StealTable.{Told};
 
     ghost Value = { Told };
 
@@ -33,9 +34,9 @@ impl MarkTable {
     ///
     /// There was no memory.
     pub(crate) fn new(alloc: Global, colours: u32) -> Result<MarkTable, Memory>
-        ensures { IfOk result (λ table. length table.started ≡ min colours 65536) }
+        ensures { IfOk result (λ table. length table.started ≡ min colours MOST_PLACES) }
     {
-        let places = colours.min(65_536) as usize;
+        let places = colours.min(MOST_PLACES) as usize;
         Ok(MarkTable {
             started: vec![in alloc; 0; places]?,
             worth: vec![in alloc; 0; places]?,

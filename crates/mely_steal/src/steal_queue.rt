@@ -1,7 +1,7 @@
 //! The marks that may be stolen.
 ghost use Rattle.std.specs.Prelude.{◌≡◌, ◌<◌, ◌≤◌, ◌↔◌, None, [], IfOk, IfSome, IsNone, MatchOption};
 ghost use Rattle.mely_steal.specs.Marks.{mark_of, without};
-ghost use Rattle.mely_steal.specs.Stealing.{entered, changed, pick_of, empty_worthy};
+ghost use Rattle.mely_steal.specs.StealQueue.{entered, changed, pick_of, empty_worthy};
 
 use crate::steal_table::StealTable;
 use mely_event::{Colour, Mark, Memory};
@@ -19,11 +19,11 @@ pub struct StealQueue {
 }
 
 impl Model for StealQueue {
-    ghost use Rattle.mely_steal.specs.Stealing.{Worthy};
+    ghost use Rattle.mely_steal.specs.StealQueue.{StealQueueState};
 
-    ghost Value = { Worthy };
+    ghost Value = { StealQueueState };
 
-    ghost use Rattle.mely_steal.specs.Tables.{AreStealable, worthy_of};
+    ghost use Rattle.mely_steal.specs.StealTable.{AreStealable, worthy_of};
 
     ghost view = { λ q. worthy_of q.table };
 
@@ -31,7 +31,7 @@ impl Model for StealQueue {
 }
 
 impl StealQueue {
-    ghost use Rattle.mely_steal.specs.Stealing.{Worthy, AreWorthy};
+    ghost use Rattle.mely_steal.specs.StealQueue.{StealQueueState, AreWorthy};
 
     /// An empty list with room for this many colours, at this cost of a steal, in the unit of the weights of events. The
     /// colours below `pinned` are never stolen.

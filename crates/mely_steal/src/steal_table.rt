@@ -2,7 +2,7 @@
 ghost use Rattle.std.specs.Prelude.{◌≡◌, ◌<◌, ◌≤◌, ◌==◌, None, IfOk, IfSome, MatchOption, find, length, min, option_map, ℕ, if◌then◌else◌};
 ghost use Rattle.std.specs.Option.{option_or};
 ghost use Rattle.mely_steal.specs.Marks.{mark_of, without};
-ghost use Rattle.mely_steal.specs.Stealing.{entered, changed, is_worthy, pick_of};
+ghost use Rattle.mely_steal.specs.StealQueue.{entered, changed, is_worthy, pick_of};
 ghost use Rattle.mely_steal.specs.Classes as classes_of;
 ghost use Rattle.mely_steal.specs.Entering.{class_in, joined_by, moved_to};
 
@@ -85,11 +85,12 @@ pub struct StealTable {
 }
 
 impl Model for StealTable {
-    ghost use Rattle.mely_steal.specs.Tables.{Stealable, AreStealable};
+    ghost use Rattle.mely_steal.specs.StealTable.{StealTableState, AreStealable};
 
-    ghost Value = { Stealable };
+    ghost Value = { StealTableState };
 
     ghost use Rattle.std.specs.Prelude.{◌≡◌, length, min};
+    ghost use Rattle.mely_steal.specs.declared.links.TheConstants.{MOST_PLACES};
 
     ghost view = { λ t. record {
       told = t.marks;
@@ -105,13 +106,13 @@ impl Model for StealTable {
       colours = t.colours;
       cost = t.cost;
       pinned = t.pinned;
-    }) × (length t.marks.started ≡ min t.colours 65536)
-        × (t.classes.places ≡ min t.colours 65536) };
+    }) × (length t.marks.started ≡ min t.colours MOST_PLACES)
+        × (t.classes.places ≡ min t.colours MOST_PLACES) };
 }
 
 impl StealTable {
-    ghost use Rattle.mely_steal.specs.Tables.{AreStealable, KeepsNumbers, SetsMark, Stealable, mark_in, worthy_of};
-    ghost use Rattle.mely_steal.specs.Stealing.{empty_worthy};
+    ghost use Rattle.mely_steal.specs.StealTable.{AreStealable, KeepsNumbers, SetsMark, StealTableState, mark_in, worthy_of};
+    ghost use Rattle.mely_steal.specs.StealQueue.{empty_worthy};
 
     /// A table for this many colours, of which none may be stolen yet, at this cost of a steal, in the unit of the weights of
     /// events. The colours below `pinned` are never stolen.

@@ -1,10 +1,10 @@
-pub mod Sums
-pub mod Dealt
-pub mod ByColour
-pub mod Flows
-pub mod TallyLaws
-pub mod PostTallies
-pub mod Whole
-pub mod Carrying
-pub mod Conserved
-mod PartsFitting
+pub mod SumsLemmas
+pub mod DealtLemmas
+pub mod ByColourLemmas
+pub mod FlowsLemmas
+pub mod TallyLemmas
+pub mod PostTalliesLemmas
+pub mod WholeLemmas
+pub mod CarryingLemmas
+pub mod ConservedLemmas
+mod PartsFittingLemmas

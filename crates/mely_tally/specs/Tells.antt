@@ -10,12 +10,12 @@ use Rattle.mely_history.specs.Legal.{AreLegal, IsDrained}
 use Rattle.mely_history.specs.Setup.{colours_of}
 use Rattle.mely_history.specs.declared.entry.Entry.{Entry}
 use Rattle.mely_history.specs.declared.registered.Registered.{Registered}
-use Rattle.mely_queue.specs.Taken.{EachFits}
+use Rattle.mely_queue.specs.Turn.{EachFits}
 use Rattle.mely_worker.specs.Access.{FitsSetup}
 use Rattle.mely_worker.specs.declared.app.App.{Ghosts as AppWords}
 use Rattle.mely_weave.specs.Drains.{AllFree, HistoriesAreDrained}
-use Rattle.mely_weave.specs.Scene.{shard_of}
-use Rattle.mely_weave.specs.StandsWell.{Loom}
+use Rattle.mely_weave.specs.Side.{shard_of}
+use Rattle.mely_weave.specs.Weave.{WeaveState}
 use Rattle.mely_tally.specs.Tallies.{Carried, carried_by, states_of, under_way}
 
 -- a number that is the same of states that are the same but for the spare
@@ -23,12 +23,12 @@ abbrev pub IgnoresSpare : {S F : Type 0} → TrailWords S F → (S → ℕ) → 
 IgnoresSpare {S} t f = (a b : S) → t.alike a b → f a ≡ f b
 
 -- states and events only change their places, but for the spare of a state
-pub record OnlyMoves {S P F : Type 0} (t : TrailWords S F) (before after : Loom S P) : Type 0 where
+pub record OnlyMoves {S P F : Type 0} (t : TrailWords S F) (before after : WeaveState S P) : Type 0 where
   pub states : (f : S → ℕ) → IgnoresSpare t f → sum_by f (states_of after)
       ≡ sum_by f (states_of before)
   pub ways : (g : Carried P → ℕ) → sum_by g (under_way after) ≡ sum_by g (under_way before)
 
-module _ {R S P F : Type 0} (t : TrailWords S F) (fits : F → Colour → Event → Option P → Type 0) (y : AppWords R P S F) (app : R) (before after : Loom S P) where
+module _ {R S P F : Type 0} (t : TrailWords S F) (fits : F → Colour → Event → Option P → Type 0) (y : AppWords R P S F) (app : R) (before after : WeaveState S P) where
   -- one event, which fitted, is run on the state of its colour by its handler, and what that put is under way; all other states and events stay
   pub record RunsOne : Type 0 where
     pub state : S
@@ -51,54 +51,54 @@ module _ {R S P F : Type 0} (t : TrailWords S F) (fits : F → Colour → Event 
   StepTells = OnlyMoves t before after ⊎ RunsOne
 
 -- the states stay, and so much more is under way
-pub record GainsOnly {S P : Type 0} (before after : Loom S P) (more : List (Carried P)) : Type 0 where
+pub record GainsOnly {S P : Type 0} (before after : WeaveState S P) (more : List (Carried P)) : Type 0 where
   pub states : (f : S → ℕ) → sum_by f (states_of after) ≡ sum_by f (states_of before)
   pub ways : (g : Carried P → ℕ) → sum_by g (under_way after)
       ≡ sum_by g (under_way before) + sum_by g more
 
 -- what was posted is under way, and a refused post changes nothing
 abbrev pub PostTells : {S P : Type 0} → Event → Option P → Result Registered (Unregistered P)
-    → Loom S P → Loom S P → Type 0
+    → WeaveState S P → WeaveState S P → Type 0
 PostTells event load (Ok reply) before after = GainsOnly before after ((event, load) ∷ [])
 PostTells event load (Err back) before after = GainsOnly before after []
 
 -- the weave has these states, at home or in turns, and these events are under way, in whatever order
-pub record IsMadeOf {S P : Type 0} (loom : Loom S P) (all : List S) (left : List (Carried P)) : Type 0 where
-  pub states : (f : S → ℕ) → sum_by f (states_of loom) ≡ sum_by f all
-  pub ways : (g : Carried P → ℕ) → sum_by g (under_way loom) ≡ sum_by g left
+pub record IsMadeOf {S P : Type 0} (weave : WeaveState S P) (all : List S) (left : List (Carried P)) : Type 0 where
+  pub states : (f : S → ℕ) → sum_by f (states_of weave) ≡ sum_by f all
+  pub ways : (g : Carried P → ℕ) → sum_by g (under_way weave) ≡ sum_by g left
 
 -- a first weave is made of the states that were given, with nothing under way; its workers are free, and the states have its frame
-pub record BeginsAs {S P F : Type 0} (t : TrailWords S F) (states : List S) (loom : Loom S P) : Type 0 where
-  pub made : IsMadeOf loom states []
-  pub free : AllFree loom
+pub record BeginsAs {S P F : Type 0} (t : TrailWords S F) (states : List S) (weave : WeaveState S P) : Type 0 where
+  pub made : IsMadeOf weave states []
+  pub free : AllFree weave
   pub framed : (i : ℕ) (state : S) → slice_get states i ≡ Some state
-      → t.frame_of state ≡ t.frame_of loom.given
+      → t.frame_of state ≡ t.frame_of weave.given
 
 -- A weave is taken apart: it was made of these states, and of what is queued and was lost. The histories are legal; where the weave's are drained so are these, and nothing is queued. There is a state for each colour, with its frame, whose trail is what was run of it.
-pub record IsTakenApart {S P F : Type 0} (t : TrailWords S F) (loom : Loom S P) (histories : List (List Entry)) (states : List S) (queued : List (List (Carried P))) (lost : List (Colour × Event × Option P)) : Type 0 where
-  pub made : IsMadeOf loom states (flat_map (λ events. events) queued ++ carried_by lost)
-  pub legal : AreLegal loom.setup histories
-  pub drained : HistoriesAreDrained loom → (shard : ℕ) (history : List Entry)
+pub record IsTakenApart {S P F : Type 0} (t : TrailWords S F) (weave : WeaveState S P) (histories : List (List Entry)) (states : List S) (queued : List (List (Carried P))) (lost : List (Colour × Event × Option P)) : Type 0 where
+  pub made : IsMadeOf weave states (flat_map (λ events. events) queued ++ carried_by lost)
+  pub legal : AreLegal weave.setup histories
+  pub drained : HistoriesAreDrained weave → (shard : ℕ) (history : List Entry)
       → slice_get histories shard ≡ Some history → IsDrained history
-  pub emptied : HistoriesAreDrained loom → flat_map (λ events. events) queued ≡ []
-  pub many : length states ≡ colours_of loom.setup
+  pub emptied : HistoriesAreDrained weave → flat_map (λ events. events) queued ≡ []
+  pub many : length states ≡ colours_of weave.setup
   pub coloured : (c : Colour) (state : S) → slice_get states c.0 ≡ Some state
       → t.colour_of state ≡ c
   pub framed : (c : Colour) (state : S) → slice_get states c.0 ≡ Some state
-      → t.frame_of state ≡ t.frame_of loom.given
+      → t.frame_of state ≡ t.frame_of weave.given
   pub trailed : (c : Colour) (state : S) (history : List Entry) → slice_get states c.0 ≡ Some state
-      → slice_get histories (shard_of loom.setup c) ≡ Some history
+      → slice_get histories (shard_of weave.setup c) ≡ Some history
       → t.trail_of state ≡ ran_of history c
 
 -- what is still under way in the parts fits: what is queued the colour of its place, and what was lost its own
-pub record PartsFit {S P F : Type 0} (t : TrailWords S F) (fits : F → Colour → Event → Option P → Type 0) (loom : Loom S P) (waits : List (List (Carried P))) (refused : List (Colour × Event × Option P)) : Type 0 where
+pub record PartsFit {S P F : Type 0} (t : TrailWords S F) (fits : F → Colour → Event → Option P → Type 0) (weave : WeaveState S P) (waits : List (List (Carried P))) (refused : List (Colour × Event × Option P)) : Type 0 where
   pub queued : (c : Colour) (events : List (Carried P)) → slice_get waits c.0 ≡ Some events
-      → EachFits (fits (t.frame_of loom.given) c) events
-  pub lost : AllByRecursion (FitsSetup fits loom.setup (t.frame_of loom.given)) refused
+      → EachFits (fits (t.frame_of weave.given) c) events
+  pub lost : AllByRecursion (FitsSetup fits weave.setup (t.frame_of weave.given)) refused
 
 -- a number of the whole weave: what all its states have, and what all events under way bring
-abbrev pub total_of : {S P : Type 0} → (S → ℕ) → (Carried P → ℕ) → Loom S P → ℕ
-total_of had brought loom = sum_by had (states_of loom) + sum_by brought (under_way loom)
+abbrev pub total_of : {S P : Type 0} → (S → ℕ) → (Carried P → ℕ) → WeaveState S P → ℕ
+total_of had brought weave = sum_by had (states_of weave) + sum_by brought (under_way weave)
 
 -- whatever an event brings to a state, its handler leaves there or hands on by what it puts
 abbrev pub HandlersKeep : {R S P F : Type 0} → TrailWords S F → (F → Colour → Event → Option P

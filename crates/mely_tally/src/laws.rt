@@ -13,7 +13,8 @@ ghost use Rattle.mely_weave.specs.Drains.{AllFree, Drains, HistoriesAreDrained};
 ghost use Rattle.mely_weave.specs.Lanes.{AreByColour};
 ghost use Rattle.mely_weave.specs.Making.{AreFirst, IsFirstWeave};
 ghost use Rattle.mely_weave.specs.Runs.{RunsTo};
-ghost use Rattle.mely_weave.specs.StandsWell.{Loom, StandsWell};
+ghost use Rattle.mely_weave.specs.StandsWell.{StandsWell};
+ghost use Rattle.mely_weave.specs.Weave.{WeaveState};
 ghost use Rattle.mely_weave.specs.WeaveRun.{PostCall, StepCall};
 ghost use Rattle.mely_weave.specs.WeaveStands.{WeaveStands};
 ghost use Rattle.mely_tally.specs.Tallies.{Carried, under_way, refused_in};
@@ -25,16 +26,17 @@ use mely_worker::App;
 /// A first weave has the states that it was given, nothing is under way, its workers are free, and the
 /// states have the frame that is kept of it.
 pub fn a_first_weave_has_what_it_was_given<S: Fits<P>, P>()
-    ensures { (setup : Setup) (states : List S) (loom : Loom S P) → AreFirst S.Trail setup states
-        → IsFirstWeave setup states loom → StandsWell S.Trail S.fits_under loom
-        → BeginsAs S.Trail states loom }
+    ensures { (setup : Setup) (states : List S) (weave : WeaveState S P)
+        → AreFirst S.Trail setup states
+        → IsFirstWeave setup states weave → StandsWell S.Trail S.fits_under weave
+        → BeginsAs S.Trail states weave }
 {}
 
 /// A post moves no state. What was posted is under way then, and after a refused post all is as before.
 pub fn a_post_brings_its_event<S: Fits<P>, P>()
     ensures { (colour : Colour) (event : Event) (load : Option P)
         (answer : Result Registered (Unregistered P))
-        (before after : Loom S P)
+        (before after : WeaveState S P)
         → PostCall S.Trail S.fits_under colour event load answer before after
         → PostTells event load answer before after }
 {}
@@ -43,7 +45,7 @@ pub fn a_post_brings_its_event<S: Fits<P>, P>()
 /// becomes the one that the handler left, the event is no longer under way, and what the handler put is. Every
 /// other step only moves states and events, but that it may make room in a state.
 pub fn a_step_runs_one_event_or_only_moves<S: Fits<P>, P, R: App<State = S, Load = P>>()
-    ensures { (app : R) (core : ℕ) (step : Made) (before after : Loom S P)
+    ensures { (app : R) (core : ℕ) (step : Made) (before after : WeaveState S P)
         → StandsWell S.Trail S.fits_under before
         → StepCall S.Trail S.fits_under R.App app core step before after
         → StepTells S.Trail S.fits_under R.App app before after }
@@ -54,51 +56,53 @@ pub fn a_step_runs_one_event_or_only_moves<S: Fits<P>, P, R: App<State = S, Load
 pub fn what_each_handler_keeps_a_run_keeps<S: Fits<P>, P, R: App<State = S, Load = P>>()
     ensures step { (app : R) (had : S → ℕ) (brought : Carried P → ℕ) → IgnoresSpare S.Trail had
         → HandlersKeep S.Trail S.fits_under R.App app had brought
-        → (core : ℕ) (step : Made) (before after : Loom S P)
+        → (core : ℕ) (step : Made) (before after : WeaveState S P)
         → StandsWell S.Trail S.fits_under before
         → StepCall S.Trail S.fits_under R.App app core step before after
         → total_of had brought after ≡ total_of had brought before }
     ensures run { (app : R) (had : S → ℕ) (brought : Carried P → ℕ) → IgnoresSpare S.Trail had
         → HandlersKeep S.Trail S.fits_under R.App app had brought
-        → (cores : List ℕ) (went : Went) (before after : Loom S P)
+        → (cores : List ℕ) (went : Went) (before after : WeaveState S P)
         → StandsWell S.Trail S.fits_under before
         → RunsTo S.Trail S.fits_under R.App app before cores went after
         → total_of had brought after ≡ total_of had brought before }
     ensures drain { (app : R) (had : S → ℕ) (brought : Carried P → ℕ) → IgnoresSpare S.Trail had
         → HandlersKeep S.Trail S.fits_under R.App app had brought
-        → (drained : Drained) (before after : Loom S P) → StandsWell S.Trail S.fits_under before
+        → (drained : Drained) (before after : WeaveState S P)
+        → StandsWell S.Trail S.fits_under before
         → Drains S.Trail S.fits_under R.App app before drained after
         → total_of had brought after ≡ total_of had brought before }
 {}
 
 /// Where every worker is free and nothing is queued, only what was refused for memory is under way.
 pub fn a_drained_weave_has_only_what_was_refused<S: Fits<P>, P>()
-    ensures { (loom : Loom S P) → StandsWell S.Trail S.fits_under loom → AllFree loom
-        → HistoriesAreDrained loom → under_way loom ≡ refused_in loom }
+    ensures { (weave : WeaveState S P) → StandsWell S.Trail S.fits_under weave → AllFree weave
+        → HistoriesAreDrained weave → under_way weave ≡ refused_in weave }
 {}
 
 /// The parts that a weave is taken apart into have its states, and all that is under way: what is queued, and
 /// what was refused for memory. The histories are legal, and drained where the weave's were; each state is that of its
 /// colour, has the frame, and its trail is what was run of it.
 pub fn the_parts_are_what_the_weave_had<S: Fits<P>, P>()
-    ensures { (loom : Loom S P) (histories : List (List Entry)) (states : List S)
+    ensures { (weave : WeaveState S P) (histories : List (List Entry)) (states : List S)
         (queued : List (List (Carried P))) (lost : List (Colour × Event × Option P))
-        → StandsWell S.Trail S.fits_under loom
-        → WeaveStands S.Trail S.fits_under loom → AllFree loom
-        → histories ≡ map (λ has. has.history) loom.shards
-        → AreByColour (λ lane. lane.state) loom.setup loom.shards (map (λ state. Some state) states)
-        → AreByColour (λ lane. lane.events) loom.setup loom.shards queued
-        → lost ≡ flat_map (λ w. w.lost) loom.workers
-        → IsTakenApart S.Trail loom histories states queued lost }
+        → StandsWell S.Trail S.fits_under weave
+        → WeaveStands S.Trail S.fits_under weave → AllFree weave
+        → histories ≡ map (λ has. has.history) weave.shards
+        → AreByColour (λ lane. lane.state) weave.setup weave.shards
+        (map (λ state. Some state) states)
+        → AreByColour (λ lane. lane.events) weave.setup weave.shards queued
+        → lost ≡ flat_map (λ w. w.lost) weave.workers
+        → IsTakenApart S.Trail weave histories states queued lost }
 {}
 
 /// What is queued in the parts that a weave is taken apart into fits the colour whose queue it is, and what was refused
 /// for memory is of a colour and a handler of the setup, and fits.
 pub fn what_is_left_in_the_parts_fits<S: Fits<P>, P>()
-    ensures { (loom : Loom S P) (queued : List (List (Carried P)))
+    ensures { (weave : WeaveState S P) (queued : List (List (Carried P)))
         (lost : List (Colour × Event × Option P))
-        → WeaveStands S.Trail S.fits_under loom
-        → AreByColour (λ lane. lane.events) loom.setup loom.shards queued
-        → lost ≡ flat_map (λ w. w.lost) loom.workers
-        → PartsFit S.Trail S.fits_under loom queued lost }
+        → WeaveStands S.Trail S.fits_under weave
+        → AreByColour (λ lane. lane.events) weave.setup weave.shards queued
+        → lost ≡ flat_map (λ w. w.lost) weave.workers
+        → PartsFit S.Trail S.fits_under weave queued lost }
 {}

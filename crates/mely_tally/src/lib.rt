@@ -12,7 +12,7 @@
 //! [`what_is_left_in_the_parts_fits`]. So a fact on sums goes from the
 //! states that are handed in to the parts that come out, and an app's author proves it of each handler alone.
 //!
-//! A fact that is no sum, but that every step keeps, is carried over runs and drains by the lemmas of `Carrying`.
+//! A fact that is no sum, but that every step keeps, is carried over runs and drains by the lemmas of `CarryingLemmas`.
 #![tactic(auto)]
 
 mod laws;

@@ -5,7 +5,7 @@ use Rattle.mely_worker.specs.declared.phase.Phase.{Phase}
 use Rattle.mely_worker.specs.declared.phase.Phase.TheVariants.{Free, Popped, Picked, Landing, Pushing, Turning}
 use Rattle.mely_worker.specs.declared.delivery.Delivery.{Delivery}
 use Rattle.mely_worker.specs.declared.delivery.Delivery.TheVariants.{Nothing, PushMark, Report}
-use Rattle.mely_worker.specs.WorkerView.{WorkerView}
+use Rattle.mely_worker.specs.Worker.{WorkerState}
 use Rattle.mely_weave.specs.Marks.{Placed}
 
 -- the mark of a turning worker
@@ -23,7 +23,8 @@ held_in core (Landing mark) = (core, mark) ∷ []
 held_in core (Pushing to mark) = (to, mark) ∷ []
 held_in core (Turning turn hand puts) = mark_in hand
 
-abbrev pub held_by : {S P : Type 0} → WorkerView S P → List Placed
+-- the marks that a worker has in its hand, each on its core
+abbrev pub held_by : {S P : Type 0} → WorkerState S P → List Placed
 held_by w = held_in w.core w.phase
 
 -- the colour that a worker runs
@@ -35,5 +36,6 @@ colour_in (Landing mark) = None
 colour_in (Pushing to mark) = None
 colour_in (Turning turn hand puts) = Some turn.colour
 
-abbrev pub colour_run_by : {S P : Type 0} → WorkerView S P → Option Colour
+-- the colour that a worker runs, where it does
+abbrev pub colour_run_by : {S P : Type 0} → WorkerState S P → Option Colour
 colour_run_by w = colour_in w.phase

@@ -1,8 +1,11 @@
-pub mod Scene
+pub mod Shared
+pub mod Side
 pub mod Marks
 pub mod Hands
 pub mod Calls
 pub mod SideStands
+pub mod Sides
+pub mod Weave
 pub mod StandsWell
 pub mod Trying
 pub mod Steps

@@ -5,14 +5,14 @@ use Rattle.mely_event.specs.declared.event.Event.{Event}
 use Rattle.mely_event.specs.declared.trail.Trail.{Ghosts as TrailWords}
 use Rattle.mely_history.specs.declared.setup.Setup.{Setup}
 use Rattle.mely_history.specs.Setup.{shape_of, colours_of, pinned_of}
-use Rattle.mely_shard.specs.Contents.{Contents, first_lane}
+use Rattle.mely_shard.specs.Shard.{ShardState, first_lane}
 use Rattle.mely_steal.specs.Victims.{victims_of}
-use Rattle.mely_core.specs.Chains.{Chain, empty_core}
+use Rattle.mely_core.specs.CoreQueue.{CoreQueueState, empty_core}
 use Rattle.mely_worker.specs.declared.phase.Phase.TheVariants.{Free}
-use Rattle.mely_worker.specs.Rest.{Rest}
-use Rattle.mely_worker.specs.WorkerView.{WorkerView}
+use Rattle.mely_worker.specs.IdleWorker.{IdleWorkerState}
+use Rattle.mely_worker.specs.Worker.{WorkerState}
 use Rattle.mely_weave.specs.Lanes.{lane_for}
-use Rattle.mely_weave.specs.StandsWell.{Loom}
+use Rattle.mely_weave.specs.Weave.{WeaveState}
 
 -- one state with an empty trail for each colour, in ascending order, all of one frame
 pub record AreFirst {S F : Type 0} (t : TrailWords S F) (setup : Setup) (states : List S) : Type 0 where
@@ -30,11 +30,11 @@ pub record AreBlank {S : Type 0} (colour_of : S → Colour) (trail_of : S → Li
       → (colour_of state ≡ record { 0 = i }) × (trail_of state ≡ [])
 
 -- an empty chain
-abbrev pub empty_chain : Setup → Chain
+abbrev pub empty_chain : Setup → CoreQueueState
 empty_chain setup = empty_core (colours_of setup) (shape_of setup).steal_cost (pinned_of setup)
 
 -- a worker at first
-abbrev pub first_worker : {S P : Type 0} → Setup → ℕ → WorkerView S P
+abbrev pub first_worker : {S P : Type 0} → Setup → ℕ → WorkerState S P
 first_worker setup core = record {
   core = core;
   batch = (shape_of setup).batch;
@@ -44,8 +44,8 @@ first_worker setup core = record {
   phase = Free 0;
 }
 
--- the same at rest
-abbrev pub first_rest : {P : Type 0} → Setup → ℕ → Rest P
+-- the worker of a core at first, at rest
+abbrev pub first_rest : {P : Type 0} → Setup → ℕ → IdleWorkerState P
 first_rest setup core = record {
   core = core;
   batch = (shape_of setup).batch;
@@ -56,13 +56,13 @@ first_rest setup core = record {
 }
 
 -- nothing was registered, each colour has the state that it was given, the chains are empty, and the workers are free
-pub record IsFirstWeave {S P : Type 0} (setup : Setup) (states : List S) (loom : Loom S P) : Type 0 where
-  pub of_setup : loom.setup ≡ setup
-  pub no_entry : (shard : ℕ) (has : Contents S P) → slice_get loom.shards shard
+pub record IsFirstWeave {S P : Type 0} (setup : Setup) (states : List S) (weave : WeaveState S P) : Type 0 where
+  pub of_setup : weave.setup ≡ setup
+  pub no_entry : (shard : ℕ) (has : ShardState S P) → slice_get weave.shards shard
       ≡ Some has → has.history ≡ []
   pub lane : (c : Colour) (state : S) → slice_get states c.0 ≡ Some state
-      → lane_for loom.setup loom.shards c ≡ Some (first_lane state)
-  pub chain : (core : ℕ) (queue : Chain) → slice_get loom.chains core ≡ Some queue
+      → lane_for weave.setup weave.shards c ≡ Some (first_lane state)
+  pub chain : (core : ℕ) (queue : CoreQueueState) → slice_get weave.chains core ≡ Some queue
       → queue ≡ empty_chain setup
-  pub worker : (core : ℕ) (w : WorkerView S P) → slice_get loom.workers core ≡ Some w
+  pub worker : (core : ℕ) (w : WorkerState S P) → slice_get weave.workers core ≡ Some w
       → w ≡ first_worker setup core

@@ -2,21 +2,21 @@
 use Rattle.std.specs.Prelude.{◌≡◌, ◌+◌, ◌==◌, ◌&&◌, ◌++◌, nat_le, ℕ, Bool, not, List, [], ◌∷◌, map, count_by, flat_map, if◌then◌else◌}
 use Rattle.mely_event.specs.declared.colour.Colour.{Colour}
 use Rattle.mely_event.specs.declared.mark.Mark.{Mark}
-use Rattle.mely_core.specs.Chains.{Chain}
-use Rattle.mely_weave.specs.Scene.{Readiness}
+use Rattle.mely_core.specs.CoreQueue.{CoreQueueState}
+use Rattle.mely_weave.specs.Side.{Readiness}
 
 -- a mark, with the core that it is for
 abbrev pub Placed : Type 0
 Placed = ℕ × Mark
 
 -- the marks that lie in the chains, the first of which is that of this core
-unfoldable pub in_chains : ℕ → List Chain → List Placed
+unfoldable pub in_chains : ℕ → List CoreQueueState → List Placed
 in_chains core [] = []
 in_chains core (queue ∷ queues) =
     map (λ mark. (core, mark)) queue.chain ++ in_chains (core + 1) queues
 
 -- all marks: those in the chains, and those that the workers hold
-abbrev pub held : {W : Type 0} → (W → List Placed) → List Chain → List W → List Placed
+abbrev pub held : {W : Type 0} → (W → List Placed) → List CoreQueueState → List W → List Placed
 held in_hand chains workers = in_chains 0 chains ++ flat_map in_hand workers
 
 -- the mark is of the colour

@@ -8,11 +8,12 @@ use Rattle.mely_worker.specs.declared.made.Made.TheVariants as made
 use Rattle.mely_worker.specs.declared.app.App.{Ghosts as AppWords}
 use Rattle.mely_weave.specs.declared.running.Went.{Went}
 use Rattle.mely_weave.specs.declared.running.Went.TheVariants as went
-use Rattle.mely_weave.specs.StandsWell.{Loom, StandsWell, WasntRefused}
+use Rattle.mely_weave.specs.StandsWell.{StandsWell, WasntRefused}
+use Rattle.mely_weave.specs.Weave.{WeaveState}
 use Rattle.mely_weave.specs.WeaveRun.{StepCall}
 
 -- the setup is as before, and so is the state that was given at first, which tells the frame
-pub record KeepsSetup {S P : Type 0} (before after : Loom S P) : Type 0 where
+pub record KeepsSetup {S P : Type 0} (before after : WeaveState S P) : Type 0 where
   pub setup : after.setup ≡ before.setup
   pub given : after.given ≡ before.given
 
@@ -44,19 +45,20 @@ Goes cores steps (went.Memory count) = StopsAfter cores steps count
 
 module _ {R S P F : Type 0} (t : TrailWords S F) (fits : F → Colour → Event → Option P → Type 0) (y : AppWords R P S F) (app : R) where
   -- a step of the core by its worker's rule, for which no mark was refused, and after which all stands well
-  pub record StepsWell (before : Loom S P) (core : ℕ) (step : Made) (after : Loom S P) : Type 0 where
+  pub record StepsWell (before : WeaveState S P) (core : ℕ) (step : Made) (after : WeaveState S P) : Type 0 where
     pub call : StepCall t fits y app core step before after
     pub accepted : WasntRefused step
     pub stands : StandsWell t fits after
 
   -- these steps are made one after another
-  unfoldable pub Makes : List CoreStep → Loom S P → Loom S P → Type 0
+  unfoldable pub Makes : List CoreStep → WeaveState S P → WeaveState S P → Type 0
   Makes [] before after = after ≡ before
-  Makes (step ∷ steps) before after = (between : Loom S P) × StepsWell before step.0 step.1 between
+  Makes (step ∷ steps) before after = (between : WeaveState S P)
+      × StepsWell before step.0 step.1 between
       × Makes steps between after
 
   -- a run over these cores
-  pub record RunsTo (before : Loom S P) (cores : List ℕ) (went : Went) (after : Loom S P) : Type 0 where
+  pub record RunsTo (before : WeaveState S P) (cores : List ℕ) (went : Went) (after : WeaveState S P) : Type 0 where
     pub steps : List CoreStep
     pub makes : Makes steps before after
     pub goes : Goes cores steps went

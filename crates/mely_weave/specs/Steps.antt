@@ -8,15 +8,16 @@ use Rattle.mely_history.specs.declared.registered.Registered.{Registered}
 use Rattle.mely_history.specs.Setup.{shape_of}
 use Rattle.mely_worker.specs.declared.made.Made.{Made}
 use Rattle.mely_worker.specs.declared.app.App.{Ghosts as AppWords}
-use Rattle.mely_worker.specs.WorkerView.{WorkerView}
+use Rattle.mely_worker.specs.Worker.{WorkerState}
 use Rattle.mely_worker.specs.Delivery.{delivery_after, Delivers}
 use Rattle.mely_worker.specs.Step.{Steps}
-use Rattle.mely_weave.specs.Scene.{Scene}
+use Rattle.mely_weave.specs.Side.{SideState}
 use Rattle.mely_weave.specs.Calls.{AtShard, RegisterAs, weave_words}
-use Rattle.mely_weave.specs.StandsWell.{Loom, side_of}
+use Rattle.mely_weave.specs.StandsWell.{side_of}
+use Rattle.mely_weave.specs.Weave.{WeaveState}
 
 -- the weave of a side and workers
-abbrev pub with_workers : {S P : Type 0} → Scene S P → List (WorkerView S P) → Loom S P
+abbrev pub with_workers : {S P : Type 0} → SideState S P → List (WorkerState S P) → WeaveState S P
 with_workers a workers = record {
   setup = a.setup;
   given = a.given;
@@ -26,25 +27,25 @@ with_workers a workers = record {
 }
 
 -- the worker of the core makes a step by its rule, on the weave's own shards and chains, a mark that it pushes enters, and the other workers stay
-pub record StepsAt {R S P F : Type 0} (t : TrailWords S F) (y : AppWords R P S F) (app : R) (before : Loom S P) (core : ℕ) (step : Made) (after : Loom S P) : Type 0 where
-  pub worker : WorkerView S P
+pub record StepsAt {R S P F : Type 0} (t : TrailWords S F) (y : AppWords R P S F) (app : R) (before : WeaveState S P) (core : ℕ) (step : Made) (after : WeaveState S P) : Type 0 where
+  pub worker : WorkerState S P
   pub was : slice_get before.workers core ≡ Some worker
-  pub side : Scene S P
-  pub becomes : WorkerView S P
+  pub side : SideState S P
+  pub becomes : WorkerState S P
   pub steps : Steps (weave_words t) y app (side_of before core) worker step side becomes
   pub leaves : after ≡ with_workers side (slice_set before.workers core becomes)
 
 -- a registration by the pass of the number after the cores', and what follows it, which is delivered at once; a mark that is pushed enters
 abbrev pub PostAs : {S P F : Type 0} → TrailWords S F → Colour → Event → Option P
-    → Result Registered (Unregistered P) → Scene S P → Scene S P → Type 0
-PostAs {S} {P} t c event load (Ok reply) a b = (between : Scene S P)
+    → Result Registered (Unregistered P) → SideState S P → SideState S P → Type 0
+PostAs {S} {P} t c event load (Ok reply) a b = (between : SideState S P)
     × AtShard a between c (RegisterAs c event load (shape_of a.setup).cores (Ok reply))
     × ((arrived : Bool) × Delivers (weave_words t) between (delivery_after c reply) arrived b)
 PostAs t c event load (Err back) a b =
     AtShard a b c (RegisterAs c event load (shape_of a.setup).cores (Err back))
 
 -- a post, and the workers stay
-pub record PostsAt {S P F : Type 0} (t : TrailWords S F) (before : Loom S P) (c : Colour) (event : Event) (load : Option P) (answer : Result Registered (Unregistered P)) (after : Loom S P) : Type 0 where
-  pub side : Scene S P
+pub record PostsAt {S P F : Type 0} (t : TrailWords S F) (before : WeaveState S P) (c : Colour) (event : Event) (load : Option P) (answer : Result Registered (Unregistered P)) (after : WeaveState S P) : Type 0 where
+  pub side : SideState S P
   pub posts : PostAs t c event load answer (side_of before 0) side
   pub leaves : after ≡ with_workers side before.workers

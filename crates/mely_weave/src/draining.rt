@@ -35,7 +35,7 @@ impl<S: Fits<P> + Drop, P: Drop> Weave<S, P> {
         ensures stands { StandsWell S.Trail S.fits_under self.new }
     {
         // Where a field is read, contracts know that the weave stands well before the first step.
-        let _side = &self.side;
+        let _shared = &self.shared;
         for _ in rt.forever() {
             if self.is_any_halted() {
                 self.drive_all(rt, app);
@@ -56,7 +56,7 @@ impl<S: Fits<P> + Drop, P: Drop> Weave<S, P> {
             (shape_of self.old.setup).cores self.old self.new }
         ensures stands { StandsWell S.Trail S.fits_under self.new }
     {
-        for core in 0..self.side.setup.cores() {
+        for core in 0..self.shared.setup.cores() {
             self.step(core, app);
         }
     }
@@ -68,7 +68,7 @@ impl<S: Fits<P> + Drop, P: Drop> Weave<S, P> {
             (shape_of self.old.setup).cores self.old self.new }
         ensures stands { StandsWell S.Trail S.fits_under self.new }
     {
-        for core in 0..self.side.setup.cores() {
+        for core in 0..self.shared.setup.cores() {
             self.drive(rt, core, app);
         }
     }
@@ -80,7 +80,7 @@ impl<S: Fits<P> + Drop, P: Drop> Weave<S, P> {
         ensures driven { DrivesTo S.Trail S.fits_under R.App app.now core self.old self.new }
         ensures stands { StandsWell S.Trail S.fits_under self.new }
     {
-        let _side = &self.side;
+        let _shared = &self.shared;
         for _ in rt.forever() {
             if self.workers[core as usize].is_free() {
                 return;
@@ -118,7 +118,7 @@ impl<S: Fits<P> + Drop, P: Drop> Weave<S, P> {
     fn are_all_empty(&self) -> bool
         ensures { IsTrue result ↔ AllEmpty self.now }
     {
-        for chain in &self.side.chains {
+        for chain in &self.shared.chains {
             if !chain.is_empty() {
                 return false;
             }

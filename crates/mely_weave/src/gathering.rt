@@ -1,16 +1,16 @@
 //! A weave of what comes back from elsewhere.
 ghost use Rattle.std.specs.Prelude.{◌≡◌, ◌<◌, ℕ, [], Some, length, slice_get};
-ghost use Rattle.mely_core.specs.Chains.{HoldTogether};
+ghost use Rattle.mely_core.specs.CoreQueue.{HoldTogether};
 ghost use Rattle.mely_history.specs.Setup.{shape_of, colours_of};
-ghost use Rattle.mely_shard.specs.Contents.{IsKept, lane_at};
+ghost use Rattle.mely_shard.specs.Shard.{IsConsistent, lane_at};
 ghost use Rattle.mely_weave.specs.Dealing.{AtEach};
 ghost use Rattle.mely_weave.specs.Gathering.{AreChained, AreChainedAnew, IsFirstAtRest, IsOwnShard, MayGather, MayGatherChain};
 ghost use Rattle.mely_weave.specs.Making.{empty_chain};
-ghost use Rattle.mely_weave.specs.Scene.{readiness_for};
+ghost use Rattle.mely_weave.specs.Side.{readiness_for};
 ghost use Rattle.mely_weave.specs.SideStands.{ChainStands};
 
 use crate::room::WeaveRoom;
-use crate::side::Side;
+use crate::side::Shared;
 use crate::weave::Weave;
 use mely_core::CoreQueue;
 use mely_event::{Colour, Fits, Mark, Trail};
@@ -45,9 +45,8 @@ impl<S: Fits<P>, P> Weave<S, P> {
         empty_all(&setup, &mut chains);
         chain_ready(&setup, &shards, &mut chains);
         Weave {
-            side: Side {
+            shared: Shared {
                 setup,
-                core: 0,
                 given,
                 shards,
                 chains,
@@ -60,7 +59,7 @@ impl<S: Fits<P>, P> Weave<S, P> {
 
 /// What the type of each shard keeps, for contracts alone: shards are read and stay.
 fn are_kept<S: Fits<P>, P>(shards: &[Shard<S, P>])
-    ensures { AtEach (λ number has. IsKept S.Trail S.fits_under has) shards.now }
+    ensures { AtEach (λ number has. IsConsistent S.Trail S.fits_under has) shards.now }
 {
     for shard in shards {
         let _history = shard.history();
@@ -71,7 +70,7 @@ fn are_kept<S: Fits<P>, P>(shards: &[Shard<S, P>])
 fn first_state<S: Fits<P>, P>(shards: &[Shard<S, P>]) -> Snapshot<S>
     requires some { 0 < length shards.now }
     requires kept { (has : _) → slice_get shards.now 0 ≡ Some has
-        → IsKept S.Trail S.fits_under has }
+        → IsConsistent S.Trail S.fits_under has }
     requires at_rest { (has : _) → slice_get shards.now 0 ≡ Some has → IsFirstAtRest has }
     ensures { (has : _) (lane : _) → slice_get shards.now 0 ≡ Some has
         → lane_at has (record { 0 = 0 }) ≡ Some lane
@@ -114,7 +113,7 @@ fn chain_ready<S: Fits<P>, P>(setup: &Setup, shards: &[Shard<S, P>], chains: &mu
 {
     for number in 0..setup.colours() {
         let colour = Colour(number as u16);
-        let place = (colour.0 % setup.shards()) as usize;
+        let place = setup.shard_of(colour);
         if let Some((owner, started, worth)) = shards[place].ready(colour) {
             let mark = Mark {
                 colour,

@@ -1,7 +1,8 @@
 //! The law over every list of posts and steps.
 ghost use Rattle.std.specs.Prelude.{ℕ};
 ghost use Rattle.mely_worker.specs.declared.made.Made.{Made};
-ghost use Rattle.mely_weave.specs.StandsWell.{Loom, StandsWell, WasntRefused};
+ghost use Rattle.mely_weave.specs.StandsWell.{StandsWell, WasntRefused};
+ghost use Rattle.mely_weave.specs.Weave.{WeaveState};
 ghost use Rattle.mely_weave.specs.WeaveRun.{StepCall, WeaveRun, HistoriesGrow, NoneIsThere};
 
 use mely_event::{Fits, Trail};
@@ -18,19 +19,20 @@ use mely_worker::App;
 /// ([`Weave::post`](crate::Weave::post), [`step`](crate::Weave::step), [`run`](crate::Weave::run),
 /// [`drain`](crate::Weave::drain)), so the law speaks of all that a weave goes through.
 pub fn no_run_loses_or_doubles_a_mark<S: Fits<P>, P, R: App<State = S, Load = P>>()
-    ensures stands { (n : ℕ) (before after : Loom S P) → StandsWell S.Trail S.fits_under before
+    ensures stands { (n : ℕ) (before after : WeaveState S P)
+        → StandsWell S.Trail S.fits_under before
         → WeaveRun S.Trail S.fits_under R.App n before after
         → StandsWell S.Trail S.fits_under after }
-    ensures accepted { (n : ℕ) (before between after : Loom S P)
+    ensures accepted { (n : ℕ) (before between after : WeaveState S P)
         → StandsWell S.Trail S.fits_under before
         → WeaveRun S.Trail S.fits_under R.App n before between
         → (app : R) (core : ℕ) (step : Made)
         → StepCall S.Trail S.fits_under R.App app core step between after
         → WasntRefused step }
-    ensures grow { (n : ℕ) (before after : Loom S P)
+    ensures grow { (n : ℕ) (before after : WeaveState S P)
         → WeaveRun S.Trail S.fits_under R.App n before after
         → HistoriesGrow before after }
-    ensures there { (n : ℕ) (before after : Loom S P) → StandsWell S.Trail S.fits_under before
+    ensures there { (n : ℕ) (before after : WeaveState S P) → StandsWell S.Trail S.fits_under before
         → WeaveRun S.Trail S.fits_under R.App n before after
         → NoneIsThere after }
 {}

@@ -1,7 +1,7 @@
 //! A weave at first, and what it is made of.
 ghost use Rattle.std.specs.Prelude.{◌≡◌, ℕ, IfOk, Some, [], length, slice_get};
 ghost use Rattle.mely_history.specs.Setup.{shape_of};
-ghost use Rattle.mely_shard.specs.Contents.{AreFirstStates, IsFirst};
+ghost use Rattle.mely_shard.specs.Shard.{AreFirstStates, IsFirst};
 ghost use Rattle.mely_weave.specs.Dealing.{AreDealt, AtEach};
 ghost use Rattle.mely_weave.specs.Making.{AreFirst, IsFirstWeave, empty_chain, first_rest, first_worker};
 
@@ -12,7 +12,7 @@ use mely_event::{Fits, Memory, Trail};
 use mely_history::Setup;
 use mely_shard::Shard;
 use mely_steal::victims;
-use mely_worker::{Rested, Worker};
+use mely_worker::{IdleWorker, Worker};
 use std::alloc::Global;
 
 impl<S: Fits<P> + Drop, P: Drop> Weave<S, P> {
@@ -142,7 +142,7 @@ fn workers_of<S, P: Drop>(alloc: Global, setup: &Setup) -> Result<Vec<Worker<S, 
 /// # Errors
 ///
 /// There was no memory.
-pub fn rested_of<P: Drop>(alloc: Global, setup: &Setup) -> Result<Vec<Rested<P>>, Memory>
+pub fn rested_of<P: Drop>(alloc: Global, setup: &Setup) -> Result<Vec<IdleWorker<P>>, Memory>
     ensures many { IfOk result (λ rested. length rested.items ≡ (shape_of setup.now).cores) }
     ensures first { IfOk result (λ rested.
         AtEach (λ core rest. rest ≡ first_rest setup.now core) rested.items) }

@@ -5,7 +5,7 @@ ghost use Rattle.mely_weave.specs.Spreading.{AreFull, IsAtRest};
 ghost use Rattle.mely_worker.specs.Phase.{is_free};
 
 use crate::room::WeaveRoom;
-use crate::side::Side;
+use crate::side::Shared;
 use crate::weave::Weave;
 use mely_event::{Colour, Event, Fits, Trail};
 use mely_history::Entry;
@@ -44,17 +44,16 @@ impl<S: Fits<P> + Drop, P: Drop> Weave<S, P> {
         ensures lost { result.lost.items ≡ flat_map (λ w. w.lost) self.workers }
     {
         let Weave {
-            side,
+            shared,
             workers,
             room,
         } = self;
-        let Side {
+        let Shared {
             setup: _,
-            core: _,
             given: _,
             shards,
             chains: _,
-        } = side;
+        } = shared;
         let WeaveRoom {
             setup,
             mut histories,

@@ -34,7 +34,7 @@ impl<S: Fits<P> + Drop, P: Drop> Weave<S, P> {
         ensures stands { StandsWell S.Trail S.fits_under self.new }
     {
         // Where a field is read, contracts know that the weave stands well before the first step.
-        let _side = &self.side;
+        let _shared = &self.shared;
         let mut made = 0u64;
         for (core, count) in schedule {
             match self.repeat(*core, *count, app) {
@@ -57,7 +57,7 @@ impl<S: Fits<P> + Drop, P: Drop> Weave<S, P> {
             (replicate count core) result self.new }
         ensures stands { StandsWell S.Trail S.fits_under self.new }
     {
-        let _side = &self.side;
+        let _shared = &self.shared;
         for number in 0..count {
             if let Made::Memory = self.step(core, app) {
                 return Went::Memory {

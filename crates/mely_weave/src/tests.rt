@@ -24,7 +24,7 @@ fn setup_of(cores: u16, colours: u32, batch: u16) -> Result<Setup, Fail>
     setup_with(cores, colours, batch, 15, 0)
 }
 
-/// The same at this cost of a steal, with so many colours pinned.
+/// One shard, two handlers of weight 10, this cost of a steal, and so many colours pinned.
 fn setup_with(
     cores: u16,
     colours: u32,

@@ -2,10 +2,10 @@
 ghost use Rattle.std.specs.Prelude.{◌≡◌, ◌<◌, ◌∷◌, ◌++◌, [], ℕ, List, Option, Some, length, IfErr, slice_get, option_copied};
 
 use crate::room::WeaveRoom;
-use crate::side::Side;
+use crate::side::Shared;
 use mely_event::{Colour, Event, Fits, Mark, Trail, Unregistered};
 use mely_history::{Entry, Registered};
-use mely_worker::{App, Made, OpenGate, Worker};
+use mely_worker::{App, Made, Worker};
 use std::marker::Model;
 
 /// All shards, the chain of each core and the worker of each core, as one plain value.
@@ -15,36 +15,36 @@ use std::marker::Model;
 /// turn, a weave has no `Drop`: one whose workers are free is spent by
 /// [`into_parts`](Weave::into_parts).
 pub struct Weave<S: Fits<P>, P> {
-    pub(crate) side: Side<S, P>,
+    pub(crate) shared: Shared<S, P>,
     pub(crate) workers: Vec<Worker<S, P>>,
     pub(crate) room: WeaveRoom<S, P>,
 }
 
 impl<S: Fits<P>, P> Model for Weave<S, P> {
-    ghost use Rattle.mely_weave.specs.StandsWell.{Loom};
+    ghost use Rattle.mely_weave.specs.Weave.{WeaveState};
 
-    ghost Value = { Loom S P };
+    ghost Value = { WeaveState S P };
 
     ghost use Rattle.std.specs.Prelude.{◌≡◌};
     ghost use Rattle.mely_weave.specs.StandsWell.{StandsWell};
 
     ghost view = { λ w. record {
-      setup = w.side.setup;
-      given = w.side.given;
-      shards = w.side.shards;
-      chains = w.side.chains;
+      setup = w.shared.setup;
+      given = w.shared.given;
+      shards = w.shared.shards;
+      chains = w.shared.chains;
       workers = w.workers.items;
     } };
 
     ghost invariant = { λ w.
         StandsWell S.Trail S.fits_under (record {
-          setup = w.side.setup;
-          given = w.side.given;
-          shards = w.side.shards;
-          chains = w.side.chains;
+          setup = w.shared.setup;
+          given = w.shared.given;
+          shards = w.shared.shards;
+          chains = w.shared.chains;
           workers = w.workers.items;
         })
-        × (w.room ≡ w.side.setup) };
+        × (w.room ≡ w.shared.setup) };
 }
 
 impl<S: Fits<P>, P> Weave<S, P> {
@@ -61,7 +61,7 @@ impl<S: Fits<P>, P> Weave<S, P> {
         ensures keeps { StandsWell S.Trail S.fits_under self.now }
         ensures parts { WeaveStands S.Trail S.fits_under self.now }
     {
-        let _side = &self.side;
+        let _shared = &self.shared;
     }
 
     /// The entries of a shard so far, the oldest first.
@@ -70,7 +70,7 @@ impl<S: Fits<P>, P> Weave<S, P> {
         ensures { (has : _) → slice_get self.now.shards shard ≡ Some has
             → result.now ≡ has.history }
     {
-        self.side.shards[shard as usize].history()
+        self.shared.shards[shard as usize].history()
     }
 
     /// The state of a colour, where it does not run.
@@ -79,8 +79,8 @@ impl<S: Fits<P>, P> Weave<S, P> {
         ensures { (lane : _) → lane_for self.now.setup self.now.shards colour ≡ Some lane
             → option_copied result ≡ lane.state }
     {
-        let place = (colour.0 % self.side.setup.shards()) as usize;
-        self.side.shards[place].state(colour)
+        let place = self.shared.setup.shard_of(colour);
+        self.shared.shards[place].state(colour)
     }
 
     /// The mark at this place of the chain of a core, and nothing exactly where the chain isn't longer. The
@@ -90,7 +90,7 @@ impl<S: Fits<P>, P> Weave<S, P> {
         ensures { (queue : _) → slice_get self.now.chains core ≡ Some queue
             → result ≡ slice_get queue.chain place }
     {
-        self.side.chains[core as usize].at(place)
+        self.shared.chains[core as usize].at(place)
     }
 }
 
@@ -120,8 +120,7 @@ impl<S: Fits<P> + Drop, P: Drop> Weave<S, P> {
         ensures same { KeepsSetup self.old self.new }
         ensures stands { StandsWell S.Trail S.fits_under self.new }
     {
-        self.side.go_to(0);
-        self.side.post(colour, event, load)
+        self.shared.post(colour, event, load)
     }
 
     /// Makes one step by the rule of the core's worker, and names it.
@@ -133,8 +132,7 @@ impl<S: Fits<P> + Drop, P: Drop> Weave<S, P> {
         ensures same { KeepsSetup self.old self.new }
         ensures stands { StandsWell S.Trail S.fits_under self.new }
     {
-        self.side.go_to(core);
         let worker = &mut self.workers[core as usize];
-        worker.step(&mut self.side, app, &OpenGate)
+        self.shared.step(core, worker, app)
     }
 }

@@ -1,3 +1,3 @@
 mod StepLemmas
-pub mod Views
-mod RuleLaws
+pub mod ViewsLemmas
+mod RuleLemmas

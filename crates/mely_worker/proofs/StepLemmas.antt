@@ -1,3 +1,4 @@
+-- After a step a worker meets the conditions of the next one.
 use Rattle.std.proofs.Common.{◌≡◌, ℕ, ◌+◌, ◌≤◌, List, [], ◌∷◌, ◌++◌, length, Option, ap, subst, sym, ◌∙◌, append_assoc, arith}
 use Rattle.std.specs.List.{AllByRecursion}
 use Rattle.mely_event.specs.declared.event.Event.{Event}
@@ -5,13 +6,13 @@ use Rattle.mely_event.specs.declared.colour.Colour.{Colour}
 use Rattle.mely_event.specs.declared.trail.Trail.{Ghosts as TrailWords}
 use Rattle.mely_event.specs.HandlerTable.{rows_of}
 use Rattle.mely_history.specs.Setup.{colours_of, handlers_of}
-use Rattle.mely_queue.specs.Taken.{Taken}
+use Rattle.mely_queue.specs.Turn.{TurnState}
 use Rattle.mely_worker.specs.declared.phase.Phase.TheVariants.{Turning}
 use Rattle.mely_worker.specs.declared.delivery.Delivery.TheVariants.{Nothing}
 use Rattle.mely_worker.specs.declared.access.Access.{Ghosts as AccessWords}
 use Rattle.mely_worker.specs.Access.{events_of}
 use Rattle.mely_worker.specs.Access.{FitsIn}
-use Rattle.mely_worker.specs.WorkerView.{WorkerView}
+use Rattle.mely_worker.specs.Worker.{WorkerState}
 use Rattle.mely_worker.specs.Step.{in_phase}
 use Rattle.mely_worker.specs.Conditions.{MayStepAt, WillBeSpentAt, AppServesAt}
 use Rattle.mely_worker.specs.declared.app.App.{Ghosts as AppWords}
@@ -24,7 +25,7 @@ fits_more m n k l Fits (put ∷ puts) p q h =
 
 module _ {A S P F : Type 0} (t : TrailWords S F) (Fits : F → Colour → Event → Option P → Type 0) (x : AccessWords A S P F) (access : A) where
   -- the turn will still be spent once the handler of its first event ran
-  pub turn_after_run : (turn : Taken S P) (event : Event × Option P) (rest : List (Event × Option P)) (state : S) → WillBeSpentAt t Fits x access turn → turn.events ≡ event ∷ rest → t.colour_of state ≡ t.colour_of turn.state → t.frame_of state ≡ t.frame_of turn.state → t.trail_of state ≡ t.trail_of turn.state ++ event.0 ∷ [] → t.spare_of turn.state ≡ t.spare_of state + 1 → WillBeSpentAt t Fits x access (record turn { state = state; events = rest })
+  pub turn_after_run : (turn : TurnState S P) (event : Event × Option P) (rest : List (Event × Option P)) (state : S) → WillBeSpentAt t Fits x access turn → turn.events ≡ event ∷ rest → t.colour_of state ≡ t.colour_of turn.state → t.frame_of state ≡ t.frame_of turn.state → t.trail_of state ≡ t.trail_of turn.state ++ event.0 ∷ [] → t.spare_of turn.state ≡ t.spare_of state + 1 → WillBeSpentAt t Fits x access (record turn { state = state; events = rest })
   turn_after_run turn event rest state stands left colour fr trail spare =
       let room : length (event ∷ rest) ≤ t.spare_of turn.state = subst (λ (l : List (Event × Option P)). length l ≤ t.spare_of turn.state) left stands.room in
       let fits : AllByRecursion (λ (e : Event × Option P). Fits (x.frame_of access) turn.colour e.0 e.1) (event ∷ rest) = subst (λ (l : List (Event × Option P)). AllByRecursion (λ (e : Event × Option P). Fits (x.frame_of access) turn.colour e.0 e.1) l) left stands.events_fit in
@@ -40,16 +41,16 @@ module _ {A S P F : Type 0} (t : TrailWords S F) (Fits : F → Colour → Event 
       }
 
   -- the same, where the event was handed out and the handler was given the state
-  pub turn_after_next : (turn next : Taken S P) (event : Event × Option P) (lent state : S) → WillBeSpentAt t Fits x access turn → turn.events ≡ event ∷ next.events → next ≡ record turn { events = next.events } → lent ≡ next.state → t.colour_of state ≡ t.colour_of lent → t.frame_of state ≡ t.frame_of lent → t.trail_of state ≡ t.trail_of lent ++ event.0 ∷ [] → t.spare_of lent ≡ t.spare_of state + 1 → WillBeSpentAt t Fits x access (record next { state = state })
+  pub turn_after_next : (turn next : TurnState S P) (event : Event × Option P) (lent state : S) → WillBeSpentAt t Fits x access turn → turn.events ≡ event ∷ next.events → next ≡ record turn { events = next.events } → lent ≡ next.state → t.colour_of state ≡ t.colour_of lent → t.frame_of state ≡ t.frame_of lent → t.trail_of state ≡ t.trail_of lent ++ event.0 ∷ [] → t.spare_of lent ≡ t.spare_of state + 1 → WillBeSpentAt t Fits x access (record next { state = state })
   turn_after_next turn next event lent state stands left rest given colour fr trail spare =
-      let was : lent ≡ turn.state = given ∙ ap (λ (n : Taken S P). n.state) rest in
+      let was : lent ≡ turn.state = given ∙ ap (λ (n : TurnState S P). n.state) rest in
       let after : WillBeSpentAt t Fits x access (record turn { state = state; events = next.events }) = turn_after_run turn event next.events state stands left (colour ∙ ap t.colour_of was) (fr ∙ ap t.frame_of was) (trail ∙ ap (λ (s : S). t.trail_of s ++ event.0 ∷ []) was) (sym (ap t.spare_of was) ∙ spare) in
-      subst (λ (n : Taken S P). WillBeSpentAt t Fits x access (record n { state = state })) (sym rest) after
+      subst (λ (n : TurnState S P). WillBeSpentAt t Fits x access (record n { state = state })) (sym rest) after
 
   -- the worker may step again once the handler of the next event ran
-  pub stands_after_run : {R : Type 0} (y : AppWords R P S F) (app : R) (w : WorkerView S P) (turn next : Taken S P) (event : Event × Option P) (lent state : S) (none puts : List (Colour × Event × Option P)) → AppServesAt x y access app → MayStepAt t Fits x access (in_phase w (Turning turn Nothing none)) → turn.events ≡ event ∷ next.events → next ≡ record turn { events = next.events } → lent ≡ next.state → t.colour_of state ≡ t.colour_of lent → t.frame_of state ≡ t.frame_of lent → t.trail_of state ≡ t.trail_of lent ++ event.0 ∷ [] → t.spare_of lent ≡ t.spare_of state + 1 → AllByRecursion (FitsIn (y.colours_of app) (y.handlers_of app) (Fits (t.frame_of lent))) puts → MayStepAt t Fits x access (in_phase w (Turning (record next { state = state }) Nothing puts))
+  pub stands_after_run : {R : Type 0} (y : AppWords R P S F) (app : R) (w : WorkerState S P) (turn next : TurnState S P) (event : Event × Option P) (lent state : S) (none puts : List (Colour × Event × Option P)) → AppServesAt x y access app → MayStepAt t Fits x access (in_phase w (Turning turn Nothing none)) → turn.events ≡ event ∷ next.events → next ≡ record turn { events = next.events } → lent ≡ next.state → t.colour_of state ≡ t.colour_of lent → t.frame_of state ≡ t.frame_of lent → t.trail_of state ≡ t.trail_of lent ++ event.0 ∷ [] → t.spare_of lent ≡ t.spare_of state + 1 → AllByRecursion (FitsIn (y.colours_of app) (y.handlers_of app) (Fits (t.frame_of lent))) puts → MayStepAt t Fits x access (in_phase w (Turning (record next { state = state }) Nothing puts))
   stands_after_run y app w turn next event lent state none puts served stands left rest given colour fr trail spare fit =
-      let of_frame : t.frame_of lent ≡ x.frame_of access = ap t.frame_of (given ∙ ap (λ (n : Taken S P). n.state) rest) ∙ stands.phase.of_turn.of_frame in
+      let of_frame : t.frame_of lent ≡ x.frame_of access = ap t.frame_of (given ∙ ap (λ (n : TurnState S P). n.state) rest) ∙ stands.phase.of_turn.of_frame in
       let fit' : AllByRecursion (FitsIn (y.colours_of app) (y.handlers_of app) (Fits (x.frame_of access))) puts = subst (λ (f : F). AllByRecursion (FitsIn (y.colours_of app) (y.handlers_of app) (Fits f)) puts) of_frame fit in
       record {
         own_core = stands.own_core;

@@ -9,7 +9,7 @@ use Rattle.mely_history.specs.declared.setup.Setup.{Setup}
 use Rattle.mely_history.specs.declared.registered.Registered.{Registered}
 use Rattle.mely_history.specs.declared.registered.Registered.TheVariants.{Woke, Told, Running}
 use Rattle.mely_history.specs.Setup.{shape_of, colours_of, handlers_of}
-use Rattle.mely_queue.specs.Taken.{Taken, EachFits}
+use Rattle.mely_queue.specs.Turn.{TurnState, EachFits}
 
 -- the events, without their loads
 abbrev pub events_of : {P : Type 0} → List (Event × Option P) → List Event
@@ -47,7 +47,7 @@ StillOwes owes before after = (c : Colour) (core count : ℕ) (trail : List Even
     → owes before c core count trail → owes after c core count trail
 
 -- the turn that a take of the colour gives: its state has room for its events, each of which fits, and once they were run its finish is owed
-pub record IsTaken {A S F P : Type 0} (t : TrailWords S F) (fits : F → Colour → Event → Option P → Type 0) (setup_of : A → Setup) (core_of : A → ℕ) (frame_of : A → F) (owes : A → Colour → ℕ → ℕ → List Event → Type 0) (before after : A) (c : Colour) (turn : Taken S P) : Type 0 where
+pub record IsTaken {A S F P : Type 0} (t : TrailWords S F) (fits : F → Colour → Event → Option P → Type 0) (setup_of : A → Setup) (core_of : A → ℕ) (frame_of : A → F) (owes : A → Colour → ℕ → ℕ → List Event → Type 0) (before after : A) (c : Colour) (turn : TurnState S P) : Type 0 where
   pub colour : turn.colour ≡ c
   pub core : turn.core ≡ core_of before
   pub count : turn.count ≡ length turn.events
@@ -59,7 +59,7 @@ pub record IsTaken {A S F P : Type 0} (t : TrailWords S F) (fits : F → Colour 
   pub owed : owes after c turn.core turn.count (t.trail_of turn.state ++ events_of turn.events)
 
 -- all events of the turn were run, and its finish is owed
-pub record IsSpent {A S F P : Type 0} (t : TrailWords S F) (setup_of : A → Setup) (frame_of : A → F) (owes : A → Colour → ℕ → ℕ → List Event → Type 0) (access : A) (turn : Taken S P) : Type 0 where
+pub record IsSpent {A S F P : Type 0} (t : TrailWords S F) (setup_of : A → Setup) (frame_of : A → F) (owes : A → Colour → ℕ → ℕ → List Event → Type 0) (access : A) (turn : TurnState S P) : Type 0 where
   pub of_setup : IsColour (setup_of access) turn.colour
   pub none_left : turn.events ≡ []
   pub of_colour : t.colour_of turn.state ≡ turn.colour

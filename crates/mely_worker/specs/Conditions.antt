@@ -7,7 +7,7 @@ use Rattle.mely_event.specs.declared.trail.Trail.{Ghosts as TrailWords}
 use Rattle.mely_event.specs.HandlerTable.{rows_of}
 use Rattle.mely_history.specs.declared.setup.Setup.{Setup}
 use Rattle.mely_history.specs.Setup.{shape_of, colours_of, handlers_of}
-use Rattle.mely_queue.specs.Taken.{Taken, EachFits}
+use Rattle.mely_queue.specs.Turn.{TurnState, EachFits}
 use Rattle.mely_worker.specs.declared.phase.Phase.{Phase}
 use Rattle.mely_worker.specs.declared.phase.Phase.TheVariants.{Free, Popped, Picked, Landing, Pushing, Turning}
 use Rattle.mely_worker.specs.declared.delivery.Delivery.{Delivery}
@@ -15,11 +15,11 @@ use Rattle.mely_worker.specs.declared.access.Access.{Ghosts as AccessWords}
 use Rattle.mely_worker.specs.declared.app.App.{Ghosts as AppWords}
 use Rattle.mely_worker.specs.Access.{IsColour, IsCore, FitsSetup, events_of}
 use Rattle.mely_worker.specs.Delivery.{MayDeliver}
-use Rattle.mely_worker.specs.WorkerView.{WorkerView}
+use Rattle.mely_worker.specs.Worker.{WorkerState}
 
 module _ {S P F : Type 0} (t : TrailWords S F) (fits : F → Colour → Event → Option P → Type 0) (setup : Setup) (own : ℕ) (frame : F) (owes : Colour → ℕ → ℕ → List Event → Type 0) where
   -- the turn meets the condition of its finish, once the events that are left were run
-  pub record WillBeSpent (turn : Taken S P) : Type 0 where
+  pub record WillBeSpent (turn : TurnState S P) : Type 0 where
     pub of_setup : IsColour setup turn.colour
     pub of_colour : t.colour_of turn.state ≡ turn.colour
     pub of_frame : t.frame_of turn.state ≡ frame
@@ -29,7 +29,7 @@ module _ {S P F : Type 0} (t : TrailWords S F) (fits : F → Colour → Event �
         ++ events_of turn.events)
 
   -- what a turning worker has: its turn, what is in hand, and the registrations that are left
-  pub record MayTurn (turn : Taken S P) (hand : Delivery) (puts : List (Colour × Event × Option P)) : Type 0 where
+  pub record MayTurn (turn : TurnState S P) (hand : Delivery) (puts : List (Colour × Event × Option P)) : Type 0 where
     pub of_turn : WillBeSpent turn
     pub in_hand : MayDeliver setup hand
     pub of_puts : AllByRecursion (FitsSetup fits setup frame) puts
@@ -43,7 +43,7 @@ module _ {S P F : Type 0} (t : TrailWords S F) (fits : F → Colour → Event �
   PhaseMayStep (Turning turn hand puts) = MayTurn turn hand puts
 
   -- the conditions of a step that the worker keeps: it is of this core and this batch, its victims are cores, and what it has meets the conditions of the calls that take it
-  pub record MayStep (w : WorkerView S P) : Type 0 where
+  pub record MayStep (w : WorkerState S P) : Type 0 where
     pub own_core : own ≡ w.core
     pub core : IsCore setup w.core
     pub batch : w.batch ≡ (shape_of setup).batch
@@ -51,18 +51,18 @@ module _ {S P F : Type 0} (t : TrailWords S F) (fits : F → Colour → Event �
     pub phase : PhaseMayStep w.phase
     pub lost : AllByRecursion (FitsSetup fits setup frame) w.lost
 
--- the same at an access
+-- the conditions of a step, as an access says the setup, the core, the frame and what is owed
 module _ {A S P F : Type 0} (t : TrailWords S F) (fits : F → Colour → Event → Option P → Type 0) (x : AccessWords A S P F) (access : A) where
-  abbrev pub WillBeSpentAt : Taken S P → Type 0
+  abbrev pub WillBeSpentAt : TurnState S P → Type 0
   WillBeSpentAt turn = WillBeSpent t fits (x.setup_of access) (x.core_of access)
       (x.frame_of access) (x.owes access) turn
 
-  abbrev pub MayTurnAt : Taken S P → Delivery → List (Colour × Event × Option P) → Type 0
+  abbrev pub MayTurnAt : TurnState S P → Delivery → List (Colour × Event × Option P) → Type 0
   MayTurnAt turn hand puts =
       MayTurn t fits (x.setup_of access) (x.core_of access) (x.frame_of access)
       (x.owes access) turn hand puts
 
-  abbrev pub MayStepAt : WorkerView S P → Type 0
+  abbrev pub MayStepAt : WorkerState S P → Type 0
   MayStepAt w = MayStep t fits (x.setup_of access) (x.core_of access)
       (x.frame_of access) (x.owes access) w
 
@@ -72,7 +72,7 @@ pub record AppServes {R S P F : Type 0} (y : AppWords R P S F) (setup : Setup) (
   pub handlers : y.handlers_of app ≤ length (rows_of (handlers_of setup))
   pub serves : y.serves app frame
 
--- the same at an access
+-- the app suits the setup and the frame that an access says
 abbrev pub AppServesAt : {A R S P F : Type 0} → AccessWords A S P F
     → AppWords R P S F → A → R → Type 0
 AppServesAt x y access app = AppServes y (x.setup_of access) (x.frame_of access) app

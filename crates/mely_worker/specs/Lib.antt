@@ -2,11 +2,11 @@ pub mod Outs
 pub mod Phase
 pub mod Access
 pub mod Delivery
-pub mod WorkerView
-pub mod Holdings
-pub mod Kept
-pub mod Rest
-pub mod KeptRest
+pub mod Worker
+pub mod WorkerFields
+pub mod Invariant
+pub mod IdleWorker
+pub mod IdleInvariant
 pub mod Step
 pub mod Conditions
 pub mod Rule

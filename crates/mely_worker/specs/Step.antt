@@ -12,7 +12,7 @@ use Rattle.mely_history.specs.declared.no_steal.NoSteal.TheVariants as no_steal
 use Rattle.mely_history.specs.declared.stolen.Stolen.{Stolen}
 use Rattle.mely_history.specs.declared.after.After.{After}
 use Rattle.mely_history.specs.declared.after.After.TheVariants.{More, Idle}
-use Rattle.mely_queue.specs.Taken.{Taken}
+use Rattle.mely_queue.specs.Turn.{TurnState}
 use Rattle.mely_worker.specs.declared.phase.Phase.{Phase}
 use Rattle.mely_worker.specs.declared.phase.Phase.TheVariants.{Free, Popped, Picked, Landing, Pushing, Turning}
 use Rattle.mely_worker.specs.declared.delivery.Delivery.{Delivery}
@@ -22,7 +22,7 @@ use Rattle.mely_worker.specs.declared.made.Made.TheVariants as made
 use Rattle.mely_worker.specs.declared.access.Access.{Ghosts as AccessWords}
 use Rattle.mely_worker.specs.declared.app.App.{Ghosts as AppWords}
 use Rattle.mely_worker.specs.Delivery.{delivery_after}
-use Rattle.mely_worker.specs.WorkerView.{WorkerView}
+use Rattle.mely_worker.specs.Worker.{WorkerState}
 
 -- a line with a call: the call was made and gave an answer, which tells what the worker is then and the step's name
 pub record Line {Answer W : Type 0} (Called : Answer → Type 0) (next : Answer → W) (name : Answer → Made) (step : Made) (after : W) : Type 0 where
@@ -31,18 +31,18 @@ pub record Line {Answer W : Type 0} (Called : Answer → Type 0) (next : Answer 
   pub becomes : after ≡ next answer
   pub named : step ≡ name answer
 
-module _ {S P : Type 0} (w : WorkerView S P) where
+module _ {S P : Type 0} (w : WorkerState S P) where
   -- the worker in another phase
-  abbrev pub in_phase : Phase S P → WorkerView S P
+  abbrev pub in_phase : Phase S P → WorkerState S P
   in_phase phase = record w { phase = phase }
 
   -- the worker in another phase, halted
-  abbrev pub halted_in : Phase S P → WorkerView S P
+  abbrev pub halted_in : Phase S P → WorkerState S P
   halted_in phase = record w { phase = phase; halted = true }
 
   -- what follows the registration of the first one put; without memory it is lost and the worker halted
-  abbrev pub after_register : Taken S P → List (Colour × Event × Option P) → Colour × Event
-      × Option P → Result Registered (Unregistered P) → WorkerView S P
+  abbrev pub after_register : TurnState S P → List (Colour × Event × Option P) → Colour × Event
+      × Option P → Result Registered (Unregistered P) → WorkerState S P
   after_register turn rest put (Ok answer) =
       in_phase (Turning turn (delivery_after put.0 answer) rest)
   after_register turn rest put (Err back) = record w {
@@ -52,13 +52,13 @@ module _ {S P : Type 0} (w : WorkerView S P) where
   }
 
   -- what follows a finish: the colour's mark is to go back on the own chain, where more of it waits
-  abbrev pub after_finish : Colour → After → WorkerView S P
+  abbrev pub after_finish : Colour → After → WorkerState S P
   after_finish colour (More started worth) =
       in_phase (Pushing w.core (record { colour = colour; started = started; worth = worth }))
   after_finish colour Idle = in_phase (Free 0)
 
   -- what follows a take of the popped mark's colour: without memory the mark is to go back, else a refused mark is dropped
-  abbrev pub after_take : Mark → Result (Taken S P) NoTake → WorkerView S P
+  abbrev pub after_take : Mark → Result (TurnState S P) NoTake → WorkerState S P
   after_take mark (Ok turn) = in_phase (Turning turn Nothing [])
   after_take mark (Err no_take.Memory) = halted_in (Pushing w.core mark)
   after_take mark (Err (no_take.Elsewhere owner)) = in_phase (Free 0)
@@ -66,7 +66,7 @@ module _ {S P : Type 0} (w : WorkerView S P) where
   after_take mark (Err (no_take.Empty registered)) = in_phase (Free 0)
 
   -- what follows a steal of the picked mark's colour: a new mark with what was told, without memory the mark is to go back to the victim, else it is dropped
-  abbrev pub after_steal : Mark → ℕ → Result Stolen NoSteal → WorkerView S P
+  abbrev pub after_steal : Mark → ℕ → Result Stolen NoSteal → WorkerState S P
   after_steal mark victim (Ok stolen) =
       in_phase (Landing (record {
         colour = mark.colour;
@@ -85,12 +85,12 @@ module _ {S P : Type 0} (w : WorkerView S P) where
   next_place place = if nat_lt place (length w.victims) then place + 1 else 0
 
   -- what follows a pop of the own chain
-  abbrev pub after_pop : Option Mark → WorkerView S P
+  abbrev pub after_pop : Option Mark → WorkerState S P
   after_pop (Some mark) = in_phase (Popped mark)
   after_pop None = in_phase (Free (next_place 0))
 
   -- what follows a pick at a victim
-  abbrev pub after_pick : ℕ → ℕ → Option Mark → WorkerView S P
+  abbrev pub after_pick : ℕ → ℕ → Option Mark → WorkerState S P
   after_pick place victim (Some mark) = in_phase (Picked mark victim)
   after_pick place victim None = in_phase (Free (next_place place))
 
@@ -99,17 +99,20 @@ abbrev pub register_name : {P : Type 0} → Colour → Result Registered (Unregi
 register_name colour (Ok answer) = made.Registered colour
 register_name colour (Err back) = made.Memory
 
+-- what a finish is called: whether the colour is ready again
 abbrev pub finish_name : Colour → After → Made
 finish_name colour (More started worth) = made.Finished colour true
 finish_name colour Idle = made.Finished colour false
 
-abbrev pub take_name : {S P : Type 0} → Result (Taken S P) NoTake → Made
+-- what a take is called: the colour and how many events, or why nothing was taken
+abbrev pub take_name : {S P : Type 0} → Result (TurnState S P) NoTake → Made
 take_name (Ok turn) = made.Took turn.colour turn.count
 take_name (Err no_take.Memory) = made.Memory
 take_name (Err (no_take.Elsewhere owner)) = made.NotTaken (no_take.Elsewhere owner)
 take_name (Err (no_take.Busy core)) = made.NotTaken (no_take.Busy core)
 take_name (Err (no_take.Empty registered)) = made.NotTaken (no_take.Empty registered)
 
+-- what a steal is called: the colour and its owner before, or why nothing was stolen
 abbrev pub steal_name : Colour → Result Stolen NoSteal → Made
 steal_name colour (Ok stolen) = made.Stole colour stolen.from
 steal_name colour (Err no_steal.Memory) = made.Memory
@@ -119,17 +122,19 @@ steal_name colour (Err (no_steal.Busy core)) = made.NotStolen (no_steal.Busy cor
 steal_name colour (Err (no_steal.Empty registered)) = made.NotStolen (no_steal.Empty registered)
 steal_name colour (Err (no_steal.Cheap worth)) = made.NotStolen (no_steal.Cheap worth)
 
+-- what a pop is called: the colour of the mark, or that there is none
 abbrev pub pop_name : Option Mark → Made
 pop_name (Some mark) = made.Popped mark.colour
 pop_name None = made.NoneHere
 
+-- what a pick at a victim is called: the colour of the mark, or that there is none
 abbrev pub pick_name : ℕ → Option Mark → Made
 pick_name victim (Some mark) = made.Picked mark.colour victim
 pick_name victim None = made.NoneThere victim
 
-module _ {A R S P F : Type 0} (x : AccessWords A S P F) (y : AppWords R P S F) (app : R) (before : A) (w : WorkerView S P) (step : Made) (after : A) (v : WorkerView S P) where
+module _ {A R S P F : Type 0} (x : AccessWords A S P F) (y : AppWords R P S F) (app : R) (before : A) (w : WorkerState S P) (step : Made) (after : A) (v : WorkerState S P) where
   -- a line without a call: the handler of the next event ran, what it put is left to register, and the access is untouched
-  pub record Runs (turn : Taken S P) (event : Event × Option P) (rest : List (Event × Option P)) : Type 0 where
+  pub record Runs (turn : TurnState S P) (event : Event × Option P) (rest : List (Event × Option P)) : Type 0 where
     pub state : S
     pub puts : List (Colour × Event × Option P)
     pub ran : y.runs app turn.state event.0 event.1 state puts
@@ -139,20 +144,20 @@ module _ {A R S P F : Type 0} (x : AccessWords A S P F) (y : AppWords R P S F) (
     pub untouched : after ≡ before
 
   -- the step of a turn with no registration left, by the events that are left
-  abbrev pub StepsTurn : Taken S P → List (Event × Option P) → Type 0
+  abbrev pub StepsTurn : TurnState S P → List (Event × Option P) → Type 0
   StepsTurn turn [] =
       Line (λ answer. x.finishes before turn answer after) (after_finish w turn.colour)
       (finish_name turn.colour) step v
   StepsTurn turn (event ∷ rest) = Runs turn event rest
 
   -- the step of a turn with an empty hand, by the registrations that are left
-  abbrev pub StepsPuts : Taken S P → List (Colour × Event × Option P) → Type 0
+  abbrev pub StepsPuts : TurnState S P → List (Colour × Event × Option P) → Type 0
   StepsPuts turn [] = StepsTurn turn turn.events
   StepsPuts turn (put ∷ rest) = Line (λ answer. x.registers before put.0 put.1 put.2 answer after)
       (after_register w turn rest put) (register_name put.0) step v
 
   -- the step of a turn, by what is in hand
-  abbrev pub StepsTurning : Taken S P → Delivery → List (Colour × Event × Option P) → Type 0
+  abbrev pub StepsTurning : TurnState S P → Delivery → List (Colour × Event × Option P) → Type 0
   StepsTurning turn (PushMark core mark) puts =
       Line (λ answer. x.pushes before core mark answer after) (λ _.
       in_phase w (Turning turn Nothing puts)) (λ _. made.Pushed mark.colour core) step v

@@ -11,7 +11,7 @@ ghost use Rattle.mely_history.specs.declared.no_take.NoTake.{NoTake};
 ghost use Rattle.mely_history.specs.declared.no_steal.NoSteal.{NoSteal};
 ghost use Rattle.mely_history.specs.declared.stolen.Stolen.{Stolen};
 ghost use Rattle.mely_history.specs.declared.after.After.{After};
-ghost use Rattle.mely_queue.specs.Taken.{Taken};
+ghost use Rattle.mely_queue.specs.Turn.{TurnState};
 ghost use Rattle.mely_worker.specs.Access.{IsColour, IsCore, FitsSetup, Stays, StillOwes, IsTaken, IsSpent, NamesCore, GivesBack};
 
 use mely_event::{Colour, Event, Fits, Mark, There, Unregistered};
@@ -44,10 +44,10 @@ pub trait Access<S: Fits<P>, P> {
         → Result Registered (Unregistered P) → Self → Type 0 };
 
     /// What a take does and answers.
-    ghost takes: { Self → Colour → Result (Taken S P) NoTake → Self → Type 0 };
+    ghost takes: { Self → Colour → Result (TurnState S P) NoTake → Self → Type 0 };
 
     /// What a finish does and answers.
-    ghost finishes: { Self → Taken S P → After → Self → Type 0 };
+    ghost finishes: { Self → TurnState S P → After → Self → Type 0 };
 
     /// What a steal does and answers.
     ghost steals: { Self → Colour → Result Stolen NoSteal → Self → Type 0 };
@@ -79,6 +79,7 @@ pub trait Access<S: Fits<P>, P> {
         event: Event,
         load: Option<P>,
     ) -> Result<Registered, Unregistered<P>>
+        requires own { IsCore (setup_of self.old) (core_of self.old) }
         requires fits { FitsSetup S.fits_under (setup_of self.old) (frame_of self.old)
             (colour, event, load) }
         ensures called { registers self.old colour event load result self.new }
@@ -93,6 +94,7 @@ pub trait Access<S: Fits<P>, P> {
     ///
     /// Why nothing was taken; `Memory` is the last cause.
     fn take(&mut self, colour: Colour) -> Result<Turn<S, P>, NoTake>
+        requires own { IsCore (setup_of self.old) (core_of self.old) }
         requires colour { IsColour (setup_of self.old) colour }
         ensures called { takes self.old colour result self.new }
         ensures turn { IfOk result (IsTaken S.Trail S.fits_under setup_of core_of frame_of owes
@@ -114,6 +116,7 @@ pub trait Access<S: Fits<P>, P> {
     ///
     /// Why nothing was stolen; `Memory` is the last cause.
     fn steal(&mut self, colour: Colour) -> Result<Stolen, NoSteal>
+        requires own { IsCore (setup_of self.old) (core_of self.old) }
         requires colour { IsColour (setup_of self.old) colour }
         ensures called { steals self.old colour result self.new }
         ensures stays { Stays setup_of core_of frame_of self.old self.new }
@@ -135,6 +138,7 @@ pub trait Access<S: Fits<P>, P> {
 
     /// Takes the first mark off the own chain.
     fn pop(&mut self) -> Option<Mark>
+        requires own { IsCore (setup_of self.old) (core_of self.old) }
         ensures called { pops self.old result self.new }
         ensures mark { IfSome result (λ mark. IsColour (setup_of self.old) mark.colour) }
         ensures stays { Stays setup_of core_of frame_of self.old self.new }

@@ -28,22 +28,22 @@ mod access;
 mod app;
 mod delivery;
 mod gate;
-mod holdings;
+mod idle_worker;
 mod made;
 mod outs;
 mod phase;
-mod rested;
 mod rule;
 #[cfg(test)]
 mod tests;
 mod turning;
 mod worker;
+mod worker_fields;
 
 pub use access::Access;
 pub use app::App;
 pub use delivery::Delivery;
 pub use gate::{Gate, OpenGate};
+pub use idle_worker::IdleWorker;
 pub use made::Made;
 pub use outs::Outs;
-pub use rested::Rested;
 pub use worker::Worker;

@@ -8,17 +8,17 @@ use crate::access::Access;
 use crate::app::App;
 use crate::delivery::Delivery;
 use crate::gate::Gate;
-use crate::holdings::Holdings;
 use crate::made::Made;
 use crate::outs::Outs;
 use crate::phase::Phase;
 use crate::turning::{finish_turn, has_run_all, step_turn};
+use crate::worker_fields::WorkerFields;
 use mely_event::{Fits, Mark, Trail};
 use mely_history::{NoSteal, NoTake};
 
 /// The step of a worker that has popped a mark.
 fn step_popped<S: Fits<P> + Drop, P: Drop, A: Access<S, P>, R: App<State = S, Load = P>>(
-    holdings: &mut Holdings<P>,
+    holdings: &mut WorkerFields<P>,
     phase: &mut Phase<S, P>,
     mark: Mark,
     access: &mut A,
@@ -61,7 +61,7 @@ fn step_popped<S: Fits<P> + Drop, P: Drop, A: Access<S, P>, R: App<State = S, Lo
 
 /// The step of a worker that has picked a mark.
 fn step_picked<S: Fits<P> + Drop, P: Drop, A: Access<S, P>, R: App<State = S, Load = P>>(
-    holdings: &mut Holdings<P>,
+    holdings: &mut WorkerFields<P>,
     phase: &mut Phase<S, P>,
     mark: Mark,
     victim: u16,
@@ -103,7 +103,7 @@ fn step_picked<S: Fits<P> + Drop, P: Drop, A: Access<S, P>, R: App<State = S, Lo
 
 /// The step of a free worker.
 fn step_free<S: Fits<P> + Drop, P: Drop, A: Access<S, P>, R: App<State = S, Load = P>>(
-    holdings: &mut Holdings<P>,
+    holdings: &mut WorkerFields<P>,
     phase: &mut Phase<S, P>,
     place: usize,
     access: &mut A,
@@ -159,7 +159,13 @@ pub(crate) fn step_by_phase<
     A: Access<S, P>,
     R: App<State = S, Load = P>,
     G: Gate,
->(holdings: &mut Holdings<P>, phase: &mut Phase<S, P>, access: &mut A, app: &R, gate: &G) -> Made
+>(
+    holdings: &mut WorkerFields<P>,
+    phase: &mut Phase<S, P>,
+    access: &mut A,
+    app: &R,
+    gate: &G,
+) -> Made
     requires on { StepsOn S.Trail S.fits_under A.Access R.App app.now access.old
         holdings.old phase.old }
     ensures done { StepDone S.Trail S.fits_under A.Access R.App app.now access.old

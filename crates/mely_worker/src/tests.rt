@@ -8,7 +8,7 @@ mod ledger;
 mod lent;
 mod script;
 
-use crate::{Access, App, Delivery, Made, Outs, Rested, Worker};
+use crate::{Access, App, Delivery, IdleWorker, Made, Outs, Worker};
 use ledger::{Forwarding, Ledger, NOTE, Pass};
 use lent::{step_lent, steps_lent};
 use mely_event::{Colour, Event, Fits, Handlers, Mark, Trail};
@@ -363,7 +363,7 @@ fn what_follows_a_registration_is_delivered(rt: HostRuntime) -> Result<(), Fail>
 }
 
 /// A worker may be lent to a thread wherever its states and loads may cross, and move into one at rest.
-fn crosses<S: Send, P: Send>(worker: &Worker<S, P>, rested: &Rested<P>) {
+fn crosses<S: Send, P: Send>(worker: &Worker<S, P>, rested: &IdleWorker<P>) {
     may_cross(worker);
     may_cross(rested);
 }

@@ -9,10 +9,10 @@ use crate::access::Access;
 use crate::app::App;
 use crate::delivery::Delivery;
 use crate::gate::Gate;
-use crate::holdings::Holdings;
 use crate::made::Made;
 use crate::outs::Outs;
 use crate::phase::Phase;
+use crate::worker_fields::WorkerFields;
 use mely_event::{Colour, Event, Fits, Mark, Trail};
 use mely_history::After;
 use mely_queue::Turn;
@@ -33,7 +33,7 @@ pub(crate) fn step_turn<
     R: App<State = S, Load = P>,
     G: Gate,
 >(
-    holdings: &mut Holdings<P>,
+    holdings: &mut WorkerFields<P>,
     turn: &mut Turn<S, P>,
     hand: &mut Delivery,
     outs: &mut Outs<P>,
@@ -80,7 +80,7 @@ pub(crate) fn step_turn<
 
 /// Registers the first of the registrations that are left.
 fn step_put<S: Fits<P> + Drop, P: Drop, A: Access<S, P>, R: App<State = S, Load = P>>(
-    holdings: &mut Holdings<P>,
+    holdings: &mut WorkerFields<P>,
     turn: &Turn<S, P>,
     hand: &mut Delivery,
     first: (Colour, Event, Option<P>),
@@ -111,7 +111,7 @@ fn step_put<S: Fits<P> + Drop, P: Drop, A: Access<S, P>, R: App<State = S, Load 
 
 /// Runs the handler of the next event.
 fn run_next<S: Fits<P> + Drop, P: Drop, A: Access<S, P>, R: App<State = S, Load = P>, G: Gate>(
-    holdings: &mut Holdings<P>,
+    holdings: &mut WorkerFields<P>,
     turn: &mut Turn<S, P>,
     outs: &mut Outs<P>,
     access: &mut A,
@@ -140,7 +140,7 @@ fn run_next<S: Fits<P> + Drop, P: Drop, A: Access<S, P>, R: App<State = S, Load 
 
 /// Finishes a turn of which nothing is left.
 pub(crate) fn finish_turn<S: Fits<P> + Drop, P: Drop, A: Access<S, P>, R: App<State = S, Load = P>>(
-    holdings: &mut Holdings<P>,
+    holdings: &mut WorkerFields<P>,
     phase: &mut Phase<S, P>,
     access: &mut A,
     app: &R,

@@ -5,11 +5,11 @@ ghost use Rattle.mely_worker.specs.Phase.{is_free};
 use crate::access::Access;
 use crate::app::App;
 use crate::gate::Gate;
-use crate::holdings::Holdings;
+use crate::idle_worker::IdleWorker;
 use crate::made::Made;
 use crate::phase::Phase;
-use crate::rested::Rested;
 use crate::rule::step_by_phase;
+use crate::worker_fields::WorkerFields;
 use mely_event::{Colour, Event, Fits, Memory, Trail};
 use std::alloc::Global;
 use std::marker::Model;
@@ -22,16 +22,16 @@ use std::marker::Model;
 /// refused, and its phase. A worker may hold a turn, so it has no `Drop`: one that is free is spent by
 /// [`rest`](Worker::rest) or [`into_lost`](Worker::into_lost).
 pub struct Worker<S, P> {
-    pub(crate) holdings: Holdings<P>,
+    pub(crate) holdings: WorkerFields<P>,
     pub(crate) phase: Phase<S, P>,
 }
 
 impl<S, P> Model for Worker<S, P> {
-    ghost use Rattle.mely_worker.specs.WorkerView.{WorkerView};
+    ghost use Rattle.mely_worker.specs.Worker.{WorkerState};
 
-    ghost Value = { WorkerView S P };
+    ghost Value = { WorkerState S P };
 
-    ghost use Rattle.mely_worker.specs.Kept.{view_of, IsWellKept};
+    ghost use Rattle.mely_worker.specs.Invariant.{view_of, IsWellKept};
 
     ghost view = { view_of };
 
@@ -66,7 +66,7 @@ impl<S, P> Worker<S, P> {
             return Err(Memory);
         };
         Ok(Worker {
-            holdings: Holdings {
+            holdings: WorkerFields {
                 core,
                 batch,
                 halted: false,
@@ -101,7 +101,7 @@ impl<S, P> Worker<S, P> {
 }
 
 impl<S, P: Drop> Worker<S, P> {
-    ghost use Rattle.mely_worker.specs.Rest.{woken};
+    ghost use Rattle.mely_worker.specs.IdleWorker.{resumed_worker};
 
     /// The registrations that were refused for memory, of a free worker. It takes no memory.
     pub fn into_lost(self) -> Vec<(Colour, Event, Option<P>)>
@@ -113,20 +113,21 @@ impl<S, P: Drop> Worker<S, P> {
     }
 
     /// A free worker as a value that may be let go, and so may cross into a thread. It takes no memory.
-    pub fn rest(self) -> Rested<P>
+    pub fn rest(self) -> IdleWorker<P>
         requires { IsTrue (is_free self.phase) }
-        ensures { woken result ≡ self }
+        ensures { resumed_worker result ≡ self }
     {
         let Worker { holdings, phase } = self;
+        // A phase has no `Drop`, as it may hold a turn: that of a free worker is spent by reading its place.
         let place = phase.place();
-        Rested { holdings, place }
+        IdleWorker { holdings, place }
     }
 }
 
 impl<S: Fits<P> + Drop, P: Drop> Worker<S, P> {
     ghost use Rattle.std.specs.Prelude.{true};
     ghost use Rattle.mely_worker.specs.Step.{Steps};
-    ghost use Rattle.mely_worker.specs.WorkerView.{IsSameWorker};
+    ghost use Rattle.mely_worker.specs.Worker.{IsSameWorker};
     ghost use Rattle.mely_worker.specs.Conditions.{MayStepAt, AppServesAt};
     ghost use Rattle.mely_worker.specs.Access.{Stays};
 

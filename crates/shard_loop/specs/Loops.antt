@@ -2,11 +2,11 @@
 use Rattle.std.specs.Prelude.{◌≡◌, ℕ, List, [], Some, length, slice_get}
 use Rattle.mely_event.specs.HandlerTable.{rows_of}
 use Rattle.mely_history.specs.Setup.{shape_of, colours_of, handlers_of}
-use Rattle.mely_shard.specs.Contents.{Contents}
+use Rattle.mely_shard.specs.Shard.{ShardState}
 use Rattle.mely_event.specs.TrailLog.{TrailLogState}
 
 -- 1,024 colours on one core, and one handler
-pub record IsLoop {S P : Type 0} (has : Contents S P) : Type 0 where
+pub record IsLoop {S P : Type 0} (has : ShardState S P) : Type 0 where
   pub colours : colours_of has.setup ≡ 1024
   pub shards : (shape_of has.setup).shards ≡ 1
   pub handlers : length (rows_of (handlers_of has.setup)) ≡ 1
@@ -18,5 +18,6 @@ pub record AreBlankBelow (count : ℕ) (states : List TrailLogState) : Type 0 wh
   pub each : (i : ℕ) (state : TrailLogState) → slice_get states i ≡ Some state
       → (state.colour ≡ record { 0 = i }) × (state.events ≡ [])
 
+-- all states are of their colours, with nothing run
 abbrev pub AreBlank : List TrailLogState → Type 0
 AreBlank states = AreBlankBelow 1024 states

@@ -1,6 +1,6 @@
 //! The loop: register, take, run, finish.
 ghost use Rattle.std.specs.Prelude.{◌≡◌, ◌<◌, ◌≤◌, ℕ, length, All, IfOk, IfSome};
-ghost use Rattle.mely_shard.specs.Contents.{IsOwn, KeepsFrame, TurnStands};
+ghost use Rattle.mely_shard.specs.Shard.{IsOwn, KeepsFrame, TurnStands};
 ghost use Rattle.shard_loop.specs.Loops.{IsLoop, AreBlank};
 
 use mely_event::{Colour, Event, Fits, Handlers, Memory, Trail, TrailLog};

@@ -2,9 +2,9 @@
 use Rattle.std.proofs.Common.{◌≡◌, ℕ, Bool, true, false, List, [], drop, option_map, subst, refl, sym, ap, ◌∙◌, Option, Some, None}
 use Rattle.std.specs.Prelude.{if◌then◌else◌, IsTrue, not, ◌||◌, ◌∷◌, length, is_none, option_and_then}
 use Rattle.sws_request.specs.Request.{Request, IsRequest, IsNoRequest}
-use Rattle.sws_request.proofs.RequestInLaws.{request_in-request, request_in-none}
+use Rattle.sws_request.proofs.RequestInLemmas.{request_in-request, request_in-none}
 use Rattle.sws_site.specs.Files.{File, file_named}
-use Rattle.sws_site.specs.Sites.{SiteFiles}
+use Rattle.sws_site.specs.Site.{SiteState}
 use Rattle.percent_encoding.specs.Percent.{percent_decode}
 use Rattle.sws_answer.specs.Targets.{path_and_query, name_of, path_of, with_index}
 use Rattle.sws_answer.proofs.TargetLemmas.{name_of-path}
@@ -62,15 +62,15 @@ table host other file form found modified nothing part =
     ∷ (nothing, RangeNotSatisfiable) ∷ (part, PartialContent) ∷ []) Success
 
 -- what the request selects of the file that it names
-abbrev selected : SiteFiles → Request → Selection
+abbrev selected : SiteState → Request → Selection
 selected site asked = selection_for asked (file_for site asked)
 
 -- the tests behind that of the target
-abbrev by_target : SiteFiles → Request → Bool → Status
+abbrev by_target : SiteState → Request → Bool → Status
 by_target site asked form =
     table false false false form (is_none (file_for site asked)) (is_unmodified site.date asked.fields) (is_unsatisfied (selected site asked)) (is_part (selected site asked))
 
-answer_at : (site : SiteFiles) (asked : Request) (last : Bool) (status : Status) → request_status site asked ≡ status
+answer_at : (site : SiteState) (asked : Request) (last : Bool) (status : Status) → request_status site asked ≡ status
     → request_answer site asked last
     ≡ response site.date status (file_for site asked) (selected site asked) ((row_of status).closes || is_closing asked || last) (is_head_request asked)
 unfolding request_answer
@@ -92,7 +92,7 @@ unnamed date HeaderFieldsTooLarge file selection closes is_head refuses = refl
 unnamed date NotImplemented file selection closes is_head refuses = refl
 
 -- without the one field Host
-pub answer-no_host : (site : SiteFiles) (asked : Request) (last : Bool) → lacks_host asked ≡ true
+pub answer-no_host : (site : SiteState) (asked : Request) (last : Bool) → lacks_host asked ≡ true
     → response site.date BadRequest None Whole true (is_head_request asked) ≡ request_answer site asked last
 unfolding request_status
 answer-no_host site asked last host = sym (
@@ -100,7 +100,7 @@ answer-no_host site asked last host = sym (
     ∙ unnamed site.date BadRequest (file_for site asked) (selected site asked) true (is_head_request asked) refl)
 
 -- with a known method that a file has not
-pub answer-other_method : (site : SiteFiles) (asked : Request) (last : Bool) → lacks_host asked ≡ false → is_one_of other_methods asked.method ≡ true
+pub answer-other_method : (site : SiteState) (asked : Request) (last : Bool) → lacks_host asked ≡ false → is_one_of other_methods asked.method ≡ true
     → response site.date MethodNotAllowed None Whole (is_closing asked || last) (is_head_request asked) ≡ request_answer site asked last
 unfolding request_status
 answer-other_method site asked last host other = sym (
@@ -110,7 +110,7 @@ answer-other_method site asked last host other = sym (
     ∙ unnamed site.date MethodNotAllowed (file_for site asked) (selected site asked) (is_closing asked || last) (is_head_request asked) refl)
 
 -- the tests of the methods are passed
-status_from_file : (site : SiteFiles) (asked : Request) → lacks_host asked ≡ false → is_one_of other_methods asked.method ≡ false
+status_from_file : (site : SiteState) (asked : Request) → lacks_host asked ≡ false → is_one_of other_methods asked.method ≡ false
     → request_status site asked
     ≡ table false false (not (is_one_of file_methods asked.method)) (is_none (path_and_query asked.target)) (is_none (file_for site asked)) (is_unmodified site.date asked.fields) (is_unsatisfied (selected site asked)) (is_part (selected site asked))
 unfolding request_status
@@ -119,7 +119,7 @@ status_from_file site asked host other =
     ∙ ap (λ t. table false t (not (is_one_of file_methods asked.method)) (is_none (path_and_query asked.target)) (is_none (file_for site asked)) (is_unmodified site.date asked.fields) (is_unsatisfied (selected site asked)) (is_part (selected site asked))) other
 
 -- with an unknown method
-pub answer-unknown_method : (site : SiteFiles) (asked : Request) (last : Bool) → lacks_host asked ≡ false → is_one_of other_methods asked.method ≡ false → is_one_of file_methods asked.method ≡ false
+pub answer-unknown_method : (site : SiteState) (asked : Request) (last : Bool) → lacks_host asked ≡ false → is_one_of other_methods asked.method ≡ false → is_one_of file_methods asked.method ≡ false
     → response site.date NotImplemented None Whole (is_closing asked || last) (is_head_request asked) ≡ request_answer site asked last
 answer-unknown_method site asked last host other file = sym (
     answer_at site asked last NotImplemented (
@@ -128,14 +128,14 @@ answer-unknown_method site asked last host other file = sym (
     ∙ unnamed site.date NotImplemented (file_for site asked) (selected site asked) (is_closing asked || last) (is_head_request asked) refl)
 
 -- the tests of the target are left
-status_from_target : (site : SiteFiles) (asked : Request) → lacks_host asked ≡ false → is_one_of other_methods asked.method ≡ false → is_one_of file_methods asked.method ≡ true
+status_from_target : (site : SiteState) (asked : Request) → lacks_host asked ≡ false → is_one_of other_methods asked.method ≡ false → is_one_of file_methods asked.method ≡ true
     → request_status site asked ≡ by_target site asked (is_none (path_and_query asked.target))
 status_from_target site asked host other file =
     status_from_file site asked host other
     ∙ ap (λ t. table false false (not t) (is_none (path_and_query asked.target)) (is_none (file_for site asked)) (is_unmodified site.date asked.fields) (is_unsatisfied (selected site asked)) (is_part (selected site asked))) file
 
 -- with a target of another form
-pub answer-other_form : (site : SiteFiles) (asked : Request) (last : Bool) → lacks_host asked ≡ false → is_one_of other_methods asked.method ≡ false → is_one_of file_methods asked.method ≡ true
+pub answer-other_form : (site : SiteState) (asked : Request) (last : Bool) → lacks_host asked ≡ false → is_one_of other_methods asked.method ≡ false → is_one_of file_methods asked.method ≡ true
     → path_and_query asked.target ≡ None
     → response site.date BadRequest None Whole true (is_head_request asked) ≡ request_answer site asked last
 answer-other_form site asked last host other file form = sym (
@@ -143,7 +143,7 @@ answer-other_form site asked last host other file form = sym (
     ∙ unnamed site.date BadRequest (file_for site asked) (selected site asked) true (is_head_request asked) refl)
 
 -- the status of a request for a file, by what is selected of it
-abbrev by_file : SiteFiles → Request → Option File → Status
+abbrev by_file : SiteState → Request → Option File → Status
 by_file site asked file =
     table false false false false (is_none file) (is_unmodified site.date asked.fields) (is_unsatisfied (selection_for asked file)) (is_part (selection_for asked file))
 
@@ -163,7 +163,7 @@ file_closes false (Part first last) closes = refl
 file_closes false Unsatisfied closes = refl
 
 -- with a target that names a file
-answer-named : (site : SiteFiles) (asked : Request) (last : Bool) (path name : List ℕ) → lacks_host asked ≡ false → is_one_of other_methods asked.method ≡ false → is_one_of file_methods asked.method ≡ true
+answer-named : (site : SiteState) (asked : Request) (last : Bool) (path name : List ℕ) → lacks_host asked ≡ false → is_one_of other_methods asked.method ≡ false → is_one_of file_methods asked.method ≡ true
     → path_and_query asked.target ≡ Some path → name_of asked.target ≡ Some name
     → name_answer site asked name (is_closing asked || last) (is_head_request asked) ≡ request_answer site asked last
 answer-named site asked last path name host other file form named = by_named (file_named name site.files) (ap (option_and_then (λ n. file_named n site.files)) named)
@@ -203,7 +203,7 @@ mapped_none None e = refl
 mapped_none (Some path) e = absurd (cc)
 
 -- the target says the path that was answered
-pub Sends-named : (sent : Sent) (site : SiteFiles) (asked : Request) (last closes is_head : Bool) (target rest path : List ℕ)
+pub Sends-named : (sent : Sent) (site : SiteState) (asked : Request) (last closes is_head : Bool) (target rest path : List ℕ)
     → lacks_host asked ≡ false → is_one_of other_methods asked.method ≡ false → is_one_of file_methods asked.method ≡ true
     → closes ≡ (is_closing asked || last) → is_head ≡ is_head_request asked
     → target ≡ asked.target → Some rest ≡ option_map (drop 1) (path_and_query target) → path ≡ path_of rest

@@ -1,6 +1,6 @@
-pub mod AnswerLaws
-pub mod LengthLaws
-pub mod ResponseLaws
+pub mod AnsweredLemmas
+pub mod LengthLemmas
+pub mod ResponseLemmas
 mod RangeLemmas
 mod FieldLemmas
 mod AnswerLemmas

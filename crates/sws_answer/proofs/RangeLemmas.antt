@@ -18,7 +18,7 @@ use Rattle.sws_site.specs.ResponseHeads.{ResponseHead, head_text}
 use Rattle.sws_site.specs.Fixed.{plain_text}
 use Rattle.sws_site.specs.Limits.{max_bytes}
 use Rattle.sws_site.specs.Files.{File}
-use Rattle.sws_site.proofs.HeadLengths.{head_text-short}
+use Rattle.sws_site.proofs.HeadLengthsLemmas.{head_text-short}
 use Rattle.sws_answer.specs.declared.ranges.RangeSpec.{RangeSpec}
 use Rattle.sws_answer.specs.declared.ranges.RangeSpec.TheVariants.{Between, Onward, Suffix}
 use Rattle.sws_answer.specs.declared.ranges.Selection.TheVariants.{Whole, Part, Unsatisfied}

@@ -14,7 +14,7 @@ use Rattle.sws_site.specs.ContentTypes.{content_type}
 use Rattle.sws_site.specs.ResponseHeads.{head_text}
 use Rattle.sws_site.specs.Fixed.{fixed_body, plain_text}
 use Rattle.sws_site.specs.Files.{File}
-use Rattle.sws_site.specs.Sites.{SiteFiles}
+use Rattle.sws_site.specs.Site.{SiteState}
 use Rattle.sws_answer.specs.Asked.{Asked, request, not_request, too_long}
 use Rattle.sws_answer.specs.Cases.{request_status, file_for}
 use Rattle.sws_answer.specs.Closing.{is_closing}
@@ -40,9 +40,11 @@ pub record Content : Type 0 where
   pub kind : List ℕ
   pub bytes : List ℕ
 
+-- there is no content
 abbrev pub no_content : Content
 no_content = record { kind = []; bytes = [] }
 
+-- a file as content, all of it
 abbrev pub file_content : Option File → Content
 file_content None = no_content
 file_content (Some file) = record { kind = content_type file.0; bytes = file.1 }
@@ -53,11 +55,13 @@ selected_bytes Whole bytes = bytes
 selected_bytes (Part first last) bytes = slice_range bytes first (last + 1)
 selected_bytes Unsatisfied bytes = []
 
+-- the selected part of a file as content
 abbrev pub part_content : Option File → Selection → Content
 part_content None selection = no_content
 part_content (Some file) selection =
     record { kind = content_type file.0; bytes = selected_bytes selection file.1 }
 
+-- the line of text that tells a status
 abbrev pub status_content : Status → Content
 status_content status = record { kind = plain_text; bytes = fixed_body status }
 
@@ -68,6 +72,7 @@ content_by WholeFile status file selection = file_content file
 content_by PartOfFile status file selection = part_content file selection
 content_by StatusText status file selection = status_content status
 
+-- the content of the response with this status
 abbrev pub content_of : Status → Option File → Selection → Content
 content_of status file selection = content_by (row_of status).body status file selection
 
@@ -77,6 +82,7 @@ range_selected Whole len = None
 range_selected (Part first last) len = Some (Selected first last len)
 range_selected Unsatisfied len = Some (NoSuch len)
 
+-- what the head says of the range, where one of a file is asked for
 abbrev pub range_of : Option File → Selection → Option ContentRange
 range_of None selection = None
 range_of (Some file) selection = range_selected selection (length file.1)
@@ -101,11 +107,12 @@ response date status file selection closes is_head =
 
 -- ---- the answer to what was asked
 
+-- the response has no content (RFC 9110, section 9.3.2)
 abbrev pub is_head_request : Request → Bool
 is_head_request asked = bytes_eq asked.method (codes "HEAD")
 
 -- the answer to a request; with last no further head is answered
-unfoldable pub request_answer : SiteFiles → Request → Bool → Answer
+unfoldable pub request_answer : SiteState → Request → Bool → Answer
 request_answer site asked last =
     let status = request_status site asked in
     let file = file_for site asked in
@@ -113,7 +120,7 @@ request_answer site asked last =
     response site.date status file (selection_for asked file) closes (is_head_request asked)
 
 -- the answer to what was asked; of what is no request no method is known, so its body is sent
-abbrev pub answer_of : SiteFiles → Asked → Bool → Answer
+abbrev pub answer_of : SiteState → Asked → Bool → Answer
 answer_of site (request asked) last = request_answer site asked last
 answer_of site not_request last = response site.date BadRequest None Whole true false
 answer_of site too_long last = response site.date HeaderFieldsTooLarge None Whole true false

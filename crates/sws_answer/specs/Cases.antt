@@ -6,7 +6,7 @@ use Rattle.sws_request.specs.Request.{Request}
 use Rattle.sws_site.specs.declared.statuses.Status.{Status}
 use Rattle.sws_site.specs.declared.statuses.Status.TheVariants.{Success, PartialContent, NotModified, BadRequest, NotFound, MethodNotAllowed, RangeNotSatisfiable, NotImplemented}
 use Rattle.sws_site.specs.Files.{File, file_named}
-use Rattle.sws_site.specs.Sites.{SiteFiles}
+use Rattle.sws_site.specs.Site.{SiteState}
 use Rattle.sws_answer.specs.Fields.{values_of}
 use Rattle.sws_answer.specs.Targets.{path_and_query, name_of}
 use Rattle.sws_answer.specs.Conditions.{is_unmodified}
@@ -18,6 +18,7 @@ lacks_host asked =
     let hosts = length (values_of (codes "host") asked.fields) in
     nat_lt 1 hosts || (hosts == 0 && asked.minor == 1)
 
+-- the word is one of the list, byte for byte
 abbrev pub is_one_of : List (List ℕ) → List ℕ → Bool
 is_one_of words word = list_any (bytes_eq word) words
 
@@ -32,7 +33,7 @@ other_methods =
     ∷ codes "CONNECT" ∷ []
 
 -- the file that the request names
-abbrev pub file_for : SiteFiles → Request → Option File
+abbrev pub file_for : SiteState → Request → Option File
 file_for site asked = option_and_then (λ name. file_named name site.files) (name_of asked.target)
 
 -- the status of the first case that holds
@@ -41,7 +42,7 @@ first_case [] otherwise = otherwise
 first_case (row ∷ rows) otherwise = if row.0 then row.1 else first_case rows otherwise
 
 -- the cases of a request, with the status of each
-abbrev pub request_cases : SiteFiles → Request → List (Bool × Status)
+abbrev pub request_cases : SiteState → Request → List (Bool × Status)
 request_cases site asked =
     (lacks_host asked, BadRequest)
     ∷ (is_one_of other_methods asked.method, MethodNotAllowed)
@@ -53,5 +54,5 @@ request_cases site asked =
     ∷ (is_part (selection_for asked (file_for site asked)), PartialContent)
     ∷ []
 
-unfoldable pub request_status : SiteFiles → Request → Status
+unfoldable pub request_status : SiteState → Request → Status
 request_status site asked = first_case (request_cases site asked) Success

@@ -8,6 +8,7 @@ use Rattle.sws_answer.specs.Fields.{Field, is_named, has_field, has_member}
 abbrev pub is_close_field : Field → Bool
 is_close_field field = is_named (codes "connection") field && has_member (codes "close") field.1
 
+-- some Connection field has the option `close` (RFC 9112, section 9.6)
 abbrev pub asks_to_close : List Field → Bool
 asks_to_close fields = list_any is_close_field fields
 
@@ -19,6 +20,7 @@ is_zero value = not (length value == 0) && list_all (λ byte. byte == 48) value
 abbrev pub is_length_field : Field → Bool
 is_length_field field = is_named (codes "content-length") field && not (is_zero field.1)
 
+-- some field is a Content-Length
 abbrev pub has_content_length : List Field → Bool
 has_content_length fields = list_any is_length_field fields
 

@@ -10,7 +10,7 @@ abbrev pub is_not_before : HttpDate → List ℕ → Bool
 is_not_before date value =
     option_map_or (λ secs. nat_le (unix_secs date) secs) (parse_secs value) false
 
--- the same as a fact: the value shows such a date
+-- the value is a text of a date in one of the three forms that is not before the date (RFC 9110, section 5.6.7)
 abbrev pub NamesDateFrom : HttpDate → List ℕ → Type 0
 NamesDateFrom date value = (named : HttpDate) × IsDateText value named
     × (unix_secs date ≤ unix_secs named)

@@ -4,7 +4,7 @@ use Rattle.sws_request.specs.Request.{Request}
 use Rattle.sws_site.specs.declared.statuses.Status.{Status}
 use Rattle.sws_site.specs.declared.statuses.Status.TheVariants.{Success, PartialContent, NotModified, NotFound, RangeNotSatisfiable}
 use Rattle.sws_site.specs.Files.{File, file_named}
-use Rattle.sws_site.specs.Sites.{SiteFiles}
+use Rattle.sws_site.specs.Site.{SiteState}
 use Rattle.sws_answer.specs.declared.ranges.Selection.{Selection}
 use Rattle.sws_answer.specs.declared.ranges.Selection.TheVariants.{Whole, Part, Unsatisfied}
 use Rattle.sws_answer.specs.Conditions.{is_unmodified}
@@ -18,7 +18,7 @@ status_by (Part first last) = PartialContent
 status_by Unsatisfied = RangeNotSatisfiable
 
 -- the answer to a request for the file
-abbrev pub file_answer : SiteFiles → Request → Option File → Bool → Bool → Answer
+abbrev pub file_answer : SiteState → Request → Option File → Bool → Bool → Answer
 file_answer site asked None closes is_head = response site.date NotFound None Whole closes is_head
 file_answer site asked (Some file) closes is_head =
     let selection = selection_in asked (length file.1) in
@@ -26,6 +26,6 @@ file_answer site asked (Some file) closes is_head =
     selection) (Some file) selection closes is_head
 
 -- the answer to a request that names a file by this name
-abbrev pub name_answer : SiteFiles → Request → List ℕ → Bool → Bool → Answer
+abbrev pub name_answer : SiteState → Request → List ℕ → Bool → Bool → Answer
 name_answer site asked name closes is_head =
     file_answer site asked (file_named name site.files) closes is_head

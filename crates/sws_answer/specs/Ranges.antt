@@ -32,6 +32,7 @@ spec_of before behind =
     else option_and_then (λ first.
     option_and_then (λ last. between first last) (number_in behind)) (number_in before))
 
+-- b'-'
 abbrev pub is_dash : ℕ → Bool
 is_dash byte = byte == 45
 
@@ -67,6 +68,7 @@ selection_of len (Onward first) = part_from len first (len - 1)
 selection_of len (Suffix count) =
     if count == 0 then Unsatisfied else (if len == 0 then Whole else Part (len - count) (len - 1))
 
+-- what the range selects of a file of so many bytes; without one it is the whole file
 abbrev pub selection_by : ℕ → Option RangeSpec → Selection
 selection_by len None = Whole
 selection_by len (Some spec) = selection_of len spec
@@ -80,11 +82,13 @@ abbrev pub selection_for : Request → Option File → Selection
 selection_for asked None = Whole
 selection_for asked (Some file) = selection_in asked (length file.1)
 
+-- a part of the file is selected
 abbrev pub is_part : Selection → Bool
 is_part Whole = false
 is_part (Part first last) = true
 is_part Unsatisfied = false
 
+-- the file has no byte of the range
 abbrev pub is_unsatisfied : Selection → Bool
 is_unsatisfied Whole = false
 is_unsatisfied (Part first last) = false

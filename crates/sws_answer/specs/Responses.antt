@@ -4,7 +4,7 @@ use Rattle.std.specs.List.{flat_map, list_any}
 use Rattle.sws_request.specs.declared.cuts.Cut.{Cut}
 use Rattle.sws_request.specs.declared.cuts.Cut.TheVariants.{Head, TooLong, NotYet}
 use Rattle.sws_request.specs.Cuts.{cut_of}
-use Rattle.sws_site.specs.Sites.{SiteFiles}
+use Rattle.sws_site.specs.Site.{SiteState}
 use Rattle.sws_answer.specs.Asked.{too_long, asked_by}
 use Rattle.sws_answer.specs.Answers.{Answer, answer_of, text_of}
 
@@ -21,20 +21,20 @@ abbrev pub followed : Answer → List Answer → List Answer
 followed answer later = answer ∷ (if answer.closes then [] else later)
 
 -- the answers to the bytes, by where their first head ends, with those to the bytes after it
-abbrev pub answers_at : SiteFiles → List ℕ → Bool → Cut → (ℕ → List Answer) → List Answer
+abbrev pub answers_at : SiteState → List ℕ → Bool → Cut → (ℕ → List Answer) → List Answer
 answers_at site bytes last NotYet later = []
 answers_at site bytes last TooLong later = answer_of site too_long last ∷ []
 answers_at site bytes last (Head len) later =
     followed (answer_of site (asked_by (take len bytes)) last) (later len)
 
 -- the answers to the bytes, of which at most so many are given
-unfoldable pub answers : ℕ → SiteFiles → List ℕ → List Answer
+unfoldable pub answers : ℕ → SiteState → List ℕ → List Answer
 answers zero site bytes = []
 answers (suc more) site bytes =
     answers_at site bytes (more == 0) (cut_of bytes) (λ len. answers more site (drop len bytes))
 
 -- the answers to all bytes of a connection
-unfoldable pub answers_to : SiteFiles → List ℕ → List Answer
+unfoldable pub answers_to : SiteState → List ℕ → List Answer
 answers_to site bytes = answers answer_limit site (take input_limit bytes)
 
 -- their texts, one after another
@@ -46,7 +46,7 @@ abbrev pub is_closed : List Answer → Bool
 is_closed given = list_any (λ answer. answer.closes) given
 
 -- the responses to all bytes of a connection
-unfoldable pub responses_of : SiteFiles → List ℕ → List ℕ
+unfoldable pub responses_of : SiteState → List ℕ → List ℕ
 responses_of site bytes = texts_of (answers_to site bytes)
 
 -- the whole begins with the first ones

@@ -1,7 +1,7 @@
 //! The answer to one head.
 ghost use Rattle.std.specs.Prelude.{◌≡◌, ◌≤◌, ◌<◌, IsTrue, Bool, true, false, not, ◌||◌, length, [], codes, if◌then◌else◌, None, Some};
 ghost use Rattle.sws_site.specs.declared.statuses.Status.{Status as StatusValue};
-ghost use Rattle.sws_site.specs.Sites.{SiteFile};
+ghost use Rattle.sws_site.specs.Page.{PageState};
 ghost use Rattle.sws_answer.specs.Cases.{lacks_host, is_one_of, file_methods, other_methods};
 ghost use Rattle.sws_answer.specs.Answers.{is_head_request, response, request_answer, answer_of};
 ghost use Rattle.sws_answer.specs.FileAnswers.{file_answer, name_answer};

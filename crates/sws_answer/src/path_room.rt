@@ -16,12 +16,13 @@ pub struct PathRoom {
 
 impl Model for PathRoom {
     ghost use Rattle.std.specs.Prelude.{List, ℕ, vec_capacity, ◌≤◌};
+    ghost use Rattle.sws_answer.specs.declared.path_room.TheConstants.{PATH_ROOM};
 
     ghost Value = { List ℕ };
 
     ghost view = { λ room. room.bytes.items };
 
-    ghost invariant = { λ room. 8202 ≤ vec_capacity room.bytes };
+    ghost invariant = { λ room. PATH_ROOM ≤ vec_capacity room.bytes };
 }
 
 impl PathRoom {
@@ -30,10 +31,8 @@ impl PathRoom {
         ensures { IfOk result (λ room. room ≡ []) }
     {
         let mut bytes = Vec::new(alloc);
-        match bytes.reserve(PATH_ROOM) {
-            Ok(()) => Ok(PathRoom { bytes }),
-            Err(_) => Err(Memory),
-        }
+        bytes.reserve(PATH_ROOM)?;
+        Ok(PathRoom { bytes })
     }
 
     /// What was put in.
@@ -53,7 +52,7 @@ impl PathRoom {
     /// Puts the bytes behind what was put in, where there is room for them, and says whether there is.
     pub(crate) fn put(&mut self, bytes: &[u8]) -> bool
         ensures put { result ≡ true → self.new ≡ self.old ++ bytes.now }
-        ensures full { result ≡ false → 8202 < length self.old + length bytes.now }
+        ensures full { result ≡ false → PATH_ROOM < length self.old + length bytes.now }
     {
         if bytes.len() > PATH_ROOM || self.bytes.len() > PATH_ROOM - bytes.len() {
             return false;

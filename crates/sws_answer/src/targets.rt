@@ -2,6 +2,7 @@
 ghost use Rattle.std.specs.Prelude.{◌≡◌, ◌<◌, ◌≤◌, true, false, [], length, drop, option_map, option_copied, IfSome};
 ghost use Rattle.std.specs.List.{position_or_len};
 ghost use Rattle.percent_encoding.specs.Percent.{percent_decode as decoded};
+ghost use Rattle.sws_answer.specs.declared.path_room.TheConstants.{PATH_ROOM};
 ghost use Rattle.sws_answer.specs.Targets.{ends_path, ends_authority, path_of, rooted, behind_authority, is_absolute, path_and_query, with_index, ends_in_slash as ends_with_slash};
 
 use crate::fields::is_same_word;
@@ -100,7 +101,7 @@ pub fn behind_first_slash(target: &[u8]) -> Option<&[u8]>
 fn decode(path: &[u8], room: &mut PathRoom) -> bool
     requires { room.old ≡ [] }
     ensures decoded { result ≡ true → room.new ≡ decoded path.now }
-    ensures outgrown { result ≡ false → 8202 < length (decoded path.now) }
+    ensures outgrown { result ≡ false → PATH_ROOM < length (decoded path.now) }
 {
     'bytes: for byte in percent_decode(path) {
         if !room.put(&[byte]) {
@@ -121,7 +122,7 @@ fn is_folder(name: &[u8]) -> bool
 /// was room for it.
 pub fn write_name(path: &[u8], room: &mut PathRoom) -> bool
     ensures written { result ≡ true → room.new ≡ with_index (decoded path.now) }
-    ensures outgrown { result ≡ false → 8202 < length (with_index (decoded path.now)) }
+    ensures outgrown { result ≡ false → PATH_ROOM < length (with_index (decoded path.now)) }
 {
     room.clear();
     if !decode(path, room) {

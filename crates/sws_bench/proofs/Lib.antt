@@ -1,8 +1,8 @@
-pub mod ListLaws
-pub mod FileLaws
-pub mod PieceLaws
-pub mod ConnLaws
-pub mod InputLaws
-pub mod OutcomeLaws
-pub mod SummaryLaws
-pub mod WriteLaws
+pub mod ListLemmas
+pub mod FileLemmas
+pub mod PieceLemmas
+pub mod ConnLemmas
+pub mod InputLemmas
+pub mod OutcomeLemmas
+pub mod SummaryLemmas
+pub mod WriteLemmas

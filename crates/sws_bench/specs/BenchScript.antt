@@ -45,6 +45,7 @@ behind_conn state = stepped (behind_requests state)
 unfoldable pub pieces : ℕ → List ℕ → List (List ℕ)
 pieces size bytes = map (slice_chunk bytes size) (range_with_len 0 (div_ceil (length bytes) size))
 
+-- the items that send these pieces
 abbrev pub sends : List (List ℕ) → List Item
 sends parts = map Send parts
 

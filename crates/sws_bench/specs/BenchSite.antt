@@ -3,7 +3,7 @@ use Rattle.std.specs.Prelude.{ℕ, ◌+◌, ◌*◌, ◌%◌, List, ◌++◌, ma
 use Rattle.std.specs.List.{range_with_len}
 use Rattle.std.specs.Fmt.{decimal}
 use Rattle.sws_site.specs.Files.{File}
-use Rattle.sws_site.specs.Sites.{SiteFiles}
+use Rattle.sws_site.specs.Site.{SiteState}
 
 -- the letters from `a` to `z` over and over, 97 being `a`: a file of a greater number has more of them, and begins with a later one
 unfoldable pub contents : ℕ → List ℕ
@@ -13,6 +13,7 @@ contents number = map (λ place. 97 + (place + number) % 26) (range_with_len 0 (
 unfoldable pub file_name : ℕ → List ℕ
 file_name number = codes "f" ++ decimal number ++ codes ".txt"
 
+-- the file of this number
 abbrev pub file : ℕ → File
 file number = (file_name number, contents number)
 
@@ -20,5 +21,6 @@ file number = (file_name number, contents number)
 unfoldable pub bench_files : List File
 bench_files = map file (range_with_len 0 16)
 
-abbrev pub bench_site : SiteFiles
+-- the site of a bench
+abbrev pub bench_site : SiteState
 bench_site = record { files = bench_files; date = None }

@@ -2,5 +2,5 @@ mod WindowLemmas
 mod SearchLemmas
 mod LookLemmas
 mod LentLemmas
-pub mod PathLaws
-pub mod ResponseLaws
+pub mod PathLemmas
+pub mod ResponseLemmas

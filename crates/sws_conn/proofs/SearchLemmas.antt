@@ -8,8 +8,8 @@ use Rattle.sws_request.specs.declared.scans.Scan.{Scan}
 use Rattle.sws_request.specs.Head.{head_limit}
 use Rattle.sws_request.specs.Cuts.{lines_of, cut_of}
 use Rattle.sws_request.specs.Scans.{StandsFor, whole_lines}
-use Rattle.sws_request.proofs.CutLaws.{cut_of-append}
-use Rattle.sws_request.proofs.ScanLaws.{has_feed, StandsFor-short, StandsFor-front, StandsFor-quiet, cut_of-searched}
+use Rattle.sws_request.proofs.CutLemmas.{cut_of-append}
+use Rattle.sws_request.proofs.SearchLemmas.{has_feed, StandsFor-short, StandsFor-front, StandsFor-quiet, cut_of-searched}
 use Rattle.sws_conn.specs.declared.buffer.Buffer.TheInside.{Inside}
 use Rattle.sws_conn.specs.Searches.{StopsIn, StopsAt, IsSearchedFor, IsSearched, IsQuiet, IsLookedAt}
 

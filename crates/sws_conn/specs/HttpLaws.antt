@@ -7,30 +7,33 @@ use Rattle.sws_request.specs.declared.cuts.Cut.{Cut}
 use Rattle.sws_request.specs.declared.cuts.Cut.TheVariants.{Head, TooLong, NotYet}
 use Rattle.sws_request.specs.Cuts.{cut_of}
 use Rattle.sws_request.specs.Head.{IsHead, HasNoHeadWithin, head_limit}
-use Rattle.sws_request.proofs.CutLaws.{IsCutOf-cut_of, cut_of-is, cut_of-take}
-use Rattle.sws_site.specs.Sites.{SiteFiles}
+use Rattle.sws_request.proofs.CutLemmas.{IsCutOf-cut_of, cut_of-is, cut_of-take}
+use Rattle.sws_site.specs.Site.{SiteState}
 use Rattle.sws_answer.specs.Asked.{asked_by}
 use Rattle.sws_answer.specs.Answers.{answer_of}
 use Rattle.sws_answer.specs.Responses.{answers, answers_to, responses_of, texts_of, answer_limit, input_limit, followed}
-use Rattle.sws_answer.proofs.AnswerLaws.{closes-last, closes-too_long, head-some}
-use Rattle.sws_answer.proofs.LengthLaws.{answer_of-short}
-use Rattle.sws_answer.proofs.ResponseLaws.{answers-head, answers-too_long, answers-not_yet}
+use Rattle.sws_answer.proofs.AnsweredLemmas.{closes-last, closes-too_long, head-some}
+use Rattle.sws_answer.proofs.LengthLemmas.{answer_of-short}
+use Rattle.sws_answer.proofs.ResponseLemmas.{answers-head, answers-too_long, answers-not_yet}
 use Rattle.sws_steps.specs.Protocol.{IsOrderly}
 use Rattle.sws_steps.specs.Protocol as protocol
 use Rattle.sws_conn.specs.Http.{http, cut_by, asked_for}
 
 -- ---- the cut of HTTP, by the one of a connection
 
+-- as HTTP says it, no request is whole where no head is
 not-yet : (cut : Cut) → cut_by cut ≡ protocol.NotYet → cut ≡ NotYet
 not-yet (Head len) e = cc
 not-yet TooLong e = cc
 not-yet NotYet e = refl
 
+-- as HTTP says it, a request is too long where its head is
 too-long : (cut : Cut) → cut_by cut ≡ protocol.TooLong → cut ≡ TooLong
 too-long (Head len) e = cc
 too-long TooLong e = refl
 too-long NotYet e = cc
 
+-- as HTTP says it, a request is whole where its head is
 whole-head : (cut : Cut) (len : ℕ) → cut_by cut ≡ protocol.Whole len → cut ≡ Head len
 whole-head (Head n) len e = let same : n ≡ len = cc in ap (λ k. Head k) same
 whole-head TooLong len e = cc
@@ -38,6 +41,7 @@ whole-head NotYet len e = cc
 
 -- ---- where nothing was taken there is no head
 
+-- no bytes are no head
 no_head : (bytes : List ℕ) → bytes ≡ [] → IsHead bytes → ⊥
 no_head bytes none head =
     let long : 1 ≤ length head.first =
@@ -54,10 +58,12 @@ no_head bytes none head =
       length-append head.first head.rest,
     ))
 
+-- of no bytes the first are none
 take-nil : (n : ℕ) → take {A = ℕ} n [] ≡ []
 take-nil zero = refl
 take-nil (suc n) = refl
 
+-- no bytes have no head yet
 nothing_cut : cut_of [] ≡ NotYet
 nothing_cut =
     let none : HasNoHeadWithin head_limit [] =
@@ -67,7 +73,7 @@ nothing_cut =
 -- ---- the answers
 
 -- a head at the front is answered, and then what comes behind it
-head-answered : (left : ℕ) (site : SiteFiles) (bytes more : List ℕ) (len : ℕ) → 0 < left
+head-answered : (left : ℕ) (site : SiteState) (bytes more : List ℕ) (len : ℕ) → 0 < left
     → cut_of bytes ≡ Head len
     → answers left site (take len bytes ++ more)
     ≡ followed (answer_of site (asked_by (take len bytes)) (left == 1))
@@ -83,20 +89,24 @@ head-answered left site bytes more len some e =
     (answers (left - 1) site (d ++ more)))
     (drop_all len head (omega (arith, length-take len bytes)))
 
-none-left : (site : SiteFiles) (bytes : List ℕ) → answers 0 site bytes ≡ []
+-- without an answer that is left there is none
+none-left : (site : SiteState) (bytes : List ℕ) → answers 0 site bytes ≡ []
 unfolding answers
 none-left site bytes = refl
 
-all-counted : (site : SiteFiles) (bytes : List ℕ)
+-- the answers are those to the bytes that count
+all-counted : (site : SiteState) (bytes : List ℕ)
     → answers_to site bytes ≡ answers answer_limit site (take input_limit bytes)
 unfolding answers_to
 all-counted site bytes = refl
 
-all-texts : (site : SiteFiles) (bytes : List ℕ)
+-- the responses are the texts of the answers
+all-texts : (site : SiteState) (bytes : List ℕ)
     → responses_of site bytes ≡ texts_of (answers_to site bytes)
 unfolding responses_of
 all-texts site bytes = refl
 
+-- HTTP is a protocol by which requests are answered in order
 pub http-orderly : IsOrderly http
 http-orderly = record {
   none_left = none-left;

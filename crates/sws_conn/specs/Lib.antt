@@ -4,7 +4,7 @@ pub mod WindowRooms
 pub mod Searches
 pub mod Http
 pub mod HttpLaws
-pub mod Standing
+pub mod Conn
 pub mod Step
 pub mod Shown
 pub mod Sound

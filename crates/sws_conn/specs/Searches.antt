@@ -34,5 +34,6 @@ pub record IsQuiet (seen : ℕ) (bytes : List ℕ) : Type 0 where
 abbrev pub IsLookedAt : Cut → Scan → List ℕ → Type 0
 IsLookedAt cut scan bytes = IsSearchedFor cut scan (length bytes) bytes × (cut ≡ cut_of bytes)
 
+-- what a buffer keeps of its search
 abbrev pub IsSearched : Inside → Type 0
 IsSearched buffer = IsSearchedFor buffer.cut buffer.scan buffer.seen buffer.window

@@ -1,13 +1,14 @@
 //! A connection.
 ghost use Rattle.std.specs.Prelude.{◌≡◌, ◌≢◌, ◌≤◌, ◌<◌, ◌^◌, ◌↔◌, ◌∷◌, [], false, IfOk, IsSome, Some, None};
-ghost use Rattle.sws_conn.specs.Standing.{told_next, told_end};
+ghost use Rattle.sws_conn.specs.Conn.{reported_step, told_end};
 ghost use Rattle.sws_link.specs.Links.{IsFresh};
 ghost use Rattle.sws_conn.specs.Step.{Steps, StepsFrom, Opens};
 ghost use Rattle.sws_conn.specs.Sound.{IsSound, IsShutAtEnd, unopened};
 ghost use Rattle.sws_conn.specs.Path.{FollowsScript, TakesEvent, TakesOff, HasNoEvents, open_link, path_told, rest_told, told_by_link};
 ghost use Rattle.sws_conn.specs.Serving.{BeginsResponses};
+ghost use Rattle.sws_conn.specs.Responses.{input_limit};
 ghost use Rattle.sws_conn.specs.Run.{HasRun};
-ghost use Rattle.sws_conn.specs.Shown.{shown};
+ghost use Rattle.sws_conn.specs.Shown.{state_of};
 ghost use Rattle.std.specs.Option.{option_copied};
 
 use crate::buffer::Buffer;
@@ -19,28 +20,28 @@ use sws_answer::PathRoom;
 use sws_link::{Link, Memory};
 use sws_parts::Parts;
 use sws_site::Site;
-use sws_steps::{Talking, close_step, look_step, parse_step, read_step, told, write_step};
+use sws_steps::{ConnCore, close_step, look_step, parse_step, read_step, told, write_step};
 
 /// A connection over a link, which does one step at a time. All of it but the link lies in a box, so that little is
 /// moved where the connection is.
 #[derive(Drop)]
 pub struct Conn<'s, L: Link> {
-    talking: Box<Talking<Http<'s>>>,
+    talking: Box<ConnCore<Http<'s>>>,
     link: Option<L>,
 }
 
 impl<'s, L: Link> Model for Conn<'s, L> {
-    ghost use Rattle.sws_conn.specs.Standing.{Connection};
+    ghost use Rattle.sws_conn.specs.Conn.{ConnState};
 
-    ghost Value = { Connection L };
+    ghost Value = { ConnState L };
 
-    ghost use Rattle.sws_conn.specs.Shown.{shown};
+    ghost use Rattle.sws_conn.specs.Shown.{state_of};
     ghost use Rattle.sws_conn.specs.Sound.{IsSound};
 
-    ghost view = { λ conn. record { standing = shown conn.talking.value; link = conn.link } };
+    ghost view = { λ conn. record { standing = state_of conn.talking.value; link = conn.link } };
 
     ghost invariant = { λ conn.
-        IsSound L.Link (record { standing = shown conn.talking.value; link = conn.link }) };
+        IsSound L.Link (record { standing = state_of conn.talking.value; link = conn.link }) };
 }
 
 impl<'s, L: Link + Drop> Conn<'s, L> {
@@ -54,7 +55,7 @@ impl<'s, L: Link + Drop> Conn<'s, L> {
         let buffer = Buffer::new(alloc)?;
         let room = PathRoom::new(alloc)?;
         site.limits();
-        let talking = Talking {
+        let talking = ConnCore {
             speech: Http {
                 site,
                 buffer,
@@ -104,7 +105,7 @@ impl<'s, L: Link + Drop> Conn<'s, L> {
     /// its event off the rest of their path. Only the close shuts the link. An end that is known stays.
     pub fn step(&mut self) -> Next
         ensures steps { Steps L.Link self.old self.new }
-        ensures told { result ≡ told_next self.new.standing }
+        ensures told { result ≡ reported_step self.new.standing }
         ensures scripted { FollowsScript L.Link self.old self.new }
         ensures path { TakesEvent L.Link self.old self.new }
         ensures begins { BeginsResponses self.new.standing.hall
@@ -143,7 +144,7 @@ impl<'s, L: Link + Drop> Conn<'s, L> {
     /// How many bytes were taken, 65,536 at most.
     pub fn read(&self) -> u64
         ensures read { result ≡ self.now.standing.read }
-        ensures few { result ≤ 65536 }
+        ensures few { result ≤ input_limit }
     {
         self.talking.read
     }
@@ -173,9 +174,9 @@ impl<'s, L: Link + Drop> Conn<'s, L> {
 }
 
 /// Does the pending step.
-fn step_over<L: Link>(talking: &mut Talking<Http<'_>>, link: &mut Option<L>)
-    requires { IsSound L.Link (record { standing = shown talking.old; link = link.old }) }
-    ensures { StepsFrom L.Link (shown talking.old) (shown talking.new)
+fn step_over<L: Link>(talking: &mut ConnCore<Http<'_>>, link: &mut Option<L>)
+    requires { IsSound L.Link (record { standing = state_of talking.old; link = link.old }) }
+    ensures { StepsFrom L.Link (state_of talking.old) (state_of talking.new)
         talking.old.pending link.old link.new }
 {
     match (talking.pending, link) {

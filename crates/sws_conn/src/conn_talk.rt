@@ -1,7 +1,7 @@
 //! A connection as a talk over a site.
 ghost use Rattle.std.specs.Prelude.{List};
 ghost use Rattle.sws_answer.specs.Responses.{responses_of};
-ghost use Rattle.sws_conn.specs.Standing.{Connection};
+ghost use Rattle.sws_conn.specs.Conn.{ConnState};
 ghost use Rattle.sws_conn.specs.Outcome.{outcome_of, UnlessMemory};
 ghost use Rattle.sws_conn.specs.Path.{Handler, path_of, rest_told, TakesOff};
 ghost use Rattle.sws_conn.specs.Talks.{due, HasServed, ServesNow, path_to_come, IsDue};
@@ -74,16 +74,17 @@ impl<'s, L: Link + Drop> Talk<L> for Conn<'s, L> {
     }
 
     fn a_run_serves()
-        ensures serves { (first : L) (trail : List Handler) (talk : Connection L)
+        ensures serves { (first : L) (trail : List Handler) (talk : ConnState L)
             → HasRunOpen L.Link first trail talk
             → ServesNow (HasServed L.Link (responses_of talk.standing.hall)
             (outcome_of talk.standing.hall) first)
             talk.link (talk_view talk.standing) }
-        ensures path { (first : L) (trail : List Handler) (talk : Connection L)
+        ensures path { (first : L) (trail : List Handler) (talk : ConnState L)
             → HasRunOpen L.Link first trail talk
             → UnlessMemory talk.standing.end
-            (TakesOff trail (path_to_come (path_of talk.standing.hall) (L.tells first)) (rest_told L.Link talk)) }
-        ensures due { (first : L) (trail : List Handler) (talk : Connection L)
+            (TakesOff trail (path_to_come (path_of talk.standing.hall) (L.tells first))
+            (rest_told L.Link talk)) }
+        ensures due { (first : L) (trail : List Handler) (talk : ConnState L)
             → HasRunOpen L.Link first trail talk
             → IsDue (due (talk_view talk.standing)) (rest_told L.Link talk) }
     {}

@@ -1,6 +1,6 @@
 //! What a connection of HTTP says.
 ghost use Rattle.std.specs.Prelude.{◌≡◌};
-ghost use Rattle.sws_parts.specs.Unsent.{Unsent};
+ghost use Rattle.sws_parts.specs.Parts.{PartsState};
 
 use crate::buffer::Buffer;
 use sws_answer::{Answer, Asked, PathRoom, answer, ask};

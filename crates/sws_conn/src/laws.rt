@@ -2,11 +2,11 @@
 ghost use Rattle.std.specs.Prelude.{◌≡◌, ℕ, false, List, Option, Some, [], ◌∷◌, ◌++◌};
 ghost use Rattle.sws_link.specs.Links.{IsFresh};
 ghost use Rattle.sws_link.specs.Scripts.{Script, wait};
-ghost use Rattle.sws_site.specs.Sites.{SiteFiles};
+ghost use Rattle.sws_site.specs.Site.{SiteState};
 ghost use Rattle.sws_site.specs.Limits.{IsWithinLimits};
 ghost use Rattle.sws_steps.specs.declared.End.{End as EndValue};
 ghost use Rattle.sws_steps.specs.declared.Next.{Next as NextValue};
-ghost use Rattle.sws_conn.specs.Standing.{Connection};
+ghost use Rattle.sws_conn.specs.Conn.{ConnState};
 ghost use Rattle.sws_conn.specs.Step.{going_to, Steps};
 ghost use Rattle.sws_conn.specs.Sound.{unopened, IsReadyTo, IsSound};
 ghost use Rattle.sws_conn.specs.Outcome.{UnlessMemory};
@@ -19,15 +19,15 @@ use sws_link::Link;
 /// the close. Where a connection stands as it may, the rest of the path begins with the event of the pending step, and what
 /// follows is the rest of the path after that step. `pause` is an example: a link that is not ready once, and then at its end.
 pub fn a_path_is_of_steps()
-    ensures is { (site : SiteFiles) (script : Script) → IsWithinLimits site.files
+    ensures is { (site : SiteState) (script : Script) → IsWithinLimits site.files
         → IsPathFrom (record { standing = unopened site; script = script }) (path_of site script) }
     ensures alone { (from : Scripted) (one other : List Handler) → IsPathFrom from one
         → IsPathFrom from other → one ≡ other }
-    ensures open { (site : SiteFiles) (script : Script) → path_of site script
+    ensures open { (site : SiteState) (script : Script) → path_of site script
         ≡ open_link ∷ rest_of_path (going_to (unopened site) NextValue.Read) script }
-    ensures close { (site : SiteFiles) (script : Script) → IsWithinLimits site.files
+    ensures close { (site : SiteState) (script : Script) → IsWithinLimits site.files
         → (before : List Handler) × (path_of site script ≡ before ++ close ∷ []) }
-    ensures pause { (site : SiteFiles) (step cut : Option ℕ) → IsWithinLimits site.files
+    ensures pause { (site : SiteState) (step cut : Option ℕ) → IsWithinLimits site.files
         → path_of site (record { items = wait 1 ∷ []; step = step; cut = cut })
         ≡ open_link ∷ read_piece ∷ resume ∷ parse ∷ close ∷ [] }
     ensures step { (c : Scripted) → IsWithinLimits c.standing.hall.files
@@ -41,21 +41,21 @@ pub fn a_path_is_of_steps()
 /// at its end it has served the link, which is then shut, and the events are the whole path. The path is that of a link that told its answers
 /// to come, unless memory ran out.
 pub fn a_run_serves_its_link<L: Link>()
-    ensures start { (site : SiteFiles) (first : L) → IsWithinLimits site.files
+    ensures start { (site : SiteState) (first : L) → IsWithinLimits site.files
         → IsFresh (L.tells first) → L.is_shut first ≡ false
         → HasRun L.Link site first [] (opened site first) }
-    ensures goes_on { (site : SiteFiles) (first : L) (trail : List Handler) (event : Handler)
-        (before after : Connection L)
+    ensures goes_on { (site : SiteState) (first : L) (trail : List Handler) (event : Handler)
+        (before after : ConnState L)
         → HasRun L.Link site first trail before → event_of before.standing ≡ event ∷ []
         → Steps L.Link before after
         → HasRun L.Link site first (trail ++ event ∷ []) after }
-    ensures sound { (site : SiteFiles) (first : L) (trail : List Handler) (conn : Connection L)
+    ensures sound { (site : SiteState) (first : L) (trail : List Handler) (conn : ConnState L)
         → HasRun L.Link site first trail conn → IsSound L.Link conn }
-    ensures path { (site : SiteFiles) (first : L) (trail : List Handler) (conn : Connection L)
+    ensures path { (site : SiteState) (first : L) (trail : List Handler) (conn : ConnState L)
         → HasRun L.Link site first trail conn
         → UnlessMemory conn.standing.end
         (TakesOff (open_link ∷ trail) (path_told site (L.tells first)) (rest_told L.Link conn)) }
-    ensures ends { (site : SiteFiles) (first : L) (trail : List Handler) (conn : Connection L)
+    ensures ends { (site : SiteState) (first : L) (trail : List Handler) (conn : ConnState L)
         (now : L) (end : EndValue)
         → HasRun L.Link site first trail conn → conn.standing.pending ≡ NextValue.Nothing
         → conn.link ≡ Some now → conn.standing.end ≡ Some end

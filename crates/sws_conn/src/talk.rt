@@ -6,6 +6,7 @@ ghost use Rattle.sws_link.specs.Contents.{IsPrefix};
 ghost use Rattle.sws_link.specs.Links.{IsFresh};
 ghost use Rattle.sws_conn.specs.Outcome.{Outcome, UnlessMemory};
 ghost use Rattle.sws_conn.specs.Path.{Handler, open_link, TakesOff};
+ghost use Rattle.sws_conn.specs.Responses.{input_limit};
 ghost use Rattle.sws_conn.specs.Talks.{TalkView, unopened_view, next_told, end_told, due, OpensTalk, HasNoStep, HasServed, ServesNow, path_to_come, IsDue};
 
 use crate::{End, Next};
@@ -94,7 +95,7 @@ pub trait Talk<L: Link>: Sized {
     /// How many bytes were taken, 65,536 at most.
     fn read(&self) -> u64
         ensures read { result ≡ (view_of self.now).read }
-        ensures few { result ≤ 65536 };
+        ensures few { result ≤ input_limit };
 
     /// How many bytes were written.
     fn written(&self) -> u64

@@ -1,13 +1,15 @@
 //! Bytes that slide through a room of a fixed size.
 ghost use Rattle.std.specs.Prelude.{◌≡◌, ◌≤◌, ◌<◌, ◌+◌, [], false, None, length, drop, IfOk};
 ghost use Rattle.sws_link.specs.Links.{read_fault};
+ghost use Rattle.sws_request.specs.Head.{head_limit};
+ghost use Rattle.sws_steps.specs.Step.{read_limit};
 ghost use Rattle.sws_conn.specs.Windows.{Fills, ReadsAt};
 
 use std::alloc::Global;
 use std::marker::Model;
 use sws_link::{Link, LinkRead, Memory};
 
-/// The size of the room: less than a head, and one read.
+/// The size of the room: what is left of a head, and one read behind it.
 const ROOM: usize = 12288;
 
 /// Bytes at some place in a room of 12,288 bytes, which contracts see as a list.
@@ -38,14 +40,11 @@ impl Window {
     pub fn new(alloc: Global) -> Result<Window, Memory>
         ensures { IfOk result (λ window. window ≡ []) }
     {
-        match vec![in alloc; 0u8; ROOM] {
-            Ok(room) => Ok(Window {
-                room,
-                start: 0,
-                end: 0,
-            }),
-            Err(_) => Err(Memory),
-        }
+        Ok(Window {
+            room: vec![in alloc; 0u8; ROOM]?,
+            start: 0,
+            end: 0,
+        })
     }
 
     /// The bytes, in order.
@@ -59,8 +58,8 @@ impl Window {
     /// link's own.
     pub fn fill<L: Link>(&mut self, link: &mut L, most: usize) -> LinkRead
         requires some { 0 < most }
-        requires few { most ≤ 4096 }
-        requires short { length self.old ≤ 8192 }
+        requires few { most ≤ read_limit }
+        requires short { length self.old ≤ head_limit }
         requires not_shut { L.is_shut link.old ≡ false }
         ensures fills { Fills L.Link self.old link.old most result self.new link.new }
         ensures since { (first : L) → L.since first None link.old

@@ -1,9 +1,9 @@
-pub mod Handles
-pub mod Told
-pub mod First
-pub mod Openings
-mod Schedules
-pub mod Scripted
-pub mod Engine
-pub mod Steps
-pub mod Scripts
+pub mod HandlesLemmas
+pub mod ToldLemmas
+pub mod FirstLemmas
+pub mod OpeningsLemmas
+mod SchedulesLemmas
+pub mod ScriptedLemmas
+pub mod EngineLemmas
+pub mod StepsLemmas
+pub mod ScriptsLemmas

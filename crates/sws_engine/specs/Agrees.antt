@@ -67,6 +67,7 @@ abbrev pub carried : {P : Type 0} → (P → ℕ) → Option P → ℕ
 carried carries None = 0
 carried carries (Some load) = carries load
 
+-- how many worlds a state or an event under way has
 abbrev pub worlds_of : {S P : Type 0} → (S → ℕ) → (P → ℕ) → Piece S P → ℕ
 worlds_of holds carries (c, inl state) = holds state
 worlds_of holds carries (c, inr (event, load)) = carried carries load

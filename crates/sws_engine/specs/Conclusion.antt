@@ -10,10 +10,11 @@ use Rattle.sws_engine.specs.declared.ended.Served.{Served}
 use Rattle.sws_engine.specs.declared.ended.Ended.{Ended}
 use Rattle.sws_engine.specs.declared.load.WorldLoad.{WorldLoad}
 use Rattle.sws_engine.specs.declared.load.Load.{Load}
-use Rattle.sws_engine.specs.Places.{PlaceView}
+use Rattle.sws_engine.specs.Place.{PlaceState}
 use Rattle.sws_engine.specs.RunLeaves.{talkers, resting_in, ShowAll, VerdictIs}
 use Rattle.sws_engine.specs.Handing.{served_with, world_with}
 
+-- there is none
 abbrev pub is_empty : {A : Type 0} → List A → Bool
 is_empty [] = true
 is_empty (x ∷ xs) = false
@@ -33,7 +34,7 @@ abbrev pub failed_of : {W : Type 0} → Option (WorldLoad W) → Bool
 failed_of None = false
 failed_of (Some held) = held.failed
 
-module _ {W L T G H : Type 0} (y : TalkWords T L G H) (total : ℕ) (how : Drained) (parts : WeaveParts (PlaceView H W T) (Load W L)) (ended : Ended W L) where
+module _ {W L T G H : Type 0} (y : TalkWords T L G H) (total : ℕ) (how : Drained) (parts : WeaveParts (PlaceState H W T) (Load W L)) (ended : Ended W L) where
   -- what is still under way: queued, or refused for memory
   abbrev pub ways_of : List (Event × Option (Load W L))
   ways_of = flat_map (λ events. events) (map (λ events. events.items) parts.queued.items)

@@ -5,11 +5,12 @@ use Rattle.sws_link.specs.declared.Link.{Ghosts as LinkWords}
 use Rattle.sws_link.specs.declared.world.World.{Ghosts as WorldWords}
 use Rattle.sws_steps.specs.declared.Next.TheVariants as next
 use Rattle.sws_conn.specs.declared.talk.Talk.{Ghosts as TalkWords}
+use Rattle.sws_conn.specs.Responses.{input_limit}
 use Rattle.sws_conn.specs.Talks.{TalkView, unopened_view, end_told, HasServed}
 use Rattle.sws_engine.specs.declared.ended.Served.{Served}
 use Rattle.sws_engine.specs.declared.place.Seat.{Seat}
 use Rattle.sws_engine.specs.Loads.{LinkStands}
-use Rattle.sws_engine.specs.Places.{PlaceView}
+use Rattle.sws_engine.specs.Place.{PlaceState}
 use Rattle.sws_engine.specs.Served.{SeatServes}
 
 module _ {W L T G H : Type 0} (x : WorldWords W L) (l : LinkWords L) (y : TalkWords T L G H) (hall : H) (first : W) (i : ℕ) where
@@ -21,7 +22,7 @@ module _ {W L T G H : Type 0} (x : WorldWords W L) (l : LinkWords L) (y : TalkWo
 
   pub record ConnLeft (trail : List Event) (s : Served L) : Type 0 where
     -- the state of its colour, with its talk, from which all of it is told
-    pub place : PlaceView H W T
+    pub place : PlaceState H W T
     pub seat : Seat T
     pub colour : place.colour.0 ≡ i + 2
     pub over : (place.hall ≡ hall) × (place.first ≡ first) × (place.trail ≡ trail)
@@ -30,7 +31,7 @@ module _ {W L T G H : Type 0} (x : WorldWords W L) (l : LinkWords L) (y : TalkWo
     pub end : s.end ≡ end_told (y.view_of seat.talk)
     pub closed : IsSome s.end ↔ ((y.view_of seat.talk).pending ≡ next.Nothing)
     pub read : s.read ≡ (y.view_of seat.talk).read
-    pub few_read : s.read ≤ 65536
+    pub few_read : s.read ≤ input_limit
     pub written : s.written ≡ (y.view_of seat.talk).written
     pub few_written : s.written < 2 ^ 40
     -- the first event that wasn't due; without one the trail is the steps that were run, which come first on the path

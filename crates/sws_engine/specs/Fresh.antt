@@ -7,7 +7,7 @@ use Rattle.sws_engine.specs.declared.load.WorldLoad.{WorldLoad}
 use Rattle.sws_engine.specs.declared.place.Seat.{Seat}
 use Rattle.sws_engine.specs.declared.place.Role.{Role}
 use Rattle.sws_engine.specs.declared.place.Role.TheVariants.{Polling, Accepting, Talking}
-use Rattle.sws_engine.specs.Places.{PlaceView}
+use Rattle.sws_engine.specs.Place.{PlaceState}
 
 module _ {W L T G H : Type 0} (y : TalkWords T L G H) (first : W) where
   -- nobody waits at colour 0, and no connection has its link
@@ -17,15 +17,15 @@ module _ {W L T G H : Type 0} (y : TalkWords T L G H) (first : W) where
   FreshRole c Accepting = c ≡ 1
   FreshRole c (Talking seat) = (2 ≤ c) × (y.view_of seat.talk ≡ unopened_view) × (seat.stray ≡ None)
 
-  pub record IsFreshPlace (c : ℕ) (s : PlaceView H W T) : Type 0 where
+  pub record IsFreshPlace (c : ℕ) (s : PlaceState H W T) : Type 0 where
     pub colour : s.colour.0 ≡ c
     pub world : s.first ≡ first
     pub role : FreshRole c s.role
 
   -- a state for colours 0 and 1, and one for each connection
-  pub record AreFresh (total : ℕ) (states : List (PlaceView H W T)) : Type 0 where
+  pub record AreFresh (total : ℕ) (states : List (PlaceState H W T)) : Type 0 where
     pub many : length states ≡ total + 2
-    pub each : (i : ℕ) (s : PlaceView H W T) → slice_get states i ≡ Some s → IsFreshPlace i s
+    pub each : (i : ℕ) (s : PlaceState H W T) → slice_get states i ≡ Some s → IsFreshPlace i s
 
 -- the first poll: 1 where no link is to come
 abbrev pub first_poll : ℕ → Event
@@ -36,14 +36,14 @@ abbrev pub first_load : {W : Type 0} → W → WorldLoad W
 first_load world = record { world = world; accepted = 0; failed = false }
 
 -- a fresh state as it is made, over the hall
-pub record IsFirstPlace {W L T G H : Type 0} (y : TalkWords T L G H) (first : W) (hall : H) (c : ℕ) (s : PlaceView H W T) : Type 0 where
+pub record IsFirstPlace {W L T G H : Type 0} (y : TalkWords T L G H) (first : W) (hall : H) (c : ℕ) (s : PlaceState H W T) : Type 0 where
   pub fresh : IsFreshPlace y first c s
   pub untouched : s.trail ≡ []
   pub hall_is : s.hall ≡ hall
   pub own_hall : (seat : Seat T) → s.role ≡ Talking seat → y.hall_of seat.talk ≡ hall
 
 -- so many of them, in ascending order
-pub record AreFirstPlaces {W L T G H : Type 0} (y : TalkWords T L G H) (first : W) (hall : H) (count : ℕ) (states : List (PlaceView H W T)) : Type 0 where
+pub record AreFirstPlaces {W L T G H : Type 0} (y : TalkWords T L G H) (first : W) (hall : H) (count : ℕ) (states : List (PlaceState H W T)) : Type 0 where
   pub many : length states ≡ count
-  pub each : (i : ℕ) (s : PlaceView H W T) → slice_get states i ≡ Some s
+  pub each : (i : ℕ) (s : PlaceState H W T) → slice_get states i ≡ Some s
       → IsFirstPlace y first hall i s

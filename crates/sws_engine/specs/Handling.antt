@@ -24,23 +24,28 @@ use Rattle.sws_engine.specs.declared.place.Role.TheVariants.{Polling, Accepting,
 use Rattle.sws_engine.specs.declared.task.Task.{Task}
 use Rattle.sws_engine.specs.declared.task.Task.TheVariants as task
 use Rattle.sws_engine.specs.Tasks.{task_of}
-use Rattle.sws_engine.specs.Places.{PlaceView}
-use Rattle.sws_engine.specs.WaitingList.{TakenOff, waiting_with}
+use Rattle.sws_engine.specs.Place.{PlaceState}
+use Rattle.sws_engine.specs.Waiting.{TakenOff, waiting_with}
 
+-- what a handler puts: a colour, an event, and its load
 abbrev pub Put : Type 0 → Type 0 → Type 0
 Put W L = Colour × Event × Option (Load W L)
 
 -- ---- what may be put
 
+-- the poll, with the world
 abbrev pub poll_put : {W L : Type 0} → ℕ → WorldLoad W → Put W L
 poll_put arg held = (record { 0 = 0 }, record { handler = 0; arg = arg }, Some (load.World held))
 
+-- the accept, with the world
 abbrev pub accept_put : {W L : Type 0} → WorldLoad W → Put W L
 accept_put held = (record { 0 = 1 }, record { handler = 2; arg = 0 }, Some (load.World held))
 
+-- colour 0 is asked to wait for connection i
 abbrev pub wait_put : {W L : Type 0} → ℕ → Put W L
 wait_put i = (record { 0 = 0 }, record { handler = 1; arg = i }, None)
 
+-- connection i is opened, with its link
 abbrev pub open_put : {W L : Type 0} → ℕ → L → Put W L
 open_put i link = (record { 0 = i + 2 }, record { handler = 3; arg = i }, Some (load.Link link))
 
@@ -54,6 +59,7 @@ number_of write_part = 7
 number_of close = 8
 number_of resume = 9
 
+-- a step of connection i
 abbrev pub step_put : {W L : Type 0} → ℕ → Handler → Put W L
 step_put i step = (record { 0 = i + 2 }, record { handler = number_of step; arg = i }, None)
 
@@ -93,6 +99,7 @@ Answered waiting last polled.Failed asked = asked ≡ record {
   resumed = [];
 }
 
+-- somebody waits
 abbrev pub is_some : List ℕ → Bool
 is_some [] = false
 is_some (w ∷ ws) = true
@@ -108,6 +115,7 @@ resuming true (first ∷ rest) asked =
 resuming true [] asked = asked
 resuming false waiting asked = asked
 
+-- where the world failed, the first that waits goes on
 abbrev pub resumed_one : Asked → Asked
 resumed_one asked = resuming asked.failed asked.waiting asked
 
@@ -117,6 +125,7 @@ onward false waiting held = accept_put held ∷ []
 onward true (w ∷ ws) held = poll_put 1 held ∷ []
 onward true [] held = []
 
+-- the world that rests at the desk afterwards: where nothing more is to be accepted and nobody waits
 abbrev pub rest_of : {W : Type 0} → Bool → List ℕ → WorldLoad W → Option (WorldLoad W)
     → Option (WorldLoad W)
 rest_of false waiting held resting = resting
@@ -132,6 +141,7 @@ woken_by (Some held) = poll_put 1 held ∷ []
 abbrev pub poll_after : Bool → ℕ
 poll_after last = if last then 1 else 0
 
+-- what an accept puts: by what the world answered
 abbrev pub accept_puts : {W L : Type 0} → ℕ → WorldLoad W → W → Accepted L → List (Put W L)
 accept_puts total held now (accepted.Link link) =
     poll_put (poll_after (held.accepted + 1 == total)) (record {
@@ -154,6 +164,7 @@ abbrev pub is_due : ℕ → Option Handler → Event → Bool
 is_due i None event = false
 is_due i (Some step) event = (event.handler == number_of step) && (event.arg == i)
 
+-- the first stray event, with one more
 abbrev pub stray_of : Option Event → Event → Option Event
 stray_of None event = Some event
 stray_of (Some first) event = Some first
@@ -162,6 +173,7 @@ stray_of (Some first) event = Some first
 abbrev pub conn_of : Colour → ℕ
 conn_of c = c.0 - 2
 
+-- connection i waits now, and a world that rested polls again
 pub record RunsWait {W L : Type 0} (desk : Desk W) (i : ℕ) (after : Desk W) (puts : List (Put W L)) : Type 0 where
   pub waiting : after.waiting.items ≡ waiting_with i desk.waiting.items
   pub last : after.last ≡ desk.last
@@ -251,7 +263,7 @@ module _ {W L T G H : Type 0} (x : WorldWords W L) (l : LinkWords L) (y : TalkWo
   RunsRole c role event carried after puts total = ⊥
 
   -- what the handler of an event does: the event joins the trail, and all but the role stays
-  pub record Runs (total : ℕ) (before : PlaceView H W T) (event : Event) (carried : Option (Load W L)) (after : PlaceView H W T) (puts : List (Put W L)) : Type 0 where
+  pub record Runs (total : ℕ) (before : PlaceState H W T) (event : Event) (carried : Option (Load W L)) (after : PlaceState H W T) (puts : List (Put W L)) : Type 0 where
     pub colour : after.colour ≡ before.colour
     pub hall : after.hall ≡ before.hall
     pub first : after.first ≡ before.first

@@ -3,11 +3,11 @@ use Rattle.std.specs.Prelude.{◌≡◌, ◌+◌, List, ◌++◌, length, map, v
 use Rattle.sws_conn.specs.declared.talk.Talk.{Ghosts as TalkWords}
 use Rattle.sws_engine.specs.declared.ended.Served.{Served}
 use Rattle.sws_engine.specs.declared.left.Left.{Left}
-use Rattle.sws_engine.specs.Places.{PlaceView}
+use Rattle.sws_engine.specs.Place.{PlaceState}
 use Rattle.sws_engine.specs.RunLeaves.{ShowAll, resting_in, talkers}
 
 -- of these states the connections came behind those that were there, and so did the trails; a world that rests is kept
-pub record KeepsStates {W L T G H : Type 0} (y : TalkWords T L G H) (states : List (PlaceView H W T)) (before after : Left W L) : Type 0 where
+pub record KeepsStates {W L T G H : Type 0} (y : TalkWords T L G H) (states : List (PlaceState H W T)) (before after : Left W L) : Type 0 where
   pub added : List (Served L)
   pub shows : ShowAll y (talkers states) added
   pub served : after.served.items ≡ before.served.items ++ added

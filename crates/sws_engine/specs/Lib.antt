@@ -1,14 +1,14 @@
 pub mod Tasks
 pub mod Counting
-pub mod WaitingList
+pub mod Waiting
 pub mod WaitingKept
-pub mod Places
+pub mod Place
 pub mod PlaceShown
 pub mod Loads
 pub mod Handling
 pub mod Polling
 pub mod Seating
-pub mod Kept
+pub mod Invariant
 pub mod Served
 pub mod PathPlaces
 pub mod PathStates
@@ -35,3 +35,4 @@ pub mod ServedRun
 pub mod Modelled
 pub mod Scripted
 pub mod ConnFollows
+pub mod Begins

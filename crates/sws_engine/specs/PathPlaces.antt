@@ -5,7 +5,7 @@ use Rattle.mely_event.specs.declared.colour.Colour.{Colour}
 use Rattle.mely_event.specs.declared.event.Event.{Event}
 use Rattle.sws_conn.specs.Path.{Handler, open_link, read_piece, parse, look, write_part, resume, close}
 use Rattle.sws_engine.specs.Handling.{number_of}
-use Rattle.sws_engine.specs.WaitingList.{waiting_with}
+use Rattle.sws_engine.specs.Waiting.{waiting_with}
 
 -- ---- registrations without their loads
 
@@ -17,15 +17,19 @@ put colour handler arg = (record { 0 = colour }, record { handler = handler; arg
 abbrev pub talk_colour : ℕ → ℕ
 talk_colour i = 2 + i
 
+-- the event of a poll
 abbrev pub poll : ℕ → Colour × Event
 poll arg = put 0 0 arg
 
+-- the event that asks colour 0 to wait for connection i
 abbrev pub wait_for : ℕ → Colour × Event
 wait_for i = put 0 1 i
 
+-- the event of an accept
 abbrev pub accept : Colour × Event
 accept = put 1 2 0
 
+-- the event of a step of connection i
 abbrev pub talk : ℕ → Handler → Colour × Event
 talk i handler = put (talk_colour i) (number_of handler) i
 
@@ -65,12 +69,15 @@ pub data Place : Type 0 where
   accepting : Place
   talking : Option (List Handler) → Place
 
+-- what a handler puts: a colour, an event, and its load
 abbrev pub Put : Type 0
 Put = Colour × Event × Option Load
 
+-- an event that carries the world
 abbrev pub with_world : World → Colour × Event → Put
 with_world w p = (p.0, p.1, Some (world w))
 
+-- an event that carries nothing
 abbrev pub with_nothing : Colour × Event → Put
 with_nothing p = (p.0, p.1, None)
 
@@ -79,6 +86,7 @@ pub record Ran : Type 0 where
   pub place : Place
   pub puts : List Put
 
+-- the place stays as it is, and nothing is put
 abbrev pub stays : Place → Ran
 stays place = record { place = place; puts = [] }
 
@@ -115,6 +123,7 @@ abbrev pub wakes : Option World → List Put
 wakes None = []
 wakes (Some w) = with_world w (poll 1) ∷ []
 
+-- what the wait of connection i leaves of the desk, and puts
 abbrev pub waits : Desk → ℕ → Ran
 waits desk i = record {
   place = polling (record {
@@ -143,6 +152,7 @@ accepts total n (path ∷ coming) = record {
       ∷ ((talk n open_link).0, (talk n open_link).1, Some (link path)) ∷ [];
 }
 
+-- what the colour of accepting does with an event
 abbrev pub runs_accepting : ℕ → ℕ → Option Load → Ran
 runs_accepting total (suc (suc zero)) (Some (world w)) = accepts total w.accepted w.coming
 runs_accepting total handler load = stays accepting
@@ -158,12 +168,14 @@ takes_off i handler seat (next ∷ later) =
       puts = map with_nothing (follows i later);
     } else stays (talking seat)
 
+-- what the colour of connection i does with an event
 abbrev pub runs_talk : ℕ → ℕ → Option (List Handler) → Option Load → Ran
 runs_talk i handler None (Some (link path)) = takes_off i handler None path
 runs_talk i handler None None = stays (talking None)
 runs_talk i handler None (Some (world w)) = stays (talking None)
 runs_talk i handler (Some path) load = takes_off i handler (Some path) path
 
+-- what a colour does with an event, by its place
 abbrev pub runs_place : ℕ → Colour → Place → Event → Option Load → Ran
 runs_place total c (polling desk) event load = runs_desk desk event.handler event.arg load
 runs_place total c accepting event load = runs_accepting total event.handler load
@@ -171,15 +183,18 @@ runs_place total c (talking seat) event load = runs_talk (c.0 - 2) event.handler
 
 -- ---- how many worlds there are
 
+-- how many worlds rest at a desk
 abbrev pub worlds_of_rest : Option World → ℕ
 worlds_of_rest None = 0
 worlds_of_rest (Some w) = 1
 
+-- how many worlds a place has
 abbrev pub worlds_of_place : Place → ℕ
 worlds_of_place (polling desk) = worlds_of_rest desk.resting
 worlds_of_place accepting = 0
 worlds_of_place (talking seat) = 0
 
+-- how many worlds a load has
 abbrev pub worlds_of_load : Option Load → ℕ
 worlds_of_load None = 0
 worlds_of_load (Some (world w)) = 1

@@ -16,7 +16,7 @@ use Rattle.sws_engine.specs.declared.load.Load.TheVariants as load
 use Rattle.sws_engine.specs.declared.place.Desk.{Desk}
 use Rattle.sws_engine.specs.declared.place.Role.{Role}
 use Rattle.sws_engine.specs.declared.place.Role.TheVariants.{Polling, Accepting, Talking}
-use Rattle.sws_engine.specs.Places.{PlaceView}
+use Rattle.sws_engine.specs.Place.{PlaceState}
 use Rattle.sws_engine.specs.Loads.{Fit}
 use Rattle.sws_engine.specs.Handling.{Runs}
 use Rattle.sws_engine.specs.PathPlaces as path
@@ -68,7 +68,7 @@ module _ {W L T G H : Type 0} (x : WorldWords W L) (l : LinkWords L) (y : TalkWo
     HasRole (Talking seat) (path.talking rest) = HasTalk seat.talk rest
     HasRole role place = ⊥
 
-    abbrev pub HasPlace : PlaceView H W T → path.Place → Type 0
+    abbrev pub HasPlace : PlaceState H W T → path.Place → Type 0
     HasPlace s place = HasRole s.role place
 
     abbrev pub HasLoad : Load W L → path.Load → Type 0
@@ -90,12 +90,14 @@ is_memory (Some Idle) = false
 is_memory (Some Fault) = false
 is_memory (Some Memory) = true
 
+-- the talk of a role met want of memory
 abbrev pub is_spoilt_role : {W T L G H : Type 0} → TalkWords T L G H → Role W T → Bool
 is_spoilt_role y (Polling desk) = false
 is_spoilt_role y Accepting = false
 is_spoilt_role y (Talking seat) = is_memory (y.view_of seat.talk).end
 
-abbrev pub is_spoilt : {W T L G H : Type 0} → TalkWords T L G H → PlaceView H W T → Bool
+-- the talk of a state met want of memory
+abbrev pub is_spoilt : {W T L G H : Type 0} → TalkWords T L G H → PlaceState H W T → Bool
 is_spoilt y s = is_spoilt_role y s.role
 
 -- how many worlds a state and a load have
@@ -103,14 +105,17 @@ abbrev pub worlds_of_rest : {W : Type 0} → Option (WorldLoad W) → ℕ
 worlds_of_rest None = 0
 worlds_of_rest (Some held) = 1
 
+-- how many worlds a role has
 abbrev pub worlds_of_role : {W T : Type 0} → Role W T → ℕ
 worlds_of_role (Polling desk) = worlds_of_rest desk.resting
 worlds_of_role Accepting = 0
 worlds_of_role (Talking seat) = 0
 
-abbrev pub worlds_of_state : {H W T : Type 0} → PlaceView H W T → ℕ
+-- how many worlds a state has
+abbrev pub worlds_of_state : {H W T : Type 0} → PlaceState H W T → ℕ
 worlds_of_state s = worlds_of_role s.role
 
+-- how many worlds a load has
 abbrev pub worlds_of_load : {W L : Type 0} → Load W L → ℕ
 worlds_of_load (load.World held) = 1
 worlds_of_load (load.Link link) = 0
@@ -122,7 +127,7 @@ AreLoads IsLoad None (Some l) = ⊥
 AreLoads IsLoad (Some load) None = ⊥
 AreLoads IsLoad (Some load) (Some l) = IsLoad load l
 
--- the same registrations, with loads that are as those
+-- two lists of what is put have the same colours and events, one by one, and loads of which the one is as the other
 abbrev pub ArePuts : {P : Type 0} → (P → path.Load → Type 0) → List (Colour × Event × Option P)
     → List path.Put → Type 0
 ArePuts IsLoad [] [] = ⊤
@@ -135,14 +140,15 @@ ArePuts IsLoad (p ∷ ps) (q ∷ qs) = ((p.0 ≡ q.0) × (p.1 ≡ q.1) × AreLoa
 
 module _ {W L T G H : Type 0} (x : WorldWords W L) (l : LinkWords L) (y : TalkWords T L G H) (hall : H) (first : W) (paths : List (List Handler)) (total : ℕ) where
   -- what a handler leaves and puts is what the paths say, unless its connection has met want of memory
-  abbrev pub RanAs : PlaceView H W T → List (Colour × Event × Option (Load W L)) → path.Ran → Type 0
+  abbrev pub RanAs : PlaceState H W T → List (Colour × Event × Option (Load W L)) → path.Ran
+      → Type 0
   RanAs after puts ran = is_spoilt y after ≡ false → HasPlace x l y hall paths after ran.place
       × ArePuts (HasLoad x l y hall paths) puts ran.puts
 
   -- over a scripted world every handler makes of what its colour has, and of its load, what the paths say
   abbrev pub FollowsPaths : Type 0
   FollowsPaths =
-      (before after : PlaceView H W T) (event : Event) (carried : Option (Load W L))
+      (before after : PlaceState H W T) (event : Event) (carried : Option (Load W L))
       (puts : List (Colour × Event × Option (Load W L))) (place : path.Place)
       (p : Option path.Load)
       → Fit x l first before.colour event carried → IsPlacedAt before.colour place
@@ -155,7 +161,7 @@ module _ {W L T G H : Type 0} (x : WorldWords W L) (l : LinkWords L) (y : TalkWo
 abbrev pub StaysSpoilt : {W L T G H : Type 0} → WorldWords W L → LinkWords L
     → TalkWords T L G H → ℕ → Type 0
 StaysSpoilt {W} {L} {T} {G} {H} x l y total =
-    (before after : PlaceView H W T) (event : Event) (carried : Option (Load W L))
+    (before after : PlaceState H W T) (event : Event) (carried : Option (Load W L))
     (puts : List (Colour × Event × Option (Load W L)))
     → Runs x l y total before event carried after puts → is_spoilt y before ≡ true
     → is_spoilt y after ≡ true

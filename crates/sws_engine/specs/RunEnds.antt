@@ -6,11 +6,11 @@ use Rattle.sws_engine.specs.declared.load.WorldLoad.{WorldLoad}
 use Rattle.sws_engine.specs.declared.place.Desk.{Desk}
 use Rattle.sws_engine.specs.declared.place.Seat.{Seat}
 use Rattle.sws_engine.specs.declared.place.Role.TheVariants.{Polling, Accepting, Talking}
-use Rattle.sws_engine.specs.Places.{PlaceView}
+use Rattle.sws_engine.specs.Place.{PlaceState}
 use Rattle.sws_engine.specs.RunStands.{is_unended, due_number}
 
 -- the state is of the colour, and has its role: the first polls, the second accepts, the others talk
-pub record IsPlacedAs {H W T : Type 0} (i : ℕ) (place : PlaceView H W T) : Type 0 where
+pub record IsPlacedAs {H W T : Type 0} (i : ℕ) (place : PlaceState H W T) : Type 0 where
   pub colour : place.colour.0 ≡ i
   pub polls : i ≡ 0 → (desk : Desk W) × (place.role ≡ Polling desk)
   pub accepts : i ≡ 1 → place.role ≡ Accepting
@@ -23,11 +23,11 @@ pub record ConnEnds {T L G H : Type 0} (y : TalkWords T L G H) (accepted i : ℕ
   pub unopened : accepted ≤ i → due_number y seat ≡ 3
 
 -- the world rests at colour 0: all links were accepted or it has failed, nobody waits, and each connection has ended
-pub record RunEnds {W L T G H : Type 0} (y : TalkWords T L G H) (total : ℕ) (states : List (PlaceView H W T)) (desk : Desk W) : Type 0 where
+pub record RunEnds {W L T G H : Type 0} (y : TalkWords T L G H) (total : ℕ) (states : List (PlaceState H W T)) (desk : Desk W) : Type 0 where
   pub held : WorldLoad W
   pub rests : desk.resting ≡ Some held
   pub nobody : desk.waiting.items ≡ []
   pub ended : is_unended total held ≡ false
-  pub conn : (i : ℕ) (place : PlaceView H W T) (seat : Seat T) → i < total
+  pub conn : (i : ℕ) (place : PlaceState H W T) (seat : Seat T) → i < total
       → slice_get states (i + 2) ≡ Some place → place.role ≡ Talking seat
       → ConnEnds y held.accepted i seat

@@ -3,17 +3,17 @@ use Rattle.std.specs.Prelude.{◌≡◌, ℕ, List, Option, None, Some, slice_ge
 use Rattle.std.specs.List.{AllByRecursion}
 use Rattle.mely_event.specs.declared.colour.Colour.{Colour}
 use Rattle.mely_event.specs.declared.event.Event.{Event}
-use Rattle.mely_queue.specs.Taken.{EachFits}
+use Rattle.mely_queue.specs.Turn.{EachFits}
 use Rattle.sws_link.specs.declared.Link.{Ghosts as LinkWords}
 use Rattle.sws_link.specs.declared.world.World.{Ghosts as WorldWords}
 use Rattle.sws_engine.specs.declared.load.Load.{Load}
 use Rattle.sws_engine.specs.declared.load.Load.TheVariants as load
 use Rattle.sws_engine.specs.Loads.{Fit, WorldStands, LinkStands}
-use Rattle.sws_engine.specs.Places.{PlaceView}
+use Rattle.sws_engine.specs.Place.{PlaceState}
 
 module _ {W L : Type 0} (x : WorldWords W L) (l : LinkWords L) (first : W) where
-  pub record RunFits {H T : Type 0} (hall : H) (states : List (PlaceView H W T)) (waits : List (List (Event × Option (Load W L)))) (refused : List (Colour × Event × Option (Load W L))) : Type 0 where
-    pub of_hall : (i : ℕ) (place : PlaceView H W T)
+  pub record RunFits {H T : Type 0} (hall : H) (states : List (PlaceState H W T)) (waits : List (List (Event × Option (Load W L)))) (refused : List (Colour × Event × Option (Load W L))) : Type 0 where
+    pub of_hall : (i : ℕ) (place : PlaceState H W T)
         → slice_get states i ≡ Some place → place.hall ≡ hall
     pub queued : (c : Colour) (events : List (Event × Option (Load W L)))
         → slice_get waits c.0 ≡ Some events → EachFits (Fit x l first c) events

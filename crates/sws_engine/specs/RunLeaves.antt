@@ -6,6 +6,7 @@ use Rattle.sws_steps.specs.declared.End.{End}
 use Rattle.sws_steps.specs.declared.End.TheVariants as ending
 use Rattle.sws_steps.specs.declared.Next.TheVariants as next
 use Rattle.sws_conn.specs.declared.talk.Talk.{Ghosts as TalkWords}
+use Rattle.sws_conn.specs.Responses.{input_limit}
 use Rattle.sws_conn.specs.Talks.{end_told}
 use Rattle.sws_engine.specs.declared.ended.Served.{Served}
 use Rattle.sws_engine.specs.declared.ended.Verdict.{Verdict}
@@ -15,25 +16,27 @@ use Rattle.sws_engine.specs.declared.place.Seat.{Seat}
 use Rattle.sws_engine.specs.declared.place.Role.{Role}
 use Rattle.sws_engine.specs.declared.place.Role.TheVariants.{Polling, Accepting, Talking}
 use Rattle.sws_engine.specs.Loads.{WorldStands}
-use Rattle.sws_engine.specs.Places.{PlaceView}
+use Rattle.sws_engine.specs.Place.{PlaceState}
 use Rattle.sws_engine.specs.Served.{SeatServes}
 
 -- ---- of the states
 
 -- a state that talks
 pub record Talker (H W T : Type 0) : Type 0 where
-  pub place : PlaceView H W T
+  pub place : PlaceState H W T
   pub seat : Seat T
 
-abbrev pub talker_by : {H W T : Type 0} → PlaceView H W T → Role W T → List (Talker H W T)
+-- the connection of a place, where its role is one
+abbrev pub talker_by : {H W T : Type 0} → PlaceState H W T → Role W T → List (Talker H W T)
 talker_by place (Polling desk) = []
 talker_by place Accepting = []
 talker_by place (Talking seat) = record { place = place; seat = seat } ∷ []
 
 -- the states that talk, in the order of the colours
-abbrev pub talkers : {H W T : Type 0} → List (PlaceView H W T) → List (Talker H W T)
+abbrev pub talkers : {H W T : Type 0} → List (PlaceState H W T) → List (Talker H W T)
 talkers states = flat_map (λ place. talker_by place place.role) states
 
+-- the later one, where there is one
 abbrev pub or_else : {A : Type 0} → Option A → Option A → Option A
 or_else None before = before
 or_else (Some now) before = Some now
@@ -45,7 +48,7 @@ resting_by Accepting = None
 resting_by (Talking seat) = None
 
 -- the world that rests in one of the states
-abbrev pub resting_in : {H W T : Type 0} → Option (WorldLoad W) → List (PlaceView H W T)
+abbrev pub resting_in : {H W T : Type 0} → Option (WorldLoad W) → List (PlaceState H W T)
     → Option (WorldLoad W)
 resting_in before [] = before
 resting_in before (place ∷ states) = resting_in (or_else (resting_by place.role) before) states
@@ -57,7 +60,7 @@ pub record ShowsSeat {T L G H : Type 0} (y : TalkWords T L G H) (seat : Seat T) 
   pub end : s.end ≡ end_told (y.view_of seat.talk)
   pub closed : IsSome s.end ↔ ((y.view_of seat.talk).pending ≡ next.Nothing)
   pub read : s.read ≡ (y.view_of seat.talk).read
-  pub few_read : s.read ≤ 65536
+  pub few_read : s.read ≤ input_limit
   pub written : s.written ≡ (y.view_of seat.talk).written
   pub few_written : s.written < 2 ^ 40
   pub stray : s.stray ≡ seat.stray
@@ -72,12 +75,12 @@ pub record ShowAll {W T L G H : Type 0} (y : TalkWords T L G H) (all : List (Tal
 
 module _ {W L T G H : Type 0} (x : WorldWords W L) (l : LinkWords L) (y : TalkWords T L G H) where
   -- a world that rests is the one of the run, and a connection was served as its trail says
-  abbrev pub RoleTells : PlaceView H W T → Role W T → Type 0
+  abbrev pub RoleTells : PlaceState H W T → Role W T → Type 0
   RoleTells place (Polling desk) = IfSome desk.resting (WorldStands x l place.first)
   RoleTells place Accepting = Unit {0}
   RoleTells place (Talking seat) = SeatServes x l y place seat
 
-  abbrev pub StateTells : PlaceView H W T → Type 0
+  abbrev pub StateTells : PlaceState H W T → Type 0
   StateTells place = RoleTells place place.role
 
 -- ---- the verdict

@@ -13,8 +13,9 @@ use Rattle.sws_engine.specs.declared.place.Role.TheVariants.{Polling, Accepting,
 use Rattle.sws_engine.specs.Handling.{number_of, is_some}
 use Rattle.sws_engine.specs.Counting.{bit, times}
 use Rattle.sws_engine.specs.Loads.{world_of}
-use Rattle.sws_engine.specs.Places.{PlaceView}
+use Rattle.sws_engine.specs.Place.{PlaceState}
 
+-- an event under way, with its load
 abbrev pub Way : Type 0 → Type 0 → Type 0
 Way W L = Event × Option (Load W L)
 
@@ -25,6 +26,7 @@ abbrev pub if_held : {W : Type 0} → (WorldLoad W → Bool) → Option (WorldLo
 if_held test None = 0
 if_held test (Some held) = bit (test held)
 
+-- any world
 abbrev pub is_any : {W : Type 0} → WorldLoad W → Bool
 is_any held = true
 
@@ -36,9 +38,11 @@ is_beyond i held = nat_lt i held.accepted
 abbrev pub is_unended : {W : Type 0} → ℕ → WorldLoad W → Bool
 is_unended total held = not held.failed && nat_lt held.accepted total
 
+-- how many worlds an event under way carries
 abbrev pub worlds : {W L : Type 0} → Way W L → ℕ
 worlds e = if_held is_any (world_of e.1)
 
+-- whether an event under way carries a world that has accepted more links than i, as a number
 abbrev pub beyond : {W L : Type 0} → ℕ → Way W L → ℕ
 beyond i e = if_held (is_beyond i) (world_of e.1)
 
@@ -82,61 +86,63 @@ abbrev pub first_number : Option Handler → ℕ
 first_number None = 0
 first_number (Some step) = number_of step
 
+-- whether there is a stray event, as a number
 abbrev pub is_stray : Option Event → ℕ
 is_stray None = 0
 is_stray (Some event) = 1
 
 module _ {H W T : Type 0} where
-  abbrev pub misplaced : PlaceView H W T → ℕ
+  abbrev pub misplaced : PlaceState H W T → ℕ
   misplaced s = misplaced_at s.colour.0 s.role
 
-  abbrev pub desks : PlaceView H W T → ℕ
+  abbrev pub desks : PlaceState H W T → ℕ
   desks s = at_desk (λ desk. 1) s.role
 
   -- the seat of the connection
-  abbrev pub seats : ℕ → PlaceView H W T → ℕ
+  abbrev pub seats : ℕ → PlaceState H W T → ℕ
   seats i s = at_seat (λ seat. bit (s.colour.0 == i + 2)) s.role
 
-  abbrev pub rests : PlaceView H W T → ℕ
+  abbrev pub rests : PlaceState H W T → ℕ
   rests s = at_desk (λ desk. if_held is_any desk.resting) s.role
 
-  abbrev pub rests_beyond : ℕ → PlaceView H W T → ℕ
+  abbrev pub rests_beyond : ℕ → PlaceState H W T → ℕ
   rests_beyond i s = at_desk (λ desk. if_held (is_beyond i) desk.resting) s.role
 
-  abbrev pub rests_unended : ℕ → PlaceView H W T → ℕ
+  abbrev pub rests_unended : ℕ → PlaceState H W T → ℕ
   rests_unended total s = at_desk (λ desk. if_held (is_unended total) desk.resting) s.role
 
   -- the world rests though somebody waits
-  abbrev pub rests_in_vain : PlaceView H W T → ℕ
+  abbrev pub rests_in_vain : PlaceState H W T → ℕ
   rests_in_vain s = at_desk (λ desk.
       if_held (λ held. is_some desk.waiting.items) desk.resting) s.role
 
-  abbrev pub is_last : PlaceView H W T → ℕ
+  abbrev pub is_last : PlaceState H W T → ℕ
   is_last s = at_desk (λ desk. bit desk.last) s.role
 
   -- how often the connection stands in the list of those that wait
-  abbrev pub waits_for : ℕ → PlaceView H W T → ℕ
+  abbrev pub waits_for : ℕ → PlaceState H W T → ℕ
   waits_for i s = at_desk (λ desk. times i desk.waiting.items) s.role
 
-  abbrev pub strays : PlaceView H W T → ℕ
+  abbrev pub strays : PlaceState H W T → ℕ
   strays s = at_seat (λ seat. is_stray seat.stray) s.role
 
+-- the number of the handler that is due at a connection
 abbrev pub due_number : {T L G H : Type 0} → TalkWords T L G H → Seat T → ℕ
 due_number y seat = first_number (due (y.view_of seat.talk))
 
 module _ {W L T G H : Type 0} (y : TalkWords T L G H) where
   -- the connection's due handler has this number
-  abbrev pub is_at : ℕ → ℕ → PlaceView H W T → ℕ
+  abbrev pub is_at : ℕ → ℕ → PlaceState H W T → ℕ
   is_at i number s = at_seat (λ seat.
       bit ((s.colour.0 == i + 2) && (due_number y seat == number))) s.role
 
   -- the connection was opened
-  abbrev pub is_opened : ℕ → PlaceView H W T → ℕ
+  abbrev pub is_opened : ℕ → PlaceState H W T → ℕ
   is_opened i s = at_seat (λ seat.
       bit ((s.colour.0 == i + 2) && not (due_number y seat == 3))) s.role
 
   -- Of all states and all events under way in a run with so many links
-  pub record RunStands (total : ℕ) (states : List (PlaceView H W T)) (ways : List (Way W L)) : Type 0 where
+  pub record RunStands (total : ℕ) (states : List (PlaceState H W T)) (ways : List (Way W L)) : Type 0 where
     -- each colour has the role that is its own, there is one state that polls, and one for each connection
     pub placed : sum_by misplaced states ≡ 0
     pub one_desk : sum_by desks states ≡ 1

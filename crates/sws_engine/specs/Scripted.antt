@@ -4,7 +4,7 @@ use Rattle.mely_history.specs.declared.shape.Shape.{Shape}
 use Rattle.sws_link.specs.Scripts.{Script}
 use Rattle.sws_link.specs.Worlds.{Coming}
 use Rattle.sws_link.specs.declared.world.World.{Ghosts as WorldWords}
-use Rattle.sws_site.specs.Sites.{SiteFiles}
+use Rattle.sws_site.specs.Site.{SiteState}
 use Rattle.sws_engine.specs.declared.ended.Ended.{Ended}
 use Rattle.sws_engine.specs.declared.ended.Verdict.TheVariants as verdict
 use Rattle.sws_engine.specs.ServerRun.{IsServerRun}
@@ -19,7 +19,7 @@ pub record TellsScripts {W L : Type 0} (x : WorldWords W L) (first : W) (scripts
       → slice_get scripts i ≡ Some script → link.answers ≡ Some script
 
 -- over such a world the histories at Ok are those of the server on these scripts, by the definition of a run, and so no others
-abbrev pub IsScheduled : {W L : Type 0} → WorldWords W L → SiteFiles → Shape → W
+abbrev pub IsScheduled : {W L : Type 0} → WorldWords W L → SiteState → Shape → W
     → List (ℕ × ℕ) → Ended W L → Type 0
 IsScheduled x site shape first schedule ended =
     (scripts : List Script) → TellsScripts x first scripts → ended.verdict ≡ verdict.Ok

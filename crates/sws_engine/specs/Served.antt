@@ -7,12 +7,12 @@ use Rattle.sws_conn.specs.Outcome.{UnlessMemory}
 use Rattle.sws_conn.specs.Path.{Handler, TakesOff}
 use Rattle.sws_conn.specs.Talks.{unopened_view, due, HasServed, path_to_come, IsDue}
 use Rattle.sws_engine.specs.declared.place.Seat.{Seat}
-use Rattle.sws_engine.specs.Places.{PlaceView}
+use Rattle.sws_engine.specs.Place.{PlaceState}
 use Rattle.sws_engine.specs.Loads.{LinkStands}
 use Rattle.sws_engine.specs.Handling.{conn_of}
-use Rattle.sws_engine.specs.Kept.{event_for}
+use Rattle.sws_engine.specs.Invariant.{event_for}
 
-module _ {W L T G H : Type 0} (x : WorldWords W L) (l : LinkWords L) (y : TalkWords T L G H) (place : PlaceView H W T) (seat : Seat T) where
+module _ {W L T G H : Type 0} (x : WorldWords W L) (l : LinkWords L) (y : TalkWords T L G H) (place : PlaceState H W T) (seat : Seat T) where
   abbrev pub conn : ℕ
   conn = conn_of place.colour
 

@@ -7,7 +7,7 @@ use Rattle.mely_history.specs.declared.setup.Setup.{Setup}
 use Rattle.mely_history.specs.declared.shape.Shape.{Shape}
 use Rattle.mely_history.specs.declared.entry.Entry.{Entry}
 use Rattle.mely_worker.specs.declared.app.App.{Ghosts as AppWords}
-use Rattle.mely_weave.specs.StandsWell.{Loom}
+use Rattle.mely_weave.specs.Weave.{WeaveState}
 use Rattle.mely_weave.specs.declared.draining.Drained.{Drained}
 use Rattle.mely_weave.specs.declared.draining.Drained.TheVariants.{Empty}
 use Rattle.mely_machine.specs.Rules.{rules_of}
@@ -19,7 +19,7 @@ use Rattle.sws_conn.specs.Path.{Handler}
 use Rattle.sws_engine.specs.declared.load.Load.{Load}
 use Rattle.sws_engine.specs.declared.load.Load.TheVariants as load
 use Rattle.sws_engine.specs.declared.place.Frame.{Frame}
-use Rattle.sws_engine.specs.Places.{PlaceView}
+use Rattle.sws_engine.specs.Place.{PlaceState}
 use Rattle.sws_engine.specs.Fresh.{AreFirstPlaces, first_poll, first_load}
 use Rattle.sws_engine.specs.PathStates.{TellsPaths, is_spoilt}
 use Rattle.sws_engine.specs.Agrees.{AreOpened}
@@ -27,19 +27,19 @@ use Rattle.sws_engine.specs.ServerRun.{server_rules, IsRunOfPaths}
 
 module _ {W L T G H : Type 0} (x : WorldWords W L) (y : TalkWords T L G H) where
   -- a weave of the fresh states was made, the first poll was posted with the world, the schedule was run, and a drain came to its end
-  pub record HasRunOut {R : Type 0} (t : TrailWords (PlaceView H W T) (Frame H W)) (fits : Frame H W → Colour → Event → Option (Load W L) → Type 0) (a : AppWords R (Load W L) (PlaceView H W T) (Frame H W)) (total_of : R → ℕ) (setup : Setup) (first : W) (hall : H) (schedule : List (ℕ × ℕ)) (end : Loom (PlaceView H W T) (Load W L)) : Type 0 where
+  pub record HasRunOut {R : Type 0} (t : TrailWords (PlaceState H W T) (Frame H W)) (fits : Frame H W → Colour → Event → Option (Load W L) → Type 0) (a : AppWords R (Load W L) (PlaceState H W T) (Frame H W)) (total_of : R → ℕ) (setup : Setup) (first : W) (hall : H) (schedule : List (ℕ × ℕ)) (end : WeaveState (PlaceState H W T) (Load W L)) : Type 0 where
     pub app : R
     pub total : total_of app ≡ (x.tells first).total
-    pub states : List (PlaceView H W T)
+    pub states : List (PlaceState H W T)
     pub fresh : AreFirstPlaces y first hall ((x.tells first).total + 2) states
-    pub posted : Loom (PlaceView H W T) (Load W L)
+    pub posted : WeaveState (PlaceState H W T) (Load W L)
     pub begun : IsBegun t fits setup states (record { 0 = 0 }) (first_poll (x.tells first).total)
         (Some (load.World (first_load first))) posted
     pub out : IsRunOut t fits a app posted schedule end
 
   -- The histories are those of the server on the paths of the world's links, by the definition of a run, and so no others. That is so where the world is scripted and each path opens once, the setup says the rules of the server at this shape, the weave was drained, and no link met want of memory.
   abbrev pub IsOfPaths : LinkWords L → H → Setup → W → List (ℕ × ℕ) → Drained → List (List Entry)
-      → List (PlaceView H W T) → Type 0
+      → List (PlaceState H W T) → Type 0
   IsOfPaths l hall setup first schedule ended histories states =
       (shape : Shape) (paths : List (List Handler)) → rules_of setup ≡ server_rules shape
       → TellsPaths x l y hall first paths → AreOpened paths → ended ≡ Empty

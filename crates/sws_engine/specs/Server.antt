@@ -5,7 +5,7 @@ use Rattle.mely_event.specs.declared.event.Event.{Event}
 use Rattle.sws_conn.specs.Path.{Handler, open_link, resume}
 use Rattle.mely_machine.specs.Machine.{Acted}
 use Rattle.sws_engine.specs.Handling.{number_of}
-use Rattle.sws_engine.specs.WaitingList.{waiting_with}
+use Rattle.sws_engine.specs.Waiting.{waiting_with}
 use Rattle.sws_engine.specs.PathPlaces.{poll, accept, talk, follows}
 
 -- who waits, whether no more links are to come, whether the world rests, how many links were accepted, and of each connection the rest of its path
@@ -32,6 +32,7 @@ world_goes false waiting = accept ∷ []
 world_goes true [] = []
 world_goes true (i ∷ waiting) = poll 1 ∷ []
 
+-- nobody waits
 abbrev pub is_nobody : List ℕ → Bool
 is_nobody [] = true
 is_nobody (i ∷ waiting) = false
@@ -64,6 +65,7 @@ after_talk s i false later = record { puts = []; becomes = s }
 after_talk s i true later =
     record { puts = follows i later; becomes = record s { paths = slice_set s.paths i later } }
 
+-- what connection i does with an event of this handler, by the rest of its path, where one is left
 abbrev pub after_event : Server → ℕ → ℕ → Option (List Handler) → Acted Server
 after_event s i handler None = record { puts = []; becomes = s }
 after_event s i handler (Some []) = record { puts = []; becomes = s }

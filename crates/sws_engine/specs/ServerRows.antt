@@ -6,12 +6,14 @@ use Rattle.mely_history.specs.declared.shape.Shape.{Shape}
 use Rattle.mely_history.specs.declared.entry.Entry.{Entry}
 use Rattle.mely_history.specs.declared.entry.Entry.TheVariants.{Reg, Take, Fin, Steal}
 use Rattle.sws_link.specs.Scripts.{Script}
-use Rattle.sws_site.specs.Sites.{SiteFiles}
+use Rattle.sws_site.specs.Site.{SiteState}
 use Rattle.sws_engine.specs.ServerRun.{IsServerRun}
 
+-- the colour of this number
 abbrev pub col : ℕ → Colour
 col n = record { 0 = n }
 
+-- an event of this handler and this argument
 abbrev pub event : ℕ → ℕ → Event
 event h a = record { handler = h; arg = a }
 
@@ -40,6 +42,6 @@ abbrev pub polled_histories : List (List Entry)
 polled_histories = (Reg (col 0) (event 0 1) 2 ∷ Take (col 0) 0 1 ∷ Fin (col 0) 0 1 ∷ []) ∷ []
 
 -- whatever the site is
-pub record WorkedSchedules (site : SiteFiles) : Type 0 where
+pub record WorkedSchedules (site : SiteState) : Type 0 where
   pub worked : IsServerRun two_cores site (no_input ∷ []) ((0, 6) ∷ (1, 12) ∷ []) worked_histories
   pub polled : IsServerRun two_cores site [] ((1, 2) ∷ []) polled_histories

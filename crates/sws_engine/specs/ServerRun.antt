@@ -3,7 +3,7 @@ use Rattle.std.specs.Prelude.{ℕ, List, [], ◌∷◌, length, map}
 use Rattle.mely_history.specs.declared.shape.Shape.{Shape}
 use Rattle.mely_history.specs.declared.entry.Entry.{Entry}
 use Rattle.sws_link.specs.Scripts.{Script}
-use Rattle.sws_site.specs.Sites.{SiteFiles}
+use Rattle.sws_site.specs.Site.{SiteState}
 use Rattle.mely_machine.specs.Rules.{Rules}
 use Rattle.mely_machine.specs.MachineRun.{RunsTo}
 use Rattle.sws_conn.specs.Path.{Handler, path_of}
@@ -24,7 +24,7 @@ IsRunOfPaths shape paths schedule histories =
     RunsTo (server_rules shape) serve (first_server paths)
     (first_event (length paths)) schedule histories
 
--- the same of scripted connections
-abbrev pub IsServerRun : Shape → SiteFiles → List Script → List (ℕ × ℕ) → List (List Entry) → Type 0
+-- these are the histories of the server on connections of these scripts over the site by this schedule, if the run ends
+abbrev pub IsServerRun : Shape → SiteState → List Script → List (ℕ × ℕ) → List (List Entry) → Type 0
 IsServerRun shape site scripts schedule histories =
     IsRunOfPaths shape (map (path_of site) scripts) schedule histories

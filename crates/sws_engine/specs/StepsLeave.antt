@@ -9,7 +9,7 @@ use Rattle.mely_history.specs.declared.entry.Entry.{Entry}
 use Rattle.mely_history.specs.declared.setup.Setup.{Setup}
 use Rattle.mely_history.specs.declared.shape.Shape.{Shape}
 use Rattle.mely_machine.specs.Rules.{rules_of}
-use Rattle.mely_weave.specs.Scene.{shard_of}
+use Rattle.mely_weave.specs.Side.{shard_of}
 use Rattle.mely_weave.specs.declared.draining.Drained.{Drained}
 use Rattle.mely_weave.specs.declared.parts.WeaveParts.{WeaveParts}
 use Rattle.sws_link.specs.declared.Link.{Ghosts as LinkWords}
@@ -24,7 +24,7 @@ use Rattle.sws_engine.specs.declared.load.Load.{Load}
 use Rattle.sws_engine.specs.ConnFollows.{ConnFollows}
 use Rattle.sws_engine.specs.ConnLeft.{ConnLeft}
 use Rattle.sws_engine.specs.Loads.{WorldStands}
-use Rattle.sws_engine.specs.Places.{PlaceView}
+use Rattle.sws_engine.specs.Place.{PlaceState}
 use Rattle.sws_engine.specs.RunLeaves.{AreWhole, NoneOutOfMemory}
 use Rattle.sws_engine.specs.ServerRun.{server_rules}
 use Rattle.sws_engine.specs.RunFits.{RunFits}
@@ -53,7 +53,7 @@ module _ {W L T G H : Type 0} (x : WorldWords W L) (l : LinkWords L) (y : TalkWo
     pub colours : colours_of setup ≡ (x.tells first).total + 2
     -- what the weave came to, and its parts
     pub how : Drained
-    pub parts : WeaveParts (PlaceView H W T) (Load W L)
+    pub parts : WeaveParts (PlaceState H W T) (Load W L)
     pub ran : RunParts x y setup first how (map (λ history. history.items) parts.histories.items)
         parts.states.items (map (λ events. events.items) parts.queued.items) parts.lost.items
     pub fits : RunFits x l first hall parts.states.items

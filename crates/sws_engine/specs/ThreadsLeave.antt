@@ -9,7 +9,7 @@ use Rattle.mely_history.specs.declared.entry.Entry.{Entry}
 use Rattle.mely_history.specs.declared.setup.Setup.{Setup}
 use Rattle.mely_history.specs.declared.shape.Shape.{Shape}
 use Rattle.mely_machine.specs.Rules.{rules_of}
-use Rattle.mely_weave.specs.Scene.{shard_of}
+use Rattle.mely_weave.specs.Side.{shard_of}
 use Rattle.mely_weave.specs.declared.draining.Drained.{Drained}
 use Rattle.mely_weave.specs.declared.draining.Drained.TheVariants.{Empty}
 use Rattle.mely_weave.specs.declared.parts.WeaveParts.{WeaveParts}
@@ -25,7 +25,7 @@ use Rattle.sws_engine.specs.declared.load.Load.{Load}
 use Rattle.sws_engine.specs.ConnFollows.{ConnFollows}
 use Rattle.sws_engine.specs.ConnLeft.{ConnLeft}
 use Rattle.sws_engine.specs.Loads.{WorldStands}
-use Rattle.sws_engine.specs.Places.{PlaceView}
+use Rattle.sws_engine.specs.Place.{PlaceState}
 use Rattle.sws_engine.specs.Conclusion.{IsConcluded}
 use Rattle.sws_engine.specs.RunEnds.{IsPlacedAs}
 use Rattle.sws_engine.specs.ServerRun.{server_rules}
@@ -34,18 +34,18 @@ use Rattle.sws_engine.specs.RunLeaves.{AreWhole, NoneOutOfMemory}
 use Rattle.sws_engine.specs.StepsLeave.{HasNotBegun, histories_in}
 
 -- What the parts of the weave that comes out of a fleet keep, by the types of shards and states alone: the histories are legal, one for each shard, and where the weave was drained each of them is and nothing is queued. There is a state for each colour, of its role, over the world that was handed in, and its trail is what was run of it.
-pub record PartsKept {W L T G H : Type 0} (x : WorldWords W L) (y : TalkWords T L G H) (setup : Setup) (first : W) (how : Drained) (histories : List (List Entry)) (states : List (PlaceView H W T)) (queued : List (List (Event × Option (Load W L)))) : Type 0 where
+pub record PartsKept {W L T G H : Type 0} (x : WorldWords W L) (y : TalkWords T L G H) (setup : Setup) (first : W) (how : Drained) (histories : List (List Entry)) (states : List (PlaceState H W T)) (queued : List (List (Event × Option (Load W L)))) : Type 0 where
   pub legal : AreLegal setup histories
   pub shards : length histories ≡ (shape_of setup).shards
   pub drained : how ≡ Empty → (shard : ℕ) (history : List Entry) → slice_get histories shard
       ≡ Some history → IsDrained history
   pub emptied : how ≡ Empty → flat_map (λ events. events) queued ≡ []
   pub many : length states ≡ (x.tells first).total + 2
-  pub placed : (i : ℕ) (place : PlaceView H W T)
+  pub placed : (i : ℕ) (place : PlaceState H W T)
       → slice_get states i ≡ Some place → IsPlacedAs i place
-  pub of_world : (i : ℕ) (place : PlaceView H W T)
+  pub of_world : (i : ℕ) (place : PlaceState H W T)
       → slice_get states i ≡ Some place → place.first ≡ first
-  pub trailed : (c : Colour) (place : PlaceView H W T) (history : List Entry)
+  pub trailed : (c : Colour) (place : PlaceState H W T) (history : List Entry)
       → slice_get states c.0 ≡ Some place → slice_get histories (shard_of setup c) ≡ Some history
       → place.trail ≡ ran_of history c
 
@@ -65,7 +65,7 @@ module _ {W L T G H : Type 0} (x : WorldWords W L) (l : LinkWords L) (y : TalkWo
     pub colours : colours_of setup ≡ (x.tells first).total + 2
     -- what the weave came to that the fleet was closed into, and its parts
     pub how : Drained
-    pub parts : WeaveParts (PlaceView H W T) (Load W L)
+    pub parts : WeaveParts (PlaceState H W T) (Load W L)
     pub kept : PartsKept x y setup first how (map (λ history. history.items) parts.histories.items)
         parts.states.items (map (λ events. events.items) parts.queued.items)
     pub fits : RunFits x l first hall parts.states.items

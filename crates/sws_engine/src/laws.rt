@@ -5,7 +5,7 @@ ghost use Rattle.sws_engine.specs.Served.{SeatServes};
 ghost use Rattle.sws_conn.specs.Path.{Handler};
 ghost use Rattle.sws_engine.specs.PathStates.{TellsPaths, FollowsPaths, StaysSpoilt};
 ghost use Rattle.sws_link.specs.Scripts.{Script};
-ghost use Rattle.sws_site.specs.Sites.{SiteFiles};
+ghost use Rattle.sws_site.specs.Site.{SiteState};
 ghost use Rattle.sws_site.specs.Limits.{IsWithinLimits};
 ghost use Rattle.sws_conn.specs.Path.{path_of};
 ghost use Rattle.sws_engine.specs.Agrees.{AreOpened};
@@ -39,12 +39,12 @@ pub fn the_handlers_follow_the_paths<W: World, T: Talk<W::Link>>()
 
 /// The path of each script begins with the opening and has no other. A call does nothing.
 pub fn each_path_opens_once()
-    ensures { (site : SiteFiles) (scripts : List Script) → IsWithinLimits site.files
+    ensures { (site : SiteState) (scripts : List Script) → IsWithinLimits site.files
         → AreOpened (map (path_of site) scripts) }
 {}
 
 /// Two schedules of two cores, worked out by hand, write these histories by the definition of a run, whatever the site is. A call
 /// does nothing.
 pub fn worked_schedules_hold()
-    ensures { (site : SiteFiles) → IsWithinLimits site.files → WorkedSchedules site }
+    ensures { (site : SiteState) → IsWithinLimits site.files → WorkedSchedules site }
 {}

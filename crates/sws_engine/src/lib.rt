@@ -39,7 +39,7 @@ pub use place::{Desk, Frame, Place, Role, Seat};
 pub use running::run_through;
 pub use serving::serve_steps;
 pub use starting::{fresh_places, start};
-pub use steps::talk_steps;
+pub use steps::{handler_table, talk_steps};
 pub use task::Task;
 pub use threads::{serve_all, talk_all};
 pub use waiting::Waiting;

@@ -54,16 +54,16 @@ pub struct Place<W: World, T: Talk<W::Link>> {
 }
 
 impl<W: World, T: Talk<W::Link>> Model for Place<W, T> {
-    ghost use Rattle.sws_engine.specs.Places.{PlaceView};
+    ghost use Rattle.sws_engine.specs.Place.{PlaceState};
 
-    ghost Value = { PlaceView T.Contents W T };
+    ghost Value = { PlaceState T.Contents W T };
 
-    ghost use Rattle.sws_engine.specs.PlaceShown.{shown};
-    ghost use Rattle.sws_engine.specs.Kept.{IsKept};
+    ghost use Rattle.sws_engine.specs.PlaceShown.{state_of};
+    ghost use Rattle.sws_engine.specs.Invariant.{IsConsistent};
 
-    ghost view = { λ place. shown T.contents_of place };
+    ghost view = { λ place. state_of T.contents_of place };
 
-    ghost invariant = { λ place. IsKept W.World W.Link.Link T.Talk (shown T.contents_of place) };
+    ghost invariant = { λ place. IsConsistent W.World W.Link.Link T.Talk (state_of T.contents_of place) };
 }
 
 impl<W: World, T: Talk<W::Link>> Trail for Place<W, T> {

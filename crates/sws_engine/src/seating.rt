@@ -5,7 +5,7 @@ ghost use Rattle.sws_link.specs.Links.{IsFresh};
 ghost use Rattle.sws_engine.specs.Seating.{LoadSuits, IsUnopened, HasRunSome, IsFreshOrRan};
 ghost use Rattle.sws_conn.specs.Talks.{due, due_after, next_told, opened_view};
 ghost use Rattle.sws_engine.specs.Tasks.{number_of_task};
-ghost use Rattle.sws_engine.specs.Kept.{RanBy};
+ghost use Rattle.sws_engine.specs.Invariant.{RanBy};
 ghost use Rattle.sws_engine.specs.Handling.{is_due, next_puts, KeepsEnd, RunsSeat};
 
 use crate::desk::event_of;

@@ -1,6 +1,5 @@
 //! The server over a weave, by its own connections.
-ghost use Rattle.std.specs.Prelude.{◌≡◌, ◌≤◌, ◌<◌, ◌+◌, ◌^◌, All, None, sum_by};
-ghost use Rattle.mely_history.specs.Setup.{first_out_of_range};
+ghost use Rattle.sws_engine.specs.Begins.{IsScheduleOf, IsShapedFor};
 ghost use Rattle.sws_engine.specs.Scripted.{IsScheduled};
 ghost use Rattle.sws_engine.specs.StepsLeave.{StepsLeave};
 
@@ -27,11 +26,8 @@ pub fn serve_steps<'s, R: Wait, W: World + Drop>(
     world: W,
     schedule: &[(u16, u32)],
 ) -> Ended<W>
-    requires shape { first_out_of_range shape.now ((W.tells world).total + 2) 1 ≡ None }
-    requires few { (W.tells world).total ≤ 1024 }
-    requires none { (W.tells world).accepted ≡ 0 }
-    requires cores { All (λ part. part.0 < shape.now.cores) schedule.now }
-    requires count { sum_by (λ part. part.1) schedule.now < 2 ^ 64 }
+    requires shape { IsShapedFor W.World shape.now world }
+    requires schedule { IsScheduleOf shape.now.cores schedule.now }
     ensures leaves { StepsLeave W.World W.Link.Link ⟦<Conn<'s, W::Link> as Talk<W::Link>>⟧ shape.now
         site.now world result }
     ensures scheduled { IsScheduled W.World site.now shape.now world schedule.now result }

@@ -1,8 +1,7 @@
 //! How a run starts: the states of all colours, and the first event.
-ghost use Rattle.std.specs.Prelude.{◌≡◌, ◌≤◌, ◌<◌, ◌+◌, IfOk, IfErr, List, Option, length};
-ghost use Rattle.mely_event.specs.HandlerTable.{rows_of};
-ghost use Rattle.mely_history.specs.Setup.{colours_of, handlers_of};
+ghost use Rattle.std.specs.Prelude.{◌≡◌, ◌≤◌, ◌<◌, ◌+◌, IfOk, IfErr, List, Option};
 ghost use Rattle.mely_run.specs.WholeRuns.{IsBegun};
+ghost use Rattle.sws_engine.specs.Begins.{AreAtFirst};
 ghost use Rattle.sws_engine.specs.Fresh.{IsFirstPlace, AreFirstPlaces, first_poll, first_load};
 ghost use Rattle.sws_engine.specs.RunFact.{RunFact};
 
@@ -98,11 +97,7 @@ pub fn start<W: World + Drop, T: Talk<W::Link> + Drop>(
     world: W,
     total: u16,
 ) -> Result<Weave<Place<W, T>, Load<W, W::Link>>, W>
-    requires colours { colours_of setup.now ≡ total + 2 }
-    requires handlers { 10 ≤ length (rows_of (handlers_of setup.now)) }
-    requires total { (W.tells world).total ≡ total }
-    requires none { (W.tells world).accepted ≡ 0 }
-    requires first { (hall : _) × AreFirstPlaces T.Talk world hall (total + 2) states.items }
+    requires { AreAtFirst W.World T.Talk setup.now world total states.items }
     ensures stands { IfOk result (λ weave. RunFact W.World T.Talk world weave) }
     ensures begun { IfOk result (λ weave. IsBegun ⟦<Place<W, T> as Trail>⟧
         ⟦<Place<W, T> as Fits<Load<W, W::Link>>>⟧.fits_under setup.now states.items

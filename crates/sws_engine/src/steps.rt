@@ -1,7 +1,7 @@
 //! The server over a weave, from the world and the hall to what the run leaves.
-ghost use Rattle.std.specs.Prelude.{◌≡◌, ◌≤◌, ◌<◌, ◌+◌, ◌^◌, All, None, sum_by, length};
+ghost use Rattle.std.specs.Prelude.{◌≡◌, length};
 ghost use Rattle.mely_event.specs.HandlerTable.{rows_of};
-ghost use Rattle.mely_history.specs.Setup.{first_out_of_range};
+ghost use Rattle.sws_engine.specs.Begins.{IsScheduleOf, IsShapedFor};
 ghost use Rattle.sws_engine.specs.StepsLeave.{HasNotBegun, StepsLeave};
 ghost use Rattle.sws_engine.specs.ServerRun.{handler_rows};
 ghost use Rattle.sws_engine.specs.Modelled.{IsModelled};
@@ -31,8 +31,8 @@ const HANDLERS: [(u32, u32); 10] = [
     (60, 2),
 ];
 
-/// The handlers of the server.
-pub(crate) fn handler_table() -> Handlers
+/// The handlers of the server: ten, as every run of it and every journal of one has them.
+pub fn handler_table() -> Handlers
     ensures rows { rows_of result ≡ handler_rows }
     ensures ten { length (rows_of result) ≡ 10 }
 {
@@ -69,11 +69,8 @@ pub fn talk_steps<R: Wait, W: World + Drop, T: Talk<W::Link> + Drop>(
     world: W,
     schedule: &[(u16, u32)],
 ) -> Ended<W>
-    requires shape { first_out_of_range shape.now ((W.tells world).total + 2) 1 ≡ None }
-    requires few { (W.tells world).total ≤ 1024 }
-    requires none { (W.tells world).accepted ≡ 0 }
-    requires cores { All (λ part. part.0 < shape.now.cores) schedule.now }
-    requires count { sum_by (λ part. part.1) schedule.now < 2 ^ 64 }
+    requires shape { IsShapedFor W.World shape.now world }
+    requires schedule { IsScheduleOf shape.now.cores schedule.now }
     ensures leaves { StepsLeave W.World W.Link.Link T.Talk shape.now
         (T.contents_of hall) world result }
     ensures model { IsModelled W.World W.Link.Link T.Talk (T.contents_of hall) shape.now

@@ -1,15 +1,12 @@
 //! The server on threads, from the world and the hall to what the run leaves.
-ghost use Rattle.std.specs.Prelude.{◌≡◌, ◌≤◌, ◌+◌, None, Some, IfOk, IfErr, length, map, slice_get};
-ghost use Rattle.mely_event.specs.HandlerTable.{rows_of};
-ghost use Rattle.mely_history.specs.Setup.{colours_of, handlers_of};
+ghost use Rattle.std.specs.Prelude.{◌≡◌, ◌≤◌, ◌+◌, Some, IfOk, IfErr, map, slice_get};
 ghost use Rattle.mely_weave.specs.Dealing.{AtEach};
-ghost use Rattle.mely_weave.specs.Drains.{AllFree, HistoriesAreDrained};
 ghost use Rattle.mely_weave.specs.Making.{AreFirst};
 ghost use Rattle.mely_worker.specs.Access.{FitsSetup};
 ghost use Rattle.mely_worker.specs.Conditions.{AppServes};
+ghost use Rattle.sws_engine.specs.Begins.{AreAtFirst, IsAtRest, IsSetFor, IsShapedFor};
 ghost use Rattle.sws_engine.specs.Fresh.{AreFirstPlaces};
-ghost use Rattle.mely_history.specs.Setup.{first_out_of_range};
-ghost use Rattle.sws_engine.specs.Kept.{IsKept};
+ghost use Rattle.sws_engine.specs.Invariant.{IsConsistent};
 ghost use Rattle.sws_engine.specs.RunFits.{RunFits};
 ghost use Rattle.sws_engine.specs.ThreadsLeave.{IsUnkept, PartsKept, ThreadsLeave};
 
@@ -35,14 +32,14 @@ use sws_site::Site;
 
 /// What the type of a state keeps, for contracts alone. A call does nothing.
 fn is_kept<W: World, T: Talk<W::Link>>(place: &Place<W, T>)
-    ensures { IsKept W.World W.Link.Link T.Talk place.now }
+    ensures { IsConsistent W.World W.Link.Link T.Talk place.now }
 {
     let _role = &place.role;
 }
 
 /// What the type of each state keeps, for contracts alone: states are read and stay.
 fn are_kept<W: World, T: Talk<W::Link>>(places: &[Place<W, T>])
-    ensures { AtEach (λ number place. IsKept W.World W.Link.Link T.Talk place) places.now }
+    ensures { AtEach (λ number place. IsConsistent W.World W.Link.Link T.Talk place) places.now }
 {
     for place in places {
         is_kept(place);
@@ -74,11 +71,9 @@ fn run_lent<
         → FitsSetup S.fits_under setup.now (S.frame_of state) begin }
     requires served { (state : _) → slice_get states.old.items 0 ≡ Some state
         → AppServes A.App setup.now (S.frame_of state) app.now }
-    ensures of_setup { IfOk result (λ ran. ran.0.setup ≡ setup.now) }
     ensures framed { IfOk result (λ ran. (state : _) → slice_get states.old.items 0 ≡ Some state
         → S.frame_of ran.0.given ≡ S.frame_of state) }
-    ensures free { IfOk result (λ ran. AllFree ran.0) }
-    ensures drained { IfOk result (λ ran. ran.1 ≡ Drained.Empty → HistoriesAreDrained ran.0) }
+    ensures rests { IfOk result (λ ran. IsAtRest setup.now ran.0 ran.1) }
     ensures back { IfErr result (λ refused. refused ≡ record { event = begin.1; load = begin.2 }) }
 {
     let given = std::mem::replace(states, Vec::new(alloc));
@@ -107,18 +102,12 @@ fn run_places<
 where
     W::Link: Send,
     T::Hall: Send,
-    requires colours { colours_of setup.now ≡ total + 2 }
-    requires handlers { 10 ≤ length (rows_of (handlers_of setup.now)) }
-    requires total { (W.tells world).total ≡ total }
+    requires set { AreAtFirst W.World T.Talk setup.now world total states.old.items }
     requires few { total ≤ 1024 }
-    requires none { (W.tells world).accepted ≡ 0 }
-    requires first { (hall : _) × AreFirstPlaces T.Talk world hall (total + 2) states.old.items }
-    ensures of_setup { IfOk result (λ ran. ran.0.setup ≡ setup.now) }
     ensures of_world { IfOk result (λ ran. ran.0.given.first ≡ world) }
     ensures of_hall { (hall : _) → AreFirstPlaces T.Talk world hall (total + 2) states.old.items
         → IfOk result (λ ran. ran.0.given.hall ≡ hall) }
-    ensures free { IfOk result (λ ran. AllFree ran.0) }
-    ensures drained { IfOk result (λ ran. ran.1 ≡ Drained.Empty → HistoriesAreDrained ran.0) }
+    ensures rests { IfOk result (λ ran. IsAtRest setup.now ran.0 ran.1) }
     ensures back { IfErr result (λ back. back ≡ world) }
 {
     let app = Sws::new(total);
@@ -159,10 +148,7 @@ fn run_threads<
 where
     W::Link: Send,
     T::Hall: Send,
-    requires colours { colours_of setup.now ≡ (W.tells world).total + 2 }
-    requires handlers { 10 ≤ length (rows_of (handlers_of setup.now)) }
-    requires few { (W.tells world).total ≤ 1024 }
-    requires none { (W.tells world).accepted ≡ 0 }
+    requires { IsSetFor W.World setup.now world }
     ensures kept { IfOk result (λ ran. PartsKept W.World T.Talk setup.now world ran.1
         (map (λ history. history.items) ran.0.histories.items) ran.0.states.items
         (map (λ queue. queue.items) ran.0.queued.items)) }
@@ -205,9 +191,7 @@ pub fn talk_all<
 where
     W::Link: Send,
     T::Hall: Send,
-    requires shape { first_out_of_range shape.now ((W.tells world).total + 2) 1 ≡ None }
-    requires few { (W.tells world).total ≤ 1024 }
-    requires none { (W.tells world).accepted ≡ 0 }
+    requires { IsShapedFor W.World shape.now world }
     ensures { ThreadsLeave W.World W.Link.Link T.Talk shape.now (T.contents_of hall)
         world result }
 {
@@ -239,9 +223,7 @@ pub fn serve_all<'s, R: Threads + Wait + Sync, W: World + Drop + Send, G: Gate +
 ) -> Ended<W>
 where
     W::Link: Send,
-    requires shape { first_out_of_range shape.now ((W.tells world).total + 2) 1 ≡ None }
-    requires few { (W.tells world).total ≤ 1024 }
-    requires none { (W.tells world).accepted ≡ 0 }
+    requires { IsShapedFor W.World shape.now world }
     ensures leaves { ThreadsLeave W.World W.Link.Link ⟦<Conn<'s, W::Link> as Talk<W::Link>>⟧
         shape.now site.now world result }
     ensures unkept { IsUnkept ⟦<Conn<'s, W::Link> as Talk<W::Link>>⟧ }

@@ -1,7 +1,7 @@
 //! The connections that wait.
 ghost use Rattle.std.specs.Prelude.{◌≡◌, ◌<◌, ◌==◌, ◌↔◌, [], ◌∷◌, length, slice_get, Contains, IsTrue, IfOk, MatchOption, Some};
 ghost use Rattle.std.specs.List.{list_any};
-ghost use Rattle.sws_engine.specs.WaitingList.{TakenOff, waiting_with};
+ghost use Rattle.sws_engine.specs.Waiting.{TakenOff, waiting_with};
 
 use std::alloc::Global;
 use std::marker::Model;
@@ -23,9 +23,9 @@ pub struct Waiting {
 }
 
 impl Model for Waiting {
-    ghost use Rattle.sws_engine.specs.WaitingList.{WaitingList};
+    ghost use Rattle.sws_engine.specs.Waiting.{WaitingState};
 
-    ghost Value = { WaitingList };
+    ghost Value = { WaitingState };
 
     ghost use Rattle.std.specs.Prelude.{length};
     ghost use Rattle.sws_engine.specs.WaitingKept.{IsTabled};

@@ -1,8 +1,7 @@
 //! A whole run of the server on a weave: from the world and the hall to the weave's parts.
-ghost use Rattle.std.specs.Prelude.{◌≡◌, ◌≤◌, ◌<◌, ◌+◌, ◌++◌, ◌^◌, All, sum_by, IfOk, IfErr, [], map, length};
-ghost use Rattle.mely_event.specs.HandlerTable.{rows_of};
-ghost use Rattle.mely_history.specs.Setup.{shape_of, colours_of, handlers_of};
-ghost use Rattle.mely_weave.specs.Drains.{AllFree, HistoriesAreDrained};
+ghost use Rattle.std.specs.Prelude.{◌≡◌, ◌++◌, IfOk, IfErr, [], map};
+ghost use Rattle.mely_history.specs.Setup.{shape_of};
+ghost use Rattle.sws_engine.specs.Begins.{IsAtRest, IsScheduleOf, IsSetFor};
 ghost use Rattle.sws_engine.specs.RunFact.{RunFact};
 ghost use Rattle.sws_engine.specs.RunFits.{RunFits};
 ghost use Rattle.sws_engine.specs.RunParts.{RunParts};
@@ -36,17 +35,11 @@ pub fn run_whole<R: Wait, W: World + Drop, T: Talk<W::Link> + Drop>(
     world: W,
     schedule: &[(u16, u32)],
 ) -> Result<(Weave<Place<W, T>, Load<W, W::Link>>, Drained), W>
-    requires cores { All (λ part. part.0 < (shape_of setup.now).cores) schedule.now }
-    requires count { sum_by (λ part. part.1) schedule.now < 2 ^ 64 }
-    requires colours { colours_of setup.now ≡ (W.tells world).total + 2 }
-    requires handlers { 10 ≤ length (rows_of (handlers_of setup.now)) }
-    requires few { (W.tells world).total ≤ 1024 }
-    requires none { (W.tells world).accepted ≡ 0 }
+    requires set { IsSetFor W.World setup.now world }
+    requires schedule { IsScheduleOf (shape_of setup.now).cores schedule.now }
     ensures stands { IfOk result (λ ran. RunFact W.World T.Talk world ran.0) }
-    ensures of_setup { IfOk result (λ ran. ran.0.setup ≡ setup.now) }
     ensures of_hall { IfOk result (λ ran. ran.0.given.hall ≡ T.contents_of hall) }
-    ensures free { IfOk result (λ ran. AllFree ran.0) }
-    ensures drained { IfOk result (λ ran. ran.1 ≡ Drained.Empty → HistoriesAreDrained ran.0) }
+    ensures rests { IfOk result (λ ran. IsAtRest setup.now ran.0 ran.1) }
     ensures out { IfOk result (λ ran. ran.1 ≡ Drained.Empty
         → HasRunOut W.World T.Talk ⟦<Place<W, T> as Trail>⟧
         ⟦<Place<W, T> as Fits<Load<W, W::Link>>>⟧.fits_under
@@ -64,7 +57,7 @@ pub fn run_whole<R: Wait, W: World + Drop, T: Talk<W::Link> + Drop>(
     Ok((weave, drained))
 }
 
-/// The same, and the weave is taken apart.
+/// Makes a weave of the server, runs it by the schedule to its end, and takes it apart.
 ///
 /// # Errors
 ///
@@ -77,12 +70,8 @@ pub fn run_apart<R: Wait, W: World + Drop, T: Talk<W::Link> + Drop>(
     world: W,
     schedule: &[(u16, u32)],
 ) -> Result<(WeaveParts<Place<W, T>, Load<W, W::Link>>, Drained), W>
-    requires cores { All (λ part. part.0 < (shape_of setup.now).cores) schedule.now }
-    requires count { sum_by (λ part. part.1) schedule.now < 2 ^ 64 }
-    requires colours { colours_of setup.now ≡ (W.tells world).total + 2 }
-    requires handlers { 10 ≤ length (rows_of (handlers_of setup.now)) }
-    requires few { (W.tells world).total ≤ 1024 }
-    requires none { (W.tells world).accepted ≡ 0 }
+    requires set { IsSetFor W.World setup.now world }
+    requires schedule { IsScheduleOf (shape_of setup.now).cores schedule.now }
     ensures ran { IfOk result (λ ran. RunParts W.World T.Talk setup.now world ran.1
         (map (λ history. history.items) ran.0.histories.items) ran.0.states.items
         (map (λ queue. queue.items) ran.0.queued.items) ran.0.lost.items) }

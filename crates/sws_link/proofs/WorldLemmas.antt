@@ -6,14 +6,19 @@ use Rattle.sws_link.specs.declared.Accepted.TheVariants as accepted
 use Rattle.sws_link.specs.Counts.{Count, HasCause, kept_count, no_faults}
 use Rattle.sws_link.specs.Calls.{CallsMade, called}
 use Rattle.sws_link.specs.Links.{LinkTells, IsFresh}
-use Rattle.sws_link.specs.MemLinks.{MemLinkState, SureLinkState, WireState, wire_tells, mem_link_tells, sure_link_tells, script_of, script_unless}
+use Rattle.sws_link.specs.MemLinks.{wire_tells, mem_link_tells, sure_link_tells, script_of, script_unless}
+use Rattle.sws_link.specs.SureLink.{SureLinkState}
+use Rattle.sws_link.specs.MemLink.{MemLinkState}
+use Rattle.sws_link.specs.ScriptedBytes.{ScriptedBytesState}
 use Rattle.sws_link.specs.LinkItems.{all_bytes}
 use Rattle.sws_link.specs.Worlds.{Coming, untouched, AreScripted, IsScripted, TakesNext, GivesLink, Accepts}
-use Rattle.sws_link.specs.MemWorlds.{LobbyState, GivesNext, IsFreshMemLink, IsFreshSureLink, wire_coming, mem_coming, sure_coming, MemWorldState, lobby_tells, is_none, mem_world_tells, sure_world_tells}
-use Rattle.sws_link.proofs.CountLaws.{HasCause-none}
+use Rattle.sws_link.specs.MemWorlds.{GivesNext, IsFreshMemLink, IsFreshSureLink, wire_coming, mem_coming, sure_coming, lobby_tells, is_none, mem_world_tells, sure_world_tells}
+use Rattle.sws_link.specs.MemWorld.{MemWorldState}
+use Rattle.sws_link.specs.Lobby.{LobbyState}
+use Rattle.sws_link.proofs.CountLemmas.{HasCause-none}
 
 -- a link of which nothing was taken or written tells what was to come of it
-wire-told : (failing : List ℕ) (wire : WireState) → wire.input.taken ≡ [] → wire.written ≡ [] → Some (wire_tells failing wire) ≡ Some (untouched (wire_coming failing wire))
+wire-told : (failing : List ℕ) (wire : ScriptedBytesState) → wire.input.taken ≡ [] → wire.written ≡ [] → Some (wire_tells failing wire) ≡ Some (untouched (wire_coming failing wire))
 wire-told failing wire taken written =
     let told : List ℕ → List ℕ → Option LinkTells =
     (λ t w. Some (record { taken = t; left = all_bytes wire.input.items; written = w; to_come = script_unless failing (script_of wire); says_all = true })) in

@@ -15,12 +15,14 @@ pub data LinkCall : Type 0 where
 
 -- ---- what the answers count
 
+-- how many bytes a read took
 abbrev pub took : LinkRead → ℕ
 took (read.Took count) = count
 took read.End = 0
 took read.NotReady = 0
 took read.Failed = 0
 
+-- how many bytes a write wrote
 abbrev pub wrote : LinkWrite → ℕ
 wrote (write.Wrote count) = count
 wrote write.NotReady = 0

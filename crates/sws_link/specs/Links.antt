@@ -68,6 +68,7 @@ pub record TakesTold (before : LinkTells) (now : Option LinkTells) (room : ℕ) 
   pub ends : EndsRead answer before.left
   pub says_all : after.says_all ≡ before.says_all
 
+-- what a read takes of a link, where the link tells it
 abbrev pub LinkTakes : Option LinkTells → Option LinkTells → ℕ → LinkRead → List ℕ → Type 0
 LinkTakes None now room answer into = now ≡ None
 LinkTakes (Some before) now room answer into = TakesTold before now room answer into
@@ -112,6 +113,7 @@ abbrev pub IsExact : Option Script → LinkWrite → List ℕ → List ℕ → T
 IsExact None answer piece front = ⊤
 IsExact (Some script) answer piece front = front ≡ written_by answer piece
 
+-- a write puts a front of the piece behind what was sent, and the link goes on telling
 pub record PutsTold (before : LinkTells) (now : Option LinkTells) (answer : LinkWrite) (bytes : List ℕ) : Type 0 where
   pub after : LinkTells
   pub front : List ℕ
@@ -125,6 +127,7 @@ pub record PutsTold (before : LinkTells) (now : Option LinkTells) (answer : Link
   pub says_all : after.says_all ≡ before.says_all
   pub said : IsTrue before.says_all → front ≡ written_by answer bytes
 
+-- what a write puts on a link, where the link tells it
 abbrev pub LinkPuts : Option LinkTells → Option LinkTells → LinkWrite → List ℕ → Type 0
 LinkPuts None now answer piece = now ≡ None
 LinkPuts (Some before) now answer piece = PutsTold before now answer piece
@@ -142,6 +145,7 @@ read_fault read.End = None
 read_fault read.NotReady = None
 read_fault read.Failed = Some reading
 
+-- the way that failed, if the write did
 abbrev pub write_fault : LinkWrite → Option Way
 write_fault (write.Wrote count) = None
 write_fault write.NotReady = None

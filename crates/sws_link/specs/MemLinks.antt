@@ -8,32 +8,13 @@ use Rattle.sws_link.specs.declared.LinkWrite.TheVariants as write
 use Rattle.sws_link.specs.Scripts.{Script, Item, lowered, within, read_of}
 use Rattle.sws_link.specs.Links.{LinkTells, given_by, written_by}
 use Rattle.sws_link.specs.LinkItems.{all_bytes}
-use Rattle.sws_link.specs.Playing.{Played}
 use Rattle.sws_link.specs.Calls.{CallsMade, raised, next_fails}
-
--- a link whose calls are not counted: what was taken and the items that are left, what was written, the most bytes of one write, and
--- the most bytes that are written in all
-pub record WireState : Type 0 where
-  pub input : Played
-  pub written : List ℕ
-  pub step : Option ℕ
-  pub cut : Option ℕ
-
--- a link with calls that fail, which are its faults; how often it wasn't ready, and whether it was shut
-pub record MemLinkState : Type 0 where
-  pub wire : WireState
-  pub calls : CallsMade
-  pub waits : ℕ
-  pub shut : Bool
-
--- a link without faults
-pub record SureLinkState : Type 0 where
-  pub wire : WireState
-  pub waits : ℕ
-  pub shut : Bool
+use Rattle.sws_link.specs.ScriptedBytes.{ScriptedBytesState}
+use Rattle.sws_link.specs.MemLink.{MemLinkState}
+use Rattle.sws_link.specs.SureLink.{SureLinkState}
 
 -- nothing was taken or written
-abbrev pub fresh_wire : List Item → Option ℕ → Option ℕ → WireState
+abbrev pub fresh_wire : List Item → Option ℕ → Option ℕ → ScriptedBytesState
 fresh_wire items step cut = record {
   input = record { taken = []; items = items };
   written = [];
@@ -44,7 +25,7 @@ fresh_wire items step cut = record {
 -- ---- what is told
 
 -- the answers to come, as they stand
-abbrev pub script_of : WireState → Script
+abbrev pub script_of : ScriptedBytesState → Script
 script_of wire = record {
   items = wire.input.items;
   step = wire.step;
@@ -62,7 +43,8 @@ abbrev pub script_unless : List ℕ → Script → Option Script
 script_unless [] script = script_by_step script.step script
 script_unless (call ∷ failing) script = None
 
-abbrev pub wire_tells : List ℕ → WireState → LinkTells
+-- what scripted bytes tell, where these calls are to fail
+abbrev pub wire_tells : List ℕ → ScriptedBytesState → LinkTells
 wire_tells failing wire = record {
   taken = wire.input.taken;
   left = all_bytes wire.input.items;
@@ -71,16 +53,18 @@ wire_tells failing wire = record {
   says_all = true;
 }
 
+-- what a link in memory tells
 abbrev pub mem_link_tells : MemLinkState → Option LinkTells
 mem_link_tells link = Some (wire_tells link.calls.failing link.wire)
 
+-- what a link in memory without faults tells
 abbrev pub sure_link_tells : SureLinkState → Option LinkTells
 sure_link_tells link = Some (wire_tells [] link.wire)
 
 -- ---- calls
 
 -- what was read is taken, and the items are those that are left
-abbrev pub wire_after_read : WireState → ℕ → WireState
+abbrev pub wire_after_read : ScriptedBytesState → ℕ → ScriptedBytesState
 wire_after_read wire room =
     let said = read_of room wire.input.items in
     record wire { input = record { taken = wire.input.taken ++ said.bytes; items = said.items } }
@@ -98,35 +82,39 @@ write_answer (Some (suc limit)) (Some (suc left)) length =
     write.Wrote (within (Some (suc limit)) (within (Some (suc left)) length))
 
 -- what a write may answer
-abbrev pub MayAnswer : WireState → ℕ → LinkWrite → Type 0
+abbrev pub MayAnswer : ScriptedBytesState → ℕ → LinkWrite → Type 0
 MayAnswer wire count answer = (answer ≡ write.Memory)
     ⊎ (answer ≡ write_answer wire.step (lowered wire.cut (length wire.written)) count)
 
 -- what the answer says was written
-abbrev pub wire_after_write : WireState → LinkWrite → List ℕ → WireState
+abbrev pub wire_after_write : ScriptedBytesState → LinkWrite → List ℕ → ScriptedBytesState
 wire_after_write wire answer piece =
     record wire { written = wire.written ++ written_by answer piece }
 
 -- ---- counts
 
+-- the read failed
 abbrev pub is_failed_read : LinkRead → Bool
 is_failed_read (read.Took count) = false
 is_failed_read read.End = false
 is_failed_read read.NotReady = false
 is_failed_read read.Failed = true
 
+-- the write failed
 abbrev pub is_failed_write : LinkWrite → Bool
 is_failed_write (write.Wrote count) = false
 is_failed_write write.NotReady = false
 is_failed_write write.Failed = true
 is_failed_write write.Memory = false
 
+-- the link was not ready for the read
 abbrev pub is_waiting_read : LinkRead → Bool
 is_waiting_read (read.Took count) = false
 is_waiting_read read.End = false
 is_waiting_read read.NotReady = true
 is_waiting_read read.Failed = false
 
+-- the link was not ready for the write
 abbrev pub is_waiting_write : LinkWrite → Bool
 is_waiting_write (write.Wrote count) = false
 is_waiting_write write.NotReady = true
@@ -170,7 +158,7 @@ pub record FailsOrWrites (before : MemLinkState) (piece : List ℕ) (answer : Li
   pub waits_are : after.waits ≡ waited before.waits (is_waiting_write answer)
   pub shut_is : after.shut ≡ before.shut
 
--- the same of a link without faults
+-- a read and a write of a link without faults answer as its items and its bound say, for a read of this much room
 pub record SureReads (before : SureLinkState) (room : ℕ) (answer : LinkRead) (into : List ℕ) (after : SureLinkState) : Type 0 where
   pub answer_is : answer ≡ (read_of room before.wire.input.items).answer
   pub bytes_are : given_by answer into ≡ (read_of room before.wire.input.items).bytes
@@ -178,6 +166,7 @@ pub record SureReads (before : SureLinkState) (room : ℕ) (answer : LinkRead) (
   pub waits_are : after.waits ≡ waited before.waits (is_waiting_read answer)
   pub shut_is : after.shut ≡ before.shut
 
+-- a write on a link without faults answers as its bound says, but for want of memory
 pub record SureWrites (before : SureLinkState) (piece : List ℕ) (answer : LinkWrite) (after : SureLinkState) : Type 0 where
   pub by_bounds : MayAnswer before.wire (length piece) answer
   pub wire_is : after.wire ≡ wire_after_write before.wire answer piece

@@ -7,18 +7,15 @@ use Rattle.sws_link.specs.declared.Polled.{Polled}
 use Rattle.sws_link.specs.declared.Polled.TheVariants as polled
 use Rattle.sws_link.specs.declared.Accepted.{Accepted}
 use Rattle.sws_link.specs.declared.Accepted.TheVariants as accepted
-use Rattle.sws_link.specs.Calls.{CallsMade, next_fails, called}
+use Rattle.sws_link.specs.Calls.{next_fails, called}
 use Rattle.sws_link.specs.LinkItems.{all_bytes}
-use Rattle.sws_link.specs.MemLinks.{WireState, MemLinkState, SureLinkState, script_of, script_unless}
+use Rattle.sws_link.specs.MemLinks.{script_of, script_unless}
+use Rattle.sws_link.specs.SureLink.{SureLinkState}
+use Rattle.sws_link.specs.MemLink.{MemLinkState}
+use Rattle.sws_link.specs.ScriptedBytes.{ScriptedBytesState}
 use Rattle.sws_link.specs.Worlds.{Coming, WorldTells, first_ready}
-
--- links that wait to be accepted, the next one first; how many are given in all since the opening, and how many of these were accepted; and
--- the port of the opening, or 0
-pub record LobbyState (L : Type 0) : Type 0 where
-  pub links : List L
-  pub total : ℕ
-  pub accepted : ℕ
-  pub port : ℕ
+use Rattle.sws_link.specs.Lobby.{LobbyState}
+use Rattle.sws_link.specs.MemWorld.{MemWorldState}
 
 -- all the links are to be given
 abbrev pub fresh_lobby : {L : Type 0} → List L → LobbyState L
@@ -51,6 +48,7 @@ pub record IsFreshMemLink (link : MemLinkState) : Type 0 where
   pub waits : link.waits ≡ 0
   pub not_shut : link.shut ≡ false
 
+-- nothing was done with the link
 pub record IsFreshSureLink (link : SureLinkState) : Type 0 where
   pub taken : link.wire.input.taken ≡ []
   pub written : link.wire.written ≡ []
@@ -58,30 +56,29 @@ pub record IsFreshSureLink (link : SureLinkState) : Type 0 where
   pub not_shut : link.shut ≡ false
 
 -- what is to come of a link: the bytes of its items, and its answers where no call is to fail
-abbrev pub wire_coming : List ℕ → WireState → Coming
+abbrev pub wire_coming : List ℕ → ScriptedBytesState → Coming
 wire_coming failing wire = record {
   input = all_bytes wire.input.items;
   answers = script_unless failing (script_of wire);
   says_all = true;
 }
 
+-- what is known of a link in memory before it is given
 abbrev pub mem_coming : MemLinkState → Coming
 mem_coming link = wire_coming link.calls.failing link.wire
 
+-- what is known of a link in memory without faults before it is given
 abbrev pub sure_coming : SureLinkState → Coming
 sure_coming link = wire_coming [] link.wire
 
 -- ---- worlds
 
--- a world with calls that fail; the failed calls are its faults
-pub record MemWorldState : Type 0 where
-  pub lobby : LobbyState MemLinkState
-  pub calls : CallsMade
-
+-- there is no call
 abbrev pub is_none : List ℕ → Bool
 is_none [] = true
 is_none (call ∷ calls) = false
 
+-- what a world over a lobby tells
 abbrev pub lobby_tells : {L : Type 0} → (L → Coming) → Bool → LobbyState L → WorldTells
 lobby_tells coming scripted lobby = record {
   coming = Some (map coming lobby.links);
@@ -95,20 +92,24 @@ lobby_tells coming scripted lobby = record {
 abbrev pub mem_world_tells : MemWorldState → WorldTells
 mem_world_tells world = lobby_tells mem_coming (is_none world.calls.failing) world.lobby
 
+-- what a world in memory without faults tells
 abbrev pub sure_world_tells : LobbyState SureLinkState → WorldTells
 sure_world_tells lobby = lobby_tells sure_coming true lobby
 
 -- ---- calls of a world with calls that fail
 
+-- what an opening answers: it fails where this call is to fail
 abbrev pub opened_or_fails : MemWorldState → Opened
 opened_or_fails world = if next_fails world.calls then opened.Failed else opened.Ready
 
+-- a world in memory after it was opened, or failed to
 abbrev pub mem_world_opened : MemWorldState → ℕ → ℕ → MemWorldState
 mem_world_opened world port total = record {
   lobby = if next_fails world.calls then world.lobby else lobby_opened world.lobby port total;
   calls = called world.calls;
 }
 
+-- what a poll answers: the first that waits, or that it fails where this call is to fail
 abbrev pub ready_or_fails : MemWorldState → List ℕ → Polled
 ready_or_fails world waiting = if next_fails world.calls then polled.Failed else first_ready waiting
 
@@ -118,6 +119,7 @@ FailsOrGivesBy true before answer after = (answer ≡ accepted.Failed) × (after
 FailsOrGivesBy false before answer after = (link : MemLinkState) × (answer ≡ accepted.Link link)
     × GivesNext before.lobby link after.lobby
 
+-- the next link is given or the call fails where it is to fail, and the call is counted
 pub record FailsOrGives (before : MemWorldState) (answer : Accepted MemLinkState) (after : MemWorldState) : Type 0 where
   pub gives : FailsOrGivesBy (next_fails before.calls) before answer after
   pub calls_are : after.calls ≡ called before.calls

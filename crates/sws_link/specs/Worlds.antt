@@ -27,6 +27,7 @@ untouched coming = record {
   says_all = coming.says_all;
 }
 
+-- what a world tells of itself
 pub record WorldTells : Type 0 where
   -- the links to come, the next one first, where these are known
   pub coming : Option (List Coming)
@@ -63,6 +64,7 @@ opened_at world port total = record world {
   port = port;
 }
 
+-- what a world tells after an opening
 abbrev pub after_open : WorldTells → ℕ → ℕ → Opened → WorldTells
 after_open world port total opened.Ready = opened_at world port total
 after_open world port total opened.Failed = world

@@ -45,7 +45,8 @@ mod mem_link;
 mod mem_sink;
 mod mem_source;
 mod mem_world;
-mod playing;
+mod script_reader;
+mod scripted_bytes;
 mod sure_folder;
 mod sure_link;
 mod sure_sink;
@@ -53,7 +54,6 @@ mod sure_source;
 mod sure_world;
 #[cfg(test)]
 mod tests;
-mod wire;
 mod world;
 
 pub use link_item::LinkItem;
@@ -62,6 +62,9 @@ pub use mem_link::MemLink;
 pub use mem_sink::MemSink;
 pub use mem_source::MemSource;
 pub use mem_world::MemWorld;
+use std::alloc::AllocError;
+use std::error::Error;
+use std::fmt;
 pub use sure_folder::SureFolder;
 pub use sure_link::SureLink;
 pub use sure_sink::SureSink;
@@ -72,6 +75,20 @@ pub use world::World;
 /// Want of memory: an allocation was refused.
 #[derive(Clone, Copy, Debug, PartialEq, Eq)]
 pub struct Memory;
+
+impl fmt::Display for Memory {
+    fn fmt<W: fmt::Write>(&self, f: &mut fmt::Formatter<W>) -> fmt::Result {
+        f.write_str("there was no memory")
+    }
+}
+
+impl Error for Memory {}
+
+impl From<AllocError> for Memory {
+    fn from(_error: AllocError) -> Memory {
+        Memory
+    }
+}
 
 /// What a read answers.
 #[derive(Clone, Copy, Debug, PartialEq, Eq)]

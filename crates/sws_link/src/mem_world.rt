@@ -21,7 +21,7 @@ pub struct MemWorld {
 }
 
 impl Model for MemWorld {
-    ghost use Rattle.sws_link.specs.MemWorlds.{MemWorldState};
+    ghost use Rattle.sws_link.specs.MemWorld.{MemWorldState};
 
     ghost Value = { MemWorldState };
 

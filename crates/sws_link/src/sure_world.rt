@@ -18,8 +18,8 @@ pub struct SureWorld {
 }
 
 impl Model for SureWorld {
-    ghost use Rattle.sws_link.specs.MemLinks.{SureLinkState};
-    ghost use Rattle.sws_link.specs.MemWorlds.{LobbyState};
+    ghost use Rattle.sws_link.specs.SureLink.{SureLinkState};
+    ghost use Rattle.sws_link.specs.Lobby.{LobbyState};
 
     ghost Value = { LobbyState SureLinkState };
 

@@ -10,6 +10,7 @@ pub record IsUntouched (link : TcpLink) : Type 0 where
   pub no_faults_yet : link.faults ≡ 0
   pub no_waits_yet : link.waits ≡ 0
 
+-- the link that came, if one did, is untouched
 abbrev pub IsNew : Came → Type 0
 IsNew (came.Link link) = IsUntouched link
 IsNew came.NotYet = ⊤

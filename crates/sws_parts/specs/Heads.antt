@@ -3,7 +3,7 @@ use Rattle.std.specs.Prelude.{ℕ, ◌≤◌, List, length, drop, ⊤}
 use Rattle.sws_parts.specs.declared.Head.{Head}
 use Rattle.sws_parts.specs.declared.Head.TheVariants.{Lent, Own}
 use Rattle.sws_parts.specs.declared.Parts.TheInside.{Inside}
-use Rattle.sws_parts.specs.Unsent.{Unsent}
+use Rattle.sws_parts.specs.Parts.{PartsState}
 
 -- the bytes that are left of a head
 abbrev pub head_left : Head → List ℕ
@@ -16,5 +16,5 @@ IsSentWithin (Lent head) = ⊤
 IsSentWithin (Own head sent) = sent ≤ length head
 
 -- what a response shows of its fields
-abbrev pub shown : Inside → Unsent
-shown parts = record { head = head_left parts.head; body = parts.body.now }
+abbrev pub state_of : Inside → PartsState
+state_of parts = record { head = head_left parts.head; body = parts.body.now }

@@ -15,7 +15,7 @@
 #![tactic(auto)]
 
 ghost use Rattle.std.specs.Prelude.{◌≡◌, ◌≤◌, ℕ, List, [], ◌++◌, length, take, drop};
-ghost use Rattle.sws_parts.specs.Unsent.{unsent_bytes, front_of, after_sending};
+ghost use Rattle.sws_parts.specs.Parts.{unsent_bytes, front_of, after_sending};
 ghost use Rattle.sws_parts.specs.Heads.{head_left, IsSentWithin};
 
 mod own_heads;
@@ -72,13 +72,13 @@ pub struct Parts<'s> {
 }
 
 impl<'s> Model for Parts<'s> {
-    ghost use Rattle.sws_parts.specs.Unsent.{Unsent};
+    ghost use Rattle.sws_parts.specs.Parts.{PartsState};
 
-    ghost Value = { Unsent };
+    ghost Value = { PartsState };
 
-    ghost use Rattle.sws_parts.specs.Heads.{shown, IsSentWithin};
+    ghost use Rattle.sws_parts.specs.Heads.{state_of, IsSentWithin};
 
-    ghost view = { shown };
+    ghost view = { state_of };
 
     ghost invariant = { λ parts. IsSentWithin parts.head };
 }

@@ -12,8 +12,8 @@ use Rattle.mely_history.specs.declared.entry.Entry.{Entry}
 use Rattle.mely_history.specs.declared.setup.Setup.{Setup}
 use Rattle.mely_history.specs.declared.shape.Shape.{Shape}
 use Rattle.mely_machine.specs.Rules.{rules_of}
-use Rattle.mely_weave.proofs.GatherLaws.{get_there}
-use Rattle.mely_weave.specs.Scene.{shard_of}
+use Rattle.mely_weave.proofs.Wholes.GatherLemmas.{get_there}
+use Rattle.mely_weave.specs.Side.{shard_of}
 use Rattle.sws_conn.specs.Outcome.{Outcome, outcome_of}
 use Rattle.sws_conn.specs.Path.{Handler, path_of}
 use Rattle.sws_conn.specs.Talks.{TalkView, HasServed, ServesLink, ServesTold}
@@ -22,7 +22,7 @@ use Rattle.sws_steps.specs.declared.End.TheVariants.{Memory}
 use Rattle.sws_conn.specs.declared.talk.Talk.{Ghosts as TalkWords}
 use Rattle.sws_engine.specs.ConnFollows.{ConnFollows}
 use Rattle.sws_engine.specs.ConnLeft.{LinkLeft, ConnLeft}
-use Rattle.sws_engine.specs.Kept.{event_for}
+use Rattle.sws_engine.specs.Invariant.{event_for}
 use Rattle.sws_engine.specs.Loads.{IsComing, LinkStands, WorldStands}
 use Rattle.sws_engine.specs.RunLeaves.{is_out_of_memory, AreWhole, NoneOutOfMemory}
 use Rattle.sws_engine.specs.ServerRun.{server_rules}
@@ -33,15 +33,16 @@ use Rattle.sws_engine.specs.declared.ended.Served.{Served}
 use Rattle.sws_engine.specs.declared.ended.Verdict.{Verdict}
 use Rattle.sws_engine.specs.declared.ended.Verdict.TheVariants as verdict
 use Rattle.sws_link.specs.Links.{LinkTells}
-use Rattle.sws_link.specs.MemLinks.{MemLinkState, wire_tells, mem_link_tells}
-use Rattle.sws_link.specs.MemWorlds.{MemWorldState}
+use Rattle.sws_link.specs.MemLinks.{wire_tells, mem_link_tells}
+use Rattle.sws_link.specs.MemLink.{MemLinkState}
+use Rattle.sws_link.specs.MemWorld.{MemWorldState}
 use Rattle.sws_link.specs.Scripts.{Script}
 use Rattle.sws_link.specs.Worlds.{Coming, WorldTells, untouched}
 use Rattle.sws_link.specs.declared.Link.{Ghosts as LinkWords}
 use Rattle.sws_link.specs.declared.world.World.{Ghosts as WorldWords}
 use Rattle.sws_script.specs.Scripted.{coming_of, script_of, told_of}
 use Rattle.sws_script.specs.declared.input.ScriptConn.{ScriptConn}
-use Rattle.sws_site.specs.Sites.{SiteFiles}
+use Rattle.sws_site.specs.Site.{SiteState}
 use Rattle.sws_replay.specs.Histories.{colour_for, AreServed}
 use Rattle.sws_replay.specs.Runs.{IsServedAlone, ServesAll, histories_of, RunsWell}
 use Rattle.sws_replay.specs.Transcripts.{alone}
@@ -56,7 +57,7 @@ some_of (Some a) some = (a, refl)
 
 -- ---- one connection
 
-module _ {T G : Type 0} (x : WorldWords MemWorldState MemLinkState) (l : LinkWords MemLinkState) (y : TalkWords T MemLinkState G SiteFiles) (site : SiteFiles) (first : MemWorldState) (conns : List ScriptConn)
+module _ {T G : Type 0} (x : WorldWords MemWorldState MemLinkState) (l : LinkWords MemLinkState) (y : TalkWords T MemLinkState G SiteState) (site : SiteState) (first : MemWorldState) (conns : List ScriptConn)
     (told : x.tells first ≡ told_of conns) (link_told : (link : MemLinkState) → l.tells link ≡ mem_link_tells link) (outcome_is : (script : Script) → y.outcome site script ≡ outcome_of site script) where
   tells_is : (link : MemLinkState) (tells : LinkTells) → l.tells link ≡ Some tells → tells ≡ wire_tells link.calls.failing link.wire
   tells_is link tells is = same_Some tells (wire_tells link.calls.failing link.wire) (sym is ∙ link_told link)
@@ -101,7 +102,7 @@ module _ {T G : Type 0} (x : WorldWords MemWorldState MemLinkState) (l : LinkWor
 
 -- ---- all of them
 
-module _ {T G : Type 0} (x : WorldWords MemWorldState MemLinkState) (l : LinkWords MemLinkState) (y : TalkWords T MemLinkState G SiteFiles) (site : SiteFiles) (shape : Shape) (first : MemWorldState) (conns : List ScriptConn) (ended : Ended MemWorldState MemLinkState)
+module _ {T G : Type 0} (x : WorldWords MemWorldState MemLinkState) (l : LinkWords MemLinkState) (y : TalkWords T MemLinkState G SiteState) (site : SiteState) (shape : Shape) (first : MemWorldState) (conns : List ScriptConn) (ended : Ended MemWorldState MemLinkState)
     (told : x.tells first ≡ told_of conns) (link_told : (link : MemLinkState) → l.tells link ≡ mem_link_tells link) (outcome_is : (script : Script) → y.outcome site script ≡ outcome_of site script)
     (path_is : (script : Script) → y.path site script ≡ path_of site script) (well : ended.verdict ≡ verdict.Ok) (many_served : length ended.served.items ≡ (x.tells first).total) (many_trails : length ended.trails.items ≡ (x.tells first).total + 2)
     (enough : NoneOutOfMemory ended.served.items) (left : (i : ℕ) (s : Served MemLinkState) (trail : List Event) → slice_get ended.served.items i ≡ Some s → slice_get (map (λ t. t.items) ended.trails.items) (i + 2) ≡ Some trail → ConnLeft x l y site first i trail s)
@@ -147,7 +148,7 @@ module _ {T G : Type 0} (x : WorldWords MemWorldState MemLinkState) (l : LinkWor
 ok≢memory : verdict.Ok ≢ verdict.Memory
 ok≢memory same = cc
 
-pub threads_run_well : {T G : Type 0} (x : WorldWords MemWorldState MemLinkState) (l : LinkWords MemLinkState) (y : TalkWords T MemLinkState G SiteFiles) (site : SiteFiles) (shape : Shape) (first : MemWorldState) (conns : List ScriptConn) (ended : Ended MemWorldState MemLinkState)
+pub threads_run_well : {T G : Type 0} (x : WorldWords MemWorldState MemLinkState) (l : LinkWords MemLinkState) (y : TalkWords T MemLinkState G SiteState) (site : SiteState) (shape : Shape) (first : MemWorldState) (conns : List ScriptConn) (ended : Ended MemWorldState MemLinkState)
     → ThreadsLeave x l y shape site first ended → IsUnkept y → x.tells first ≡ told_of conns → ((link : MemLinkState) → l.tells link ≡ mem_link_tells link) → ((script : Script) → y.outcome site script ≡ outcome_of site script)
     → ((script : Script) → y.path site script ≡ path_of site script) → ended.verdict ≡ verdict.Ok → RunsWell site shape conns ended
 threads_run_well x l y site shape first conns ended (inl refused) unkept told link_told outcome_is path_is well = absurd (ok≢memory (sym well ∙ refused.refused))
@@ -166,7 +167,7 @@ threads_run_well x l y site shape first conns ended (inr run) unkept told link_t
       };
     }
 
-pub steps_run_well : {T G : Type 0} (x : WorldWords MemWorldState MemLinkState) (l : LinkWords MemLinkState) (y : TalkWords T MemLinkState G SiteFiles) (site : SiteFiles) (shape : Shape) (first : MemWorldState) (conns : List ScriptConn) (ended : Ended MemWorldState MemLinkState)
+pub steps_run_well : {T G : Type 0} (x : WorldWords MemWorldState MemLinkState) (l : LinkWords MemLinkState) (y : TalkWords T MemLinkState G SiteState) (site : SiteState) (shape : Shape) (first : MemWorldState) (conns : List ScriptConn) (ended : Ended MemWorldState MemLinkState)
     → StepsLeave x l y shape site first ended → x.tells first ≡ told_of conns → ((link : MemLinkState) → l.tells link ≡ mem_link_tells link) → ((script : Script) → y.outcome site script ≡ outcome_of site script)
     → ((script : Script) → y.path site script ≡ path_of site script) → ended.verdict ≡ verdict.Ok → RunsWell site shape conns ended
 steps_run_well x l y site shape first conns ended (inl refused) told link_told outcome_is path_is well = absurd (ok≢memory (sym well ∙ refused.refused))
@@ -198,18 +199,18 @@ world≢memory same = cc
 apart≢memory : (conn : ℕ) → verdict.Apart conn ≢ verdict.Memory
 apart≢memory conn same = cc
 
-pub threads_keep_the_world : {T G : Type 0} (x : WorldWords MemWorldState MemLinkState) (l : LinkWords MemLinkState) (y : TalkWords T MemLinkState G SiteFiles) (site : SiteFiles) (shape : Shape) (first : MemWorldState) (conns : List ScriptConn) (ended : Ended MemWorldState MemLinkState)
+pub threads_keep_the_world : {T G : Type 0} (x : WorldWords MemWorldState MemLinkState) (l : LinkWords MemLinkState) (y : TalkWords T MemLinkState G SiteState) (site : SiteState) (shape : Shape) (first : MemWorldState) (conns : List ScriptConn) (ended : Ended MemWorldState MemLinkState)
     → ThreadsLeave x l y shape site first ended → x.tells first ≡ told_of conns → ended.verdict ≡ verdict.World → ⊥
 threads_keep_the_world x l y site shape first conns ended (inl refused) told gone = world≢memory (sym gone ∙ refused.refused)
 threads_keep_the_world x l y site shape first conns ended (inr run) told gone = no_fault x l first conns ended told (run.world gone).0 (run.world gone).1 run.stands
 
-pub steps_keep_the_world : {T G : Type 0} (x : WorldWords MemWorldState MemLinkState) (l : LinkWords MemLinkState) (y : TalkWords T MemLinkState G SiteFiles) (site : SiteFiles) (shape : Shape) (first : MemWorldState) (conns : List ScriptConn) (ended : Ended MemWorldState MemLinkState)
+pub steps_keep_the_world : {T G : Type 0} (x : WorldWords MemWorldState MemLinkState) (l : LinkWords MemLinkState) (y : TalkWords T MemLinkState G SiteState) (site : SiteState) (shape : Shape) (first : MemWorldState) (conns : List ScriptConn) (ended : Ended MemWorldState MemLinkState)
     → StepsLeave x l y shape site first ended → x.tells first ≡ told_of conns → ended.verdict ≡ verdict.World → ⊥
 steps_keep_the_world x l y site shape first conns ended (inl refused) told gone = world≢memory (sym gone ∙ refused.refused)
 steps_keep_the_world x l y site shape first conns ended (inr run) told gone = no_fault x l first conns ended told (run.world gone).0 (run.world gone).1 run.stands
 
 -- a weave misses nothing
-pub steps_miss_nothing : {T G : Type 0} (x : WorldWords MemWorldState MemLinkState) (l : LinkWords MemLinkState) (y : TalkWords T MemLinkState G SiteFiles) (site : SiteFiles) (shape : Shape) (first : MemWorldState) (ended : Ended MemWorldState MemLinkState)
+pub steps_miss_nothing : {T G : Type 0} (x : WorldWords MemWorldState MemLinkState) (l : LinkWords MemLinkState) (y : TalkWords T MemLinkState G SiteState) (site : SiteState) (shape : Shape) (first : MemWorldState) (ended : Ended MemWorldState MemLinkState)
     → StepsLeave x l y shape site first ended → (conn : ℕ) → ended.verdict ≡ verdict.Apart conn → ⊥
 steps_miss_nothing x l y site shape first ended (inl refused) conn apart = apart≢memory conn (sym apart ∙ refused.refused)
 steps_miss_nothing x l y site shape first ended (inr run) conn apart = run.never_apart conn apart

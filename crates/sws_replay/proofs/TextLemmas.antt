@@ -10,19 +10,19 @@ use Rattle.sws_engine.specs.declared.ended.Ended.{Ended}
 use Rattle.sws_engine.specs.declared.ended.Served.{Served}
 use Rattle.sws_link.specs.Contents.{IsPrefix, Puts}
 use Rattle.sws_link.specs.Counts.{Count, HasCause}
-use Rattle.sws_link.proofs.ContentLaws.{Puts-nil}
-use Rattle.sws_link.proofs.CountLaws.{HasCause-as, HasCause-none}
-use Rattle.sws_link.specs.MemLinks.{MemLinkState}
-use Rattle.sws_link.specs.MemWorlds.{MemWorldState}
+use Rattle.sws_link.proofs.ContentLemmas.{Puts-nil}
+use Rattle.sws_link.proofs.CountLemmas.{HasCause-as, HasCause-none}
+use Rattle.sws_link.specs.MemLink.{MemLinkState}
+use Rattle.sws_link.specs.MemWorld.{MemWorldState}
 use Rattle.sws_link.specs.declared.Put.{Put}
 use Rattle.sws_link.specs.declared.Put.TheVariants as put
 use Rattle.sws_report.specs.Journal.{journal}
 use Rattle.sws_report.specs.Transcript.{transcript, transcript_from, conn_text}
-use Rattle.sws_report.proofs.PieceLaws.{Going, Going-none, Going-moved, Going-written, Going-stopped, Going-ended, Going-cause}
+use Rattle.sws_report.proofs.PieceLemmas.{Going, Going-none, Going-moved, Going-written, Going-stopped, Going-ended, Going-cause}
 use Rattle.sws_script.specs.Scripted.{script_of}
 use Rattle.sws_script.specs.declared.input.Input.{Input}
 use Rattle.sws_script.specs.declared.input.ScriptConn.{ScriptConn}
-use Rattle.sws_site.specs.Sites.{SiteFiles}
+use Rattle.sws_site.specs.Site.{SiteState}
 use Rattle.sws_replay.specs.declared.fault.RunFault.{RunFault}
 use Rattle.sws_replay.specs.declared.fault.RunFault.TheVariants.{Write, Memory}
 use Rattle.sws_replay.specs.Replays.{IsReplay, IsScheduledReplay, WritesOne, result_of}
@@ -31,10 +31,10 @@ use Rattle.sws_replay.specs.Showing.{IsShowable, shown_end, shown_bytes, shown_o
 use Rattle.sws_replay.specs.Transcripts.{ended_alone, transcript_of}
 
 -- each connection was served as if it were alone
-abbrev AreAlone : SiteFiles → List ScriptConn → List (Served MemLinkState) → Type 0
+abbrev AreAlone : SiteState → List ScriptConn → List (Served MemLinkState) → Type 0
 AreAlone site conns served = (i : ℕ) (conn : ScriptConn) (s : Served MemLinkState) → slice_get conns i ≡ Some conn → slice_get served i ≡ Some s → IsServedAlone site conn s
 
-shown_alone : (site : SiteFiles) (conns : List ScriptConn) (served : List (Served MemLinkState)) → length served ≡ length conns → AreAlone site conns served → map shown_of served ≡ map (ended_alone site) conns
+shown_alone : (site : SiteState) (conns : List ScriptConn) (served : List (Served MemLinkState)) → length served ≡ length conns → AreAlone site conns served → map shown_of served ≡ map (ended_alone site) conns
 shown_alone site [] [] many each = refl
 shown_alone site [] (s ∷ served) many each = absurd (omega (arith, many))
 shown_alone site (conn ∷ conns) [] many each = absurd (omega (arith, many))
@@ -47,11 +47,11 @@ shown_alone site (conn ∷ conns) (s ∷ served) many each =
     λ i. same i ∷ rest i
 
 -- the transcript of what was served is the one-core transcript
-transcript_alone : (site : SiteFiles) (conns : List ScriptConn) (ended : Ended MemWorldState MemLinkState) → ServesAll site conns ended → transcript (map shown_of ended.served.items) ≡ transcript_of site conns
+transcript_alone : (site : SiteState) (conns : List ScriptConn) (ended : Ended MemWorldState MemLinkState) → ServesAll site conns ended → transcript (map shown_of ended.served.items) ≡ transcript_of site conns
 unfolding transcript_of
 transcript_alone site conns ended all = ap (λ (t : List (End × List ℕ)). transcript t) (shown_alone site conns ended.served.items all.many all.each)
 
-showable : (site : SiteFiles) (conns : List ScriptConn) (served : List (Served MemLinkState)) → length served ≡ length conns → AreAlone site conns served → AllByRecursion IsShowable served
+showable : (site : SiteState) (conns : List ScriptConn) (served : List (Served MemLinkState)) → length served ≡ length conns → AreAlone site conns served → AllByRecursion IsShowable served
 showable site conns [] many each = tt
 showable site [] (s ∷ served) many each = absurd (omega (arith, many))
 showable site (conn ∷ conns) (s ∷ served) many each =
@@ -59,7 +59,7 @@ showable site (conn ∷ conns) (s ∷ served) many each =
     (record { link = one.link; there = one.there; end = _; is = one.end; fine = one.fine }, showable site conns served (omega (arith, many)) (λ i. each (suc i)))
 
 -- and each connection can be shown
-pub all_showable : (site : SiteFiles) (conns : List ScriptConn) (ended : Ended MemWorldState MemLinkState) → ServesAll site conns ended → AllByRecursion IsShowable ended.served.items
+pub all_showable : (site : SiteState) (conns : List ScriptConn) (ended : Ended MemWorldState MemLinkState) → ServesAll site conns ended → AllByRecursion IsShowable ended.served.items
 all_showable site conns ended all = showable site conns ended.served.items all.many all.each
 
 -- ---- how a replay ends
@@ -127,7 +127,7 @@ done≢failed same = cc
 
 -- ---- the texts of a replay
 
-module _ (site : SiteFiles) (shape : Shape) (conns : List ScriptConn) (ended : Ended MemWorldState MemLinkState) (ran : RunsWell site shape conns ended) (before after : Option (List ℕ)) (answer : Put) (result : Result (Unit {0}) RunFault) (is : result ≡ result_of answer) where
+module _ (site : SiteState) (shape : Shape) (conns : List ScriptConn) (ended : Ended MemWorldState MemLinkState) (ran : RunsWell site shape conns ended) (before after : Option (List ℕ)) (answer : Put) (result : Result (Unit {0}) RunFault) (is : result ≡ result_of answer) where
   abbrev shown : List ℕ
   shown = transcript (map shown_of ended.served.items)
 

@@ -8,20 +8,20 @@ use Rattle.mely_history.specs.declared.entry.Entry.{Entry}
 use Rattle.mely_history.specs.declared.setup.Setup.{Setup}
 use Rattle.mely_history.specs.declared.shape.Shape.{Shape}
 use Rattle.mely_machine.specs.Rules.{rules_of}
-use Rattle.mely_weave.specs.Scene.{shard_of}
+use Rattle.mely_weave.specs.Side.{shard_of}
 use Rattle.sws_conn.specs.Path.{path_of}
-use Rattle.sws_engine.specs.Kept.{event_for}
+use Rattle.sws_engine.specs.Invariant.{event_for}
 use Rattle.sws_engine.specs.ServerRun.{server_rules}
 use Rattle.sws_script.specs.Scripted.{script_of}
 use Rattle.sws_script.specs.declared.input.ScriptConn.{ScriptConn}
-use Rattle.sws_site.specs.Sites.{SiteFiles}
+use Rattle.sws_site.specs.Site.{SiteState}
 
 -- the colour of a connection
 abbrev pub colour_for : ℕ → Colour
 colour_for i = record { 0 = i + 2 }
 
 -- the histories of a server of this shape that has served these connections: one for each shard, legal and drained, by which the events that were run of each connection are those of its path
-pub record AreServed (site : SiteFiles) (shape : Shape) (conns : List ScriptConn) (histories : List (List Entry)) : Type 0 where
+pub record AreServed (site : SiteState) (shape : Shape) (conns : List ScriptConn) (histories : List (List Entry)) : Type 0 where
   pub setup : Setup
   -- of the shape, with the server's handlers, its first colour pinned, and two colours more than connections
   pub rules : rules_of setup ≡ server_rules shape

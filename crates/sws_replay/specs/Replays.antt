@@ -10,21 +10,21 @@ use Rattle.sws_report.specs.Journal.{journal}
 use Rattle.sws_script.specs.Scripted.{script_of}
 use Rattle.sws_script.specs.declared.input.Input.{Input}
 use Rattle.sws_script.specs.declared.input.ScriptConn.{ScriptConn}
-use Rattle.sws_site.specs.Sites.{SiteFiles}
+use Rattle.sws_site.specs.Site.{SiteState}
 use Rattle.sws_replay.specs.declared.fault.RunFault.{RunFault}
 use Rattle.sws_replay.specs.declared.fault.RunFault.TheVariants.{Write, Memory}
 use Rattle.sws_replay.specs.Histories.{AreServed}
 use Rattle.sws_replay.specs.Transcripts.{transcript_of}
 
 -- the text of a replay, with its journal where that is asked for: behind the transcript, that of histories by which these connections were served
-abbrev pub IsReplay : SiteFiles → Shape → List ScriptConn → Bool → List ℕ → Type 0
+abbrev pub IsReplay : SiteState → Shape → List ScriptConn → Bool → List ℕ → Type 0
 IsReplay site shape conns false text = text ≡ transcript_of site conns
 IsReplay site shape conns true text =
     (histories : List (List Entry)) × AreServed site shape conns histories
     × (text ≡ transcript_of site conns ++ journal histories)
 
 -- the one text of a replay by a schedule: behind the transcript, the journal of the histories that the definition of a run gives
-abbrev pub IsScheduledReplay : SiteFiles → Shape → Input → List ℕ → Type 0
+abbrev pub IsScheduledReplay : SiteState → Shape → Input → List ℕ → Type 0
 IsScheduledReplay site shape input text =
     (histories : List (List Entry))
     × IsServerRun shape site (map script_of input.conns) input.steps histories
@@ -43,7 +43,7 @@ WritesBehind IsText before now (Err Write) = (front : List ℕ) × Begins IsText
 WritesBehind IsText before now (Err Memory) = (front : List ℕ)
     × ((front ≡ []) ⊎ Begins IsText front) × (now ≡ before ++ front)
 
--- the same of a sink that tells what was written; one that doesn't goes on telling nothing
+-- behind what a sink tells that it had before stands what `WritesBehind` says; a sink that tells nothing goes on telling nothing
 abbrev pub WritesOne : {T : Type 0} → (List ℕ → Type 0) → Option (List ℕ) → Option (List ℕ)
     → Result T RunFault → Type 0
 WritesOne IsText None now result = now ≡ None

@@ -7,16 +7,17 @@ use Rattle.sws_engine.specs.declared.ended.Ended.{Ended}
 use Rattle.sws_engine.specs.declared.ended.Served.{Served}
 use Rattle.sws_engine.specs.declared.ended.Verdict.TheVariants as verdict
 use Rattle.sws_link.specs.LinkItems.{all_bytes}
-use Rattle.sws_link.specs.MemLinks.{MemLinkState}
-use Rattle.sws_link.specs.MemWorlds.{MemWorldState}
+use Rattle.sws_link.specs.MemLink.{MemLinkState}
+use Rattle.sws_link.specs.MemWorld.{MemWorldState}
+use Rattle.sws_conn.specs.Responses.{input_limit}
 use Rattle.sws_script.specs.Scripted.{script_of}
 use Rattle.sws_script.specs.declared.input.ScriptConn.{ScriptConn}
-use Rattle.sws_site.specs.Sites.{SiteFiles}
+use Rattle.sws_site.specs.Site.{SiteState}
 use Rattle.sws_replay.specs.Histories.{AreServed}
 use Rattle.sws_replay.specs.Transcripts.{alone}
 
 -- the connection was served as if it were alone
-pub record IsServedAlone (site : SiteFiles) (conn : ScriptConn) (s : Served MemLinkState) : Type 0 where
+pub record IsServedAlone (site : SiteState) (conn : ScriptConn) (s : Served MemLinkState) : Type 0 where
   pub link : MemLinkState
   pub there : s.link ≡ Some link
   -- its end and what was written are those of its outcome, in which memory doesn't occur
@@ -27,12 +28,12 @@ pub record IsServedAlone (site : SiteFiles) (conn : ScriptConn) (s : Served MemL
   pub written : s.written ≡ length link.wire.written
   pub few_written : s.written < 2 ^ 40
   pub read : s.read ≡ length link.wire.input.taken
-  pub few_read : s.read ≤ 65536
+  pub few_read : s.read ≤ input_limit
   pub input : link.wire.input.taken ++ all_bytes link.wire.input.items
       ≡ all_bytes (script_of conn).items
 
 -- the run went well: each connection was served as if it were alone
-pub record ServesAll (site : SiteFiles) (conns : List ScriptConn) (ended : Ended MemWorldState MemLinkState) : Type 0 where
+pub record ServesAll (site : SiteState) (conns : List ScriptConn) (ended : Ended MemWorldState MemLinkState) : Type 0 where
   pub well : ended.verdict ≡ verdict.Ok
   pub many : length ended.served.items ≡ length conns
   pub each : (i : ℕ) (conn : ScriptConn) (s : Served MemLinkState) → slice_get conns i ≡ Some conn
@@ -43,6 +44,6 @@ abbrev pub histories_of : Ended MemWorldState MemLinkState → List (List Entry)
 histories_of ended = map (λ history. history.items) ended.histories.items
 
 -- and the histories are those of a server that has served them
-pub record RunsWell (site : SiteFiles) (shape : Shape) (conns : List ScriptConn) (ended : Ended MemWorldState MemLinkState) : Type 0 where
+pub record RunsWell (site : SiteState) (shape : Shape) (conns : List ScriptConn) (ended : Ended MemWorldState MemLinkState) : Type 0 where
   pub serves : ServesAll site conns ended
   pub served : AreServed site shape conns (histories_of ended)

@@ -3,7 +3,7 @@ use Rattle.std.specs.Prelude.{◌≡◌, ◌≢◌, ℕ, List, [], Option, Some,
 use Rattle.sws_steps.specs.declared.End.{End}
 use Rattle.sws_steps.specs.declared.End.TheVariants.{Done, Memory}
 use Rattle.sws_engine.specs.declared.ended.Served.{Served}
-use Rattle.sws_link.specs.MemLinks.{MemLinkState}
+use Rattle.sws_link.specs.MemLink.{MemLinkState}
 
 -- it has its link and an end other than want of memory
 pub record IsShowable (s : Served MemLinkState) : Type 0 where
@@ -13,10 +13,12 @@ pub record IsShowable (s : Served MemLinkState) : Type 0 where
   pub is : s.end ≡ Some end
   pub fine : end ≢ Memory
 
+-- what was written on a connection, if it was opened
 abbrev pub shown_bytes : Option MemLinkState → List ℕ
 shown_bytes None = []
 shown_bytes (Some link) = link.wire.written
 
+-- how a connection ended; well, where it has no end
 abbrev pub shown_end : Option End → End
 shown_end None = Done
 shown_end (Some end) = end

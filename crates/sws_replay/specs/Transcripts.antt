@@ -5,16 +5,16 @@ use Rattle.sws_steps.specs.declared.End.{End}
 use Rattle.sws_report.specs.Transcript.{transcript}
 use Rattle.sws_script.specs.Scripted.{script_of}
 use Rattle.sws_script.specs.declared.input.ScriptConn.{ScriptConn}
-use Rattle.sws_site.specs.Sites.{SiteFiles}
+use Rattle.sws_site.specs.Site.{SiteState}
 
 -- the outcome of a connection, by its lines alone
-abbrev pub alone : SiteFiles → ScriptConn → Outcome
+abbrev pub alone : SiteState → ScriptConn → Outcome
 alone site conn = outcome_of site (script_of conn)
 
 -- how it ends, and what is written to it
-abbrev pub ended_alone : SiteFiles → ScriptConn → End × List ℕ
+abbrev pub ended_alone : SiteState → ScriptConn → End × List ℕ
 ended_alone site conn = ((alone site conn).end, (alone site conn).bytes)
 
 -- the transcript of these connections, in their order
-unfoldable pub transcript_of : SiteFiles → List ScriptConn → List ℕ
+unfoldable pub transcript_of : SiteState → List ScriptConn → List ℕ
 transcript_of site conns = transcript (map (ended_alone site) conns)

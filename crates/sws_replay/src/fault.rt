@@ -1,4 +1,6 @@
 //! Why a script was not run, or not all was written of it.
+use std::error::Error;
+use std::fmt;
 
 /// Why a script was not run, or not all was written of it.
 #[derive(Clone, Copy, Debug, PartialEq, Eq)]
@@ -9,3 +11,14 @@ pub enum RunFault {
     /// An allocation was refused.
     Memory,
 }
+
+impl fmt::Display for RunFault {
+    fn fmt<W: fmt::Write>(&self, f: &mut fmt::Formatter<W>) -> fmt::Result {
+        match self {
+            RunFault::Write => write!(f, "what the run left could not be written"),
+            RunFault::Memory => write!(f, "there was no memory"),
+        }
+    }
+}
+
+impl Error for RunFault {}

@@ -2,12 +2,12 @@
 ghost use Rattle.std.specs.Prelude.{◌≡◌, ℕ, List};
 ghost use Rattle.mely_history.specs.declared.shape.Shape.{Shape};
 ghost use Rattle.sws_script.specs.declared.input.Input.{Input};
-ghost use Rattle.sws_site.specs.Sites.{SiteFiles};
+ghost use Rattle.sws_site.specs.Site.{SiteState};
 ghost use Rattle.sws_replay.specs.Replays.{IsScheduledReplay};
 
 /// A schedule has one text: over one site, shape and input no two texts are a scheduled replay's. A call does nothing.
 pub fn a_schedule_has_one_text()
-    ensures { (site : SiteFiles) (shape : Shape) (input : Input) (one other : List ℕ)
+    ensures { (site : SiteState) (shape : Shape) (input : Input) (one other : List ℕ)
         → IsScheduledReplay site shape input one → IsScheduledReplay site shape input other
         → one ≡ other }
 {}

@@ -1,3 +1,3 @@
-pub mod PieceLaws
-pub mod JournalUnique
-pub mod SummaryLaws
+pub mod PieceLemmas
+pub mod UniqueJournalLemmas
+pub mod SummaryLemmas

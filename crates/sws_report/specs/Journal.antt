@@ -31,6 +31,7 @@ journal_from number [] = []
 journal_from number (history ∷ histories) =
     shard_text number history ++ journal_from (number + 1) histories
 
+-- the journal of the histories, by shard
 abbrev pub journal : List (List Entry) → List ℕ
 journal histories = journal_from 0 histories
 

@@ -5,14 +5,17 @@ use Rattle.sws_steps.specs.declared.End.{End}
 use Rattle.sws_steps.specs.declared.End.TheVariants.{Done, Idle, Fault}
 use Rattle.sws_report.specs.Numbers.{spaced}
 
+-- the connection ended well
 abbrev pub is_done : End → Bool
 is_done Done = true
 is_done _ = false
 
+-- the link stayed unready
 abbrev pub is_idle : End → Bool
 is_idle Idle = true
 is_idle _ = false
 
+-- the link failed
 abbrev pub is_fault : End → Bool
 is_fault Fault = true
 is_fault _ = false
@@ -30,5 +33,6 @@ abbrev pub bytes_line : ℕ → ℕ → List ℕ
 bytes_line read written =
     (codes "read" ++ spaced read) ++ (codes " written" ++ spaced written) ++ 10 ∷ []
 
+-- the summary of these ends, and of so many bytes read and written
 abbrev pub summary : List End → ℕ → ℕ → List ℕ
 summary ends read written = ends_line ends ++ bytes_line read written

@@ -1,6 +1,6 @@
-pub mod CutLaws
-pub mod RequestInLaws
-pub mod ScanLaws
+pub mod CutLemmas
+pub mod RequestInLemmas
+pub mod SearchLemmas
 mod HeadLemmas
 mod LineLemmas
 mod CuttingLemmas

@@ -10,7 +10,7 @@ use Rattle.sws_request.specs.Cuts.{lines_of, is_empty_line, cut_of}
 use Rattle.sws_request.specs.Scans.{whole_lines, has_other, StandsFor, rest_len}
 use Rattle.sws_request.proofs.LineLemmas.{ending-is, IsEnding, whole_lines-front, whole_lines-end, lines_of-whole, lines_of-behind, whole_lines-ends, rest_len-behind}
 use Rattle.sws_request.proofs.CuttingLemmas.{IsCutOf-head, HasNoHeadWithin-never}
-use Rattle.sws_request.proofs.CutLaws.{cut_of-is, IsCutOf-cut_of, cut_of-append}
+use Rattle.sws_request.proofs.CutLemmas.{cut_of-is, IsCutOf-cut_of, cut_of-append}
 
 -- no head ends in the lines of bytes whose cut isn't there yet
 pub no_end : (bytes : List ℕ) → cut_of bytes ≡ NotYet → rest_len false (lines_of bytes) ≡ None

@@ -10,7 +10,7 @@ use Rattle.httparse.specs.declared.spans.RequestSpans.{RequestSpans}
 use Rattle.httparse.specs.Spans.{IsRequestOf, name_and_value}
 use Rattle.std.proofs.lemmas.List.{drop_all}
 use Rattle.sws_request.specs.Request.{Request, SaysRequest, field_limit}
-use Rattle.sws_request.specs.View.{shown, IsInside}
+use Rattle.sws_request.specs.View.{state_of, IsInside}
 
 -- the i-th field of a view is that of its i-th spans
 pub record IsFieldAt (view : Inside) (fields : List (List ℕ × List ℕ)) (i : ℕ) (d : HeaderSpan) : Type 0 where

@@ -24,6 +24,7 @@ IsDecided {A} G = (text : List ℕ) → Either (Begins G text)
 
 -- ---- two pieces in a row
 
+-- of two pieces in a row
 then_decided : {A B : Type 0} (G : Piece A) (H : Piece B) → IsDeterministic G → IsDecided G
     → IsDecided H → IsDecided (Then G H)
 unfolding Either IsDecided
@@ -44,6 +45,7 @@ then_decided {A} {B} G H one first second = λ text. by_first text (first text)
 
 -- ---- the end of a line
 
+-- of the end of a line
 newline_decided : IsDecided Newline
 unfolding Either IsDecided
 newline_decided = λ text. by_text text
@@ -92,6 +94,7 @@ newline_decided = λ text. by_text text
 
 -- ---- empty lines
 
+-- of the empty lines at the front
 blank_decided : IsDecided Blank
 unfolding Either IsDecided newline_decided
 blank_decided = λ text. by_length (length text) text (omega arith)
@@ -181,6 +184,7 @@ WordOrNone : (ℕ → Bool) → ℕ → List ℕ → Type 0
 WordOrNone test stop text = (word : List ℕ) × (rest : List ℕ) × AllPass test word
     × (text ≡ word ++ stop ∷ rest)
 
+-- the bytes of a word up to where it stops, or that it does not stop
 any_word : (test : ℕ → Bool) (stop : ℕ) → test stop ≡ false → (text : List ℕ)
     → Either (WordOrNone test stop text)
 unfolding Either WordOrNone
@@ -221,6 +225,7 @@ any_word test stop fails (b ∷ text) = by_test (any_word test stop fails text) 
     by_test later true e = go_on (sym e) later
     by_test later false e = by_stop (sym e) (b == stop) refl
 
+-- of a word that stops at a byte
 word_decided : (test : ℕ → Bool) (stop : ℕ) → test stop ≡ false → IsDecided (Word test stop)
 unfolding Either IsDecided WordOrNone
 word_decided test stop fails = λ text. by_text text
@@ -261,6 +266,7 @@ word_decided test stop fails = λ text. by_text text
 
 -- ---- the request line
 
+-- of a target
 target_decided : IsDecided Target
 unfolding Either IsDecided
 target_decided = λ text. by_word text (word_decided is_uri_byte 32 refl text)
@@ -301,6 +307,7 @@ front_or_not (f ∷ front) (b ∷ text) = by_test (front_or_not front text) (b =
     by_test (inr none) true is = inr (λ found. none (found.0, let e = found.1 in cc))
     by_test later false is = inr (λ found. let e = found.1 in false-eqb b f is (cc))
 
+-- of a version
 version_decided : IsDecided Version
 unfolding Either IsDecided
 version_decided = λ text.
@@ -319,6 +326,7 @@ version_decided = λ text.
     by_zero text (inr none0) (inl (rest, e)) = inl (1, rest, (omega arith, e))
     by_zero text (inr none0) (inr none1) = inr (neither text none0 none1)
 
+-- of what stands in front of the fields
 request_line_decided : IsDecided RequestStart
 request_line_decided =
     then_decided Blank (Then Method (Then Target (Then Version Newline)))
@@ -330,6 +338,7 @@ request_line_decided =
 
 -- ---- a field line
 
+-- a text begins with a value, or none does
 text_or_not : (text : List ℕ) → Either (Begins Text text)
 unfolding Either IsDecided
 text_or_not [] = inr nothing
@@ -369,10 +378,12 @@ text_or_not (b ∷ text) = by_test (text_or_not text) (is_value_byte b) refl
             none ((value, end), rest, (All-tail passes v value all, cc))
     by_test later false is = by_end (sym is) (newline_decided (b ∷ text))
 
+-- of a value
 text_decided : IsDecided Text
 unfolding IsDecided
 text_decided = text_or_not
 
+-- of the line of a field
 line_decided : IsDecided FieldLine
 unfolding Either IsDecided
 line_decided = λ text.
@@ -415,6 +426,7 @@ after_line f text middle n x le =
       length-append (print_end f.end) middle,
     )
 
+-- a text of less than so many bytes begins with fields and an empty line, or none does
 section_or_not : (n : ℕ) (text : List ℕ) → length text < n → Either (Begins Section text)
 unfolding Either IsDecided
 section_or_not zero text le = absurd (omega arith)
@@ -463,21 +475,25 @@ section_or_not (suc n) text le =
           | inr none ↦ inr (λ found. none (one_less f middle x no_end found))
         ]
 
+-- of the fields with the empty line behind them
 section_decided : IsDecided Section
 unfolding IsDecided
 section_decided text = section_or_not (suc (length text)) text (omega arith)
 
 -- ---- the empty lines at the front
 
+-- the end of a line alone is an empty line
 end_empty : (end : LineEnd) → IsEmptyLine (print_end end)
 end_empty crlf = inr refl
 end_empty lf = inl refl
 
+-- the ends of lines alone are empty lines
 ends_empty : (ends : List LineEnd) → All IsEmptyLine (map print_end ends)
 ends_empty [] = All-nil IsEmptyLine
 ends_empty (end ∷ ends) =
     All-cons IsEmptyLine (print_end end) (map print_end ends) (end_empty end) (ends_empty ends)
 
+-- the empty lines of the grammar are those lines, joined
 ends_joined : (ends : List LineEnd) → print_blank ends ≡ joined (map print_end ends)
 ends_joined [] = refl
 ends_joined (end ∷ ends) = ap (λ r. print_end end ++ r) (ends_joined ends)
@@ -505,6 +521,7 @@ start_of h = h.method
     ++ (32 ∷ (h.target ++ (32
     ∷ (print_version h.minor ++ (print_end h.line_end ++ (print_section h.fields h.last ++ []))))))
 
+-- a head with other empty lines in front is a head
 valid_with : (ends : List LineEnd) (h : RequestHead) → IsRequestHead h
     → IsRequestHead (with_blank ends h)
 valid_with ends h p = record {

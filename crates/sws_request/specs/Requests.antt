@@ -9,5 +9,6 @@ abbrev pub found_in : {head : List ℕ} → ((request : Request) × IsRequest he
     ⊎ IsNoRequest head → Option Request
 found_in found = elim found [ inl said ↦ Some said.0 | inr none ↦ None ]
 
+-- the request that the head says, if it says one
 abbrev pub request_in : List ℕ → Option Request
 request_in head = found_in (find_request head)

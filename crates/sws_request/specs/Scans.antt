@@ -35,6 +35,7 @@ abbrev pub rest_lines : Bool → List (List ℕ) → Option (List (List ℕ))
 rest_lines true lines = up_to_empty lines
 rest_lines false lines = head_lines lines
 
+-- how many bytes of the lines belong to the head, where it ends in them
 abbrev pub rest_len : Bool → List (List ℕ) → Option ℕ
 rest_len begun lines = option_map (λ head. length (joined head)) (rest_lines begun lines)
 

@@ -5,8 +5,8 @@ use Rattle.sws_request.specs.declared.request.RequestView.TheInside.{Inside}
 use Rattle.sws_request.specs.Request.{Request, field_limit}
 
 -- the request, as the spans cover it
-abbrev pub shown : Inside → Request
-shown view = record {
+abbrev pub state_of : Inside → Request
+state_of view = record {
   method = span_bytes view.head.now view.method;
   target = span_bytes view.head.now view.target;
   minor = view.minor;

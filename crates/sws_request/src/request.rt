@@ -4,6 +4,8 @@ ghost use Rattle.sws_request.specs.Request.{Request, IsRequest, IsNoRequest, Say
 
 use httparse::Status;
 use httparse::spans::{EMPTY_HEADER_SPAN, HeaderSpan, Span, parse_request};
+use std::error::Error;
+use std::fmt;
 use std::marker::Model;
 
 /// The most fields that a request has.
@@ -12,6 +14,14 @@ pub const MAX_FIELDS: usize = 64;
 /// The head is no request.
 #[derive(Clone, Copy, Debug, PartialEq, Eq)]
 pub struct NotARequest;
+
+impl fmt::Display for NotARequest {
+    fn fmt<W: fmt::Write>(&self, f: &mut fmt::Formatter<W>) -> fmt::Result {
+        f.write_str("the head is no request")
+    }
+}
+
+impl Error for NotARequest {}
 
 /// A request, whose parts are slices of its head.
 #[derive(Drop)]
@@ -29,9 +39,9 @@ impl<'b> Model for RequestView<'b> {
 
     ghost Value = { Request };
 
-    ghost use Rattle.sws_request.specs.View.{shown, IsInside};
+    ghost use Rattle.sws_request.specs.View.{state_of, IsInside};
 
-    ghost view = { shown };
+    ghost view = { state_of };
 
     ghost invariant = { IsInside };
 }

@@ -12,6 +12,7 @@ use Rattle.sws_script.specs.Inputs.{IsInput, input_lines}
 abbrev pub byte_limit : ℕ
 byte_limit = 16777216
 
+-- the most connections of a script
 abbrev pub conn_limit : ℕ
 conn_limit = 1024
 
@@ -58,6 +59,7 @@ pub record IsFirstOutside (schedule : Bool) (cores : ℕ) (text : List ℕ) (bef
   pub whole : (input : Input) → before ≡ length (lines_of text)
       → Spells schedule cores text input → ⊥
 
+-- the line begins a connection
 abbrev pub is_conn : List ℕ → Bool
 is_conn line = bytes_eq line (codes "conn")
 

@@ -11,10 +11,12 @@ use Rattle.sws_script.specs.Lines.{IsLine}
 
 -- ---- the lines of an input
 
+-- the line of a bound on writes, where there is one
 abbrev pub step_lines : Option ℕ → List Line
 step_lines None = []
 step_lines (Some count) = line.Step count ∷ []
 
+-- the line of a fault of writing, where there is one
 abbrev pub cut_lines : Option ℕ → List Line
 cut_lines None = []
 cut_lines (Some count) = line.Cut count ∷ []
@@ -27,9 +29,11 @@ conn_lines conn = line.Conn ∷ step_lines conn.step ++ cut_lines conn.cut ++ ma
 abbrev pub run_line : ℕ × ℕ → Line
 run_line run = line.Run run.0 run.1
 
+-- the lines of a schedule
 abbrev pub schedule_lines : List (ℕ × ℕ) → List Line
 schedule_lines steps = line.ScheduleHead ∷ map run_line steps ++ line.End ∷ []
 
+-- the lines of the connections
 abbrev pub script_lines : List ScriptConn → List Line
 script_lines conns = line.ScriptHead ∷ flat_map conn_lines conns
 
@@ -50,6 +54,7 @@ MayFollow (Pause count) (Pause more) = ⊥
 MayFollow (Pause count) Fault = ⊤
 MayFollow Fault next = ⊥
 
+-- each item may follow the one before it
 abbrev pub IsInOrder : List Item → Type 0
 IsInOrder [] = ⊤
 IsInOrder (item ∷ []) = ⊤

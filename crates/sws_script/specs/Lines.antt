@@ -27,6 +27,7 @@ SpellsLine text (line.Step count) = text ≡ codes "step " ++ decimal count
 SpellsLine text (line.Cut count) = text ≡ codes "cut " ++ decimal count
 SpellsLine text (line.Item item) = SpellsItem text item
 
+-- the number is in the range, whose ends belong to it
 abbrev pub IsWithin : ℕ → ℕ → ℕ → Type 0
 IsWithin low high number = (low ≤ number) × (number ≤ high)
 

@@ -19,6 +19,7 @@ in_script Steps = false
 in_script ScriptHead = false
 in_script _ = true
 
+-- a fault of writing may be said here
 abbrev pub is_before_cut : Place → Bool
 is_before_cut Conn = true
 is_before_cut Step = true
@@ -38,22 +39,27 @@ abbrev pub takes_pause : Place → Bool
 takes_pause Pause = false
 takes_pause place = takes_items place
 
+-- the head of a schedule comes next
 abbrev pub is_schedule_head : Place → Bool
 is_schedule_head ScheduleHead = true
 is_schedule_head _ = false
 
+-- a step of a schedule may come next, or its end
 abbrev pub is_steps : Place → Bool
 is_steps Steps = true
 is_steps _ = false
 
+-- the head of a script comes next
 abbrev pub is_script_head : Place → Bool
 is_script_head ScriptHead = true
 is_script_head _ = false
 
+-- the line that begins a connection came last
 abbrev pub is_behind_conn : Place → Bool
 is_behind_conn Conn = true
 is_behind_conn _ = false
 
+-- the place, where this holds
 abbrev pub when : Bool → Place → Option Place
 when holds place = if holds then Some place else None
 
@@ -90,11 +96,13 @@ total_after cores total (line.Step count) = Some total
 total_after cores total (line.Cut count) = Some total
 total_after cores total (line.Item item) = Some total
 
+-- what was read so far, where both are there
 abbrev pub state_of : Option Place → Option ℕ → Option State
 state_of None total = None
 state_of (Some place) None = None
 state_of (Some place) (Some total) = Some (record { place = place; total = total })
 
+-- what was read with a line more, where that may follow
 abbrev pub state_after : ℕ → State → Line → Option State
 state_after cores state says =
     state_of (place_after state.place says) (total_after cores state.total says)
@@ -105,21 +113,26 @@ run cores state [] = Some state
 run cores state (says ∷ lines) =
     option_and_then (λ next. run cores next lines) (state_after cores state says)
 
+-- nothing was read; whether a schedule comes first
 abbrev pub start : Bool → State
 start true = record { place = ScheduleHead; total = 0 }
 start false = record { place = ScriptHead; total = 0 }
 
 -- ---- what lines say together
 
+-- a connection of which nothing was said
 abbrev pub bare_conn : ScriptConn
 bare_conn = record { step = None; cut = None; items = [] }
 
+-- a connection with this bound on writes
 abbrev pub with_step : ℕ → ScriptConn → ScriptConn
 with_step count conn = record { step = Some count; cut = conn.cut; items = conn.items }
 
+-- a connection with a fault of writing behind so many bytes
 abbrev pub with_cut : ℕ → ScriptConn → ScriptConn
 with_cut count conn = record { step = conn.step; cut = Some count; items = conn.items }
 
+-- a connection with one item more
 abbrev pub with_item : Item → ScriptConn → ScriptConn
 with_item item conn = record { step = conn.step; cut = conn.cut; items = conn.items ++ item ∷ [] }
 
@@ -154,11 +167,14 @@ grown contents (line.Item item) = record {
   open_conn = option_map (with_item item) contents.open_conn;
 }
 
+-- nothing was said
 abbrev pub no_contents : Contents
 no_contents = record { steps = []; conns = []; open_conn = None }
 
+-- the connections so far, the open one too
 abbrev pub conns_of : Contents → List ScriptConn
 conns_of contents = contents.conns ++ option_to_list contents.open_conn
 
+-- the input that was said so far
 abbrev pub input_of : Contents → Input
 input_of contents = record { steps = contents.steps; conns = conns_of contents }

@@ -5,6 +5,7 @@ use Rattle.sws_script.specs.declared.parser.Parser.{Parser}
 use Rattle.sws_script.specs.declared.line.Line.{Line}
 use Rattle.sws_script.specs.Order.{State, state_after, grown, in_script, input_of}
 
+-- the place and the total of a parser
 abbrev pub state : Parser → State
 state parser = record { place = parser.place; total = parser.total }
 

@@ -5,9 +5,11 @@ use Rattle.sws_link.specs.Scripts.{Script, piece, wait, fault}
 use Rattle.sws_link.specs.Scripts.{Item as LinkItem}
 use Rattle.sws_link.specs.Calls.{no_calls}
 use Rattle.sws_link.specs.LinkItems.{all_bytes}
-use Rattle.sws_link.specs.MemLinks.{MemLinkState, fresh_wire}
+use Rattle.sws_link.specs.MemLinks.{fresh_wire}
+use Rattle.sws_link.specs.MemLink.{MemLinkState}
 use Rattle.sws_link.specs.Worlds.{Coming, WorldTells}
-use Rattle.sws_link.specs.MemWorlds.{MemWorldState, fresh_lobby}
+use Rattle.sws_link.specs.MemWorlds.{fresh_lobby}
+use Rattle.sws_link.specs.MemWorld.{MemWorldState}
 use Rattle.sws_script.specs.declared.input.Item.{Item}
 use Rattle.sws_script.specs.declared.input.Item.TheVariants.{Send, Fill, Pause, Fault}
 use Rattle.sws_script.specs.declared.input.ScriptConn.{ScriptConn}
@@ -22,9 +24,11 @@ fill_pieces_by size count =
     replicate (count / size) (filled size)
     ++ (if count % size == 0 then [] else filled (count % size) ∷ [])
 
+-- so many bytes in pieces of 4,096, the last one shorter
 abbrev pub fill_pieces : ℕ → List LinkItem
 fill_pieces count = fill_pieces_by 4096 count
 
+-- the items of a link that an item of a script stands for
 abbrev pub link_items : Item → List LinkItem
 link_items (Send bytes) = piece bytes ∷ []
 link_items (Fill count) = fill_pieces count

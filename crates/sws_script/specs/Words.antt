@@ -10,6 +10,7 @@ use Rattle.sws_script.specs.declared.words.Word.{Word}
 use Rattle.sws_script.specs.declared.words.Word.TheVariants.{ScheduleHead, End, ScriptHead, Conn, Step, Cut, Send, Fill, Pause, Fault}
 use Rattle.sws_script.specs.Lines.{IsWithin}
 
+-- a word as it is spelled at the front of a line
 abbrev pub word_text : Word → List ℕ
 word_text ScheduleHead = codes "sws-schedule 1"
 word_text End = codes "end"
@@ -22,6 +23,7 @@ word_text Fill = codes "fill "
 word_text Pause = codes "pause "
 word_text Fault = codes "fault"
 
+-- all words
 abbrev pub all_words : List Word
 all_words = ScheduleHead ∷ End ∷ ScriptHead ∷ Conn ∷ Step ∷ Cut ∷ Send ∷ Fill ∷ Pause ∷ Fault ∷ []
 
@@ -31,6 +33,7 @@ stripped [] line = Some line
 stripped (letter ∷ word) [] = None
 stripped (letter ∷ word) (byte ∷ line) = if byte == letter then stripped word line else None
 
+-- the word with what stands behind it, where the line begins with it, and else what was found
 abbrev pub onward : Word → Option (List ℕ) → Option (Word × List ℕ) → Option (Word × List ℕ)
 onward word None other = other
 onward word (Some rest) other = Some (word, rest)

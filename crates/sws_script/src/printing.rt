@@ -21,10 +21,8 @@ pub fn print(alloc: Global, input: &Input, schedule: bool) -> Result<Vec<u8>, Me
     ensures spells { IfOk result (λ text. (cores : ℕ) → IsInput schedule cores input.now
         → length text.items ≤ byte_limit → Spells schedule cores text.items input.now) }
 {
-    match print_all(alloc, input, schedule) {
-        Ok(text) => Ok(text),
-        Err(_) => Err(Memory),
-    }
+    let text = print_all(alloc, input, schedule)?;
+    Ok(text)
 }
 
 /// The lines of an input.

@@ -27,10 +27,8 @@ pub fn script_world(alloc: Global, conns: &[ScriptConn]) -> Result<MemWorld, Mem
         → IsInput schedule cores (record { steps = steps; conns = conns.now })
         → AreScripted (mem_world_tells world).coming) }
 {
-    match script_links(alloc, conns) {
-        Ok(links) => Ok(MemWorld::new(links, Vec::new(alloc))),
-        Err(_) => Err(Memory),
-    }
+    let links = script_links(alloc, conns)?;
+    Ok(MemWorld::new(links, Vec::new(alloc)))
 }
 
 /// The links of the connections.

@@ -6,7 +6,7 @@ use Rattle.httpdate.specs.declared.date.HttpDate.{HttpDate}
 use Rattle.sws_site.specs.declared.heads.ContentRange.{ContentRange}
 use Rattle.sws_site.specs.ResponseHeads.{ResponseHead, head_text, lines_text, line_end, server_line, connection_lines, date_lines, last_modified_lines, allow_lines, range_text, range_lines, kind_and_len_lines, content_lines}
 use Rattle.sws_site.specs.Statuses.{Row, row_of}
-use Rattle.sws_site.proofs.HeadLengths.{length-head_text}
+use Rattle.sws_site.proofs.HeadLengthsLemmas.{length-head_text}
 
 lines_text-append : (a b : List (List ℕ)) → lines_text (a ++ b) ≡ lines_text a ++ lines_text b
 lines_text-append a b = flat_map-append (λ line. line ++ line_end) a b

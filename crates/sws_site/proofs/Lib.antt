@@ -1,6 +1,6 @@
-pub mod LimitLaws
-pub mod FileLaws
-pub mod HeadLengths
+pub mod LimitLemmas
+pub mod FileLemmas
+pub mod HeadLengthsLemmas
 mod ContentTypeLemmas
 mod HeadLemmas
 mod PlaceLemmas

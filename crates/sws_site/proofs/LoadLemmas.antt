@@ -16,7 +16,7 @@ use Rattle.sws_site.specs.Files.{File}
 use Rattle.sws_site.specs.Limits.{bytes_of, first_limit, limit_of, limit_met}
 use Rattle.sws_site.specs.Loading.{IsFresh, Loads, IsSameFolder}
 use Rattle.sws_site.specs.Steps.{HasRead, HasReadMore, HasReadAll, StepsTo, StepFails, HasLoaded}
-use Rattle.sws_site.proofs.LimitLaws.{limit_met-none, limit_met-files, limit_met-name, limit_met-bytes, length-push}
+use Rattle.sws_site.proofs.LimitLemmas.{limit_met-none, limit_met-files, limit_met-name, limit_met-bytes, length-push}
 
 pub HasRead-nil : (folder : Option FolderTells) (bytes : List ℕ) → bytes ≡ [] → HasRead folder folder bytes
 HasRead-nil None bytes none = refl
@@ -91,17 +91,6 @@ HasLoaded-step (Some first) (Some before) after files file (left, now, is, limit
       ap (λ (f : List File). f ++ file ∷ []) is ∙ sym place.1 ∙ ap (λ n. take n first.files) (sym count),
       next_decides first before files file None (left, now, is, limit) at (limit_met-none files file few short fits)
           ∙ ap (λ n. first_limit (files ++ file ∷ []) (drop n first.files)) (sym count),
-    )
-
-HasLoaded-end : (first before after : Option FolderTells) (files : List File) → HasLoaded first before files
-    → StepsTo before after None → Loads first (Ok files)
-HasLoaded-end None before after files loaded step = tt
-HasLoaded-end (Some first) None after files (left, now, is, limit) step = cc
-HasLoaded-end (Some first) (Some before) after files (left, now, is, limit) (end, next) =
-    let same : before ≡ record first { given = length files; left = left } = cc in
-    let whole : length files ≡ length first.files = subst (λ (t : FolderTells). t.given ≡ length t.files) same end in (
-      is ∙ ap (λ n. take n first.files) whole ∙ take_all (length first.files) first.files (omega arith),
-      limit ∙ ap (first_limit files) (drop_of_length-le first.files (let le : length first.files ≤ length files = omega arith in le)),
     )
 
 pub HasLoaded-fails : (first before : Option FolderTells) (files : List File) (number room : ℕ) (fault : SiteFault) → HasLoaded first before files

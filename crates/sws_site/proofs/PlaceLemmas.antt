@@ -16,7 +16,8 @@ use Rattle.sws_site.specs.declared.stored.StoredFile.{StoredFile}
 use Rattle.httpdate.specs.declared.date.HttpDate.{HttpDate}
 use Rattle.std.specs.Prelude.{option_map}
 use Rattle.sws_site.specs.Files.{File, file_named}
-use Rattle.sws_site.specs.Sites.{SiteFiles, SiteFile, found_in}
+use Rattle.sws_site.specs.Site.{SiteState, found_in}
+use Rattle.sws_site.specs.Page.{PageState}
 use Rattle.sws_site.specs.Stored.{place_from, files_of, file_of}
 
 abbrev pub Entries : Type 0
@@ -117,20 +118,20 @@ place_from-none (file ∷ files) start name e = by_test (bytes_eq file.name.item
     by_test true here later = absurd (cc)
     by_test false there later = later there
 
-abbrev page_of : Option HttpDate → File → SiteFile
+abbrev page_of : Option HttpDate → File → PageState
 page_of date file = record { file = file; date = date }
 
-pub found_in-some : (site : SiteFiles) (files : List StoredFile) (date : Option HttpDate) (k : ℕ) (stored : StoredFile) (name : List ℕ)
+pub found_in-some : (site : SiteState) (files : List StoredFile) (date : Option HttpDate) (k : ℕ) (stored : StoredFile) (name : List ℕ)
     → record { files = files_of files; date = date } ≡ site → stored ≡ get_or files k stored
     → file_named name (files_of files) ≡ Some (file_of (get_or files k stored))
     → Some (page_of date (file_of stored)) ≡ found_in site name
 found_in-some site files date k stored name shows at found =
     ap (λ (s : StoredFile). Some (page_of date (file_of s))) at
     ∙ ap (option_map (page_of date)) (sym found)
-    ∙ ap (λ (s : SiteFiles). found_in s name) shows
+    ∙ ap (λ (s : SiteState). found_in s name) shows
 
-pub found_in-none : (site : SiteFiles) (files : List StoredFile) (date : Option HttpDate) (name : List ℕ)
+pub found_in-none : (site : SiteState) (files : List StoredFile) (date : Option HttpDate) (name : List ℕ)
     → record { files = files_of files; date = date } ≡ site → file_named name (files_of files) ≡ None
     → None ≡ found_in site name
 found_in-none site files date name shows none =
-    ap (option_map (page_of date)) (sym none) ∙ ap (λ (s : SiteFiles). found_in s name) shows
+    ap (option_map (page_of date)) (sym none) ∙ ap (λ (s : SiteState). found_in s name) shows

@@ -6,6 +6,7 @@ use Rattle.sws_site.specs.declared.statuses.Body.TheVariants.{Nothing, WholeFile
 use Rattle.sws_site.specs.Statuses.{row_of, status_text, status_with}
 use Rattle.sws_site.specs.ResponseHeads.{head_text}
 
+-- the type of a line of text that tells a status
 abbrev pub plain_text : List ℕ
 plain_text = codes "text/plain"
 
@@ -43,5 +44,6 @@ IsFixed code = (code ≡ 400) ⊎ ((code ≡ 404) ⊎ ((code ≡ 405) ⊎ ((code
 abbrev pub IsFixedHead : ℕ → Bool → List ℕ → Type 0
 IsFixedHead code closes head = IfSome (status_with code) (λ status. head ≡ fixed_head status closes)
 
+-- the body tells the status of this code, if there is one
 abbrev pub IsFixedBody : ℕ → List ℕ → Type 0
 IsFixedBody code body = IfSome (status_with code) (λ status. body ≡ fixed_body status)

@@ -2,6 +2,7 @@
 use Rattle.sws_site.specs.declared.heads.HeadParts.{HeadParts}
 use Rattle.sws_site.specs.ResponseHeads.{ResponseHead}
 
+-- the head that the parts say
 abbrev pub head_of : HeadParts → ResponseHead
 head_of parts =
     record {

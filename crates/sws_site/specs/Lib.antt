@@ -3,7 +3,8 @@ pub mod ContentTypes
 pub mod ResponseHeads
 pub mod Fixed
 pub mod Files
-pub mod Sites
+pub mod Page
+pub mod Site
 pub mod Limits
 pub mod Loading
 pub mod Steps

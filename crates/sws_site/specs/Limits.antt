@@ -9,9 +9,11 @@ use Rattle.sws_site.specs.Files.{File}
 abbrev pub max_files : ℕ
 max_files = 4096
 
+-- the most bytes of a name
 abbrev pub max_name : ℕ
 max_name = 1024
 
+-- the most bytes of all contents together
 abbrev pub max_bytes : ℕ
 max_bytes = 268435456
 

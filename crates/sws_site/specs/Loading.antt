@@ -3,7 +3,7 @@ use Rattle.std.specs.Prelude.{◌≡◌, List, Option, Some, None, ⊤, Result, 
 use Rattle.sws_link.specs.Told.{FolderTells}
 use Rattle.sws_site.specs.declared.site_faults.SiteFault.{SiteFault}
 use Rattle.sws_site.specs.Files.{File}
-use Rattle.sws_site.specs.Sites.{SiteFiles}
+use Rattle.sws_site.specs.Site.{SiteState}
 use Rattle.sws_site.specs.Limits.{limit_of, IsLimitOf}
 
 -- none of the files was given
@@ -17,8 +17,8 @@ Loads None loaded = ⊤
 Loads (Some folder) (Ok files) = (files ≡ folder.files) × (limit_of folder.files ≡ None)
 Loads (Some folder) (Err fault) = IsLimitOf folder.files fault
 
--- the same of the files of a site
-abbrev pub LoadsSite : Option FolderTells → Result SiteFiles SiteFault → Type 0
+-- the files of the site are those that the folder tells, and they meet no limit; or a refusal that names a limit is theirs
+abbrev pub LoadsSite : Option FolderTells → Result SiteState SiteFault → Type 0
 LoadsSite folder (Ok site) = Loads folder (Ok site.files)
 LoadsSite folder (Err fault) = Loads folder (Err fault)
 

@@ -3,6 +3,7 @@ use Rattle.sws_site.specs.declared.statuses.Status.TheVariants.{BadRequest, NotF
 use Rattle.sws_site.specs.declared.refusals.Refusals.{Refusals}
 use Rattle.sws_site.specs.BuiltResponses.{IsRefusal}
 
+-- each refusal is that of its status
 pub record AreRefusals (refusals : Refusals) : Type 0 where
   pub bad_request : IsRefusal BadRequest refusals.bad_request
   pub not_found : IsRefusal NotFound refusals.not_found

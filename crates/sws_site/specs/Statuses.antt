@@ -49,9 +49,11 @@ row_of HeaderFieldsTooLarge =
     record (plain_row 431 (codes "431 Request Header Fields Too Large")) { closes = true }
 row_of NotImplemented = plain_row 501 (codes "501 Not Implemented")
 
+-- the code of a status (RFC 9110, section 15)
 abbrev pub code_of : Status → ℕ
 code_of status = (row_of status).code
 
+-- the code of a status with its reason phrase
 abbrev pub status_text : Status → List ℕ
 status_text status = (row_of status).text
 
@@ -68,6 +70,7 @@ row_shown row =
       closes = row.closes;
     }
 
+-- all statuses
 abbrev pub statuses : List Status
 statuses =
     Success ∷ PartialContent ∷ NotModified ∷ BadRequest ∷ NotFound ∷ MethodNotAllowed

@@ -19,6 +19,7 @@ use Rattle.sws_site.specs.BuiltResponses.{IsBuilt}
 abbrev pub file_of : StoredFile → File
 file_of stored = (stored.name.items, stored.response.body.items)
 
+-- the files as contracts see them
 abbrev pub files_of : List StoredFile → List File
 files_of stored = map file_of stored
 
@@ -26,6 +27,7 @@ files_of stored = map file_of stored
 abbrev pub HasHeads : Option HttpDate → StoredFile → Type 0
 HasHeads date stored = IsBuilt Success date (content_type stored.name.items) stored.response
 
+-- the heads of all files are those of a site of this date
 abbrev pub AllHaveHeads : Option HttpDate → List StoredFile → Type 0
 AllHaveHeads date files = All (HasHeads date) files
 

@@ -3,13 +3,15 @@ use Rattle.std.specs.Prelude.{◌≡◌, ◌≤◌, [], length}
 use Rattle.sws_site.specs.declared.statuses.Status.TheVariants.{NotModified}
 use Rattle.sws_site.specs.declared.pages.Page.TheInside.{Inside}
 use Rattle.sws_site.specs.Limits.{max_bytes}
-use Rattle.sws_site.specs.Sites.{SiteFile}
+use Rattle.sws_site.specs.Page.{PageState}
 use Rattle.sws_site.specs.BuiltResponses.{IsBuilt}
 use Rattle.sws_site.specs.Stored.{file_of, HasHeads}
 
-abbrev pub shown : Inside → SiteFile
-shown page = record { file = file_of page.file.now; date = page.date }
+-- a page, of its private fields
+abbrev pub state_of : Inside → PageState
+state_of page = record { file = file_of page.file.now; date = page.date }
 
+-- the heads that a page lends were built for its file and its date
 pub record IsOfSite (page : Inside) : Type 0 where
   pub heads : HasHeads page.date page.file.now
   pub not_modified : IsBuilt NotModified page.date [] page.not_modified.now

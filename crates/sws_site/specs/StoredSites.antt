@@ -3,14 +3,16 @@ use Rattle.std.specs.Prelude.{◌≡◌, []}
 use Rattle.sws_site.specs.declared.statuses.Status.TheVariants.{NotModified}
 use Rattle.sws_site.specs.declared.sites.Site.TheInside.{Inside}
 use Rattle.sws_site.specs.Limits.{IsWithinLimits}
-use Rattle.sws_site.specs.Sites.{SiteFiles}
+use Rattle.sws_site.specs.Site.{SiteState}
 use Rattle.sws_site.specs.BuiltResponses.{IsBuilt}
 use Rattle.sws_site.specs.Refusals.{AreRefusals}
 use Rattle.sws_site.specs.Stored.{files_of, AllHaveHeads, FindsPlaces}
 
-abbrev pub shown : Inside → SiteFiles
-shown site = record { files = files_of site.files.items; date = site.date }
+-- a site, of its private fields
+abbrev pub state_of : Inside → SiteState
+state_of site = record { files = files_of site.files.items; date = site.date }
 
+-- what a site keeps: its limits, the heads of its files, where each name is found, and its refusals
 pub record IsStored (site : Inside) : Type 0 where
   pub limits : IsWithinLimits (files_of site.files.items)
   pub heads : AllHaveHeads site.date site.files.items

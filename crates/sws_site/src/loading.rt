@@ -119,14 +119,9 @@ fn next_file<F: Folder>(
     if len > name.len() {
         return Err(SiteFault::LongName { number });
     }
-    let contents = match read_file(alloc, folder, number, room) {
-        Ok(contents) => contents,
-        Err(fault) => return Err(fault),
-    };
-    match StoredFile::new(alloc, date, &name[..len], contents) {
-        Ok(file) => Ok(Some(file)),
-        Err(_) => Err(SiteFault::Memory),
-    }
+    let contents = read_file(alloc, folder, number, room)?;
+    let file = StoredFile::new(alloc, date, &name[..len], contents)?;
+    Ok(Some(file))
 }
 
 /// Reads all files of a folder, of which none was given.

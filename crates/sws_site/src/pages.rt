@@ -2,7 +2,7 @@
 ghost use Rattle.std.specs.Prelude.{◌≡◌, ◌≤◌, Option, length};
 ghost use Rattle.sws_site.specs.ContentTypes.{content_type};
 ghost use Rattle.sws_site.specs.Limits.{max_bytes};
-ghost use Rattle.sws_site.specs.Sites.{page_head};
+ghost use Rattle.sws_site.specs.Site.{page_head};
 
 use crate::built_responses::BuiltResponse;
 use crate::content_types::content_type_of;
@@ -21,13 +21,13 @@ pub struct Page<'s> {
 }
 
 impl<'s> Model for Page<'s> {
-    ghost use Rattle.sws_site.specs.Sites.{SiteFile};
+    ghost use Rattle.sws_site.specs.Page.{PageState};
 
-    ghost Value = { SiteFile };
+    ghost Value = { PageState };
 
-    ghost use Rattle.sws_site.specs.StoredPages.{shown, IsOfSite};
+    ghost use Rattle.sws_site.specs.StoredPages.{state_of, IsOfSite};
 
-    ghost view = { shown };
+    ghost view = { state_of };
 
     ghost invariant = { IsOfSite };
 }

@@ -1,5 +1,7 @@
 //! Why a folder is no site.
 use std::alloc::AllocError;
+use std::error::Error;
+use std::fmt;
 
 /// Why a folder could not be loaded as a site. Files are counted from 1, in the folder's order.
 #[derive(Clone, Copy, Debug, PartialEq, Eq)]
@@ -15,6 +17,22 @@ pub enum SiteFault {
     /// An allocation was refused.
     Memory,
 }
+
+impl fmt::Display for SiteFault {
+    fn fmt<W: fmt::Write>(&self, f: &mut fmt::Formatter<W>) -> fmt::Result {
+        match self {
+            SiteFault::TooManyFiles { count } => write!(f, "the site has {count} files or more"),
+            SiteFault::LongName { number } => write!(f, "the name of file {number} is too long"),
+            SiteFault::TooManyBytes { number } => {
+                write!(f, "the site passes the most bytes at file {number}")
+            }
+            SiteFault::Fault => write!(f, "the folder could not be read"),
+            SiteFault::Memory => write!(f, "there was no memory"),
+        }
+    }
+}
+
+impl Error for SiteFault {}
 
 impl From<AllocError> for SiteFault {
     ghost use Rattle.std.specs.Prelude.{◌≡◌};

@@ -4,7 +4,7 @@ ghost use Rattle.sws_link.specs.Counts.{HasCause};
 ghost use Rattle.httpdate.specs.declared.date.HttpDate.{HttpDate as Date};
 ghost use Rattle.sws_site.specs.Fixed.{is_fixed, fixed_head, fixed_body, IsFixed, IsFixedHead, IsFixedBody};
 ghost use Rattle.sws_site.specs.Limits.{IsWithinLimits};
-ghost use Rattle.sws_site.specs.Sites.{found_in, IsDateAt};
+ghost use Rattle.sws_site.specs.Site.{found_in, last_second, IsDateAt};
 ghost use Rattle.sws_site.specs.Loading.{IsFresh, LoadsSite, IsSameFolder};
 ghost use Rattle.sws_site.specs.Stored.{FindsPlaces, files_of, AllHaveHeads};
 
@@ -33,20 +33,20 @@ pub struct Site {
 }
 
 impl Model for Site {
-    ghost use Rattle.sws_site.specs.Sites.{SiteFiles};
+    ghost use Rattle.sws_site.specs.Site.{SiteState};
 
-    ghost Value = { SiteFiles };
+    ghost Value = { SiteState };
 
-    ghost use Rattle.sws_site.specs.StoredSites.{shown, IsStored};
+    ghost use Rattle.sws_site.specs.StoredSites.{state_of, IsStored};
 
-    ghost view = { shown };
+    ghost view = { state_of };
 
     ghost invariant = { IsStored };
 }
 
 /// The date so many seconds after the beginning of 1970.
 fn http_date(date: Option<u64>) -> Option<HttpDate>
-    requires { IfSome date (λ secs. secs ≤ 253402300799) }
+    requires { IfSome date (λ secs. secs ≤ last_second) }
     ensures { IsDateAt date result }
 {
     let secs = date?;
@@ -85,7 +85,7 @@ impl Site {
         date: Option<u64>,
     ) -> Result<Site, SiteFault>
         requires fresh { IsFresh (F.tells folder.old) }
-        requires date { IfSome date (λ secs. secs ≤ 253402300799) }
+        requires date { IfSome date (λ secs. secs ≤ last_second) }
         ensures loads { LoadsSite (F.tells folder.old) result }
         ensures date { IfOk result (λ site. IsDateAt date site.date) }
         ensures same { IsSameFolder (F.tells folder.old) (F.tells folder.new) }
@@ -93,14 +93,9 @@ impl Site {
             ≡ Err SiteFault.Fault) }
     {
         let date = http_date(date);
-        let files = match read_files(alloc, folder, &date) {
-            Ok(files) => files,
-            Err(fault) => return Err(fault),
-        };
-        match Site::new(alloc, date, files) {
-            Ok(site) => Ok(site),
-            Err(_) => Err(SiteFault::Memory),
-        }
+        let files = read_files(alloc, folder, &date)?;
+        let site = Site::new(alloc, date, files)?;
+        Ok(site)
     }
 
     /// The site of these files.

@@ -1,12 +1,12 @@
 pub mod Protocol
 pub mod Speaking
-pub mod Standing
+pub mod ConnCore
 pub mod Shown
 pub mod Step
 pub mod Sound
 pub mod Outcome
 pub mod Path
-pub mod Heading
+pub mod RestOutcome
 pub mod Serving
 pub mod Run
 pub mod Talks

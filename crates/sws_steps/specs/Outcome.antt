@@ -15,9 +15,11 @@ pub record Input : Type 0 where
   pub bytes : List ℕ
   pub stop : Stop
 
+-- an input with these bytes in front
 abbrev pub preceded : List ℕ → Input → Input
 preceded bytes input = record { bytes = bytes ++ input.bytes; stop = input.stop }
 
+-- an input without bytes, which stops so
 abbrev pub stopped : Stop → Input
 stopped stop = record { bytes = []; stop = stop }
 
@@ -43,6 +45,7 @@ pub record Outcome : Type 0 where
   pub bytes : List ℕ
   pub end : End
 
+-- the end of a connection by whether an answer closed it, and else by how its input stops
 abbrev pub end_of : Bool → Stop → End
 end_of true stop = Done
 end_of false at_end = Done

@@ -4,9 +4,9 @@ use Rattle.std.specs.Prelude.{ℕ, ◌+◌, ◌-◌, ◌*◌, zero, suc, Bool, t
 use Rattle.sws_link.specs.Scripts.{Script, read_of, write_of}
 use Rattle.sws_link.specs.declared.Link.{Ghosts as LinkWords}
 use Rattle.sws_link.specs.Links.{LinkTells}
-use Rattle.sws_parts.specs.Unsent.{front_of, unsent_bytes}
+use Rattle.sws_parts.specs.Parts.{front_of, unsent_bytes}
 use Rattle.sws_steps.specs.Protocol.{Protocol}
-use Rattle.sws_steps.specs.Standing.{Standing, is_waiting, Connection}
+use Rattle.sws_steps.specs.ConnCore.{ConnCoreState, is_waiting, ConnState}
 use Rattle.sws_steps.specs.declared.Next.{Next}
 use Rattle.sws_steps.specs.declared.Next.TheVariants as next
 use Rattle.sws_steps.specs.Step.{going_to, room_of, after_read, after_parse, after_look, after_write, wait_limit}
@@ -17,6 +17,7 @@ use Rattle.sws_steps.specs.Outcome.{UnlessMemory}
 pub data Handler : Type 0 where
   open_link read_piece parse look write_part resume close : Handler
 
+-- the event that does the step
 abbrev pub handler_of : Next → List Handler
 handler_of next.Open = open_link ∷ []
 handler_of next.Read = read_piece ∷ []
@@ -27,12 +28,13 @@ handler_of next.Wait = []
 handler_of next.Close = close ∷ []
 handler_of next.Nothing = []
 
-abbrev pub event_of : {Hall : Type 0} → Standing Hall → List Handler
+-- the event that is due: the step, or the same one again where the link was not ready
+abbrev pub event_of : {Hall : Type 0} → ConnCoreState Hall → List Handler
 event_of c = if is_waiting c then resume ∷ [] else handler_of c.pending
 
 -- a connection over a script, as they stand
 pub record Scripted (Hall : Type 0) : Type 0 where
-  pub standing : Standing Hall
+  pub standing : ConnCoreState Hall
   pub script : Script
 
 module _ {Hall Answer : Type 0} (p : Protocol Hall Answer) where
@@ -77,6 +79,7 @@ module _ {Hall Answer : Type 0} (p : Protocol Hall Answer) where
 
 -- ---- how many steps there may be
 
+-- a number that falls with each step that takes, answers and writes nothing and is not kept waiting
 abbrev pub rank_of : Next → ℕ
 rank_of next.Open = 3
 rank_of next.Parse = 3
@@ -87,10 +90,12 @@ rank_of next.Wait = 2
 rank_of next.Close = 1
 rank_of next.Nothing = 0
 
+-- whether the end of the input is still to be read, as a number
 abbrev pub input_left : Bool → ℕ
 input_left true = 0
 input_left false = 1
 
+-- the answers to come of a link that tells them
 abbrev pub answers_to_come : Option LinkTells → Option Script
 answers_to_come None = None
 answers_to_come (Some tells) = tells.to_come
@@ -112,7 +117,7 @@ HasNoEvents None = ⊤
 HasNoEvents (Some rest) = rest ≡ []
 
 -- the standing, and the answers to come that are told, are those of the scripted connection
-pub record Follows {Hall : Type 0} (next : Scripted Hall) (d : Standing Hall) (now : Option LinkTells) : Type 0 where
+pub record Follows {Hall : Type 0} (next : Scripted Hall) (d : ConnCoreState Hall) (now : Option LinkTells) : Type 0 where
   pub after : LinkTells
   pub is : now ≡ Some after
   pub to_come : after.to_come ≡ Some next.script
@@ -120,14 +125,14 @@ pub record Follows {Hall : Type 0} (next : Scripted Hall) (d : Standing Hall) (n
 
 module _ {Hall Answer : Type 0} (p : Protocol Hall Answer) where
   -- a bound on the steps that are left
-  abbrev pub steps_left : Standing Hall → ℕ
+  abbrev pub steps_left : ConnCoreState Hall → ℕ
   steps_left c =
       ((p.answer_limit - c.answered) * (p.text_limit + 1) + length (unsent_bytes c.parts)
       + (p.input_limit - c.read) + input_left c.input_ended) * 160
       + (wait_limit - c.waits) * 4 + rank_of c.pending
 
   -- the rest of the path
-  abbrev pub rest_of_path : Standing Hall → Script → List Handler
+  abbrev pub rest_of_path : ConnCoreState Hall → Script → List Handler
   rest_of_path c script = events p (steps_left c) (record { standing = c; script = script })
 
   -- the path of a scripted connection
@@ -141,7 +146,7 @@ module _ {Hall Answer : Type 0} (p : Protocol Hall Answer) where
   path_by hall None = None
   path_by hall (Some script) = Some (path_of hall script)
 
-  abbrev pub rest_by : Standing Hall → Option Script → Option (List Handler)
+  abbrev pub rest_by : ConnCoreState Hall → Option Script → Option (List Handler)
   rest_by c None = None
   rest_by c (Some script) = Some (rest_of_path c script)
 
@@ -149,29 +154,30 @@ module _ {Hall Answer : Type 0} (p : Protocol Hall Answer) where
   abbrev pub path_told : Hall → Option LinkTells → Option (List Handler)
   path_told hall tells = path_by hall (answers_to_come tells)
 
-  abbrev pub rest_told : {L : Type 0} → LinkWords L → Connection Hall L → Option (List Handler)
+  abbrev pub rest_told : {L : Type 0} → LinkWords L → ConnState Hall L → Option (List Handler)
   rest_told x conn = rest_by conn.standing (answers_to_come (told_by_link x conn.link))
 
   -- a step takes its event off the rest of the path, unless memory runs out
-  abbrev pub TakesEvent : {L : Type 0} → LinkWords L → Connection Hall L
-      → Connection Hall L → Type 0
+  abbrev pub TakesEvent : {L : Type 0} → LinkWords L → ConnState Hall L
+      → ConnState Hall L → Type 0
   TakesEvent x before after =
       UnlessMemory after.standing.end
       (TakesOff (event_of before.standing) (rest_told x before) (rest_told x after))
 
-  abbrev pub FollowsBy : Option Script → Standing Hall → Standing Hall → Option LinkTells → Type 0
+  abbrev pub FollowsBy : Option Script → ConnCoreState Hall → ConnCoreState Hall → Option LinkTells
+      → Type 0
   FollowsBy None c d now = ⊤
   FollowsBy (Some script) c d now =
       UnlessMemory d.end (Follows
       (scripted_step p (record { standing = c; script = script })) d now)
 
-  abbrev pub FollowsTold : Option LinkTells → Standing Hall → Standing Hall
+  abbrev pub FollowsTold : Option LinkTells → ConnCoreState Hall → ConnCoreState Hall
       → Option LinkTells → Type 0
   FollowsTold None c d now = ⊤
   FollowsTold (Some tells) c d now = FollowsBy tells.to_come c d now
 
   -- the step is the one of the scripted connection, where the link tells its answers to come, unless memory runs out
-  abbrev pub FollowsScript : {L : Type 0} → LinkWords L → Connection Hall L
-      → Connection Hall L → Type 0
+  abbrev pub FollowsScript : {L : Type 0} → LinkWords L → ConnState Hall L
+      → ConnState Hall L → Type 0
   FollowsScript x before after = FollowsTold (told_by_link x before.link) before.standing
       after.standing (told_by_link x after.link)

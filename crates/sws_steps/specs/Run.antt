@@ -4,7 +4,7 @@ use Rattle.sws_link.specs.declared.Link.{Ghosts as LinkWords}
 use Rattle.sws_link.specs.Counts.{Rose}
 use Rattle.sws_link.specs.Links.{IsFresh}
 use Rattle.sws_steps.specs.Protocol.{Protocol}
-use Rattle.sws_steps.specs.Standing.{Connection}
+use Rattle.sws_steps.specs.ConnCore.{ConnState}
 use Rattle.sws_steps.specs.declared.End.{End}
 use Rattle.sws_steps.specs.declared.End.TheVariants as ending
 use Rattle.sws_steps.specs.declared.Next.TheVariants as next
@@ -15,7 +15,7 @@ use Rattle.sws_steps.specs.Path.{Handler, event_of, open_link, path_told}
 use Rattle.sws_steps.specs.Serving.{Serves, EndsAs, RoseBy}
 
 -- a connection that was just opened over a link
-abbrev pub opened : {Hall L : Type 0} → Hall → L → Connection Hall L
+abbrev pub opened : {Hall L : Type 0} → Hall → L → ConnState Hall L
 opened hall link = record { standing = going_to (unopened hall) next.Read; link = Some link }
 
 -- these events are the whole path, where that is told
@@ -25,17 +25,17 @@ IsWhole trail (Some path) = trail ≡ path
 
 module _ {Hall Answer : Type 0} (p : Protocol Hall Answer) where
   -- these events lead from one connection to another, by a step each
-  unfoldable pub RunsBy : {L : Type 0} → LinkWords L → List Handler → Connection Hall L
-      → Connection Hall L → Type 0
+  unfoldable pub RunsBy : {L : Type 0} → LinkWords L → List Handler → ConnState Hall L
+      → ConnState Hall L → Type 0
   RunsBy x [] before after = after ≡ before
   RunsBy {L = L} x (event ∷ later) before after =
-      (between : Connection Hall L) × (event_of before.standing ≡ event ∷ [])
+      (between : ConnState Hall L) × (event_of before.standing ≡ event ∷ [])
       × Steps p x before between × RunsBy x later between after
 
 module _ {Hall Answer L : Type 0} (p : Protocol Hall Answer) (x : LinkWords L) (hall : Hall) (first : L) where
   -- the connection was opened over this link, which wasn't shut and of which nothing was taken or written before, and has run these
   -- events since
-  pub record HasRun (trail : List Handler) (conn : Connection Hall L) : Type 0 where
+  pub record HasRun (trail : List Handler) (conn : ConnState Hall L) : Type 0 where
     pub limits : p.IsHall hall
     pub fresh : IsFresh (x.tells first)
     pub not_shut : x.is_shut first ≡ false
@@ -44,7 +44,7 @@ module _ {Hall Answer L : Type 0} (p : Protocol Hall Answer) (x : LinkWords L) (
   -- a run has ended with this link and this end
   pub record HasEnded (now : L) (end : End) : Type 0 where
     pub trail : List Handler
-    pub conn : Connection Hall L
+    pub conn : ConnState Hall L
     pub run : HasRun trail conn
     pub closed : conn.standing.pending ≡ next.Nothing
     pub link_is : conn.link ≡ Some now

@@ -1,10 +1,11 @@
 -- How a connection is kept.
 use Rattle.sws_steps.specs.declared.speech.Speech.{Ghosts as SpeechWords}
-use Rattle.sws_steps.specs.declared.talking.Talking.{Talking}
-use Rattle.sws_steps.specs.Standing.{Standing}
+use Rattle.sws_steps.specs.declared.conn_core.ConnCore.{ConnCore}
+use Rattle.sws_steps.specs.ConnCore.{ConnCoreState}
 
-abbrev pub shown : {S C : Type 0} → SpeechWords S C → Talking S → Standing C
-shown y talking = record {
+-- a connection without its link, of its fields
+abbrev pub state_of : {S C : Type 0} → SpeechWords S C → ConnCore S → ConnCoreState C
+state_of y talking = record {
   hall = y.hall_of talking.speech;
   pending = talking.pending;
   buffer = y.bytes_of talking.speech;

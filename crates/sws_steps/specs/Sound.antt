@@ -3,9 +3,9 @@ use Rattle.std.specs.Prelude.{◌≡◌, ◌≢◌, ℕ, ◌-◌, ◌*◌, ◌<�
 use Rattle.sws_link.specs.declared.Link.{Ghosts as LinkWords}
 use Rattle.sws_link.specs.Contents.{IsPrefix}
 use Rattle.sws_link.specs.Links.{LinkTells}
-use Rattle.sws_parts.specs.Unsent.{front_of, unsent_bytes}
+use Rattle.sws_parts.specs.Parts.{front_of, unsent_bytes}
 use Rattle.sws_steps.specs.Protocol.{Protocol, NotYet, later_unless, texts_of, is_closed}
-use Rattle.sws_steps.specs.Standing.{is_sent, Standing, Connection}
+use Rattle.sws_steps.specs.ConnCore.{is_sent, ConnCoreState, ConnState}
 use Rattle.sws_steps.specs.declared.End.{End}
 use Rattle.sws_steps.specs.declared.End.TheVariants as ending
 use Rattle.sws_steps.specs.declared.Next.{Next}
@@ -13,7 +13,7 @@ use Rattle.sws_steps.specs.declared.Next.TheVariants as next
 use Rattle.sws_steps.specs.Step.{wait_limit, has_all_input}
 
 -- a connection that isn't open yet
-abbrev pub unopened : {Hall : Type 0} → Hall → Standing Hall
+abbrev pub unopened : {Hall : Type 0} → Hall → ConnCoreState Hall
 unopened hall = record {
   hall = hall;
   pending = next.Open;
@@ -30,7 +30,7 @@ unopened hall = record {
 
 module _ {Hall Answer : Type 0} (p : Protocol Hall Answer) where
   -- no bytes wait to be written, no closing answer was given, and there may be more answers
-  pub record IsBetween (c : Standing Hall) : Type 0 where
+  pub record IsBetween (c : ConnCoreState Hall) : Type 0 where
     pub nothing : is_sent c.parts ≡ true
     pub goes_on : c.closes ≡ false
     pub more : c.answered < p.answer_limit
@@ -38,41 +38,41 @@ module _ {Hall Answer : Type 0} (p : Protocol Hall Answer) where
     pub patient : c.waits < wait_limit
 
   -- a read is made only between answers, where the buffer has no whole request, and few enough bytes were taken
-  pub record IsToRead (c : Standing Hall) : Type 0 where
+  pub record IsToRead (c : ConnCoreState Hall) : Type 0 where
     pub between : IsBetween c
     pub not_yet : p.cut c.buffer ≡ NotYet
     pub room : c.read < p.input_limit
     pub goes_on : c.input_ended ≡ false
 
   -- the connection was not kept waiting since the last piece
-  pub record IsToParse (c : Standing Hall) : Type 0 where
+  pub record IsToParse (c : ConnCoreState Hall) : Type 0 where
     pub between : IsBetween c
     pub no_waits : c.waits ≡ 0
 
-  pub record IsToLook (c : Standing Hall) : Type 0 where
+  pub record IsToLook (c : ConnCoreState Hall) : Type 0 where
     pub between : IsBetween c
     pub whole : p.cut c.buffer ≢ NotYet
 
-  pub record IsToWrite (c : Standing Hall) : Type 0 where
+  pub record IsToWrite (c : ConnCoreState Hall) : Type 0 where
     pub something : is_sent c.parts ≡ false
     pub more : c.closes ≡ false → c.answered < p.answer_limit
     pub no_end : c.end ≡ None
     pub patient : c.waits < wait_limit
 
   -- all that is to be written was written: the last answer closes, or no more input comes and none is left to be answered
-  pub record IsDone (c : Standing Hall) : Type 0 where
+  pub record IsDone (c : ConnCoreState Hall) : Type 0 where
     pub nothing : is_sent c.parts ≡ true
     pub last : (c.closes ≡ true) ⊎ ((c.closes ≡ false) × (p.cut c.buffer ≡ NotYet)
         × (has_all_input p c ≡ true))
 
   -- the end is known
-  pub record IsEnded (c : Standing Hall) : Type 0 where
+  pub record IsEnded (c : ConnCoreState Hall) : Type 0 where
     pub ended : c.end ≢ None
     pub done : c.end ≡ Some ending.Done → IsDone c
     pub idle : c.end ≡ Some ending.Idle → c.waits ≡ wait_limit
 
   -- what is known where the step is pending
-  abbrev pub IsReadyTo : Next → Standing Hall → Type 0
+  abbrev pub IsReadyTo : Next → ConnCoreState Hall → Type 0
   IsReadyTo next.Open c = c ≡ unopened c.hall
   IsReadyTo next.Read c = IsToRead c
   IsReadyTo next.Parse c = IsToParse c
@@ -96,7 +96,7 @@ IsLinked next.Nothing link = IsSome link
 module _ {Hall Answer : Type 0} (p : Protocol Hall Answer) where
   -- The bytes that were taken are those of the requests that were answered, followed by the buffer. The bytes that were sent, followed
   -- by the rest of the parts, are the answers to those requests. Whatever comes behind these, they are answered first.
-  pub record Course (c : Standing Hall) (taken sent : List ℕ) : Type 0 where
+  pub record Progress (c : ConnCoreState Hall) (taken sent : List ℕ) : Type 0 where
     pub consumed : List ℕ
     pub given : List Answer
     pub taken_is : taken ≡ consumed ++ c.buffer
@@ -120,19 +120,21 @@ IsUncut (Some ending.Fault) = ⊥
 IsUncut (Some ending.Memory) = ⊥
 
 -- what was written is what was sent, and after a write that failed also a front of what it was given
-pub record WritesSent {Hall : Type 0} (c : Standing Hall) (written sent : List ℕ) : Type 0 where
+pub record WritesSent {Hall : Type 0} (c : ConnCoreState Hall) (written sent : List ℕ) : Type 0 where
   pub front : List ℕ
   pub is : written ≡ sent ++ front
   pub prefix : IsPrefix front (front_of c.parts)
   pub none : IsUncut c.end → front ≡ []
 
 -- what the link tells, where it does
-abbrev pub IsTold : {Hall : Type 0} → Standing Hall → Option LinkTells → List ℕ → List ℕ → Type 0
+abbrev pub IsTold : {Hall : Type 0} → ConnCoreState Hall → Option LinkTells → List ℕ → List ℕ
+    → Type 0
 IsTold c None taken sent = ⊤
 IsTold c (Some tells) taken sent = (tells.taken ≡ taken) × WritesSent c tells.written sent
     × (c.input_ended ≡ true → tells.left ≡ [])
 
-abbrev pub IsToldBy : {Hall L : Type 0} → LinkWords L → Standing Hall → Option L
+-- the link tells what was taken and sent; without a link nothing was
+abbrev pub IsToldBy : {Hall L : Type 0} → LinkWords L → ConnCoreState Hall → Option L
     → List ℕ → List ℕ → Type 0
 IsToldBy x c None taken sent = (taken ≡ []) × (sent ≡ [])
 IsToldBy x c (Some link) taken sent = IsTold c (x.tells link) taken sent
@@ -154,11 +156,11 @@ IsShutAtEnd x pending None = ⊤
 IsShutAtEnd x pending (Some link) = x.is_shut link ≡ is_over pending
 
 module _ {Hall Answer : Type 0} (p : Protocol Hall Answer) where
-  pub record IsSound {L : Type 0} (x : LinkWords L) (c : Connection Hall L) : Type 0 where
+  pub record IsSound {L : Type 0} (x : LinkWords L) (c : ConnState Hall L) : Type 0 where
     pub taken : List ℕ
     pub sent : List ℕ
     pub ready : IsReadyTo p c.standing.pending c.standing
     pub linked : IsLinked c.standing.pending c.link
     pub shut : IsShutAtEnd x c.standing.pending c.link
-    pub course : Course p c.standing taken sent
+    pub course : Progress p c.standing taken sent
     pub told : IsToldBy x c.standing c.link taken sent

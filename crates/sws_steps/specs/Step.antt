@@ -1,14 +1,14 @@
 -- The table of a connection's steps: what each does and what is next, over what a contract sees of the connection.
-use Rattle.std.specs.Prelude.{◌≡◌, ℕ, ◌+◌, ◌-◌, ◌==◌, nat_le, min, Bool, true, false, ◌||◌, if◌then◌else◌, List, [], ◌++◌, take, drop, Option, Some, None, Result, Ok, Err}
+use Rattle.std.specs.Prelude.{◌≡◌, ℕ, ◌+◌, ◌-◌, ◌^◌, ◌==◌, nat_le, min, Bool, true, false, ◌||◌, if◌then◌else◌, List, [], ◌++◌, take, drop, Option, Some, None, Result, Ok, Err}
 use Rattle.sws_link.specs.declared.Link.{Ghosts as LinkWords}
 use Rattle.sws_link.specs.declared.LinkRead.{LinkRead}
 use Rattle.sws_link.specs.declared.LinkRead.TheVariants as read
 use Rattle.sws_link.specs.declared.LinkWrite.{LinkWrite}
 use Rattle.sws_link.specs.declared.LinkWrite.TheVariants as write
 use Rattle.sws_link.specs.Links.{Way, read_fault, write_fault, Reads, Writes, Shuts}
-use Rattle.sws_parts.specs.Unsent.{Unsent, front_of, after_sending}
+use Rattle.sws_parts.specs.Parts.{PartsState, front_of, after_sending}
 use Rattle.sws_steps.specs.Protocol.{Protocol, Cut, Whole, TooLong, NotYet, request, too_long}
-use Rattle.sws_steps.specs.Standing.{is_sent, Standing, Connection}
+use Rattle.sws_steps.specs.ConnCore.{is_sent, ConnCoreState, ConnState}
 use Rattle.sws_steps.specs.declared.End.{End}
 use Rattle.sws_steps.specs.declared.End.TheVariants as ending
 use Rattle.sws_steps.specs.declared.Next.{Next}
@@ -18,20 +18,24 @@ use Rattle.sws_steps.specs.declared.Next.TheVariants as next
 abbrev pub read_limit : ℕ
 read_limit = 4096
 
+-- nothing is written once so many bytes were, far more than all the answers of a connection come to: the count never wraps
+abbrev pub written_limit : ℕ
+written_limit = 2 ^ 60
+
 -- a connection ends where its link is not ready so often in succession
 abbrev pub wait_limit : ℕ
 wait_limit = 30
 
-module _ {Hall : Type 0} (c : Standing Hall) where
-  abbrev pub going_to : Next → Standing Hall
+module _ {Hall : Type 0} (c : ConnCoreState Hall) where
+  abbrev pub going_to : Next → ConnCoreState Hall
   going_to pending = record c { pending = pending }
 
   -- the end is known, and the close comes next
-  abbrev pub ending_as : End → Standing Hall
+  abbrev pub ending_as : End → ConnCoreState Hall
   ending_as end = record c { end = Some end; pending = next.Close }
 
   -- the link was not ready once more
-  abbrev pub still_waiting : Bool → Standing Hall
+  abbrev pub still_waiting : Bool → ConnCoreState Hall
   still_waiting true = record c {
     waits = c.waits + 1;
     end = Some ending.Idle;
@@ -39,10 +43,10 @@ module _ {Hall : Type 0} (c : Standing Hall) where
   }
   still_waiting false = record c { waits = c.waits + 1 }
 
-  abbrev pub not_ready : Standing Hall
+  abbrev pub not_ready : ConnCoreState Hall
   not_ready = still_waiting (nat_le wait_limit (c.waits + 1))
 
-  abbrev pub after_read : LinkRead → List ℕ → Standing Hall
+  abbrev pub after_read : LinkRead → List ℕ → ConnCoreState Hall
   after_read (read.Took count) into = record c {
     buffer = c.buffer ++ take count into;
     read = c.read + count;
@@ -54,25 +58,27 @@ module _ {Hall : Type 0} (c : Standing Hall) where
   after_read read.Failed into = ending_as ending.Fault
 
 -- what follows an answer: by whether nothing is left of it, and whether it closes
-abbrev pub after_part : {Hall : Type 0} → Bool → Bool → Standing Hall → Standing Hall
+abbrev pub after_part : {Hall : Type 0} → Bool → Bool → ConnCoreState Hall → ConnCoreState Hall
 after_part false closes c = c
 after_part true true c = ending_as c ending.Done
 after_part true false c = going_to c next.Parse
 
-abbrev pub after_wrote : {Hall : Type 0} → Standing Hall → Unsent → ℕ → Standing Hall
+-- a connection after so many bytes of the front were written
+abbrev pub after_wrote : {Hall : Type 0} → ConnCoreState Hall → PartsState → ℕ → ConnCoreState Hall
 after_wrote c parts count = after_part (is_sent parts) c.closes (record c {
   parts = parts;
   written = c.written + count;
   waits = 0;
 })
 
-abbrev pub after_write : {Hall : Type 0} → Standing Hall → LinkWrite → Standing Hall
+-- a connection after an answer of its link to a write
+abbrev pub after_write : {Hall : Type 0} → ConnCoreState Hall → LinkWrite → ConnCoreState Hall
 after_write c (write.Wrote count) = after_wrote c (after_sending count c.parts) count
 after_write c write.NotReady = not_ready c
 after_write c write.Failed = ending_as c ending.Fault
 after_write c write.Memory = ending_as c ending.Memory
 
-module _ {Hall Answer : Type 0} (p : Protocol Hall Answer) (c : Standing Hall) where
+module _ {Hall Answer : Type 0} (p : Protocol Hall Answer) (c : ConnCoreState Hall) where
   -- the room of the next read
   abbrev pub room_of : ℕ
   room_of = min read_limit (p.input_limit - c.read)
@@ -81,13 +87,13 @@ module _ {Hall Answer : Type 0} (p : Protocol Hall Answer) (c : Standing Hall) w
   abbrev pub has_all_input : Bool
   has_all_input = c.input_ended || nat_le p.input_limit c.read
 
-  abbrev pub after_parse : Cut → Standing Hall
+  abbrev pub after_parse : Cut → ConnCoreState Hall
   after_parse (Whole len) = going_to c next.Look
   after_parse TooLong = going_to c next.Look
   after_parse NotYet = if has_all_input then ending_as c ending.Done else going_to c next.Read
 
   -- the answer is sent next, and this is left of the buffer
-  abbrev pub sending : Answer → List ℕ → Standing Hall
+  abbrev pub sending : Answer → List ℕ → ConnCoreState Hall
   sending answer rest = record c {
     buffer = rest;
     parts = record { head = p.head answer; body = p.body answer };
@@ -97,19 +103,19 @@ module _ {Hall Answer : Type 0} (p : Protocol Hall Answer) (c : Standing Hall) w
   }
 
   -- nothing is written where it has no bytes
-  abbrev pub answering : Answer → List ℕ → Standing Hall
+  abbrev pub answering : Answer → List ℕ → ConnCoreState Hall
   answering answer rest = after_part (p.is_empty answer) (p.closes answer) (sending answer rest)
 
   abbrev pub is_last : Bool
   is_last = c.answered + 1 == p.answer_limit
 
-  abbrev pub after_look : Cut → Standing Hall
+  abbrev pub after_look : Cut → ConnCoreState Hall
   after_look (Whole len) =
       answering (p.answer c.hall (request (take len c.buffer)) is_last) (drop len c.buffer)
   after_look TooLong = answering (p.answer c.hall too_long is_last) []
   after_look NotYet = c
 
-module _ {Hall L : Type 0} (x : LinkWords L) (before after : Standing Hall) where
+module _ {Hall L : Type 0} (x : LinkWords L) (before after : ConnCoreState Hall) where
   -- one write of the front of the parts was made
   pub record WritesOnce (link now : L) : Type 0 where
     pub answer : LinkWrite
@@ -130,7 +136,7 @@ module _ {Hall L : Type 0} (x : LinkWords L) (before after : Standing Hall) wher
   OverLink Does (Some link) None = ⊥
   OverLink Does None now = ⊥
 
-module _ {Hall Answer L : Type 0} (p : Protocol Hall Answer) (x : LinkWords L) (before after : Standing Hall) where
+module _ {Hall Answer L : Type 0} (p : Protocol Hall Answer) (x : LinkWords L) (before after : ConnCoreState Hall) where
   -- one read of the link was made, which keeps what the link kept of an earlier state
   pub record ReadsOnce (link now : L) : Type 0 where
     pub answer : LinkRead
@@ -152,19 +158,20 @@ module _ {Hall Answer L : Type 0} (p : Protocol Hall Answer) (x : LinkWords L) (
   StepsFrom next.Nothing link now = (after ≡ before) × (now ≡ link)
 
 -- the step that is pending was done
-abbrev pub Steps : {Hall Answer L : Type 0} → Protocol Hall Answer → LinkWords L → Connection Hall L
-    → Connection Hall L → Type 0
+abbrev pub Steps : {Hall Answer L : Type 0} → Protocol Hall Answer → LinkWords L → ConnState Hall L
+    → ConnState Hall L → Type 0
 Steps p x before after =
     StepsFrom p x before.standing after.standing before.standing.pending before.link after.link
 
 -- the connection gets its link, or has one already and hands this one back
-abbrev pub OpensAt : {Hall L : Type 0} → Option L → Connection Hall L → L → Result Next L
-    → Connection Hall L → Type 0
+abbrev pub OpensAt : {Hall L : Type 0} → Option L → ConnState Hall L → L → Result Next L
+    → ConnState Hall L → Type 0
 OpensAt None before link answer after =
     (answer ≡ Ok next.Read)
     × (after ≡ record { standing = going_to before.standing next.Read; link = Some link })
 OpensAt (Some there) before link answer after = (answer ≡ Err link) × (after ≡ before)
 
-abbrev pub Opens : {Hall L : Type 0} → Connection Hall L → L → Result Next L
-    → Connection Hall L → Type 0
+-- a connection is given its link
+abbrev pub Opens : {Hall L : Type 0} → ConnState Hall L → L → Result Next L
+    → ConnState Hall L → Type 0
 Opens before link answer after = OpensAt before.link before link answer after

@@ -11,7 +11,7 @@ use Rattle.sws_steps.specs.declared.End.TheVariants as ending
 use Rattle.sws_steps.specs.declared.Next.{Next}
 use Rattle.sws_steps.specs.declared.Next.TheVariants as next
 use Rattle.sws_steps.specs.Protocol.{Protocol}
-use Rattle.sws_steps.specs.Standing.{Standing, Connection, is_waiting, told_by, end_at}
+use Rattle.sws_steps.specs.ConnCore.{ConnCoreState, ConnState, is_waiting, reported_by, end_at}
 use Rattle.sws_steps.specs.Sound.{IsUncut, is_over}
 use Rattle.sws_steps.specs.Step.{wait_limit}
 use Rattle.sws_steps.specs.Outcome.{Outcome, UnlessMemory}
@@ -21,6 +21,7 @@ use Rattle.sws_steps.specs.Serving.{RoseBy}
 
 -- ---- how it stands
 
+-- a talk, as a server sees it
 pub record TalkView : Type 0 where
   -- the step that comes next, which is never `Wait`, and whether it was tried and the link was not ready
   pub pending : Next
@@ -41,7 +42,7 @@ opened_view = record unopened_view { pending = next.Read }
 
 -- what a step answers that leaves this
 abbrev pub next_told : TalkView → Next
-next_told view = told_by view.waiting view.pending
+next_told view = reported_by view.waiting view.pending
 
 -- the end, which is told once the link is shut
 abbrev pub end_told : TalkView → Option End
@@ -105,6 +106,7 @@ pub record ServesLink (respond : List ℕ → List ℕ) (before now : LinkTells)
   -- as many bytes were written as the answers say, unless a write failed or met want of memory and may have written more
   pub written : IsUncut view.end ⊎ IsTrue now.says_all → view.written ≡ length now.written
 
+-- a link that told what it has was served, and tells it still
 abbrev pub ServesTold : (List ℕ → List ℕ) → Option LinkTells → Option LinkTells → TalkView → Type 0
 ServesTold respond None now view = now ≡ None
 ServesTold respond (Some before) now view = (told : LinkTells) × (now ≡ Some told)
@@ -156,13 +158,15 @@ abbrev pub BeginsWith : Option Handler → List Handler → Type 0
 BeginsWith None rest = rest ≡ []
 BeginsWith (Some event) rest = (behind : List Handler) × (rest ≡ event ∷ behind)
 
+-- the event is the first of the path, where one is told
 abbrev pub IsDue : Option Handler → Option (List Handler) → Type 0
 IsDue event None = ⊤
 IsDue event (Some rest) = BeginsWith event rest
 
 -- ---- a connection as a talk
 
-abbrev pub talk_view : {Hall : Type 0} → Standing Hall → TalkView
+-- a connection as a talk
+abbrev pub talk_view : {Hall : Type 0} → ConnCoreState Hall → TalkView
 talk_view c = record {
   pending = c.pending;
   waiting = is_waiting c;
@@ -173,6 +177,6 @@ talk_view c = record {
 
 -- it was opened over this link, and has run these events since, of which the opening is the first
 abbrev pub HasRunOpen : {Hall Answer L : Type 0} → Protocol Hall Answer → LinkWords L → L
-    → List Handler → Connection Hall L → Type 0
+    → List Handler → ConnState Hall L → Type 0
 HasRunOpen p x first trail conn = (later : List Handler) × (trail ≡ open_link ∷ later)
     × HasRun p x conn.standing.hall first later conn

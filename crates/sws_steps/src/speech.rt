@@ -1,9 +1,10 @@
 //! What a connection says.
 ghost use Rattle.std.specs.Prelude.{◌≡◌, ◌≢◌, ◌≤◌, ◌<◌, false, None, ℕ, List, length};
 ghost use Rattle.sws_link.specs.Links.{read_fault};
-ghost use Rattle.sws_parts.specs.Unsent.{Unsent, unsent_bytes, front_of, after_sending};
+ghost use Rattle.sws_parts.specs.Parts.{PartsState, unsent_bytes, front_of, after_sending};
 ghost use Rattle.sws_steps.specs.Protocol.{Protocol, IsOrderly, NotYet, is_there};
 ghost use Rattle.sws_steps.specs.Speaking.{Fills, AnswersFirst};
+ghost use Rattle.sws_steps.specs.Step.{read_limit};
 
 use sws_link::{Link, LinkRead};
 
@@ -27,7 +28,7 @@ pub trait Speech: Sized {
     ghost bytes_of: { Self → List ℕ };
 
     /// What is left of an answer.
-    ghost parts_of: { Self → Unsent };
+    ghost parts_of: { Self → PartsState };
 
     /// The most bytes of a connection that count.
     fn input_limit(&self) -> u64
@@ -40,7 +41,7 @@ pub trait Speech: Sized {
     /// Adds what one read of the link gives, of at most so many bytes, where no request is whole yet.
     fn fill<L: Link>(&mut self, link: &mut L, most: usize) -> LinkRead
         requires some { 0 < most }
-        requires few { most ≤ 4096 }
+        requires few { most ≤ read_limit }
         requires not_yet { protocol.cut (bytes_of self.old) ≡ NotYet }
         requires not_shut { L.is_shut link.old ≡ false }
         ensures fills { Fills L.Link (bytes_of self.old) link.old most result

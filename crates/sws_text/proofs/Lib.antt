@@ -1,6 +1,6 @@
-pub mod SignLaws
-pub mod TextLaws
-pub mod WrittenLaws
-pub mod LengthLaws
-pub mod ShownLaws
-pub mod PlainLaws
+pub mod SignLemmas
+pub mod TextLemmas
+pub mod WrittenLemmas
+pub mod LengthLemmas
+pub mod ShownLemmas
+pub mod PlainLemmas

@@ -7,7 +7,7 @@ use Rattle.mely_check.specs.declared.fault.CheckFault.TheVariants as check_fault
 use Rattle.mely_check.specs.declared.report.Report.{Report}
 use Rattle.mely_history.specs.declared.setup.Setup.{Setup}
 use Rattle.mely_history.specs.declared.shape.Shape.{Shape}
-use Rattle.sws_link.proofs.CountLaws.{HasCause-none, HasCause-as, IsLater-same}
+use Rattle.sws_link.proofs.CountLemmas.{HasCause-none, HasCause-as, IsLater-same}
 use Rattle.sws_link.specs.Counts.{Count, Rose, HasCause}
 use Rattle.sws_link.specs.Told.{FolderTells}
 use Rattle.sws_link.specs.Worlds.{Listens}
@@ -24,13 +24,13 @@ use Rattle.sws_engine.specs.declared.ended.Verdict.{Verdict}
 use Rattle.sws_engine.specs.declared.ended.Verdict.TheVariants as verdict
 use Rattle.sws_replay.specs.declared.fault.RunFault.{RunFault}
 use Rattle.sws_replay.specs.declared.fault.RunFault.TheVariants as run_fault
-use Rattle.sws_script.proofs.AnswerLaws.{no_fault, no_many}
+use Rattle.sws_script.proofs.AnswerLemmas.{no_fault, no_many}
 use Rattle.sws_script.specs.Grammar.{Spells, IsCause, conn_limit}
 use Rattle.sws_script.specs.declared.fault.ScriptFault.TheVariants as script_fault
 use Rattle.sws_script.specs.declared.input.Input.{Input}
-use Rattle.sws_site.proofs.LimitLaws.{limit_of-none}
+use Rattle.sws_site.proofs.LimitLemmas.{limit_of-none}
 use Rattle.sws_site.specs.Limits.{limit_of}
-use Rattle.sws_site.specs.Sites.{SiteFiles}
+use Rattle.sws_site.specs.Site.{SiteState}
 use Rattle.sws_words.specs.Orders.{Order, answer, replay, serve, bench, check}
 use Rattle.sws_top.specs.declared.faults.SiteLimit.{SiteLimit}
 use Rattle.sws_top.specs.declared.faults.TopFault.{TopFault}
@@ -193,7 +193,7 @@ module _ {F R O : Type 0} (f : FolderWords F) (r : SourceWords R) (o : SinkWords
         kind = kind.1;
       }
 
-  answer_fate : (site : SiteFiles) (fault : Option TopFault) → f.faults now.folder ≡ f.faults before.folder
+  answer_fate : (site : SiteState) (fault : Option TopFault) → f.faults now.folder ≡ f.faults before.folder
       → AnswersInput r o site before.source now.source before.out now.out fault → Fate fault
   answer_fate site fault folder answers = record {
     reads = record { rose = λ is. inr (answers.read_cause.rose is); stays = λ other. (folder, answers.read_cause.stays other) };
@@ -276,7 +276,7 @@ some_there : {A : Type 0} (o : Option A) → IsSome o → (a : A) × (o ≡ Some
 some_there None some = cc
 some_there (Some a) some = (a, refl)
 
-module _ {F R W L O T G : Type 0} (f : FolderWords F) (r : SourceWords R) (x : WorldWords W L) (l : LinkWords L) (o : SinkWords O) (y : TalkWords T L G SiteFiles) (before now : Hands F R O) (world : W) (outcome : Outcome W L)
+module _ {F R W L O T G : Type 0} (f : FolderWords F) (r : SourceWords R) (x : WorldWords W L) (l : LinkWords L) (o : SinkWords O) (y : TalkWords T L G SiteState) (before now : Hands F R O) (world : W) (outcome : Outcome W L)
     (folder : f.faults now.folder ≡ f.faults before.folder) (source : r.faults now.source ≡ r.faults before.source) where
   memory_kind : NotTheWorlds (Some Memory)
   memory_kind = record { unfailed = λ e. cc; unlost = λ conn e. cc }
@@ -305,7 +305,7 @@ module _ {F R W L O T G : Type 0} (f : FolderWords F) (r : SourceWords R) (x : W
     either = inl (ap is_some back.back, back.none_ended);
   }
 
-  module _ (port connections : ℕ) (shape : Shape) (site : SiteFiles) (served : HasServed x l o y before.out now.out world outcome port connections shape site) where
+  module _ (port connections : ℕ) (shape : Shape) (site : SiteState) (served : HasServed x l o y before.out now.out world outcome port connections shape site) where
     -- there is one verdict
     one_verdict : (conn : ℕ) (v : Verdict) → served.ended.verdict ≡ v → HasLost outcome conn → v ≡ verdict.Apart conn
     one_verdict conn v is lost =
@@ -379,7 +379,7 @@ module _ {F R W L O T G : Type 0} (f : FolderWords F) (r : SourceWords R) (x : W
 
 -- ---- by the order
 
-module _ {F R W L O T G : Type 0} (f : FolderWords F) (r : SourceWords R) (x : WorldWords W L) (l : LinkWords L) (o : SinkWords O) (y : TalkWords T L G SiteFiles) (before now : Hands F R O) (world : W) (outcome : Outcome W L) where
+module _ {F R W L O T G : Type 0} (f : FolderWords F) (r : SourceWords R) (x : WorldWords W L) (l : LinkWords L) (o : SinkWords O) (y : TalkWords T L G SiteState) (before now : Hands F R O) (world : W) (outcome : Outcome W L) where
   abbrev Caused : Type 0
   Caused = HasCauses f r x o before now world outcome
 
@@ -488,7 +488,7 @@ module _ {F R W L O T G : Type 0} (f : FolderWords F) (r : SourceWords R) (x : W
   text_done (Err run_fault.Write) ended rose nothing = absurd (nothing.out (rose refl))
   text_done (Err run_fault.Memory) ended rose nothing = inr (inl ended)
 
-  answer_done : (site : SiteFiles) (fault : Option TopFault) → outcome.fault ≡ fault → AnswersInput r o site before.source now.source before.out now.out fault → Undisturbed → AllDone
+  answer_done : (site : SiteState) (fault : Option TopFault) → outcome.fault ≡ fault → AnswersInput r o site before.source now.source before.out now.out fault → Undisturbed → AllDone
   answer_done site None is answers nothing = inl is
   answer_done site (Some ReadFault) is answers nothing = absurd (nothing.source (answers.read_cause.rose refl))
   answer_done site (Some WriteFault) is answers nothing = absurd (nothing.out (answers.write_cause.rose refl))

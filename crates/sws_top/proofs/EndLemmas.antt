@@ -2,9 +2,9 @@
 use Rattle.std.specs.Prelude.{IsSome}
 use Rattle.std.proofs.Common.{◌≡◌, ◌⊎◌, inl, inr, true, false, List, ℕ, Option, Some, None, refl, sym, subst, ◌∙◌, arith}
 use Rattle.sws_link.specs.Counts.{Count, no_faults, HasCause}
-use Rattle.sws_link.proofs.CountLaws.{HasCause-none}
+use Rattle.sws_link.proofs.CountLemmas.{HasCause-none}
 use Rattle.sws_link.specs.Links.{Way, reading, writing}
-use Rattle.sws_site.specs.Sites.{SiteFiles}
+use Rattle.sws_site.specs.Site.{SiteState}
 use Rattle.sws_steps.specs.declared.End.{End}
 use Rattle.sws_steps.specs.declared.End.TheVariants as ending
 use Rattle.sws_conn.specs.Step.{wait_limit}
@@ -75,7 +75,7 @@ module _ (Since : Option Way → Type 0) (Answers : Type 0) where
     read_kept ending.Memory kept is = cc
 
 -- the same input and the same bytes before, however the link names them
-pub answered_over : (site : SiteFiles) (input left before written whole_first first_first whole first : Option (List ℕ)) (end : End) (fault ended : Option TopFault)
+pub answered_over : (site : SiteState) (input left before written whole_first first_first whole first : Option (List ℕ)) (end : End) (fault ended : Option TopFault)
     → whole_first ≡ input → first_first ≡ before → whole ≡ input → first ≡ before
     → (end ≡ ending.Idle → ⊥) → (end ≡ ending.Fault → IsSome fault) → IsWrittenBehind first written
     → Serves site (pipe_tells whole_first input first_first before) (pipe_tells whole left first written) end
@@ -91,7 +91,7 @@ answered_over site input left before written whole_first first_first whole first
     (λ faulty. subst (λ b. IsAnswered site (pipe_tells input left b written)) h (subst (λ w. IsAnswered site (pipe_tells w left first written)) g (read faulty))))
 
 -- the same run by other names
-pub answers_as : (site : SiteFiles) (input before left left_now written written_now : Option (List ℕ)) (fault fault_now : Option TopFault)
+pub answers_as : (site : SiteState) (input before left left_now written written_now : Option (List ℕ)) (fault fault_now : Option TopFault)
     → left_now ≡ left → written_now ≡ written → fault_now ≡ fault → AnswersFrom site input left before written fault
     → AnswersFrom site input left_now before written_now fault_now
 answers_as site input before left left_now written written_now fault fault_now e f g answers =

@@ -3,6 +3,6 @@ mod LongScriptLemmas
 mod ScriptLemmas
 mod AnswerLemmas
 mod EndLemmas
-mod PipeLemmas
+mod DuplexLinkLemmas
 mod ServeLemmas
 mod CauseLemmas

@@ -7,7 +7,7 @@ use Rattle.sws_script.specs.Grammar.{byte_limit, conn_limit, lines_of, size_of, 
 use Rattle.sws_script.specs.declared.fault.ScriptFault.{ScriptFault}
 use Rattle.sws_script.specs.declared.fault.ScriptFault.TheVariants.{Bad, TooMany, Memory}
 use Rattle.sws_script.specs.declared.input.Input.{Input}
-use Rattle.sws_script.proofs.AnswerLaws.{MayStand-earlier}
+use Rattle.sws_script.proofs.AnswerLemmas.{MayStand-earlier}
 
 -- so many lines stand in front of both lists, and are the same
 abbrev SameFront : ℕ → List (List ℕ) → List (List ℕ) → Type 0

@@ -4,7 +4,8 @@ use Rattle.std.specs.Str.{bytes_eq}
 use Rattle.std.proofs.Common.{◌≡◌, ℕ, ◌≤◌, ◌&&◌, nat_le, Bool, true, false, cond, List, [], ◌∷◌, Option, Some, None, refl, sym, ◌∙◌, ap, subst, codes, arith, leb-true}
 use Rattle.sws_words.specs.Grammar.{Text, Given, given_of, places, value_of, has_flag}
 use Rattle.sws_words.specs.Orders.{Order, Shape, answer, replay, serve, bench, check, within, or_default, optional, number_in, shape_in, shape_of, date_in, date_of, only_place, two_places, order_of, answer_by, answer_known, replay_by, replay_known, serve_by, serve_known, bench_by, bench_known, check_in, check_by, check_known}
-use Rattle.sws_top.specs.Ranges.{IsBetween, IsDate, IsShape, IsInRange, last_second}
+use Rattle.sws_top.specs.Ranges.{IsBetween, IsDate, IsShape, IsInRange}
+use Rattle.sws_site.specs.Site.{last_second}
 
 -- what an answer that is there came from
 and_then_some : {X Y : Type 0} (next : X → Option Y) (from : Option X) (y : Y) → option_and_then next from ≡ Some y → (x : X) × (from ≡ Some x) × (next x ≡ Some y)

@@ -2,7 +2,7 @@
 use Rattle.std.specs.Prelude.{Ok, Err}
 use Rattle.std.proofs.Common.{◌≡◌, ◌⊎◌, inl, inr, ℕ, ◌+◌, ◌<◌, ◌≤◌, Bool, take, List, [], ◌∷◌, ◌++◌, length, Option, Some, None, refl, sym, ap, ◌∙◌, subst, arith, length-append, append-nil, append_assoc}
 use Rattle.sws_link.specs.Counts.{Rose, IsLater, HasCause}
-use Rattle.sws_link.proofs.CountLaws.{IsLater-same}
+use Rattle.sws_link.proofs.CountLemmas.{IsLater-same}
 use Rattle.sws_link.specs.Contents.{Takes}
 use Rattle.sws_link.specs.declared.Got.TheVariants as got
 use Rattle.sws_link.specs.declared.Source.{Ghosts as SourceWords}

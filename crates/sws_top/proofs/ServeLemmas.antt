@@ -7,7 +7,7 @@ use Rattle.std.proofs.Math.Nat.{mul-suc}
 use Rattle.std.proofs.lemmas.Option.{slice_get_within}
 use Rattle.mely_history.specs.Setup.{first_out_of_range, is_between}
 use Rattle.mely_history.specs.declared.shape.Shape.{Shape}
-use Rattle.sws_link.proofs.CountLaws.{HasCause-as}
+use Rattle.sws_link.proofs.CountLemmas.{HasCause-as}
 use Rattle.sws_link.specs.Contents.{Puts}
 use Rattle.sws_link.specs.Counts.{Rose, HasCause}
 use Rattle.sws_link.specs.Worlds.{Coming, WorldTells, Listens, total_within}
@@ -28,7 +28,7 @@ use Rattle.sws_engine.specs.declared.ended.Verdict.TheVariants as verdict
 use Rattle.sws_replay.specs.Replays.{WritesOne, result_of}
 use Rattle.sws_replay.specs.declared.fault.RunFault.TheVariants.{Write, Memory as NoMemory}
 use Rattle.sws_report.specs.Summary.{summary}
-use Rattle.sws_site.specs.Sites.{SiteFiles}
+use Rattle.sws_site.specs.Site.{SiteState}
 use Rattle.sws_top.specs.declared.outcomes.Outcome.{Outcome}
 use Rattle.sws_top.specs.Faults.{put_fault_of, ended_with}
 use Rattle.sws_top.specs.RanServe.{ends_of, summary_of, CanSumUp, EndsBy, HasServed}
@@ -96,7 +96,7 @@ none_refused (s ∷ served) none =
     by_end (Some ending.Fault) fine rest = (λ e. cc, rest)
     by_end (Some ending.Memory) fine rest = cc
 
-module _ {W L T G : Type 0} (x : WorldWords W L) (l : LinkWords L) (y : TalkWords T L G SiteFiles) (shape : Shape) (site : SiteFiles) (first : W) (ended : Ended W L) where
+module _ {W L T G : Type 0} (x : WorldWords W L) (l : LinkWords L) (y : TalkWords T L G SiteState) (shape : Shape) (site : SiteState) (first : W) (ended : Ended W L) where
   sums : HasRunThreads x l y shape site first ended → (x.tells first).total ≤ 1024 → ended.verdict ≡ verdict.Ok → CanSumUp ended.served.items
   sums run few ok =
       let many = run.many_served in

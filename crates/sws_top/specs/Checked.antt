@@ -43,5 +43,6 @@ abbrev pub core_lines : ℕ → List CoreReport → List ℕ
 core_lines core [] = []
 core_lines core (report ∷ reports) = core_line core report ++ core_lines (core + 1) reports
 
+-- what `check` prints of a report
 abbrev pub report_text : Report → List ℕ
 report_text report = accepted_line report.entries ++ core_lines 0 report.cores.items

@@ -80,6 +80,7 @@ abbrev pub run_fault_of : RunFault → TopFault
 run_fault_of run_fault.Write = WriteFault
 run_fault_of run_fault.Memory = Memory
 
+-- the fault of a run that was written, or was not
 abbrev pub ended_with : {T : Type 0} → Result T RunFault → Option TopFault
 ended_with (Ok value) = None
 ended_with (Err fault) = Some (run_fault_of fault)

@@ -4,22 +4,23 @@ use Rattle.sws_link.specs.Counts.{Count}
 use Rattle.sws_link.specs.Links.{LinkTells, Way}
 use Rattle.sws_link.specs.declared.Source.{Ghosts as SourceWords}
 use Rattle.sws_link.specs.declared.Sink.{Ghosts as SinkWords}
-use Rattle.sws_top.specs.declared.pipe.Pipe.{Pipe}
+use Rattle.sws_top.specs.declared.duplex_link.DuplexLink.{DuplexLink}
 use Rattle.sws_top.specs.Pipes.{pipe_tells, both_counts, GoesOn}
 
 module _ {R O : Type 0} (source : SourceWords R) (sink : SinkWords O) where
   -- what it tells, by what its source and its sink do
-  abbrev pub told_by_pipe : Pipe R O source sink → Option LinkTells
+  abbrev pub told_by_pipe : DuplexLink R O source sink → Option LinkTells
   told_by_pipe pipe =
       pipe_tells (source.left pipe.first_source.now.value) (source.left pipe.source.now)
       (sink.written pipe.first_out.now.value) (sink.written pipe.out.now)
 
   -- its faults are theirs
-  abbrev pub faults_of_pipe : Pipe R O source sink → Count
+  abbrev pub faults_of_pipe : DuplexLink R O source sink → Count
   faults_of_pipe pipe = both_counts (source.faults pipe.source.now) (sink.faults pipe.out.now)
 
   -- it is still over the same two, and keeps which of them failed
-  abbrev pub StaysPipe : Pipe R O source sink → Option Way → Pipe R O source sink → Type 0
+  abbrev pub StaysPipe : DuplexLink R O source sink → Option Way → DuplexLink R O source sink
+      → Type 0
   StaysPipe first fault now = (now.source.ghost_name ≡ first.source.ghost_name)
       × (now.out.ghost_name ≡ first.out.ghost_name)
       × (now.first_source.now.value ≡ first.first_source.now.value)

@@ -23,6 +23,7 @@ written_behind first (Some bytes) = drop (length first) bytes
 abbrev pub IsLeftOf : Option (List ℕ) → Option (List ℕ) → Type 0
 IsLeftOf whole left = whole ≡ option_map (λ rest. taken_before rest whole ++ rest) left
 
+-- what a sink tells begins with what it told at first; or it tells nothing, then and now
 abbrev pub IsWrittenBehind : Option (List ℕ) → Option (List ℕ) → Type 0
 IsWrittenBehind first bytes =
     bytes ≡ option_map (λ front. front ++ written_behind front bytes) first

@@ -6,7 +6,7 @@ use Rattle.sws_link.specs.declared.Source.{Ghosts as SourceWords}
 use Rattle.sws_link.specs.declared.Sink.{Ghosts as SinkWords}
 use Rattle.sws_replay.specs.Replays.{IsReplay, IsScheduledReplay}
 use Rattle.sws_script.specs.declared.input.Input.{Input}
-use Rattle.sws_site.specs.Sites.{SiteFiles}
+use Rattle.sws_site.specs.Site.{SiteState}
 use Rattle.sws_top.specs.declared.faults.TopFault.{TopFault}
 use Rattle.sws_top.specs.Hands.{Hands}
 use Rattle.sws_top.specs.Scripts.{RunsOnInput}
@@ -15,7 +15,7 @@ use Rattle.sws_top.specs.Texts.{WritesText}
 
 -- the texts of a replay: with a schedule there is one, the transcript and its journal; without it the transcript, and behind it a journal
 -- where that is asked for
-abbrev pub IsReplayText : Shape → (journal schedule : Bool) → SiteFiles → Input → List ℕ → Type 0
+abbrev pub IsReplayText : Shape → (journal schedule : Bool) → SiteState → Input → List ℕ → Type 0
 IsReplayText shape journal true site input = IsScheduledReplay site shape input
 IsReplayText shape journal false site input = IsReplay site shape input.conns journal
 

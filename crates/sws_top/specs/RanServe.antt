@@ -19,7 +19,7 @@ use Rattle.sws_engine.specs.declared.ended.Served.{Served}
 use Rattle.sws_engine.specs.declared.ended.Verdict.{Verdict}
 use Rattle.sws_engine.specs.declared.ended.Verdict.TheVariants as verdict
 use Rattle.sws_report.specs.Summary.{summary}
-use Rattle.sws_site.specs.Sites.{SiteFiles}
+use Rattle.sws_site.specs.Site.{SiteState}
 use Rattle.sws_top.specs.declared.faults.TopFault.{TopFault}
 use Rattle.sws_top.specs.declared.faults.TopFault.TheVariants.{WorldFault, Memory, Apart}
 use Rattle.sws_top.specs.declared.outcomes.Outcome.{Outcome}
@@ -60,7 +60,7 @@ module _ {L O : Type 0} (o : SinkWords O) (out out_now : O) (fault : Option TopF
   EndsBy (verdict.Apart conn) = (fault ≡ Some (Apart conn)) × (out_now ≡ out)
   EndsBy verdict.Memory = (fault ≡ Some Memory) × (out_now ≡ out)
 
-module _ {W L O T G : Type 0} (x : WorldWords W L) (l : LinkWords L) (o : SinkWords O) (y : TalkWords T L G SiteFiles) (out out_now : O) (world : W) (outcome : Outcome W L) where
+module _ {W L O T G : Type 0} (x : WorldWords W L) (l : LinkWords L) (o : SinkWords O) (y : TalkWords T L G SiteState) (out out_now : O) (world : W) (outcome : Outcome W L) where
   -- the world wasn't ready: it comes back as it stands, and nothing was written
   pub record IsNotReady (port connections : ℕ) : Type 0 where
     pub now_world : W
@@ -71,7 +71,7 @@ module _ {W L O T G : Type 0} (x : WorldWords W L) (l : LinkWords L) (o : SinkWo
     pub unwritten : out_now ≡ out
 
   -- The world was opened at the port for so many connections, and they were served on threads, with all that this leaves.
-  pub record HasServed (port connections : ℕ) (shape : Shape) (site : SiteFiles) : Type 0 where
+  pub record HasServed (port connections : ℕ) (shape : Shape) (site : SiteState) : Type 0 where
     pub first : W
     pub listens : Listens x.tells x.faults x.waits world port connections opened.Ready first
     pub ended : Ended W L
@@ -90,11 +90,11 @@ module _ {W L O T G : Type 0} (x : WorldWords W L) (l : LinkWords L) (o : SinkWo
     pub ends : EndsBy o out out_now outcome.fault ended.served.items ended.verdict
 
   -- what became of the world, on the site
-  abbrev pub IsServeEnd : (port connections : ℕ) → Shape → SiteFiles → Type 0
+  abbrev pub IsServeEnd : (port connections : ℕ) → Shape → SiteState → Type 0
   IsServeEnd port connections shape site = IsNotReady port connections
       ⊎ HasServed port connections shape site
 
-module _ {F W L O T G : Type 0} (f : FolderWords F) (x : WorldWords W L) (l : LinkWords L) (o : SinkWords O) (y : TalkWords T L G SiteFiles) (folder folder_now : F) (out out_now : O) (world : W) (outcome : Outcome W L) where
+module _ {F W L O T G : Type 0} (f : FolderWords F) (x : WorldWords W L) (l : LinkWords L) (o : SinkWords O) (y : TalkWords T L G SiteState) (folder folder_now : F) (out out_now : O) (world : W) (outcome : Outcome W L) where
   -- on the site, the world was opened and served, and the summary was written
   abbrev pub RanServe : List ℕ → (port connections : ℕ) → Shape → Option ℕ → Type 0
   RanServe path port connections shape date =

@@ -1,18 +1,18 @@
 -- The ranges of the numbers in an order.
 use Rattle.std.specs.Prelude.{ℕ, ◌≤◌, IfSome, Option}
 use Rattle.mely_history.specs.declared.shape.Shape.{Shape as RunShape}
+use Rattle.sws_site.specs.Site.{last_second}
 use Rattle.sws_words.specs.Orders.{Order, Shape, answer, replay, serve, bench, check}
 
+-- the number is in the range, whose ends belong to it
 abbrev pub IsBetween : ℕ → ℕ → ℕ → Type 0
 IsBetween least most number = (least ≤ number) × (number ≤ most)
 
--- the last second of the year 9999, in seconds after the beginning of 1970
-abbrev pub last_second : ℕ
-last_second = 253402300799
-
+-- a date, if one is given, is one that can be shown
 abbrev pub IsDate : Option ℕ → Type 0
 IsDate date = IfSome date (λ secs. secs ≤ last_second)
 
+-- each number of the shape of a run is within its range
 pub record IsRunShape (shape : RunShape) : Type 0 where
   pub cores : IsBetween 1 64 shape.cores
   pub shards : IsBetween 1 64 shape.shards
@@ -30,6 +30,7 @@ run_shape shape = record {
   group = shape.group;
 }
 
+-- each number of a shape is within its range
 abbrev pub IsShape : Shape → Type 0
 IsShape shape = IsRunShape (run_shape shape)
 

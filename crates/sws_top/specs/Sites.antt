@@ -4,7 +4,7 @@ use Rattle.sws_link.specs.Counts.{Rose, IsLater}
 use Rattle.sws_link.specs.Told.{FolderTells}
 use Rattle.sws_link.specs.declared.Folder.{Ghosts as FolderWords}
 use Rattle.sws_site.specs.Limits.{IsWithinLimits, limit_of}
-use Rattle.sws_site.specs.Sites.{SiteFiles, IsDateAt}
+use Rattle.sws_site.specs.Site.{SiteState, IsDateAt}
 use Rattle.sws_top.specs.declared.faults.TopFault.{TopFault}
 use Rattle.sws_top.specs.declared.faults.TopFault.TheVariants.{ReadFault, Memory, SiteFull}
 use Rattle.sws_top.specs.Faults.{refusal_of}
@@ -27,7 +27,7 @@ TellsWithinLimits (Some folder) = IsWithinLimits folder.files
 
 module _ {F : Type 0} (f : FolderWords F) (path : List ℕ) (folder now : F) where
   -- The folder was opened with the path, and the site has the files that it tells, in its order, and the date; they meet no limit.
-  pub record IsLoaded (date : Option ℕ) (site : SiteFiles) : Type 0 where
+  pub record IsLoaded (date : Option ℕ) (site : SiteState) : Type 0 where
     pub date_is : IsDateAt date site.date
     pub files : (told : FolderTells) → f.tells folder ≡ Some told → site.files ≡ told.files
     pub within : (told : FolderTells) → f.tells folder ≡ Some told → limit_of told.files ≡ None
@@ -52,12 +52,12 @@ module _ {F : Type 0} (f : FolderWords F) (path : List ℕ) (folder now : F) whe
     pub later : IsLater (f.faults folder) (f.faults now)
 
   -- the site, or why there is none
-  abbrev pub OpensSite : Option ℕ → Result SiteFiles TopFault → Type 0
+  abbrev pub OpensSite : Option ℕ → Result SiteState TopFault → Type 0
   OpensSite date (Ok site) = IsLoaded date site
   OpensSite date (Err fault) = HasNoSite fault
 
   -- A run on the site: it ended before there was one, with all else untouched, or went on with it.
-  abbrev pub RunsOnSite : Option ℕ → Option TopFault → Type 0 → (SiteFiles → Type 0) → Type 0
+  abbrev pub RunsOnSite : Option ℕ → Option TopFault → Type 0 → (SiteState → Type 0) → Type 0
   RunsOnSite date fault Untouched GoesOn =
       ((cause : TopFault) × (fault ≡ Some cause) × HasNoSite cause × Untouched)
-      ⊎ ((site : SiteFiles) × IsLoaded date site × GoesOn site)
+      ⊎ ((site : SiteState) × IsLoaded date site × GoesOn site)

@@ -7,8 +7,8 @@ ghost use Rattle.sws_top.specs.Hands.{hands};
 ghost use Rattle.sws_top.specs.RanAnswer.{RanAnswer};
 ghost use Rattle.sws_top.specs.Ranges.{IsDate};
 
+use crate::duplex_link::DuplexLink;
 use crate::faults::TopFault;
-use crate::pipe::Pipe;
 use crate::sites::open_site;
 use std::alloc::Global;
 use std::snapshot::Snapshot;
@@ -52,7 +52,7 @@ fn answer_input<R: Source, O: Sink>(
     let pipe = serve(
         alloc,
         site,
-        Pipe::new(source, out, &first_source, &first_out),
+        DuplexLink::new(source, out, &first_source, &first_out),
     );
     match pipe.fault {
         None => Ok(()),
@@ -64,8 +64,8 @@ fn answer_input<R: Source, O: Sink>(
 fn serve<'f, 'p, R: Source, O: Sink>(
     alloc: Global,
     site: &Site,
-    pipe: Pipe<'f, 'p, R, O>,
-) -> Pipe<'f, 'p, R, O>
+    pipe: DuplexLink<'f, 'p, R, O>,
+) -> DuplexLink<'f, 'p, R, O>
     requires source { pipe.first_source.now.value ≡ pipe.source.now }
     requires out { pipe.first_out.now.value ≡ pipe.out.now }
     requires not_shut { pipe.shut ≡ false }

@@ -3,6 +3,7 @@ ghost use Rattle.std.specs.Prelude.{◌≡◌};
 ghost use Rattle.sws_top.specs.Faults.{fault_status, run_fault_of, check_fault_of};
 
 use mely_check::CheckFault;
+use std::error::Error;
 use std::fmt;
 use sws_replay::RunFault;
 
@@ -123,3 +124,7 @@ impl fmt::Display for TopFault {
         }
     }
 }
+
+impl Error for SiteLimit {}
+
+impl Error for TopFault {}

@@ -79,7 +79,7 @@ fn replay_input<T: AllocGlobal + Threads + Wait + Sync, O: Sink>(
     }
 }
 
-/// The same, by its schedule or on threads.
+/// Runs the input by its schedule, or on threads where it has none, and writes what is left.
 fn run_input<T: AllocGlobal + Threads + Wait + Sync, O: Sink>(
     rt: &T,
     site: &Site,

@@ -1,16 +1,16 @@
 -- The lemmas of the proofs.
 pub mod NumberLemmas
-pub mod ClapSteps
+pub mod ClapStepLemmas
 pub mod CommandLemmas
-pub mod ClapWalk
-pub mod ClapGrammar
-pub mod ClapEnd
+pub mod ClapWalkLemmas
+pub mod ClapGrammarLemmas
+pub mod ClapEndLemmas
 pub mod AnswerLemmas
 pub mod ReplayLemmas
 pub mod GivenRows
-pub mod Taken
-pub mod Found
+pub mod TakenLemmas
+pub mod FoundLemmas
 pub mod ServeLemmas
 pub mod BenchLemmas
 pub mod CheckLemmas
-pub mod FromFound
+pub mod FromFoundLemmas

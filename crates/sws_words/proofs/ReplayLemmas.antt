@@ -13,13 +13,13 @@ use Rattle.sws_words.specs.Commands.{replay_app, place_rule, option_rule, flag_r
 use Rattle.sws_words.specs.Grammar.{Given, is_among, given_by, given_of, each_once, places, value_of, has_flag, has_bundle}
 use Rattle.sws_words.specs.Orders.{Order, replay, replay_by, replay_known, date_in, date_of, shape_in, shape_of, within}
 use Rattle.sws_words.specs.Orders as orders
-use Rattle.sws_words.proofs.ClapWalk.{IsPlace, unless, clap_rows, add_all, and_false}
-use Rattle.sws_words.proofs.ClapSteps.{idle_at}
-use Rattle.sws_words.proofs.ClapGrammar.{IsOption, IsFlag, reads_alike}
-use Rattle.sws_words.proofs.ClapEnd.{clear}
+use Rattle.sws_words.proofs.ClapWalkLemmas.{IsPlace, unless, clap_rows, add_all, and_false}
+use Rattle.sws_words.proofs.ClapStepLemmas.{idle_at}
+use Rattle.sws_words.proofs.ClapGrammarLemmas.{IsOption, IsFlag, reads_alike}
+use Rattle.sws_words.proofs.ClapEndLemmas.{clear}
 use Rattle.sws_words.proofs.GivenRows.{AddsValue, AddsFlag, AllKnown, HasPlaces, fits, first_option, first_place, given_first, one_more, rows_given, rows_of}
-use Rattle.sws_words.proofs.Taken.{TakeDefaults, checked, bundle_gives_none}
-use Rattle.sws_words.proofs.Found.{AllLeave, checked_by, command_reads, defaults_leave, each_named, first_flag, flag_default, flag_text, none_named, row_at, rows_once}
+use Rattle.sws_words.proofs.TakenLemmas.{TakeDefaults, checked, bundle_gives_none}
+use Rattle.sws_words.proofs.FoundLemmas.{AllLeave, checked_by, command_reads, defaults_leave, each_named, first_flag, flag_default, flag_text, none_named, row_at, rows_once}
 
 -- the command as `clap` builds it
 abbrev pub replay_shape : Shape

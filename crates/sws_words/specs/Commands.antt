@@ -8,9 +8,11 @@ use Rattle.clap.specs.declared.builder.action.ArgAction.TheVariants.{Set, SetTru
 abbrev pub place_rule : Text → Rule
 place_rule name = record (new_rule name) { required = true; action = Some Set }
 
+-- an option that has a value
 abbrev pub option_rule : Text → Rule
 option_rule name = record (new_rule name) { long = Some name; action = Some Set }
 
+-- an option that has none
 abbrev pub flag_rule : Text → Rule
 flag_rule name = record (new_rule name) { long = Some name; action = Some SetTrue }
 
@@ -28,10 +30,12 @@ shape_app app =
     (option_rule (codes "shards")))
     (option_rule (codes "batch"))) (option_rule (codes "group"))) (option_rule (codes "cost"))
 
+-- the words of `answer`
 abbrev pub answer_app : App
 answer_app = with_rule (with_rule (bare_app (codes "answer")) (place_rule (codes "folder")))
     (option_rule (codes "date"))
 
+-- the words of `replay`
 abbrev pub replay_app : App
 replay_app =
     with_rule (with_rule (shape_app
@@ -39,16 +43,19 @@ replay_app =
     (option_rule (codes "date"))))
     (flag_rule (codes "journal"))) (flag_rule (codes "schedule"))
 
+-- the words of `serve`
 abbrev pub serve_app : App
 serve_app =
     shape_app (with_rule
     (with_rule (with_rule (with_rule (bare_app (codes "serve")) (place_rule (codes "folder")))
     (option_rule (codes "port"))) (option_rule (codes "connections"))) (option_rule (codes "date")))
 
+-- the words of `bench`
 abbrev pub bench_app : App
 bench_app =
     shape_app (with_rule (with_rule (bare_app (codes "bench")) (place_rule (codes "connections")))
     (place_rule (codes "number")))
 
+-- the words of `check`
 abbrev pub check_app : App
 check_app = shape_app (with_rule (bare_app (codes "check")) (option_rule (codes "connections")))

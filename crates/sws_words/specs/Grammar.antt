@@ -4,6 +4,7 @@ use Rattle.std.specs.List.{list_any}
 use Rattle.std.specs.Str.{bytes_eq}
 use Rattle.clap.specs.Lexer.{long_of}
 
+-- a word, in bytes
 abbrev pub Text : Type 0
 Text = List ℕ
 
@@ -22,9 +23,11 @@ pub record Known : Type 0 where
   pub options : List Text
   pub flags : List Text
 
+-- the name is one of these
 abbrev pub is_among : Text → List Text → Bool
 is_among name names = list_any (λ known. bytes_eq known name) names
 
+-- what was given and behind it the rest, where that is in order
 abbrev pub before : Given → Option (List Given) → Option (List Given)
 before given rest = option_map (λ others. given ∷ others) rest
 
@@ -58,6 +61,7 @@ given_by known (Some name) (word ∷ words) =
 
 -- ---- what was given
 
+-- this is an option or a flag of the name
 abbrev pub is_named : Text → Given → Bool
 is_named name (place word) = false
 is_named name (option given value) = bytes_eq given name
@@ -69,16 +73,19 @@ is_new (place word) others = true
 is_new (option name value) others = not (list_any (is_named name) others)
 is_new (flag name) others = not (list_any (is_named name) others)
 
+-- no option and no flag is given twice
 abbrev pub each_once : List Given → Bool
 each_once [] = true
 each_once (given ∷ others) = is_new given others && each_once others
 
+-- the words that are no option, in order
 abbrev pub places : List Given → List Text
 places [] = []
 places (place word ∷ others) = word ∷ places others
 places (option name value ∷ others) = places others
 places (flag name ∷ others) = places others
 
+-- the value of the option, where it is given
 abbrev pub value_of : Text → List Given → Option Text
 value_of name [] = None
 value_of name (option given value ∷ others) =
@@ -86,6 +93,7 @@ value_of name (option given value ∷ others) =
 value_of name (place word ∷ others) = value_of name others
 value_of name (flag given ∷ others) = value_of name others
 
+-- the flag is given
 abbrev pub has_flag : Text → List Given → Bool
 has_flag name [] = false
 has_flag name (flag given ∷ others) = if bytes_eq given name then true else has_flag name others

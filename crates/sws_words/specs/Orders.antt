@@ -24,12 +24,14 @@ abbrev pub optional : (Text → Option ℕ) → Option Text → Option (Option �
 optional read None = Some None
 optional read (Some word) = option_map Some (read word)
 
+-- the number that the word says, or the default where there is no word
 abbrev pub or_default : (Text → Option ℕ) → ℕ → Option Text → Option ℕ
 or_default read default None = Some default
 or_default read default (Some word) = read word
 
 -- ---- orders
 
+-- the shape of a run, as the words give it
 pub record Shape : Type 0 where
   pub cores : ℕ
   pub shards : ℕ
@@ -37,6 +39,7 @@ pub record Shape : Type 0 where
   pub group : ℕ
   pub steal_cost : ℕ
 
+-- what a command line orders
 pub data Order : Type 0 where
   answer : (folder : Text) → (date : Option ℕ) → Order
   replay : (folder : Text) → (shape : Shape) → (date : Option ℕ) → (journal schedule : Bool) → Order
@@ -68,23 +71,31 @@ shape_in workers shards batch group cost =
     (or_default (within 1 64) 1 shards))
     (or_default (within 1 64) 1 workers)
 
+-- the shape that the options give
 abbrev pub shape_of : List Given → Option Shape
 shape_of given = shape_in (value_of (codes "workers") given) (value_of (codes "shards") given)
     (value_of (codes "batch") given)
     (value_of (codes "group") given) (value_of (codes "cost") given)
 
+-- the last second of the year 9999, in seconds after the beginning of 1970
+abbrev pub last_second : ℕ
+last_second = 253402300799
+
 -- a number of seconds, up to the last one of the year 9999
 abbrev pub date_in : Option Text → Option (Option ℕ)
-date_in date = optional (within 0 253402300799) date
+date_in date = optional (within 0 last_second) date
 
+-- the date that the option gives, where it is given
 abbrev pub date_of : List Given → Option (Option ℕ)
 date_of given = date_in (value_of (codes "date") given)
 
+-- the word, where there is exactly one
 abbrev pub only_place : List Text → Option Text
 only_place [] = None
 only_place (word ∷ []) = Some word
 only_place (word ∷ other ∷ words) = None
 
+-- the two words, where there are exactly two
 abbrev pub two_places : List Text → Option (Text × Text)
 two_places [] = None
 two_places (word ∷ []) = None
@@ -95,6 +106,7 @@ two_places (word ∷ other ∷ another ∷ words) = None
 abbrev pub answer_known : Known
 answer_known = record { options = codes "date" ∷ []; flags = [] }
 
+-- the order of `answer`
 abbrev pub answer_by : List Given → Option Order
 answer_by given =
     option_and_then (λ folder.
@@ -108,6 +120,7 @@ replay_known = record {
   flags = codes "journal" ∷ codes "schedule" ∷ [];
 }
 
+-- the order of `replay`
 abbrev pub replay_by : List Given → Option Order
 replay_by given =
     option_and_then (λ folder.
@@ -124,6 +137,7 @@ serve_known = record {
   flags = [];
 }
 
+-- the order of `serve`
 abbrev pub serve_by : List Given → Option Order
 serve_by given =
     option_and_then (λ folder.
@@ -140,6 +154,7 @@ serve_by given =
 abbrev pub bench_known : Known
 bench_known = record { options = shape_options; flags = [] }
 
+-- the order of `bench`
 abbrev pub bench_by : List Given → Option Order
 bench_by given =
     option_and_then (λ words.
@@ -154,14 +169,17 @@ bench_by given =
 abbrev pub check_known : Known
 check_known = record { options = codes "connections" ∷ shape_options; flags = [] }
 
+-- the order of `check`, which has no word but options
 abbrev pub check_in : List Text → Option ℕ → Option Shape → Option Order
 check_in [] connections shape =
     option_and_then (λ most. option_map (λ form. check most form) shape) connections
 check_in (word ∷ words) connections shape = None
 
+-- the order of `check`
 abbrev pub check_by : List Given → Option Order
 check_by given =
-    check_in (places given) (option_and_then (within 0 1024) (value_of (codes "connections") given)) (shape_of given)
+    check_in (places given) (option_and_then (within 0 1024) (value_of (codes "connections") given))
+    (shape_of given)
 
 -- the words of a command line: the command, and what is behind it
 abbrev pub order_of : List Text → Option Order
@@ -175,5 +193,6 @@ order_of (command ∷ words) =
     (given_of serve_known words)
     else if bytes_eq command (codes "bench") then option_and_then bench_by
     (given_of bench_known words)
-    else if bytes_eq command (codes "check") then option_and_then check_by (given_of check_known words)
+    else if bytes_eq command (codes "check")
+    then option_and_then check_by (given_of check_known words)
     else None

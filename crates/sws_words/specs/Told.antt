@@ -5,6 +5,7 @@ use Rattle.sws_words.specs.declared.order.Order.{Order}
 use Rattle.sws_words.specs.declared.order.Order.TheVariants.{Answer, Replay, Serve, Bench, Check}
 use Rattle.sws_words.specs.Orders as orders
 
+-- the shape that the program has read, as a definition has it
 abbrev pub told_shape : Shape → orders.Shape
 told_shape shape = record {
   cores = shape.cores;
@@ -14,6 +15,7 @@ told_shape shape = record {
   steal_cost = shape.steal_cost;
 }
 
+-- the order that the program has read, as a definition has it
 abbrev pub told : Order → orders.Order
 told (Answer folder date) = orders.answer (string_bytes folder) date
 told (Replay folder shape date journal schedule) =

@@ -3,6 +3,8 @@ ghost use Rattle.std.specs.Prelude.{◌≡◌};
 
 use mely_history::Shape;
 use std::alloc::AllocError;
+use std::error::Error;
+use std::fmt;
 
 /// Why words give no order.
 #[derive(Clone, Copy, Debug, PartialEq, Eq)]
@@ -12,6 +14,17 @@ pub enum WordFault {
     /// There was no memory.
     Memory,
 }
+
+impl fmt::Display for WordFault {
+    fn fmt<W: fmt::Write>(&self, f: &mut fmt::Formatter<W>) -> fmt::Result {
+        match self {
+            WordFault::Usage => write!(f, "the command line is not understood"),
+            WordFault::Memory => write!(f, "there was no memory"),
+        }
+    }
+}
+
+impl Error for WordFault {}
 
 impl From<AllocError> for WordFault {
     ghost use Rattle.sws_words.specs.declared.order.WordFault.{WordFault};

@@ -66,7 +66,7 @@ fn number_of(matches: &ArgMatches<'_>, name: &str, least: u64, most: u64) -> Res
     }
 }
 
-/// The same, of a range that 16 bits hold.
+/// The number that an argument gives, which must be there, of a range that 16 bits hold.
 fn small_of(matches: &ArgMatches<'_>, name: &str, least: u64, most: u64) -> Result<u16, WordFault>
     requires { most < 65536 }
     ensures read { IfOk result (λ number.
@@ -113,13 +113,17 @@ fn date_of(matches: &ArgMatches<'_>) -> Result<Option<u64>, WordFault>
 fn shape_of(matches: &ArgMatches<'_>) -> Result<Shape, WordFault>
     ensures read { IfOk result (λ shape.
         shape_in (first_value (found_of matches.now) (codes "workers"))
-        (first_value (found_of matches.now) (codes "shards")) (first_value (found_of matches.now) (codes "batch"))
-        (first_value (found_of matches.now) (codes "group")) (first_value (found_of matches.now) (codes "cost"))
+        (first_value (found_of matches.now) (codes "shards"))
+        (first_value (found_of matches.now) (codes "batch"))
+        (first_value (found_of matches.now) (codes "group"))
+        (first_value (found_of matches.now) (codes "cost"))
         ≡ Some (told_shape shape)) }
     ensures refused { IfErr result (λ _.
         shape_in (first_value (found_of matches.now) (codes "workers"))
-        (first_value (found_of matches.now) (codes "shards")) (first_value (found_of matches.now) (codes "batch"))
-        (first_value (found_of matches.now) (codes "group")) (first_value (found_of matches.now) (codes "cost"))
+        (first_value (found_of matches.now) (codes "shards"))
+        (first_value (found_of matches.now) (codes "batch"))
+        (first_value (found_of matches.now) (codes "group"))
+        (first_value (found_of matches.now) (codes "cost"))
         ≡ None) }
 {
     let cores = number_or(matches, "workers", 1, 64, 1)?;
@@ -239,7 +243,8 @@ fn read_bench(alloc: Global, words: &[String]) -> Result<Order, WordFault>
 /// The order of the words behind `check`.
 fn read_check(alloc: Global, words: &[String]) -> Result<Order, WordFault>
     requires { have_bundle (map string_bytes words.now) ≡ false }
-    ensures read { IfOk result (λ order. option_and_then check_by (given_of check_known (map string_bytes words.now))
+    ensures read { IfOk result (λ order.
+        option_and_then check_by (given_of check_known (map string_bytes words.now))
         ≡ Some (told order)) }
     ensures refused { IfErr result (λ fault. fault ≡ WordFault.Usage
         → option_and_then check_by (given_of check_known (map string_bytes words.now)) ≡ None) }

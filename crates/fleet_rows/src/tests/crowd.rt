@@ -16,7 +16,7 @@ use mely_fleet::{Fleet, Passes, Room, Seat, SeatOf, Worked};
 use mely_history::{Entry, Judged, Setup, Shape, judge};
 use mely_steal::victims;
 use mely_weave::{Drained, Weave};
-use mely_worker::{OpenGate, Rested, Worker};
+use mely_worker::{IdleWorker, OpenGate, Worker};
 use std::alloc::Global;
 use std::process::Abort;
 use std::sync::Wait;
@@ -48,6 +48,7 @@ impl Run {
         Run {
             app: Passing {
                 colours,
+                stays: false,
                 rounds: 0,
                 ran: AtomicU64::new(0),
             },
@@ -61,7 +62,7 @@ impl Run {
 }
 
 /// The worker of a core, at rest, and none for a number that is no core's.
-fn worker_for(alloc: Global, setup: &Setup, number: u16) -> Result<Option<Rested<u8>>, Memory>
+fn worker_for(alloc: Global, setup: &Setup, number: u16) -> Result<Option<IdleWorker<u8>>, Memory>
     ensures { IfOk result (λ worker. number < (shape_of setup.now).cores
         → worker ≡ Some (first_rest setup.now number)) }
 {

@@ -1,4 +1,4 @@
-use Rattle.mely_machine.proofs.OneRun.{one_run}
+use Rattle.mely_machine.proofs.OneRunLemmas.{one_run}
 use Rattle.mely_machine.proofs.a_machine_has_one_run.Goals as goal
 
 pub returns : goal.returns

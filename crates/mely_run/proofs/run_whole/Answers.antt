@@ -5,8 +5,8 @@ use Rattle.mely_weave.specs.Runs.{RunsTo, spelled_out}
 use Rattle.mely_weave.specs.Drains.{Drains}
 use Rattle.mely_weave.specs.declared.running.Went.{Went}
 use Rattle.mely_weave.specs.declared.draining.Drained.{Drained}
-use Rattle.mely_weave.proofs.RunLaws.{same_onward}
-use Rattle.mely_run.proofs.Runs.Frame.{fits_there, serves_there}
+use Rattle.mely_weave.proofs.Runs.RunLemmas.{same_onward}
+use Rattle.mely_run.proofs.Runs.FrameLemmas.{fits_there, serves_there}
 use Rattle.mely_run.proofs.run_whole.Goals as goal
 
 pub post-requires : goal.post-requires

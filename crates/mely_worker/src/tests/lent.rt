@@ -1,6 +1,6 @@
 //! An access that is lent, as whoever owns the shards lends a side of them for a step.
 ghost use Rattle.std.specs.Prelude.{◌≡◌, MatchResult};
-ghost use Rattle.mely_worker.specs.Access.{Stays, FitsSetup, IsSpent, StillOwes, NamesCore, GivesBack};
+ghost use Rattle.mely_worker.specs.Access.{IsCore, Stays, FitsSetup, IsSpent, StillOwes, NamesCore, GivesBack};
 ghost use Rattle.mely_worker.specs.Step.{Steps};
 ghost use Rattle.mely_worker.specs.Conditions.{MayStepAt, AppServesAt};
 
@@ -54,6 +54,7 @@ impl<'a, S: Fits<P>, P, A: Access<S, P>> Access<S, P> for Lent<'a, A> {
         event: Event,
         load: Option<P>,
     ) -> Result<Registered, Unregistered<P>>
+        requires own { IsCore (A.setup_of self.old.inner.now) (A.core_of self.old.inner.now) }
         requires fits { FitsSetup S.fits_under (A.setup_of self.old.inner.now)
             (A.frame_of self.old.inner.now) (colour, event, load) }
         ensures called { A.registers self.old.inner.now colour event load

@@ -16,7 +16,7 @@ const STOLEN: &str = "sws-schedule 1\nstep 0 6\nstep 1 12\nend\nsws-script 1\nco
 const STOLEN_SHOWN: &str =
     "conn 0 done 0\nshard 0 22\nreg 0 0 0 2\ntake 0 0 1\nreg 1 2 0 0\nfin 0 0 1\ntake 1 1 1\nreg 0 0 1 1\nreg 2 3 0 1\nfin 1 1 1\nsteal 2 0 1\ntake 0 0 1\ntake 2 1 1\nfin 0 0 1\nreg 2 4 0 1\nfin 2 1 1\ntake 2 1 1\nreg 2 5 0 1\nfin 2 1 1\ntake 2 1 1\nreg 2 8 0 1\nfin 2 1 1\ntake 2 1 1\nfin 2 1 1\n";
 
-/// The same with two shards.
+/// What the replay of that script writes with two shards.
 const STOLEN_APART: &str =
     "conn 0 done 0\nshard 0 19\nreg 0 0 0 2\ntake 0 0 1\nfin 0 0 1\nreg 0 0 1 1\nreg 2 3 0 1\nsteal 2 0 1\ntake 0 0 1\ntake 2 1 1\nfin 0 0 1\nreg 2 4 0 1\nfin 2 1 1\ntake 2 1 1\nreg 2 5 0 1\nfin 2 1 1\ntake 2 1 1\nreg 2 8 0 1\nfin 2 1 1\ntake 2 1 1\nfin 2 1 1\nshard 1 3\nreg 1 2 0 0\ntake 1 1 1\nfin 1 1 1\n";
 

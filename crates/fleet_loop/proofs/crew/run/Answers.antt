@@ -1,7 +1,7 @@
 use Rattle.std.proofs.Common.{◌≡◌, Some, length, ap, ◌∙◌, sym, arith}
 use Rattle.std.specs.Prelude.{slice_get}
 use Rattle.std.proofs.lemmas.Option.{slice_get_within}
-use Rattle.mely_weave.proofs.DealLaws.{push_other, push_at}
+use Rattle.mely_weave.proofs.Wholes.DealLemmas.{push_other, push_at}
 use Rattle.fleet_loop.proofs.crew.run.Goals as goal
 
 pub post_all-is_posted-requires-clause-passes : goal.post_all-is_posted-requires-clause-passes

@@ -1,6 +1,6 @@
 use Rattle.std.proofs.Common.{◌+◌, sym, subst, arith, ◌≡◌}
 use Rattle.mely_history.specs.Setup.{colours_of}
-use Rattle.mely_app.proofs.FreshLaws.{AreFresh, none_fresh, more_fresh, are_first}
+use Rattle.mely_app.proofs.FreshLemmas.{AreFresh, none_fresh, more_fresh, are_first}
 use Rattle.mely_app.proofs.fresh.fresh_states.Goals as goal
 
 pub colours-init : goal.colours-init

@@ -1,4 +1,4 @@
-use Rattle.mely_app.proofs.FreshLaws.{AreFresh}
+use Rattle.mely_app.proofs.FreshLemmas.{AreFresh}
 use Rattle.mely_app.proofs.fresh.fresh_states.Given as goal
 
 abbrev pub invariant-colours : goal.invariant-colours

@@ -1,4 +1,4 @@
-use Rattle.mely_app.proofs.RanLaws.{ran_all}
+use Rattle.mely_app.proofs.RanLemmas.{ran_all}
 use Rattle.mely_app.proofs.running.run_app.Goals as goal
 
 pub returns-in-Empty : goal.returns-in-Empty

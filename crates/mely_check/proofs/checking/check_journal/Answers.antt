@@ -1,4 +1,4 @@
-use Rattle.mely_check.proofs.EndLaws.{accepts, exact}
+use Rattle.mely_check.proofs.EndLemmas.{accepts, exact}
 use Rattle.mely_check.proofs.checking.check_journal.Goals as goal
 
 pub returns-clause-accepts : goal.returns-clause-accepts

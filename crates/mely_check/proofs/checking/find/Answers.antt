@@ -1,6 +1,6 @@
 use Rattle.std.proofs.Common.{◌∙◌}
 use Rattle.std.proofs.Common.{Err}
-use Rattle.mely_check.proofs.ReaderLaws.{piece_read, piece_refused, text_ended}
+use Rattle.mely_check.proofs.ReaderLemmas.{piece_read, piece_refused, text_ended}
 use Rattle.mely_check.proofs.checking.find.Goals as goal
 
 pub returns-in-Err-clause-finds : goal.returns-in-Err-clause-finds

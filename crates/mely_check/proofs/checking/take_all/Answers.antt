@@ -1,6 +1,6 @@
 use Rattle.std.proofs.Common.{ℕ, ◌++◌, take, subst}
 use Rattle.mely_check.specs.Readers.{Refuses}
-use Rattle.mely_check.proofs.ReaderLaws.{bytes_refused}
+use Rattle.mely_check.proofs.ReaderLemmas.{bytes_refused}
 use Rattle.mely_check.proofs.checking.take_all.Goals as goal
 
 pub returns-in-Err-clause-goes : goal.returns-in-Err-clause-goes

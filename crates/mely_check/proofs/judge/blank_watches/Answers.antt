@@ -1,4 +1,4 @@
-use Rattle.mely_check.proofs.HearingLaws.{blank_more}
+use Rattle.mely_check.proofs.HearingLemmas.{blank_more}
 use Rattle.mely_check.proofs.judge.blank_watches.Goals as goal
 
 pub loop-colour-preserved : goal.loop-colour-preserved

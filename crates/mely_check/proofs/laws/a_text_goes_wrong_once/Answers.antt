@@ -1,4 +1,4 @@
-use Rattle.mely_check.proofs.ExactLaws.{outside_once, never_outside}
+use Rattle.mely_check.proofs.ExactLemmas.{outside_once, never_outside}
 use Rattle.mely_check.proofs.laws.a_text_goes_wrong_once.Goals as goal
 
 pub returns-clause-one : goal.returns-clause-one

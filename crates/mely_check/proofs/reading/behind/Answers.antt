@@ -1,4 +1,4 @@
-use Rattle.mely_check.proofs.ReadingLaws.{prefix_cases}
+use Rattle.mely_check.proofs.ReadingLemmas.{prefix_cases}
 use Rattle.mely_check.proofs.reading.behind.Goals as goal
 
 pub returns : goal.returns

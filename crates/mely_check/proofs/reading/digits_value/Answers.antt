@@ -4,7 +4,7 @@ use Rattle.std.proofs.lemmas.Int.Digits.{digits_value_more, digits_more}
 use Rattle.std.specs.Char.{IsAsciiDigit, IsNotAsciiDigit}
 use Rattle.std.specs.Fmt.{decimal}
 use Rattle.std.specs.Str.Parse.{digits_value, AllDigits}
-use Rattle.mely_check.proofs.NumberLaws.{AreDigits, value_of, no_number, no_digit, value_small, decimal_value, digit_is}
+use Rattle.mely_check.proofs.NumberLemmas.{AreDigits, value_of, no_number, no_digit, value_small, decimal_value, digit_is}
 use Rattle.mely_check.proofs.reading.digits_value.Goals as goal
 use Rattle.mely_check.proofs.reading.digits_value.Goals.{then-is_empty-via-then-is_empty, then-is_empty-via-else-is_empty+then-word-gt-MAX_DIGITS, else-word-gt1-via-then-word-gt1+else-word-eq48, else-word-gt1-via-else-word-gt1}
 

@@ -1,5 +1,5 @@
 use Rattle.std.proofs.Common.{arith}
-use Rattle.mely_check.proofs.ReadingLaws.{digits_are}
+use Rattle.mely_check.proofs.ReadingLemmas.{digits_are}
 use Rattle.mely_check.proofs.reading.field.Goals as goal
 
 pub returns-in_err-value : goal.returns-in_err-value

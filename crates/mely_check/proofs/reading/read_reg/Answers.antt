@@ -1,6 +1,6 @@
 use Rattle.std.proofs.Common.{[], ◌∷◌, ◌++◌, ◌<◌, arith}
 use Rattle.sws_report.specs.Numbers.{spaced}
-use Rattle.mely_check.proofs.ReadingLaws.{second_is, last_is, reg_behind}
+use Rattle.mely_check.proofs.ReadingLemmas.{second_is, last_is, reg_behind}
 use Rattle.mely_check.proofs.reading.read_reg.Goals as goal
 
 pub returns-in_err-handler : goal.returns-in_err-handler

@@ -1,5 +1,5 @@
 use Rattle.std.proofs.Common.{[], ◌∷◌, ◌<◌, arith}
-use Rattle.mely_check.proofs.ReadingLaws.{second_is, last_is, not_feed, shard_behind}
+use Rattle.mely_check.proofs.ReadingLemmas.{second_is, last_is, not_feed, shard_behind}
 use Rattle.mely_check.proofs.reading.read_shard.Goals as goal
 
 pub returns-in_err-count : goal.returns-in_err-count

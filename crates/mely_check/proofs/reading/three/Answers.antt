@@ -1,6 +1,6 @@
 use Rattle.std.proofs.Common.{[], ◌∷◌, ◌++◌}
 use Rattle.sws_report.specs.Numbers.{spaced}
-use Rattle.mely_check.proofs.ReadingLaws.{second_is}
+use Rattle.mely_check.proofs.ReadingLemmas.{second_is}
 use Rattle.mely_check.proofs.reading.three.Goals as goal
 
 pub returns-in_err-second : goal.returns-in_err-second

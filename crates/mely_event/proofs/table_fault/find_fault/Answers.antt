@@ -1,4 +1,4 @@
-use Rattle.mely_event.proofs.Penalties.{divisors_where_none}
+use Rattle.mely_event.proofs.PenaltiesLemmas.{divisors_where_none}
 use Rattle.mely_event.proofs.table_fault.find_fault.Goals as goal
 
 pub returns-in-None-clause-divisors : goal.returns-in-None-clause-divisors

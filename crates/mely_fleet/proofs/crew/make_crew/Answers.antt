@@ -2,7 +2,7 @@ use Rattle.std.proofs.Common.{◌≡◌, ◌+◌, ◌++◌, ◌∷◌, [], Some,
 use Rattle.std.specs.Prelude.{slice_get}
 use Rattle.mely_history.specs.declared.setup.Setup.{Setup}
 use Rattle.mely_history.specs.Setup.{shape_of}
-use Rattle.mely_weave.proofs.DealLaws.{push_at}
+use Rattle.mely_weave.proofs.Wholes.DealLemmas.{push_at}
 use Rattle.mely_fleet.proofs.crew.make_crew.Goals as goal
 
 pub returns-clause-framed : goal.returns-clause-framed

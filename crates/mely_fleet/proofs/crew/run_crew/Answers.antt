@@ -7,7 +7,7 @@ use Rattle.mely_worker.specs.Conditions.{AppServes}
 use Rattle.mely_fleet.specs.Fleets.{frame_in}
 use Rattle.mely_fleet.specs.Frames.{shard_frame}
 use Rattle.mely_fleet.specs.Seats.{IsOutsider}
-use Rattle.mely_fleet.proofs.CrewLaws.{there_of, the_only, refilled, gathered_frame}
+use Rattle.mely_fleet.proofs.CrewLemmas.{there_of, the_only, refilled, gathered_frame}
 use Rattle.mely_fleet.proofs.crew.run_crew.Goals as goal
 
 pub post-requires-clause-fits : goal.post-requires-clause-fits

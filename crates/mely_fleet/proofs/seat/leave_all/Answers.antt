@@ -2,7 +2,7 @@ use Rattle.std.proofs.Common.{◌≡◌, ◌++◌, ◌∷◌, [], Some, length, 
 use Rattle.std.proofs.lemmas.List.{map-append}
 use Rattle.std.specs.Prelude.{IsSome, slice_get}
 use Rattle.std.specs.Vec.Iter.{into_iter_items}
-use Rattle.mely_fleet.proofs.OpeningLaws.{at_seam}
+use Rattle.mely_fleet.proofs.OpeningLemmas.{at_seam}
 use Rattle.mely_fleet.proofs.seat.leave_all.Goals as goal
 
 pub unreachable-requires : goal.unreachable-requires

@@ -2,7 +2,7 @@ use Rattle.std.proofs.Common.{◌≡◌, ◌+◌, ◌++◌, ◌∷◌, [], Some,
 use Rattle.std.proofs.lemmas.List.{map-append, reverse-append}
 use Rattle.std.specs.Prelude.{reverse}
 use Rattle.std.specs.Vec.Iter.{into_iter_items}
-use Rattle.mely_fleet.proofs.Seating.{joined_at}
+use Rattle.mely_fleet.proofs.SeatLemmas.{joined_at}
 use Rattle.mely_fleet.proofs.seat.seat_all.Goals as goal
 
 pub passes-preserved : goal.passes-preserved

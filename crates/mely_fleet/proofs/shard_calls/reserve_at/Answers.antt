@@ -2,7 +2,7 @@ use Rattle.std.proofs.Common.{◌≡◌, ◌∙◌, sym, ap, refl}
 use Rattle.mely_lock.specs.Words.{first_value, front}
 use Rattle.mely_fleet.specs.Frames.{shard_frame}
 use Rattle.mely_fleet.specs.Calls.{LooksAt}
-use Rattle.mely_fleet.proofs.Keeping.{call_seen}
+use Rattle.mely_fleet.proofs.KeepLemmas.{call_seen}
 use Rattle.mely_fleet.proofs.shard_calls.reserve_at.Goals as goal
 
 pub returns-clause-seen : goal.returns-clause-seen

@@ -2,7 +2,7 @@ use Rattle.std.proofs.Common.{◌≡◌, ◌∙◌, sym, ap}
 use Rattle.mely_lock.specs.Words.{first_value, front}
 use Rattle.mely_fleet.specs.Frames.{shard_frame}
 use Rattle.mely_fleet.specs.Calls.{StealsAt}
-use Rattle.mely_fleet.proofs.Keeping.{call_seen, adds_seen, steals_own}
+use Rattle.mely_fleet.proofs.KeepLemmas.{call_seen, adds_seen, steals_own}
 use Rattle.mely_fleet.proofs.shard_calls.steal_at.Goals as goal
 
 pub leave-requires-clause-history : goal.leave-requires-clause-history

@@ -3,8 +3,8 @@ use Rattle.std.specs.Prelude.{IsTrue}
 use Rattle.std.proofs.lemmas.Option.{slice_get-get_or}
 use Rattle.mely_history.specs.Entries.{colour_of}
 use Rattle.mely_history.specs.Tallies.{Tells}
-use Rattle.mely_history.proofs.TallyLaws.{allows_exactly}
-use Rattle.mely_history.proofs.JudgeLaws.{entry_at, first_entry, before_first, allowed_more, tells_of, tells_next, tells_past, not_allowed}
+use Rattle.mely_history.proofs.ColourCountsLemmas.{allows_exactly}
+use Rattle.mely_history.proofs.JudgeLemmas.{entry_at, first_entry, before_first, allowed_more, tells_of, tells_next, tells_past, not_allowed}
 use Rattle.mely_history.proofs.judging.first_fault.Goals as goal
 use Rattle.mely_history.proofs.judging.first_fault.Goals.{then-colour+else-not-allows, else-colour}
 

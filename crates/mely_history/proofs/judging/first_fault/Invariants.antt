@@ -1,6 +1,6 @@
 use Rattle.std.proofs.Common.{take}
 use Rattle.mely_history.specs.Tallies.{Tells}
-use Rattle.mely_history.proofs.JudgeLaws.{AreAllowed}
+use Rattle.mely_history.proofs.JudgeLemmas.{AreAllowed}
 use Rattle.mely_history.proofs.judging.first_fault.Given as goal
 
 abbrev pub invariant-loop-at : goal.invariant-loop-at

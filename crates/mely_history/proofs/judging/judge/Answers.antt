@@ -1,8 +1,8 @@
 use Rattle.std.proofs.Common.{◌+◌, take, refl, sym, subst}
 use Rattle.std.proofs.lemmas.Option.{slice_get-get_or}
 use Rattle.mely_history.specs.Judging.{IsColourFault, HasColour}
-use Rattle.mely_history.proofs.LegalLaws.{legal_whole}
-use Rattle.mely_history.proofs.JudgeLaws.{IsJudged, entry_at, first_entry, judged_same, judged_past, judged_next, judged_all}
+use Rattle.mely_history.proofs.LegalLemmas.{legal_whole}
+use Rattle.mely_history.proofs.JudgeLemmas.{IsJudged, entry_at, first_entry, judged_same, judged_past, judged_next, judged_all}
 use Rattle.mely_history.proofs.judging.judge.Goals as goal
 use Rattle.mely_history.proofs.judging.judge.Goals.{then-at-until+then-not-occurs_in, else-at-until, else-at-until-via-then-at-until+else-not-occurs_in, else-at-until-via-else-at-until}
 

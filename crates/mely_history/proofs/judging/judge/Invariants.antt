@@ -1,4 +1,4 @@
-use Rattle.mely_history.proofs.JudgeLaws.{IsJudged}
+use Rattle.mely_history.proofs.JudgeLemmas.{IsJudged}
 use Rattle.mely_history.proofs.judging.judge.Given as goal
 
 abbrev pub invariant-loop-at : goal.invariant-loop-at

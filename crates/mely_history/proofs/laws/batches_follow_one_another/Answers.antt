@@ -1,4 +1,4 @@
-use Rattle.mely_history.proofs.BatchLaws.{follow_one_another}
+use Rattle.mely_history.proofs.BatchLemmas.{follow_one_another}
 use Rattle.mely_history.proofs.laws.batches_follow_one_another.Goals as goal
 
 pub returns : goal.returns

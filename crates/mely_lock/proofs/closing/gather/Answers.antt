@@ -4,8 +4,8 @@ use Rattle.atomic_table.proofs.Lists.{at_last, at_longer, at_snoc}
 use Rattle.mely_lock.specs.declared.pass.Pass.{Pass}
 use Rattle.mely_lock.specs.Views.{HasClaim, shares_of}
 use Rattle.mely_lock.specs.Words.{front}
-use Rattle.mely_lock.proofs.Calls.{sits_at, joins_at, keeps_claim, gains_claim, shares_of-single}
-use Rattle.mely_lock.proofs.Claims.{shares_of-append}
+use Rattle.mely_lock.proofs.CallsLemmas.{sits_at, joins_at, keeps_claim, gains_claim, shares_of-single}
+use Rattle.mely_lock.proofs.ClaimsLemmas.{shares_of-append}
 use Rattle.std.proofs.lemmas.List.Sums.{sum_by_push, count_by-le-length}
 use Rattle.mely_lock.proofs.closing.gather.Goals as goal
 

@@ -1,8 +1,8 @@
 use Rattle.std.proofs.Common.{ap, ◌∙◌, subst}
 use mathlib.Core.Option.{some}
 use Rattle.mely_lock.specs.Steps.{Closes}
-use Rattle.mely_lock.proofs.Calls.{not_none, same_value}
-use Rattle.mely_lock.proofs.Keeps.{closes}
+use Rattle.mely_lock.proofs.CallsLemmas.{not_none, same_value}
+use Rattle.mely_lock.proofs.KeepsLemmas.{closes}
 use Rattle.mely_lock.proofs.closing.take_back.Goals as goal
 
 pub unreachable-requires : goal.unreachable-requires

@@ -1,7 +1,7 @@
 use Rattle.std.proofs.Common.{ap, ◌∙◌, sym, length, ℕ, ◌+◌, length-append}
 use Rattle.mely_lock.specs.Views.{head_number, head_front, head_frame}
-use Rattle.mely_lock.proofs.Calls.{splits_at, dealt}
-use Rattle.mely_lock.proofs.Lists.{each_pushed}
+use Rattle.mely_lock.proofs.CallsLemmas.{splits_at, dealt}
+use Rattle.mely_lock.proofs.ListsLemmas.{each_pushed}
 use Rattle.mely_lock.proofs.dealing.deal.Goals as goal
 
 pub split_seat-place-requires : goal.split_seat-place-requires

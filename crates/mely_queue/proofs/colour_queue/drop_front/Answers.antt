@@ -1,6 +1,6 @@
 use Rattle.std.proofs.Common.{◌≡◌, ◌+◌, ◌-◌, ◌∷◌, length, arith, sym, ap, ◌∙◌}
 use Rattle.std.proofs.lemmas.Grind.{common_steps}
-use Rattle.mely_queue.proofs.Fronts.{drop_first, sum_first}
+use Rattle.mely_queue.proofs.FrontsLemmas.{drop_first, sum_first}
 use Rattle.mely_queue.proofs.colour_queue.drop_front.Goals as goal
 use Rattle.mely_queue.proofs.colour_queue.drop_front.Goals.{in-Some, in_default}
 

@@ -1,4 +1,4 @@
-use Rattle.mely_run.proofs.Runs.Whole.{told_whole}
+use Rattle.mely_run.proofs.Runs.WholeLemmas.{told_whole}
 use Rattle.mely_run.proofs.told.a_run_is_the_machines.Goals as goal
 use Rattle.std.proofs.Common.{refl}
 

@@ -1,4 +1,4 @@
-use Rattle.mely_shard.proofs.TurnLaws.{turn_stays, turn_registered}
+use Rattle.mely_shard.proofs.TurnLemmas.{turn_stays, turn_registered}
 use Rattle.mely_shard.proofs.tests.register_meanwhile.Goals as goal
 
 pub returns-in-Ok-clause-stands : goal.returns-in-Ok-clause-stands

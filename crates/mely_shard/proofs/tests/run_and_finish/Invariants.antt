@@ -2,7 +2,7 @@ use Rattle.std.proofs.Common.{◌≤◌, length}
 use Rattle.mely_event.specs.TrailLog.{AreAlike}
 use Rattle.mely_event.specs.declared.trail.Trail.{Ghosts as TrailWords}
 use Rattle.mely_shard.specs.declared.tests.Tally.{Tally}
-use Rattle.mely_shard.specs.Contents.{TurnStands, IsOwn}
+use Rattle.mely_shard.specs.Shard.{TurnStands, IsOwn}
 use Rattle.mely_shard.proofs.tests.run_and_finish.Given as goal
 
 -- what contracts see of the state

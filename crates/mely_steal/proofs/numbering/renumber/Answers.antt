@@ -1,6 +1,6 @@
 use Rattle.std.proofs.Common.{arith, ◌∙◌}
 use Rattle.mely_steal.specs.Entering.{ends_at, entries_of}
-use Rattle.mely_steal.proofs.RenumberLaws.{renumbering-start, renumbering-step, renumbering-end, renumbering-small, first-within, three-numbered, oldest-of, decided}
+use Rattle.mely_steal.proofs.RenumberLemmas.{renumbering-start, renumbering-step, renumbering-end, renumbering-small, first-within, three-numbered, oldest-of, decided}
 use Rattle.mely_steal.proofs.numbering.renumber.Goals as goal
 
 pub colours-init : goal.colours-init

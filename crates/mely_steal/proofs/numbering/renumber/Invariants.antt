@@ -1,6 +1,6 @@
 use Rattle.std.proofs.Common.{◌+◌}
 use Rattle.mely_steal.specs.Entering.{ends_at, entries_of}
-use Rattle.mely_steal.proofs.RenumberLaws.{Renumbering}
+use Rattle.mely_steal.proofs.RenumberLemmas.{Renumbering}
 use Rattle.mely_steal.proofs.numbering.renumber.Given as goal
 
 abbrev pub invariant-colours : goal.invariant-colours

@@ -1,4 +1,4 @@
-use Rattle.mely_steal.proofs.TableMarks.{gone-has, class-none}
+use Rattle.mely_steal.proofs.TableMarksLemmas.{gone-has, class-none}
 use Rattle.mely_steal.specs.Entering.{gone}
 use Rattle.mely_steal.proofs.steal_table.move_to.Goals as goal
 

@@ -1,4 +1,4 @@
-use Rattle.mely_tally.proofs.PostTallies.{post_tells}
+use Rattle.mely_tally.proofs.PostTalliesLemmas.{post_tells}
 use Rattle.mely_tally.proofs.laws.a_post_brings_its_event.Goals as goal
 
 pub returns : goal.returns

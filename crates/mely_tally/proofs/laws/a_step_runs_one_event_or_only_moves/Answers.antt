@@ -1,4 +1,4 @@
-use Rattle.mely_tally.proofs.TallyLaws.{step_tells}
+use Rattle.mely_tally.proofs.TallyLemmas.{step_tells}
 use Rattle.mely_tally.proofs.laws.a_step_runs_one_event_or_only_moves.Goals as goal
 
 pub returns : goal.returns

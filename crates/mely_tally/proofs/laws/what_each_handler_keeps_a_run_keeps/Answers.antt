@@ -1,4 +1,4 @@
-use Rattle.mely_tally.proofs.Conserved.{step_keeps, run_keeps, drain_keeps}
+use Rattle.mely_tally.proofs.ConservedLemmas.{step_keeps, run_keeps, drain_keeps}
 use Rattle.mely_tally.proofs.laws.what_each_handler_keeps_a_run_keeps.Goals as goal
 
 pub returns-clause-step : goal.returns-clause-step

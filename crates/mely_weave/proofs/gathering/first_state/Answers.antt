@@ -1,8 +1,8 @@
 use Rattle.std.proofs.Common.{◌≡◌, Some, refl, sym, ◌∙◌, ap}
 use Rattle.std.proofs.lemmas.Option.{slice_get-get_or, same_Some, none-some}
 use Rattle.std.specs.Prelude.{slice_get}
-use Rattle.mely_shard.specs.Contents.{lane_at}
-use Rattle.mely_weave.proofs.GatherLaws.{first_home, first_lane_there, element_is}
+use Rattle.mely_shard.specs.Shard.{lane_at}
+use Rattle.mely_weave.proofs.Wholes.GatherLemmas.{first_home, first_lane_there, element_is}
 use Rattle.mely_weave.proofs.gathering.first_state.Goals as goal
 
 pub unreachable-requires : goal.unreachable-requires

@@ -1,4 +1,4 @@
-use Rattle.mely_weave.proofs.WeaveRunLaws.{run_stands, step_call_accepted, run_grows, run_there}
+use Rattle.mely_weave.proofs.Runs.WeaveRunLemmas.{run_stands, step_call_accepted, run_grows, run_there}
 use Rattle.mely_weave.proofs.laws.no_run_loses_or_doubles_a_mark.Goals as goal
 
 pub returns-clause-stands : goal.returns-clause-stands

@@ -1,6 +1,6 @@
 use Rattle.std.proofs.Common.{◌≡◌, ◌∷◌, [], length, ap, ◌∙◌, arith, length-append}
 use Rattle.mely_weave.specs.Making.{empty_chain}
-use Rattle.mely_weave.proofs.DealLaws.{each_push}
+use Rattle.mely_weave.proofs.Wholes.DealLemmas.{each_push}
 use Rattle.mely_weave.proofs.making.chains_of.Goals as goal
 
 pub loop-core-preserved : goal.loop-core-preserved

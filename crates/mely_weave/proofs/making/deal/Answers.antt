@@ -2,7 +2,7 @@ use Rattle.std.proofs.Common.{◌≡◌, ◌+◌, ◌<◌, ◌%◌, ◌++◌, �
 use Rattle.std.proofs.lemmas.Option.{slice_get-get_or}
 use Rattle.std.specs.Prelude.{slice_get}
 use Rattle.std.specs.Vec.Iter.{into_iter_items}
-use Rattle.mely_weave.proofs.DealLaws.{dealt_more}
+use Rattle.mely_weave.proofs.Wholes.DealLemmas.{dealt_more}
 use Rattle.mely_weave.proofs.making.deal.Goals as goal
 
 pub loop-state-preserved : goal.loop-state-preserved

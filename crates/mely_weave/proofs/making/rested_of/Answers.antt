@@ -1,7 +1,7 @@
 use Rattle.std.proofs.Common.{◌≡◌, ◌∷◌, [], length, ap, ◌∙◌, arith, length-append}
 use Rattle.mely_weave.specs.Making.{first_rest}
-use Rattle.mely_weave.proofs.DealLaws.{each_push}
-use Rattle.mely_weave.proofs.MakeLaws.{rests_first}
+use Rattle.mely_weave.proofs.Wholes.DealLemmas.{each_push}
+use Rattle.mely_weave.proofs.Wholes.MakeLemmas.{rests_first}
 use Rattle.mely_weave.proofs.making.rested_of.Goals as goal
 
 pub loop-core-preserved : goal.loop-core-preserved

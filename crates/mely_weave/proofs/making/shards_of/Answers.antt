@@ -2,8 +2,8 @@ use Rattle.std.proofs.Common.{◌≡◌, ◌+◌, ◌++◌, ◌∷◌, [], lengt
 use Rattle.std.proofs.lemmas.List.{nil_from_length}
 use Rattle.std.specs.Prelude.{slice_get}
 use Rattle.std.specs.Vec.Iter.{into_iter_items}
-use Rattle.mely_shard.specs.Contents.{IsFirst}
-use Rattle.mely_weave.proofs.DealLaws.{both_push}
+use Rattle.mely_shard.specs.Shard.{IsFirst}
+use Rattle.mely_weave.proofs.Wholes.DealLemmas.{both_push}
 use Rattle.mely_weave.proofs.making.shards_of.Goals as goal
 
 pub loop-states-preserved : goal.loop-states-preserved

@@ -1,7 +1,7 @@
 use Rattle.std.proofs.Common.{◌≡◌, ◌∷◌, Some, [], suc, length, map, ap, ◌∙◌, arith, append_assoc}
 use Rattle.std.specs.Prelude.{slice_get}
 use Rattle.std.specs.Vec.Iter.{into_iter_items}
-use Rattle.mely_weave.proofs.SpreadLaws.{map_push}
+use Rattle.mely_weave.proofs.Wholes.SpreadLemmas.{map_push}
 use Rattle.mely_weave.proofs.parts.take_apart.Goals as goal
 
 pub into_parts-history-requires : goal.into_parts-history-requires

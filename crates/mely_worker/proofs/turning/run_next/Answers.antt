@@ -1,7 +1,7 @@
 use Rattle.std.proofs.Common.{rules}
 use Rattle.mely_worker.specs.declared.phase.Phase.TheVariants.{Turning}
 use Rattle.mely_worker.specs.declared.delivery.Delivery.TheVariants.{Nothing}
-use Rattle.mely_worker.specs.Holdings.{worker_of}
+use Rattle.mely_worker.specs.WorkerFields.{worker_of}
 use Rattle.mely_worker.proofs.StepLemmas.{stands_after_run}
 use Rattle.mely_worker.proofs.turning.run_next.Goals as goal
 

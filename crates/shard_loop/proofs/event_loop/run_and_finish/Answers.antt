@@ -1,6 +1,6 @@
 use Rattle.std.proofs.Common.{◌≡◌, ◌+◌, ◌++◌, ◌∷◌, [], length, arith, refl, sym, ap, ◌∙◌, subst}
-use Rattle.mely_shard.specs.Contents.{IsOwn}
-use Rattle.mely_shard.proofs.TurnLaws.{turn_ran}
+use Rattle.mely_shard.specs.Shard.{IsOwn}
+use Rattle.mely_shard.proofs.TurnLemmas.{turn_ran}
 use Rattle.shard_loop.proofs.event_loop.run_and_finish.Goals as goal
 
 pub loop-event-preserved : goal.loop-event-preserved

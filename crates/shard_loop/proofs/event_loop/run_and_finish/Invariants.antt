@@ -1,7 +1,7 @@
 use Rattle.std.proofs.Common.{◌≡◌, ◌≤◌, length}
 use Rattle.mely_event.specs.TrailLog.{TrailLogState}
 use Rattle.mely_event.specs.declared.trail.Trail.{Ghosts as TrailWords}
-use Rattle.mely_shard.specs.Contents.{TurnStands, IsOwn}
+use Rattle.mely_shard.specs.Shard.{TurnStands, IsOwn}
 use Rattle.shard_loop.proofs.event_loop.run_and_finish.Given as goal
 
 -- what contracts see of the state

@@ -1,5 +1,5 @@
 use Rattle.std.proofs.Common.{refl, sym, subst, arith}
-use Rattle.sws_site.proofs.FileLaws.{file_named-long}
+use Rattle.sws_site.proofs.FileLemmas.{file_named-long}
 use Rattle.sws_answer.specs.AnswerValues.{Sends}
 use Rattle.sws_answer.specs.FileAnswers.{file_answer}
 use Rattle.sws_answer.proofs.answering.answer_path.Goals as goal

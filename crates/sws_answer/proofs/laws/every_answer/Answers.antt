@@ -1,5 +1,5 @@
-use Rattle.sws_answer.proofs.AnswerLaws.{head-some, closes-last, closes-too_long}
-use Rattle.sws_answer.proofs.LengthLaws.{answer_of-short}
+use Rattle.sws_answer.proofs.AnsweredLemmas.{head-some, closes-last, closes-too_long}
+use Rattle.sws_answer.proofs.LengthLemmas.{answer_of-short}
 use Rattle.sws_answer.proofs.laws.every_answer.Goals as goal
 
 pub returns-clause-head : goal.returns-clause-head

@@ -3,8 +3,8 @@ use Rattle.std.specs.List.{AllByRecursion}
 use Rattle.sws_steps.specs.declared.End.{End}
 use Rattle.sws_steps.specs.declared.End.TheVariants.{Memory}
 use Rattle.sws_bench.specs.BenchSummary.{bench_summary}
-use Rattle.sws_bench.proofs.SummaryLaws.{bench_ends-fine}
-use Rattle.sws_bench.proofs.WriteLaws.{nothing_written}
+use Rattle.sws_bench.proofs.SummaryLemmas.{bench_ends-fine}
+use Rattle.sws_bench.proofs.WriteLemmas.{nothing_written}
 use Rattle.sws_bench.proofs.benching.bench.Goals as goal
 
 pub returns-in_default-clause-writes : goal.returns-in_default-clause-writes

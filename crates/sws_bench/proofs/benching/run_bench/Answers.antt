@@ -1,6 +1,6 @@
 use Rattle.std.proofs.Common.{Result, Ok, Err, ◌∙◌, arith}
 use Rattle.std.specs.Prelude.{IfOk}
-use Rattle.sws_bench.proofs.SummaryLaws.{many, in_range, of_input, bench_ended, bench_fits, bench_ends_are, bench_written_is}
+use Rattle.sws_bench.proofs.SummaryLemmas.{many, in_range, of_input, bench_ended, bench_fits, bench_ends_are, bench_written_is}
 use Rattle.sws_bench.proofs.benching.run_bench.Goals as goal
 
 pub run_script-requires-clause-shape : goal.run_script-requires-clause-shape

@@ -1,4 +1,4 @@
-use Rattle.sws_bench.proofs.OutcomeLaws.{all_bytes-conn_from, ends_done}
+use Rattle.sws_bench.proofs.OutcomeLemmas.{all_bytes-conn_from, ends_done}
 use Rattle.sws_bench.proofs.laws.each_connection_is_done.Goals as goal
 
 pub returns-clause-sends : goal.returns-clause-sends

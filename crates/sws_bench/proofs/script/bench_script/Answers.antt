@@ -1,7 +1,7 @@
 use Rattle.std.proofs.Common.{false, List, [], sym, subst}
 use Rattle.sws_script.specs.declared.input.ScriptConn.{ScriptConn}
 use Rattle.sws_script.specs.Inputs.{IsInput}
-use Rattle.sws_bench.proofs.InputLaws.{bench_conns_are_an_input}
+use Rattle.sws_bench.proofs.InputLemmas.{bench_conns_are_an_input}
 use Rattle.sws_bench.proofs.script.bench_script.Goals as goal
 
 pub returns-in-Ok-clause-input : goal.returns-in-Ok-clause-input

@@ -1,6 +1,6 @@
 use Rattle.std.proofs.Common.{◌+◌, ◌%◌, List, ℕ, sym, ap, ◌∙◌, length}
 use Rattle.sws_bench.specs.BenchScript.{pieces, sends}
-use Rattle.sws_bench.proofs.ConnLaws.{bytes_made, state_made, conn_made}
+use Rattle.sws_bench.proofs.ConnLemmas.{bytes_made, state_made, conn_made}
 use Rattle.sws_bench.proofs.script.conn.Goals as goal
 
 pub returns-clause-conn : goal.returns-clause-conn

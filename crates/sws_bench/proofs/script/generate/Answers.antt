@@ -3,9 +3,9 @@ use Rattle.std.specs.Prelude.{sum}
 use Rattle.std.specs.List.{range_with_len}
 use Rattle.sws_script.specs.declared.input.ScriptConn.{ScriptConn}
 use Rattle.sws_bench.specs.BenchScript.{bytes_from, behind_conn, conn_from, conn_state, bench_conns}
-use Rattle.sws_bench.proofs.ListLaws.{map_more, sum_more}
-use Rattle.sws_bench.proofs.ConnLaws.{length-bytes_from}
-use Rattle.sws_bench.proofs.OutcomeLaws.{bench_bytes-sum}
+use Rattle.sws_bench.proofs.ListLemmas.{map_more, sum_more}
+use Rattle.sws_bench.proofs.ConnLemmas.{length-bytes_from}
+use Rattle.sws_bench.proofs.OutcomeLemmas.{bench_bytes-sum}
 use Rattle.sws_bench.proofs.script.generate.Goals as goal
 
 pub overflow_add-bytes : goal.overflow_add-bytes

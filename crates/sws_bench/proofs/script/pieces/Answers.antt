@@ -7,8 +7,8 @@ use Rattle.std.proofs.lemmas.List.{length_push}
 use Rattle.std.proofs.lemmas.Simd.{map-map}
 use Rattle.sws_script.specs.declared.input.Item.TheVariants.{Send}
 use Rattle.sws_bench.specs.BenchScript.{pieces}
-use Rattle.sws_bench.proofs.ListLaws.{map_more}
-use Rattle.sws_bench.proofs.PieceLaws.{piece_is, rest_is, is_below, are_all}
+use Rattle.sws_bench.proofs.ListLemmas.{map_more}
+use Rattle.sws_bench.proofs.PieceLemmas.{piece_is, rest_is, is_below, are_all}
 use Rattle.sws_bench.proofs.script.pieces.Goals as goal
 
 pub pieces-preserved : goal.pieces-preserved

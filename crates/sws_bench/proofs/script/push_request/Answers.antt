@@ -2,7 +2,7 @@ use Rattle.std.proofs.Common.{List, ℕ, ◌++◌, ◌%◌, codes, ap, ◌∙◌
 use Rattle.std.specs.Fmt.{decimal}
 use Rattle.sws_site.specs.ResponseHeads.{line_end}
 use Rattle.sws_bench.specs.BenchScript.{request}
-use Rattle.sws_bench.proofs.ListLaws.{three}
+use Rattle.sws_bench.proofs.ListLemmas.{three}
 use Rattle.sws_bench.proofs.script.push_request.Goals as goal
 
 pub returns : goal.returns

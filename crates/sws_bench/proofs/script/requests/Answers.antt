@@ -1,4 +1,4 @@
-use Rattle.sws_bench.proofs.ListLaws.{behind_more, requests_more}
+use Rattle.sws_bench.proofs.ListLemmas.{behind_more, requests_more}
 use Rattle.sws_bench.proofs.script.requests.Goals as goal
 
 pub requests-preserved : goal.requests-preserved

@@ -1,5 +1,5 @@
 use Rattle.std.proofs.Common.{ap, ◌∙◌, inl, inr}
-use Rattle.sws_bench.proofs.FileLaws.{meets_none}
+use Rattle.sws_bench.proofs.FileLemmas.{meets_none}
 use Rattle.sws_bench.proofs.site.bench_site.Goals as goal
 
 pub unreachable-requires-in-Err-TooManyFiles : goal.unreachable-requires-in-Err-TooManyFiles

@@ -1,7 +1,7 @@
 use Rattle.std.proofs.Common.{◌≡◌, ◌+◌, ◌*◌, ◌%◌, ℕ, map, arith, ap, ◌∙◌}
 use Rattle.std.specs.List.{range_with_len}
 use Rattle.sws_bench.specs.BenchSite.{contents}
-use Rattle.sws_bench.proofs.ListLaws.{map_more}
+use Rattle.sws_bench.proofs.ListLemmas.{map_more}
 use Rattle.sws_bench.proofs.site.contents.Goals as goal
 
 pub loop-place-preserved : goal.loop-place-preserved

@@ -1,8 +1,8 @@
 use Rattle.std.proofs.Common.{◌≡◌, ℕ, map, arith, ap, ◌∙◌}
 use Rattle.std.specs.List.{range_with_len}
 use Rattle.sws_bench.specs.BenchSite.{bench_files, file}
-use Rattle.sws_bench.proofs.ListLaws.{map_more}
-use Rattle.sws_bench.proofs.FileLaws.{files_of-push}
+use Rattle.sws_bench.proofs.ListLemmas.{map_more}
+use Rattle.sws_bench.proofs.FileLemmas.{files_of-push}
 use Rattle.sws_bench.proofs.site.files.Goals as goal
 
 pub loop-number-preserved : goal.loop-number-preserved

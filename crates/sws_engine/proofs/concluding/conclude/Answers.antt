@@ -1,7 +1,7 @@
 use Rattle.std.proofs.Common.{ap, ◌∙◌, subst}
 use Rattle.sws_engine.specs.Conclusion.{is_whole}
 use Rattle.sws_engine.specs.RunLeaves.{VerdictIs}
-use Rattle.sws_engine.proofs.ConcludeLaws.{concluded}
+use Rattle.sws_engine.proofs.Ends.ConcludeLemmas.{concluded}
 use Rattle.sws_engine.proofs.concluding.conclude.Goals as goal
 
 pub returns-clause-concluded : goal.returns-clause-concluded

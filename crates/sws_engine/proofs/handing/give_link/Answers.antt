@@ -1,5 +1,5 @@
 use Rattle.std.proofs.Common.{arith, sym}
-use Rattle.sws_engine.proofs.HandingLaws.{place_past, place_new, place_old}
+use Rattle.sws_engine.proofs.Ends.HandingLemmas.{place_past, place_new, place_old}
 use Rattle.sws_engine.proofs.handing.give_link.Goals as goal
 
 pub returns-then-is_none : goal.returns-then-is_none

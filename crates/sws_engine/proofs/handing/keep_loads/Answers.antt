@@ -1,5 +1,5 @@
 use Rattle.std.proofs.Common.{◌++◌, length, ap, ◌∙◌, sym, arith, append_assoc}
-use Rattle.sws_engine.proofs.HandingLaws.{hand_more}
+use Rattle.sws_engine.proofs.Ends.HandingLemmas.{hand_more}
 use Rattle.sws_engine.proofs.handing.keep_loads.Goals as goal
 
 pub loop-event-preserved : goal.loop-event-preserved

@@ -1,5 +1,5 @@
 use Rattle.std.proofs.Common.{◌++◌, length, ap, ◌∙◌, sym, arith, append_assoc}
-use Rattle.sws_engine.proofs.HandingLaws.{hand_put}
+use Rattle.sws_engine.proofs.Ends.HandingLemmas.{hand_put}
 use Rattle.sws_engine.proofs.handing.keep_lost.Goals as goal
 
 pub loop-colour-preserved : goal.loop-colour-preserved

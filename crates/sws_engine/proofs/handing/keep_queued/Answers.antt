@@ -1,5 +1,5 @@
 use Rattle.std.proofs.Common.{◌++◌, length, ap, ◌∙◌, sym, arith, append_assoc}
-use Rattle.sws_engine.proofs.HandingLaws.{hand_lists}
+use Rattle.sws_engine.proofs.Ends.HandingLemmas.{hand_lists}
 use Rattle.sws_engine.proofs.handing.keep_queued.Goals as goal
 
 pub loop-events-preserved : goal.loop-events-preserved

@@ -1,4 +1,4 @@
-use Rattle.sws_engine.proofs.Model.Openings.{paths_open}
+use Rattle.sws_engine.proofs.Model.OpeningsLemmas.{paths_open}
 use Rattle.sws_engine.proofs.laws.each_path_opens_once.Goals as goal
 
 pub returns : goal.returns

@@ -1,4 +1,4 @@
-use Rattle.sws_engine.proofs.PathServer.{place_runs, stays_spoilt}
+use Rattle.sws_engine.proofs.Paths.PathServerLemmas.{place_runs, stays_spoilt}
 use Rattle.sws_engine.proofs.laws.the_handlers_follow_the_paths.Goals as goal
 
 pub returns-clause-follows : goal.returns-clause-follows

@@ -1,4 +1,4 @@
-use Rattle.sws_engine.proofs.Model.Scripted.{schedules}
+use Rattle.sws_engine.proofs.Model.ScriptedLemmas.{schedules}
 use Rattle.sws_engine.proofs.laws.worked_schedules_hold.Goals as goal
 
 pub returns : goal.returns

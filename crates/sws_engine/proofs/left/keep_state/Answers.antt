@@ -1,6 +1,6 @@
 use Rattle.std.proofs.Common.{refl, sym, ◌∙◌, ap}
 use Rattle.sws_engine.specs.RunLeaves.{or_else}
-use Rattle.sws_engine.proofs.LeftLaws.{keep_quiet}
+use Rattle.sws_engine.proofs.Ends.LeftLemmas.{keep_quiet}
 use Rattle.sws_engine.proofs.left.keep_state.Goals as goal
 
 pub returns-in-Some-clause-keeps : goal.returns-in-Some-clause-keeps

@@ -4,8 +4,8 @@ use Rattle.std.specs.Vec.Iter.{into_iter_items}
 use Rattle.sws_engine.specs.LeftKept.{KeepsStates}
 use Rattle.sws_engine.specs.RunLeaves.{StateTells, talkers}
 use Rattle.std.specs.List.{AllByRecursion}
-use Rattle.sws_engine.proofs.WaitingLists.{each_append}
-use Rattle.sws_engine.proofs.LeftLaws.{keep_none, keep_more, talkers_head}
+use Rattle.sws_engine.proofs.Events.WaitingListsLemmas.{each_append}
+use Rattle.sws_engine.proofs.Ends.LeftLemmas.{keep_none, keep_more, talkers_head}
 use Rattle.sws_engine.proofs.left.keep_states.Goals as goal
 
 pub loop-place-init : goal.loop-place-init

@@ -1,6 +1,6 @@
 use Rattle.std.proofs.Common.{refl}
-use Rattle.sws_engine.proofs.Through.{through}
-use Rattle.sws_engine.proofs.Model.Engine.{run_out_at}
+use Rattle.sws_engine.proofs.Runs.ThroughLemmas.{through}
+use Rattle.sws_engine.proofs.Model.EngineLemmas.{run_out_at}
 use Rattle.sws_engine.proofs.running.run_through.Goals as goal
 
 pub returns-in-All-clause-stands : goal.returns-in-All-clause-stands

@@ -1,6 +1,6 @@
 use Rattle.std.proofs.Common.{refl, map}
 use Rattle.sws_conn.specs.Path.{path_of}
-use Rattle.sws_engine.proofs.Model.Scripts.{scripts_tell}
+use Rattle.sws_engine.proofs.Model.ScriptsLemmas.{scripts_tell}
 use Rattle.sws_engine.proofs.serving.serve_steps.Goals as goal
 
 pub returns-clause-scheduled : goal.returns-clause-scheduled

@@ -1,6 +1,6 @@
 use Rattle.std.proofs.Common.{refl, ap, sym, ◌∙◌}
-use Rattle.sws_engine.proofs.BeginLaws.{are_first, first_given, first_hall, first_fits_in, free_after, start_fact}
-use Rattle.sws_engine.proofs.Model.Engine.{begun_at}
+use Rattle.sws_engine.proofs.Runs.BeginLemmas.{are_first, first_given, first_hall, first_fits_in, free_after, start_fact}
+use Rattle.sws_engine.proofs.Model.EngineLemmas.{begun_at}
 use Rattle.sws_engine.proofs.starting.start.Goals as goal
 
 pub new-requires : goal.new-requires

@@ -1,10 +1,10 @@
 use Rattle.std.proofs.Common.{ap, ◌∙◌, subst, inr, arith}
 use Rattle.sws_engine.specs.Conclusion.{IsConcluded}
-use Rattle.sws_engine.proofs.NeverApart.{has_run}
-use Rattle.sws_engine.proofs.ConcludedLaws.{rules_are}
-use Rattle.sws_engine.proofs.SeatsOfRun.{seats_stand}
+use Rattle.sws_engine.proofs.Ends.NeverApartLemmas.{has_run}
+use Rattle.sws_engine.proofs.Ends.ConcludedLemmas.{rules_are}
+use Rattle.sws_engine.proofs.Ends.SeatsOfRunLemmas.{seats_stand}
 use Rattle.mely_event.specs.HandlerTable.{rows_of}
-use Rattle.sws_engine.proofs.Model.Steps.{steps_modelled}
+use Rattle.sws_engine.proofs.Model.StepsLemmas.{steps_modelled}
 use Rattle.sws_engine.proofs.steps.talk_steps.Goals as goal
 
 pub conclude-requires-clause-seats : goal.conclude-requires-clause-seats

@@ -1,7 +1,7 @@
 use Rattle.std.proofs.Common.{◌≡◌, false, None, Some, Option, refl}
 use Rattle.std.specs.Prelude.{ℕ, IsSome}
 use Rattle.sws_steps.specs.declared.End.{End}
-use Rattle.sws_conn.specs.Standing.{is_waiting_by}
+use Rattle.sws_conn.specs.Conn.{is_waiting_by}
 use Rattle.sws_engine.proofs.threads.serve_all.Goals as goal
 
 unkept_by : (waits : ℕ) (end : Option End) → IsSome end → is_waiting_by end waits ≡ false

@@ -1,9 +1,9 @@
 use Rattle.std.proofs.Common.{ap, ◌∙◌, subst, inr, arith}
 use Rattle.mely_event.specs.HandlerTable.{rows_of}
 use Rattle.sws_engine.specs.Conclusion.{IsConcluded}
-use Rattle.sws_engine.proofs.ThreadLaws.{has_run_threads}
-use Rattle.sws_engine.proofs.ConcludedLaws.{rules_are}
-use Rattle.sws_engine.proofs.SeatsOfRun.{seats_stand}
+use Rattle.sws_engine.proofs.Ends.ThreadLemmas.{has_run_threads}
+use Rattle.sws_engine.proofs.Ends.ConcludedLemmas.{rules_are}
+use Rattle.sws_engine.proofs.Ends.SeatsOfRunLemmas.{seats_stand}
 use Rattle.sws_engine.proofs.threads.talk_all.Goals as goal
 
 pub conclude-requires-clause-seats : goal.conclude-requires-clause-seats

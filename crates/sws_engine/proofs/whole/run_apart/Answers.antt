@@ -1,20 +1,20 @@
 use Rattle.std.proofs.Common.{refl}
-use Rattle.sws_engine.proofs.Parted.{as_many_histories, run_parts, run_fits}
-use Rattle.sws_engine.proofs.Model.Engine.{engine_run}
+use Rattle.sws_engine.proofs.Ends.PartedLemmas.{as_many_histories, run_parts, run_fits}
+use Rattle.sws_engine.proofs.Model.EngineLemmas.{engine_run}
 use Rattle.sws_engine.proofs.whole.run_apart.Goals as goal
 
 pub returns-clause-ran : goal.returns-clause-ran
 returns-clause-ran g c =
     let parts = c.into_parts.ensures in
     let stands = c.stands_well.ensures in
-    let apart = c.the_parts_are_what_the_weave_had.ensures c.in_ok-weave.weave _ _ _ _ stands.keeps stands.parts c.in_ok-weave.ensures.free parts.histories parts.states parts.queued parts.lost in
-    run_parts g.W.World g.T.Talk _ c.args.setup.now c.args.world _ c.in_ok-weave.weave _ _ _ _ apart c.in_ok-weave.ensures.stands c.in_ok-weave.ensures.of_setup c.requires.colours c.in_ok-weave.ensures.drained (as_many_histories c.in_ok-weave.weave.shards _ _ parts.histories stands.keeps.shards) (λ s. refl) (λ s. refl) (λ s. refl)
+    let apart = c.the_parts_are_what_the_weave_had.ensures c.in_ok-weave.weave _ _ _ _ stands.keeps stands.parts c.in_ok-weave.ensures.rests.free parts.histories parts.states parts.queued parts.lost in
+    run_parts g.W.World g.T.Talk _ c.args.setup.now c.args.world _ c.in_ok-weave.weave _ _ _ _ apart c.in_ok-weave.ensures.stands c.in_ok-weave.ensures.rests.of_setup c.requires.set.colours c.in_ok-weave.ensures.rests.drained (as_many_histories c.in_ok-weave.weave.shards _ _ parts.histories stands.keeps.shards) (λ s. refl) (λ s. refl) (λ s. refl)
 
 pub returns-clause-fits : goal.returns-clause-fits
 returns-clause-fits g c =
     let parts = c.into_parts.ensures in
     let stands = c.stands_well.ensures in
-    let apart = c.the_parts_are_what_the_weave_had.ensures c.in_ok-weave.weave _ _ _ _ stands.keeps stands.parts c.in_ok-weave.ensures.free parts.histories parts.states parts.queued parts.lost in
+    let apart = c.the_parts_are_what_the_weave_had.ensures c.in_ok-weave.weave _ _ _ _ stands.keeps stands.parts c.in_ok-weave.ensures.rests.free parts.histories parts.states parts.queued parts.lost in
     let fit = c.what_is_left_in_the_parts_fits.ensures c.in_ok-weave.weave _ _ stands.parts parts.queued parts.lost in
     run_fits g.W.World g.W.Link.Link _ _ c.args.world _ c.in_ok-weave.weave _ _ _ _ apart fit c.in_ok-weave.ensures.stands.framed c.in_ok-weave.ensures.of_hall (λ s. refl) (λ frame k event carried is. is)
 

@@ -1,12 +1,12 @@
 use Rattle.std.proofs.Common.{arith, ap, ◌∙◌}
 use Rattle.mely_history.specs.declared.setup.Setup.{Setup}
 use Rattle.mely_history.specs.Setup.{shape_of}
-use Rattle.sws_engine.proofs.Model.Engine.{has_run_out}
+use Rattle.sws_engine.proofs.Model.EngineLemmas.{has_run_out}
 use Rattle.sws_engine.proofs.whole.run_whole.Goals as goal
 
 pub run_through-drained-requires-clause-cores : goal.run_through-drained-requires-clause-cores
 run_through-drained-requires-clause-cores g c k d low =
-    let low_core = c.requires.cores k d low in
+    let low_core = c.requires.schedule.cores_in k d low in
     let same = ap (λ (s : Setup). (shape_of s).cores) c.in_ok-weave.ensures.of_setup in
     omega (arith, low_core, same)
 

@@ -1,5 +1,5 @@
 use Rattle.std.proofs.Common.{sym, ap, ◌∙◌, ◌++◌}
-use Rattle.mely_machine.proofs.OneRun.{one_run}
+use Rattle.mely_machine.proofs.OneRunLemmas.{one_run}
 use Rattle.sws_report.specs.Journal.{journal}
 use Rattle.sws_replay.specs.Transcripts.{transcript_of}
 use Rattle.sws_replay.proofs.laws.a_schedule_has_one_text.Goals as goal

@@ -2,7 +2,7 @@ use Rattle.std.proofs.Common.{List, map, sym, subst}
 use Rattle.std.specs.List.{AllByRecursion}
 use Rattle.sws_engine.specs.declared.ended.Served.{Served}
 use Rattle.sws_link.specs.Contents.{Puts}
-use Rattle.sws_link.specs.MemLinks.{MemLinkState}
+use Rattle.sws_link.specs.MemLink.{MemLinkState}
 use Rattle.sws_report.specs.Transcript.{transcript}
 use Rattle.sws_replay.specs.Showing.{IsShowable, shown_of}
 use Rattle.sws_replay.proofs.TextLemmas.{all_showable, with_journal, without_journal}

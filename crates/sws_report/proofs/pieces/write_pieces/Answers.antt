@@ -1,6 +1,6 @@
 use Rattle.std.proofs.Common.{rules, ◌≡◌, ◌≢◌, ◌++◌}
 use Rattle.sws_link.specs.declared.Put.TheVariants as put
-use Rattle.sws_report.proofs.PieceLaws.{Going-moved, Going-written, Going-stopped, Going-ended, Going-cause, shorter}
+use Rattle.sws_report.proofs.PieceLemmas.{Going-moved, Going-written, Going-stopped, Going-ended, Going-cause, shorter}
 use Rattle.sws_report.proofs.pieces.write_pieces.Goals as goal
 
 pub pieces-smaller : goal.pieces-smaller

@@ -1,5 +1,5 @@
 use Rattle.std.proofs.Common.{◌++◌, length}
-use Rattle.sws_report.proofs.PieceLaws.{Going}
+use Rattle.sws_report.proofs.PieceLemmas.{Going}
 use Rattle.sws_report.proofs.pieces.write_pieces.Given as goal
 
 abbrev pub invariant-pieces : goal.invariant-pieces

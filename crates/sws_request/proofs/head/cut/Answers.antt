@@ -1,5 +1,5 @@
 use Rattle.std.proofs.Common.{[], sym}
-use Rattle.sws_request.proofs.CutLaws.{IsCutOf-cut_of}
+use Rattle.sws_request.proofs.CutLemmas.{IsCutOf-cut_of}
 use Rattle.sws_request.proofs.head.cut.Goals as goal
 
 pub returns-clause-cut : goal.returns-clause-cut

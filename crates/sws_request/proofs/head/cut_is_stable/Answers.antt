@@ -1,4 +1,4 @@
-use Rattle.sws_request.proofs.CutLaws.{cut_of-append}
+use Rattle.sws_request.proofs.CutLemmas.{cut_of-append}
 use Rattle.sws_request.proofs.head.cut_is_stable.Goals as goal
 
 pub returns : goal.returns

@@ -1,6 +1,6 @@
 use Rattle.sws_script.specs.Printed.{printed}
-use Rattle.sws_script.proofs.AnswerLaws.{Spells-unique}
-use Rattle.sws_script.proofs.PrintedLaws.{printed-spells}
+use Rattle.sws_script.proofs.AnswerLemmas.{Spells-unique}
+use Rattle.sws_script.proofs.PrintedLemmas.{printed-spells}
 use Rattle.sws_script.proofs.laws.what_is_printed_is_read.Goals as goal
 
 pub returns : goal.returns

@@ -2,7 +2,7 @@ use Rattle.std.proofs.Common.{◌≡◌, None, refl, ap, ◌∙◌, rules}
 use Rattle.sws_script.specs.Lines.{IsSpelled, SpellsLine, IsLine}
 use Rattle.sws_script.specs.Order.{state_after}
 use Rattle.sws_script.specs.Parsers.{state}
-use Rattle.sws_script.proofs.LineLaws.{SpellsLine-unique}
+use Rattle.sws_script.proofs.LineLemmas.{SpellsLine-unique}
 use Rattle.sws_script.proofs.parsing.add_line.Goals as goal
 
 pub returns-else-branch : goal.returns-else-branch

@@ -1,4 +1,4 @@
-use Rattle.sws_script.proofs.AnswerLaws.{answers-input, answers-fault}
+use Rattle.sws_script.proofs.AnswerLemmas.{answers-input, answers-fault}
 use Rattle.sws_script.proofs.parsing.parse.Goals as goal
 
 pub returns-clause-reads : goal.returns-clause-reads

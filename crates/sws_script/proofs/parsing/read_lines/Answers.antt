@@ -4,8 +4,8 @@ use Rattle.sws_script.specs.declared.input.Input.{Input}
 use Rattle.sws_script.specs.Order.{in_script}
 use Rattle.sws_script.specs.Splits.{IsFirstLine}
 use Rattle.sws_script.specs.Grammar.{Spells}
-use Rattle.sws_script.proofs.SplitLaws.{first-goes}
-use Rattle.sws_script.proofs.StandingLaws.{Stands-none, Stands-more, outside, too_long, few_conns, cause, too_early, whole_read}
+use Rattle.sws_script.proofs.SplitLemmas.{first-goes}
+use Rattle.sws_script.proofs.StandingLemmas.{Stands-none, Stands-more, outside, too_long, few_conns, cause, too_early, whole_read}
 use Rattle.sws_script.proofs.parsing.read_lines.Goals as goal
 
 pub lines-init : goal.lines-init

@@ -1,5 +1,5 @@
 use Rattle.std.proofs.Common.{length}
-use Rattle.sws_script.proofs.StandingLaws.{Stands}
+use Rattle.sws_script.proofs.StandingLemmas.{Stands}
 use Rattle.sws_script.proofs.parsing.read_lines.Given as goal
 
 abbrev pub invariant-lines : goal.invariant-lines

@@ -1,7 +1,7 @@
 use Rattle.std.proofs.Common.{◌≡◌, ◌<◌, ℕ, List, length, ap, arith, rules}
 use Rattle.sws_text.specs.Texts.{StandsFor}
-use Rattle.sws_text.proofs.TextLaws.{StandsFor-unique}
-use Rattle.sws_text.proofs.LengthLaws.{StandsFor-few}
+use Rattle.sws_text.proofs.TextLemmas.{StandsFor-unique}
+use Rattle.sws_text.proofs.LengthLemmas.{StandsFor-few}
 use Rattle.sws_script.proofs.reading.read_send.Goals as goal
 use Rattle.sws_script.proofs.reading.read_send.Goals.{then-is_empty-via-then-is_empty, then-is_empty-via-else-is_empty+then-len-gt-MAX_PIECE}
 

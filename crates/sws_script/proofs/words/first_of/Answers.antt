@@ -1,7 +1,7 @@
 use Rattle.std.proofs.Common.{◌≡◌, get_or, Some, None, sym, ap, ◌∙◌, subst}
 use Rattle.sws_script.specs.declared.words.Word.TheVariants.{ScheduleHead}
 use Rattle.sws_script.specs.Words.{word_text, stripped}
-use Rattle.sws_script.proofs.WordLaws.{stripped-yes, stripped-no, first_word_found, first_word_next}
+use Rattle.sws_script.proofs.WordLemmas.{stripped-yes, stripped-no, first_word_found, first_word_next}
 use Rattle.sws_script.proofs.words.first_of.Goals as goal
 
 pub returns-in-Some : goal.returns-in-Some

@@ -1,14 +1,14 @@
 use Rattle.std.proofs.Common.{◌≡◌, ◌≤◌, ◌+◌, ◌++◌, ◌∷◌, [], zero, suc, List, length, Option, ◌∙◌, refl, ap, sym, subst, arith}
 use Rattle.std.proofs.lemmas.List.{map-append, length-map}
 use Rattle.std.proofs.lemmas.List.Elements.{All-append}
-use Rattle.sws_link.proofs.CountLaws.{HasCause-as, HasCause-none}
+use Rattle.sws_link.proofs.CountLemmas.{HasCause-as, HasCause-none}
 use Rattle.httpdate.specs.declared.date.HttpDate.{HttpDate}
 use Rattle.sws_site.specs.declared.stored.StoredFile.{StoredFile}
 use Rattle.sws_site.specs.Files.{File}
 use Rattle.sws_site.specs.Limits.{IsWithinLimits, bytes_of}
 use Rattle.sws_site.specs.Steps.{HasLoaded}
 use Rattle.sws_site.specs.Stored.{file_of, files_of, HasHeads, AllHaveHeads}
-use Rattle.sws_site.proofs.LimitLaws.{IsWithinLimits-nil, IsWithinLimits-push, bytes_of-push}
+use Rattle.sws_site.proofs.LimitLemmas.{IsWithinLimits-nil, IsWithinLimits-push, bytes_of-push}
 use Rattle.sws_site.proofs.LoadLemmas.{HasLoaded-nil, HasLoaded-step, HasLoaded-fails, IsSameFolder-refl, IsSameFolder-trans}
 use Rattle.sws_site.proofs.loading.read_files.Goals as goal
 

@@ -1,6 +1,6 @@
-use Rattle.sws_text.proofs.TextLaws.{StandsFor-unique}
-use Rattle.sws_text.proofs.WrittenLaws.{StandsFor-shown}
-use Rattle.sws_text.proofs.LengthLaws.{StandsFor-few}
+use Rattle.sws_text.proofs.TextLemmas.{StandsFor-unique}
+use Rattle.sws_text.proofs.WrittenLemmas.{StandsFor-shown}
+use Rattle.sws_text.proofs.LengthLemmas.{StandsFor-few}
 use Rattle.sws_text.proofs.laws.a_text_stands_for_one_list.Goals as goal
 
 pub returns : goal.returns

@@ -1,5 +1,5 @@
-use Rattle.sws_text.proofs.WrittenLaws.{StandsFor-text_of}
-use Rattle.sws_text.proofs.LengthLaws.{StandsFor-shortest}
+use Rattle.sws_text.proofs.WrittenLemmas.{StandsFor-text_of}
+use Rattle.sws_text.proofs.LengthLemmas.{StandsFor-shortest}
 use Rattle.sws_text.proofs.laws.what_is_written_is_read.Goals as goal
 
 pub returns : goal.returns

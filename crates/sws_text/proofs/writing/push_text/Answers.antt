@@ -1,8 +1,8 @@
 use Rattle.std.proofs.Common.{rules, ◌≡◌, ◌++◌, ◌-◌, length, take, drop, None}
 use Rattle.sws_text.specs.Signs.{spelling_of}
 use Rattle.sws_text.specs.Texts.{text_of, sign_before}
-use Rattle.sws_text.proofs.SignLaws.{found_at}
-use Rattle.sws_text.proofs.PlainLaws.{front_written, sign_written, none_written}
+use Rattle.sws_text.proofs.SignLemmas.{found_at}
+use Rattle.sws_text.proofs.PlainLemmas.{front_written, sign_written, none_written}
 use Rattle.sws_text.proofs.writing.push_text.Goals as goal
 
 pub returns-in_default : goal.returns-in_default

@@ -1,5 +1,5 @@
 use Rattle.std.proofs.Common.{◌≡◌, ◌++◌, take, inr, refl, ◌∙◌}
-use Rattle.sws_link.proofs.CountLaws.{HasCause-none}
+use Rattle.sws_link.proofs.CountLemmas.{HasCause-none}
 use Rattle.sws_top.specs.declared.faults.TopFault.TheVariants.{ReadFault, Memory}
 use Rattle.sws_top.proofs.ScriptLemmas.{more_read}
 use Rattle.sws_top.proofs.scripts.read_text.Goals as goal

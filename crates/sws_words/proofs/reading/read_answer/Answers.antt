@@ -2,7 +2,7 @@ use Rattle.std.proofs.Common.{map, string_bytes}
 use Rattle.std.proofs.lemmas.Result.{err_from_is_err_and}
 use Rattle.clap.specs.Words.{app_of, found_of}
 use Rattle.sws_words.proofs.CommandLemmas.{answer_is}
-use Rattle.sws_words.proofs.FromFound.{answer_complete, answer_refused, of_any_fault, answer_lacks_folder, answer_lacks_date}
+use Rattle.sws_words.proofs.FromFoundLemmas.{answer_complete, answer_refused, of_any_fault, answer_lacks_folder, answer_lacks_date}
 use Rattle.sws_words.proofs.reading.read_answer.Goals as goal
 
 pub parsed-requires : goal.parsed-requires

@@ -3,7 +3,7 @@ use Rattle.std.proofs.lemmas.Result.{err_from_is_err_and}
 use Rattle.clap.specs.Words.{app_of, found_of}
 use Rattle.sws_words.specs.Told.{told_shape}
 use Rattle.sws_words.proofs.CommandLemmas.{bench_is}
-use Rattle.sws_words.proofs.FromFound.{bench_complete, bench_refused, of_any_fault, bench_lacks_connections, bench_lacks_number, bench_lacks_shape}
+use Rattle.sws_words.proofs.FromFoundLemmas.{bench_complete, bench_refused, of_any_fault, bench_lacks_connections, bench_lacks_number, bench_lacks_shape}
 use Rattle.sws_words.proofs.reading.read_bench.Goals as goal
 
 pub parsed-requires : goal.parsed-requires

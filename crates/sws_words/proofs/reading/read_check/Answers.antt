@@ -3,7 +3,7 @@ use Rattle.std.proofs.lemmas.Result.{err_from_is_err_and}
 use Rattle.clap.specs.Words.{app_of, found_of}
 use Rattle.sws_words.specs.Told.{told_shape}
 use Rattle.sws_words.proofs.CommandLemmas.{check_is}
-use Rattle.sws_words.proofs.FromFound.{check_complete, check_refused, of_any_fault, check_lacks_connections, check_lacks_shape}
+use Rattle.sws_words.proofs.FromFoundLemmas.{check_complete, check_refused, of_any_fault, check_lacks_connections, check_lacks_shape}
 use Rattle.sws_words.proofs.reading.read_check.Goals as goal
 
 pub parsed-requires : goal.parsed-requires

@@ -3,7 +3,7 @@ use Rattle.std.proofs.lemmas.Result.{err_from_is_err_and}
 use Rattle.clap.specs.Words.{app_of, found_of}
 use Rattle.sws_words.specs.Told.{told_shape}
 use Rattle.sws_words.proofs.CommandLemmas.{replay_is}
-use Rattle.sws_words.proofs.FromFound.{replay_complete, replay_refused, of_any_fault, replay_lacks_folder, replay_lacks_shape, replay_lacks_date}
+use Rattle.sws_words.proofs.FromFoundLemmas.{replay_complete, replay_refused, of_any_fault, replay_lacks_folder, replay_lacks_shape, replay_lacks_date}
 use Rattle.sws_words.proofs.reading.read_replay.Goals as goal
 
 pub parsed-requires : goal.parsed-requires

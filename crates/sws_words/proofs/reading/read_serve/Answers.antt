@@ -3,7 +3,7 @@ use Rattle.std.proofs.lemmas.Result.{err_from_is_err_and}
 use Rattle.clap.specs.Words.{app_of, found_of}
 use Rattle.sws_words.specs.Told.{told_shape}
 use Rattle.sws_words.proofs.CommandLemmas.{serve_is}
-use Rattle.sws_words.proofs.FromFound.{serve_complete, serve_refused, of_any_fault, serve_lacks_folder, serve_lacks_port, serve_lacks_connections, serve_lacks_shape, serve_lacks_date}
+use Rattle.sws_words.proofs.FromFoundLemmas.{serve_complete, serve_refused, of_any_fault, serve_lacks_folder, serve_lacks_port, serve_lacks_connections, serve_lacks_shape, serve_lacks_date}
 use Rattle.sws_words.proofs.reading.read_serve.Goals as goal
 
 pub parsed-requires : goal.parsed-requires

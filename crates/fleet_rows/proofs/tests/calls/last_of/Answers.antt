@@ -2,7 +2,7 @@ use Rattle.std.proofs.Common.{◌∙◌, ap}
 use Rattle.std.specs.Prelude.{slice_get}
 use Rattle.mely_fleet.specs.Frames.{shard_frame}
 use Rattle.mely_fleet.specs.Opening.{AreFirstPasses}
-use Rattle.fleet_rows.proofs.RowLaws.{each_but_last}
+use Rattle.fleet_rows.proofs.RowLemmas.{each_but_last}
 use Rattle.fleet_rows.proofs.tests.calls.last_of.Goals as goal
 
 pub returns-clause-rest : goal.returns-clause-rest

@@ -1,5 +1,5 @@
 use Rattle.std.proofs.Common.{◌≡◌, ◌≤◌, ◌+◌, ◌∷◌, ◌++◌, [], ◌∙◌, length, ap, refl, arith}
-use Rattle.fleet_rows.proofs.RowLaws.{tally_words, may_onward}
+use Rattle.fleet_rows.proofs.RowLemmas.{tally_words, may_onward}
 use Rattle.fleet_rows.proofs.tests.calls.run_and_finish.Goals as goal
 
 pub loop-event-preserved : goal.loop-event-preserved

@@ -1,6 +1,6 @@
 use Rattle.std.proofs.Common.{length}
 use Rattle.fleet_rows.specs.Callers.{MayFinish}
-use Rattle.fleet_rows.proofs.RowLaws.{tally_words}
+use Rattle.fleet_rows.proofs.RowLemmas.{tally_words}
 use Rattle.fleet_rows.proofs.tests.calls.run_and_finish.Given as goal
 
 abbrev pub invariant-loop-event : goal.invariant-loop-event

@@ -1,5 +1,5 @@
 use Rattle.std.proofs.Common.{arith}
-use Rattle.fleet_rows.proofs.RowLaws.{may_finish}
+use Rattle.fleet_rows.proofs.RowLemmas.{may_finish}
 use Rattle.fleet_rows.proofs.tests.calls.take.Goals as goal
 
 pub returns-clause-turn : goal.returns-clause-turn

@@ -1,4 +1,4 @@
-use Rattle.fleet_rows.proofs.RowLaws.{tally_words, may_still}
+use Rattle.fleet_rows.proofs.RowLemmas.{tally_words, may_still}
 use Rattle.fleet_rows.proofs.tests.calls.take_meanwhile.Goals as goal
 
 pub returns-in-Err-clause-turn : goal.returns-in-Err-clause-turn

@@ -2,7 +2,7 @@ use Rattle.std.proofs.Common.{◌≡◌, ◌∙◌, length, ap, sym, arith}
 use Rattle.std.specs.Prelude.{slice_get}
 use Rattle.std.proofs.lemmas.Option.{slice_get_within}
 use Rattle.mely_history.specs.Setup.{shape_of}
-use Rattle.fleet_rows.proofs.RowLaws.{caller_seat, written_back}
+use Rattle.fleet_rows.proofs.RowLemmas.{caller_seat, written_back}
 use Rattle.fleet_rows.proofs.tests.crowd.a_worker_whose_fellow_never_begins_gives_up_and_nothing_is_lost.Goals as goal
 
 pub act_all-requires-2-clause-callers : goal.act_all-requires-2-clause-callers

@@ -2,11 +2,11 @@ use Rattle.std.proofs.Common.{◌≡◌, ◌+◌, ◌<◌, ◌++◌, ◌∷◌, 
 use Rattle.std.specs.Prelude.{slice_get}
 use Rattle.std.specs.Vec.Iter.{into_iter_items}
 use Rattle.mely_history.specs.Setup.{shape_of}
-use Rattle.mely_weave.proofs.DealLaws.{each_push}
+use Rattle.mely_weave.proofs.Wholes.DealLemmas.{each_push}
 use Rattle.mely_weave.specs.Making.{first_rest}
-use Rattle.mely_fleet.proofs.OpeningLaws.{at_seam}
+use Rattle.mely_fleet.proofs.OpeningLemmas.{at_seam}
 use Rattle.fleet_rows.specs.Callers.{IsCaller}
-use Rattle.fleet_rows.proofs.RowLaws.{first_caller, tally_words}
+use Rattle.fleet_rows.proofs.RowLemmas.{first_caller, tally_words}
 use Rattle.fleet_rows.proofs.tests.crowd.callers_of.Goals as goal
 
 pub passes-preserved : goal.passes-preserved

@@ -1,11 +1,11 @@
 use Rattle.std.proofs.Common.{◌≡◌, ◌+◌, ◌≤◌, ◌++◌, ◌∷◌, [], length, ap, ◌∙◌, refl, sym, arith, subst, length-append}
 use Rattle.std.specs.Prelude.{slice_get}
 use Rattle.mely_history.specs.Setup.{shape_of}
-use Rattle.mely_weave.proofs.DealLaws.{each_push}
+use Rattle.mely_weave.proofs.Wholes.DealLemmas.{each_push}
 use Rattle.mely_fleet.specs.Frames.{shard_frame}
 use Rattle.mely_fleet.specs.Seats.{IsOutsider}
 use Rattle.fleet_rows.specs.Callers.{IsCaller}
-use Rattle.fleet_rows.proofs.RowLaws.{caller_outside, each_but_last}
+use Rattle.fleet_rows.proofs.RowLemmas.{caller_outside, each_but_last}
 use Rattle.fleet_rows.proofs.tests.crowd.part.Goals as goal
 
 pub part-preserved : goal.part-preserved

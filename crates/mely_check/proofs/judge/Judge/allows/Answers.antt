@@ -2,7 +2,7 @@ use Rattle.std.proofs.Common.{ap, sym, ◌∙◌, ◌%◌, ◌+◌, ℕ}
 use Rattle.std.proofs.lemmas.Bool.{false≢true}
 use Rattle.mely_event.specs.declared.colour.Colour.{Colour}
 use Rattle.mely_history.specs.Entries.{colour_of}
-use Rattle.mely_check.proofs.HearingLaws.{read_at, none_at, may_hear}
+use Rattle.mely_check.proofs.HearingLemmas.{read_at, none_at, may_hear}
 use Rattle.mely_check.proofs.judge.Judge.allows.Goals as goal
 
 pub returns-then-colour-shards : goal.returns-then-colour-shards

@@ -1,4 +1,4 @@
-use Rattle.mely_check.proofs.HearingLaws.{drained_more}
+use Rattle.mely_check.proofs.HearingLemmas.{drained_more}
 use Rattle.mely_check.proofs.judge.Judge.first_open.Goals as goal
 
 pub loop-colour-preserved : goal.loop-colour-preserved

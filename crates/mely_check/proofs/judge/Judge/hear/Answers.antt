@@ -5,7 +5,7 @@ use Rattle.mely_event.specs.declared.colour.Colour.{Colour}
 use Rattle.mely_history.specs.Entries.{colour_of}
 use Rattle.mely_check.specs.Judges.{Counts}
 use Rattle.mely_check.specs.declared.report.CoreReport.{CoreReport}
-use Rattle.mely_check.proofs.HearingLaws.{hears_heard, no_fault, read_at, kept_items}
+use Rattle.mely_check.proofs.HearingLemmas.{hears_heard, no_fault, read_at, kept_items}
 use Rattle.mely_check.proofs.judge.Judge.hear.Goals as goal
 
 pub returns : goal.returns

@@ -1,5 +1,5 @@
 use Rattle.std.proofs.Common.{refl}
-use Rattle.mely_check.proofs.HearingLaws.{none_at, drained_at}
+use Rattle.mely_check.proofs.HearingLemmas.{none_at, drained_at}
 use Rattle.mely_check.proofs.judge.Judge.is_drained.Goals as goal
 
 pub returns-in-Some : goal.returns-in-Some

@@ -3,7 +3,7 @@ use Rattle.std.specs.Prelude.{MatchBool}
 use Rattle.mely_check.specs.Reading.{Says}
 use Rattle.mely_check.specs.Walks.{MayStand, MayNotStand}
 use Rattle.mely_check.specs.declared.reading.Line.{Line}
-use Rattle.mely_check.proofs.StepLaws.{shard_step, entry_step}
+use Rattle.mely_check.proofs.StepLemmas.{shard_step, entry_step}
 use Rattle.mely_check.proofs.place.Place.goes_on.Goals as goal
 
 pub returns-in-Shard-clause-stands : goal.returns-in-Shard-clause-stands

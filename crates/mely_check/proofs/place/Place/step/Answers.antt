@@ -1,4 +1,4 @@
-use Rattle.mely_check.proofs.StepLaws.{none_step}
+use Rattle.mely_check.proofs.StepLemmas.{none_step}
 use Rattle.mely_check.proofs.place.Place.step.Goals as goal
 
 pub returns-in_err-said-clause-stands : goal.returns-in_err-said-clause-stands

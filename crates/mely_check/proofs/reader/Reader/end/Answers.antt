@@ -1,7 +1,7 @@
 use Rattle.std.proofs.Common.{sym, refl}
 use Rattle.std.proofs.lemmas.Bool.{false≢true}
-use Rattle.mely_check.proofs.EndLaws.{ends, ends_short}
-use Rattle.mely_check.proofs.ReaderLaws.{some_items, no_items}
+use Rattle.mely_check.proofs.EndLemmas.{ends, ends_short}
+use Rattle.mely_check.proofs.ReaderLemmas.{some_items, no_items}
 use Rattle.mely_check.proofs.reader.Reader.end.Goals as goal
 use Rattle.mely_check.proofs.reader.Reader.end.Goals.{then-not-is_empty-via-then-not-is_empty, then-not-is_empty-via-else-not-is_empty+then-not-is_whole}
 

@@ -2,7 +2,7 @@ use Rattle.std.proofs.Common.{refl, subst, ℕ, List}
 use Rattle.std.specs.Prelude.{MatchOption}
 use Rattle.mely_check.specs.Walks.{MayStand, MayNotStand}
 use Rattle.mely_check.specs.Judges.{HearsLine}
-use Rattle.mely_check.proofs.ReaderLaws.{heard_line, nothing_said, on_ok}
+use Rattle.mely_check.proofs.ReaderLemmas.{heard_line, nothing_said, on_ok}
 use Rattle.mely_check.proofs.reader.Reader.end_line.Goals as goal
 
 pub returns-in_default-clause-goes : goal.returns-in_default-clause-goes

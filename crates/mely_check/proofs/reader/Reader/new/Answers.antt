@@ -1,4 +1,4 @@
-use Rattle.mely_check.proofs.ReaderLaws.{knows_new}
+use Rattle.mely_check.proofs.ReaderLemmas.{knows_new}
 use Rattle.mely_check.proofs.reader.Reader.new.Goals as goal
 
 pub returns-clause-knows : goal.returns-clause-knows

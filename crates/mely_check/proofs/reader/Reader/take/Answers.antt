@@ -1,5 +1,5 @@
 use Rattle.std.proofs.Common.{◌≡◌, ◌++◌, ◌∷◌, [], ℕ, ◌+◌, ◌<◌, length, sym, ap, ◌∙◌, arith}
-use Rattle.mely_check.proofs.ReaderLaws.{pushed, line_too_long, line_ended, knows_byte, knows_line}
+use Rattle.mely_check.proofs.ReaderLemmas.{pushed, line_too_long, line_ended, knows_byte, knows_line}
 use Rattle.mely_check.proofs.reader.Reader.take.Goals as goal
 use Rattle.mely_check.proofs.reader.Reader.take.Goals.{else-byte-ne10-via-then-byte-ne10+else-len-eq-MAX_LINE, else-byte-ne10-via-else-byte-ne10}
 

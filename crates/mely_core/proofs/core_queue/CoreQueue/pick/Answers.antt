@@ -2,10 +2,10 @@ use Rattle.std.proofs.Common.{◌≡◌, ◌<◌, ◌≤◌, ℕ, List, Some, Al
 use Rattle.std.proofs.lemmas.Bool.{true≢false}
 use Rattle.mely_steal.specs.Marks.{mark_of, without}
 use Rattle.mely_steal.specs.Links.{dropped}
-use Rattle.mely_steal.specs.ColourLists.{Colours}
-use Rattle.mely_steal.proofs.StealLaws.{pick_of-none}
-use Rattle.mely_core.specs.Chains.{Chain, HoldTogether, chain_of}
-use Rattle.mely_core.proofs.ChainLaws.{marks_by, leave-holds, picked-there, none-worthy, no-pick}
+use Rattle.mely_steal.specs.ColourList.{ColourListState}
+use Rattle.mely_steal.proofs.StealLemmas.{pick_of-none}
+use Rattle.mely_core.specs.CoreQueue.{CoreQueueState, HoldTogether, chain_of}
+use Rattle.mely_core.proofs.ChainLemmas.{marks_by, leave-holds, picked-there, none-worthy, no-pick}
 use Rattle.mely_core.proofs.core_queue.CoreQueue.pick.Goals as goal
 
 pub returns-in_err-picked-clause-none : goal.returns-in_err-picked-clause-none
@@ -13,7 +13,7 @@ returns-in_err-picked-clause-none c =
     let q = c.self.inside in
     let held = c.self.invariant.0 in
     let worthy = (chain_of q.chain.list q.worthy).worthy in
-    let Idle : Chain → Type 0 = λ v. All (λ m. v.pinned ≤ m.colour.0 → m.worth ≤ v.cost) v.chain in
+    let Idle : CoreQueueState → Type 0 = λ v. All (λ m. v.pinned ≤ m.colour.0 → m.worth ≤ v.cost) v.chain in
     let idle = none-worthy q.worthy.cost q.worthy.pinned (marks_by q.worthy.told q.chain.list) worthy held.same held.apart (pick_of-none q.worthy.cost worthy held.worthy.worthy (sym c.in_err-picked.ensures.value)) in
     rw c.from_residual.ensures (λ _. subst Idle c.self.view_is idle, λ _. refl)
 
@@ -25,20 +25,20 @@ left c =
     let q = c.self.inside in
     let colour = c.in_ok-picked.picked.colour in
     let done = leave-holds q.chain.list q.worthy c.pick.new.self colour c.self.invariant.0 c.in_ok-picked.ensures.told c.in_ok-picked.ensures.worthy in
-    let list : c.remove.new.self.list ≡ dropped colour.0 q.chain.list = ap (λ (x : Colours). x.list) c.remove.ensures.after in
+    let list : c.remove.new.self.list ≡ dropped colour.0 q.chain.list = ap (λ (x : ColourListState). x.list) c.remove.ensures.after in
     let Done : List ℕ → Type 0 = λ xs. (chain_of xs c.pick.new.self ≡ record (chain_of q.chain.list q.worthy) { chain = without colour (marks_by q.worthy.told q.chain.list); worthy = without colour (chain_of q.chain.list q.worthy).worthy })
     × HoldTogether (chain_of xs c.pick.new.self) in
     subst Done (sym list) done
 
 pub invariant_of-self-2 : goal.invariant_of-self-2
-invariant_of-self-2 c = ((left c).1, ap (λ (x : Colours). x.colours) c.remove.ensures.after ∙ (c.self.invariant.1 ∙ sym c.in_ok-picked.ensures.same.colours))
+invariant_of-self-2 c = ((left c).1, ap (λ (x : ColourListState). x.colours) c.remove.ensures.after ∙ (c.self.invariant.1 ∙ sym c.in_ok-picked.ensures.same.colours))
 
 pub returns-clause-none : goal.returns-clause-none
 returns-clause-none c =
     let q = c.self.inside in
     let held = c.self.invariant.0 in
     let worthy = (chain_of q.chain.list q.worthy).worthy in
-    let Idle : Chain → Type 0 = λ v. All (λ m. v.pinned ≤ m.colour.0 → m.worth ≤ v.cost) v.chain in (
+    let Idle : CoreQueueState → Type 0 = λ v. All (λ m. v.pinned ≤ m.colour.0 → m.worth ≤ v.cost) v.chain in (
       λ never. absurd (true≢false never),
       λ all. absurd (no-pick q.worthy.cost q.worthy.pinned (marks_by q.worthy.told q.chain.list) worthy c.in_ok-picked.picked held.same held.worthy.apart (subst Idle (sym c.self.view_is) all) (sym c.in_ok-picked.ensures.value)),
     )
@@ -52,19 +52,19 @@ there c =
 pub returns-clause-chained : goal.returns-clause-chained
 returns-clause-chained c =
     let mark = c.in_ok-picked.picked in
-    let Chained : Chain → Type 0 = λ v. mark_of mark.colour v.chain ≡ Some mark in
+    let Chained : CoreQueueState → Type 0 = λ v. mark_of mark.colour v.chain ≡ Some mark in
     subst Chained c.self.view_is (there c).0
 
 pub returns-clause-paying : goal.returns-clause-paying
-returns-clause-paying c = let Paying : Chain → Type 0 = λ v. v.cost < c.in_ok-picked.picked.worth in subst Paying c.self.view_is (there c).1
+returns-clause-paying c = let Paying : CoreQueueState → Type 0 = λ v. v.cost < c.in_ok-picked.picked.worth in subst Paying c.self.view_is (there c).1
 
 pub returns-clause-unpinned : goal.returns-clause-unpinned
-returns-clause-unpinned c = let Loose : Chain → Type 0 = λ v. v.pinned ≤ c.in_ok-picked.picked.colour.0 in subst Loose c.self.view_is (there c).2
+returns-clause-unpinned c = let Loose : CoreQueueState → Type 0 = λ v. v.pinned ≤ c.in_ok-picked.picked.colour.0 in subst Loose c.self.view_is (there c).2
 
 pub returns-clause-rest : goal.returns-clause-rest
 returns-clause-rest c =
     let colour = c.in_ok-picked.picked.colour in
-    let Left : Chain → Type 0 = λ v. chain_of c.remove.new.self.list c.pick.new.self ≡ record v { chain = without colour v.chain; worthy = without colour v.worthy } in
+    let Left : CoreQueueState → Type 0 = λ v. chain_of c.remove.new.self.list c.pick.new.self ≡ record v { chain = without colour v.chain; worthy = without colour v.worthy } in
     subst Left c.self.view_is (left c).0
 
 pub returns-clause-together : goal.returns-clause-together

@@ -2,17 +2,17 @@ use Rattle.std.proofs.Common.{◌≡◌, ◌∷◌, [], ℕ, List, sym, ap, subs
 use Rattle.mely_event.specs.declared.mark.Mark.{Mark}
 use Rattle.mely_steal.specs.Marks.{without}
 use Rattle.mely_steal.specs.Links.{dropped}
-use Rattle.mely_steal.specs.ColourLists.{Colours}
-use Rattle.mely_steal.specs.Tables.{worthy_of, mark_in}
-use Rattle.mely_core.specs.Chains.{Chain, HoldTogether, chain_of}
-use Rattle.mely_core.proofs.ChainLaws.{marks_by, front-none, front-holds, leave-holds}
+use Rattle.mely_steal.specs.ColourList.{ColourListState}
+use Rattle.mely_steal.specs.StealTable.{worthy_of, mark_in}
+use Rattle.mely_core.specs.CoreQueue.{CoreQueueState, HoldTogether, chain_of}
+use Rattle.mely_core.proofs.ChainLemmas.{marks_by, front-none, front-holds, leave-holds}
 use Rattle.mely_core.proofs.core_queue.CoreQueue.pop.Goals as goal
 
 pub returns-in_err-colour-clause-front : goal.returns-in_err-colour-clause-front
 returns-in_err-colour-clause-front c =
     let q = c.self.inside in
     let empty = front-none q.worthy.told q.chain.list c.first.result c.in_err-colour.was c.first.ensures.value in
-    let Empty : Chain → Type 0 = λ v. v.chain ≡ [] in
+    let Empty : CoreQueueState → Type 0 = λ v. v.chain ≡ [] in
     rw c.from_residual.ensures (subst Empty c.self.view_is empty)
 
 left : (c : goal.After-remove-2) → (chain_of c.remove.new.self.list c.remove-2.new.self ≡ record (chain_of c.self.inside.chain.list c.self.inside.worthy) {
@@ -23,24 +23,24 @@ left c =
     let q = c.self.inside in
     let colour = c.in_ok-colour.colour in
     let done = leave-holds q.chain.list q.worthy c.remove-2.new.self colour c.self.invariant.0 c.remove-2.ensures.told c.remove-2.ensures.worthy in
-    let list : c.remove.new.self.list ≡ dropped colour.0 q.chain.list = ap (λ (x : Colours). x.list) c.remove.ensures.after in
+    let list : c.remove.new.self.list ≡ dropped colour.0 q.chain.list = ap (λ (x : ColourListState). x.list) c.remove.ensures.after in
     let Done : List ℕ → Type 0 = λ xs. (chain_of xs c.remove-2.new.self ≡ record (chain_of q.chain.list q.worthy) { chain = without colour (marks_by q.worthy.told q.chain.list); worthy = without colour (chain_of q.chain.list q.worthy).worthy })
     × HoldTogether (chain_of xs c.remove-2.new.self) in
     subst Done (sym list) done
 
 pub invariant_of-self : goal.invariant_of-self
-invariant_of-self c = ((left c).1, ap (λ (x : Colours). x.colours) c.remove.ensures.after ∙ (c.self.invariant.1 ∙ sym c.remove-2.ensures.same.colours))
+invariant_of-self c = ((left c).1, ap (λ (x : ColourListState). x.colours) c.remove.ensures.after ∙ (c.self.invariant.1 ∙ sym c.remove-2.ensures.same.colours))
 
 pub returns-clause-front : goal.returns-clause-front
 returns-clause-front c =
     let q = c.self.inside in
     let colour = c.in_ok-colour.colour in
-    let list : c.remove.new.self.list ≡ dropped colour.0 q.chain.list = ap (λ (x : Colours). x.list) c.remove.ensures.after in
+    let list : c.remove.new.self.list ≡ dropped colour.0 q.chain.list = ap (λ (x : ColourListState). x.list) c.remove.ensures.after in
     let front : marks_by q.worthy.told q.chain.list ≡ mark_in q.worthy.told colour.0 ∷ marks_by q.worthy.told (dropped colour.0 q.chain.list) =
     front-holds q.worthy.told q.chain.list c.first.result colour c.self.invariant.0.apart c.in_ok-colour.was c.first.ensures.value in
     let rest : marks_by q.worthy.told (dropped colour.0 q.chain.list) ≡ marks_by c.remove-2.new.self.told c.remove.new.self.list =
     ap (λ t. marks_by t (dropped colour.0 q.chain.list)) (sym c.remove-2.ensures.told) ∙ ap (marks_by c.remove-2.new.self.told) (sym list) in
-    let Front : Chain → Type 0 = λ v. v.chain ≡ c.mark-mark.result ∷ marks_by c.remove-2.new.self.told c.remove.new.self.list in
+    let Front : CoreQueueState → Type 0 = λ v. v.chain ≡ c.mark-mark.result ∷ marks_by c.remove-2.new.self.told c.remove.new.self.list in
     subst Front c.self.view_is
     (front ∙ (ap (λ k. k ∷ marks_by q.worthy.told (dropped colour.0 q.chain.list)) (sym c.mark-mark.ensures.value) ∙ ap (λ ys. c.mark-mark.result ∷ ys) rest))
 
@@ -52,7 +52,7 @@ returns-clause-rest c =
     let w : worthy_of c.remove-2.new.self ≡ record (worthy_of q.worthy) { marks = without c.mark-mark.result.colour (worthy_of q.worthy).marks } =
     c.remove-2.ensures.worthy ∙ ap (λ x. record (worthy_of q.worthy) { marks = without x (worthy_of q.worthy).marks }) same in
     let now = chain_of c.remove.new.self.list c.remove-2.new.self in
-    let Rest : Chain → Type 0 = λ v. now ≡ record v { chain = now.chain; worthy = without c.mark-mark.result.colour v.worthy } in
+    let Rest : CoreQueueState → Type 0 = λ v. now ≡ record v { chain = now.chain; worthy = without c.mark-mark.result.colour v.worthy } in
     subst Rest c.self.view_is (λ i. record { chain = now.chain; worthy = (w i).marks; colours = (w i).colours; cost = (w i).cost; pinned = (w i).pinned })
 
 pub returns-clause-together : goal.returns-clause-together

@@ -2,16 +2,16 @@ use Rattle.std.proofs.Common.{◌≡◌, ◌<◌, Some, Option, None, MatchOptio
 use Rattle.std.proofs.lemmas.Bool.{cond-true, eq-eqb}
 use Rattle.mely_event.specs.declared.mark.Mark.{Mark}
 use Rattle.mely_steal.specs.Marks.{mark_of, replaced}
-use Rattle.mely_steal.specs.Stealing.{changed}
-use Rattle.mely_steal.proofs.MarkLaws.{mark_of-same, mark_of-colour}
-use Rattle.mely_core.specs.Chains.{Chain, HoldTogether, chain_of, raised, told_of}
-use Rattle.mely_core.proofs.ChainLaws.{marks_by, told-holds}
+use Rattle.mely_steal.specs.StealQueue.{changed}
+use Rattle.mely_steal.proofs.MarkLemmas.{mark_of-same, mark_of-colour}
+use Rattle.mely_core.specs.CoreQueue.{CoreQueueState, HoldTogether, chain_of, raised, told_of}
+use Rattle.mely_core.proofs.ChainLemmas.{marks_by, told-holds}
 use Rattle.mely_core.proofs.core_queue.CoreQueue.retell.Goals as goal
 
 pub change-requires : goal.change-requires
 change-requires c =
     let same : c.in-Some.mark.colour.0 ≡ c.args.colour.0 = mark_of-colour c.args.colour c.args.self.now.chain c.in-Some.mark (sym c.in-Some.ensures) in
-    let Below : Chain → Type 0 = λ v. c.in-Some.mark.colour.0 < v.colours in
+    let Below : CoreQueueState → Type 0 = λ v. c.in-Some.mark.colour.0 < v.colours in
     subst Below (sym c.self.view_is) (rw same c.requires)
 
 holds : (c : goal.After-change) → (chain_of c.self.inside.chain.list c.change.new.self ≡ record (chain_of c.self.inside.chain.list c.self.inside.worthy) {
@@ -23,8 +23,8 @@ holds c =
     let mark = c.in-Some.mark in
     let told : Mark = record { colour = mark.colour; started = mark.started; worth = c.max.result } in
     let same : mark.colour.0 ≡ c.args.colour.0 = mark_of-colour c.args.colour c.args.self.now.chain mark (sym c.in-Some.ensures) in
-    let Below : Chain → Type 0 = λ v. told.colour.0 < v.colours in
-    let There : Chain → Type 0 = λ v. mark_of told.colour v.chain ≡ Some mark in
+    let Below : CoreQueueState → Type 0 = λ v. told.colour.0 < v.colours in
+    let There : CoreQueueState → Type 0 = λ v. mark_of told.colour v.chain ≡ Some mark in
     let there : mark_of told.colour c.args.self.now.chain ≡ Some mark = mark_of-same told.colour c.args.colour c.args.self.now.chain same ∙ sym c.in-Some.ensures in
     told-holds q.chain.list q.worthy c.change.new.self told mark c.self.invariant.0 (subst Below (sym c.self.view_is) (rw same c.requires)) (subst There (sym c.self.view_is) there) c.change.ensures.told c.change.ensures.worthy
 
@@ -40,7 +40,7 @@ returns-in-Some-clause-told c =
     ap (raised c.args.started c.args.worth) (sym c.in-Some.ensures)
     ∙ (cond-true (eqb mark.started c.args.started) (Some (record mark { worth = max mark.worth c.args.worth })) None (eq-eqb mark.started c.args.started c.if-mark-started.true)
     ∙ ap (λ w. Some (record mark { worth = w })) (sym c.max.ensures)) in
-    let Told : Chain → Type 0 = λ v. now ≡ record v { chain = replaced told v.chain; worthy = changed v.cost v.pinned told v.worthy } in
+    let Told : CoreQueueState → Type 0 = λ v. now ≡ record v { chain = replaced told v.chain; worthy = changed v.cost v.pinned told v.worthy } in
     let At : Option Mark → Type 0 = λ o. MatchOption o (now ≡ c.args.self.now) (λ m. now ≡ record c.args.self.now { chain = replaced m c.args.self.now.chain; worthy = changed c.args.self.now.cost c.args.self.now.pinned m c.args.self.now.worthy }) in
     subst At (sym is) (subst Told c.self.view_is (holds c).0)
 

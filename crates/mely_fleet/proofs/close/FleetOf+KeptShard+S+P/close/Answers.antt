@@ -4,10 +4,10 @@ use Rattle.std.proofs.lemmas.Option.{slice_get_within}
 use Rattle.mely_history.specs.Setup.{shape_of}
 use Rattle.mely_history.specs.Legal.{IsLegal}
 use Rattle.mely_weave.specs.Gathering.{MayGather}
-use Rattle.mely_weave.proofs.GatherLaws.{get_there}
+use Rattle.mely_weave.proofs.Wholes.GatherLemmas.{get_there}
 use Rattle.mely_fleet.specs.Fleets.{frame_in}
 use Rattle.mely_fleet.specs.Frames.{shard_frame, chain_frame}
-use Rattle.mely_fleet.proofs.GatherClosed.{columns_have_all, owner_of_pass, finished_at, shard_gathers, chain_gathers, closed_over, left_by_others}
+use Rattle.mely_fleet.proofs.GatherClosedLemmas.{columns_have_all, owner_of_pass, finished_at, shard_gathers, chain_gathers, closed_over, left_by_others}
 use Rattle.mely_fleet.proofs.close.FleetOf+KeptShard+S+P.close.Goals as goal
 
 pub hand_in_all-requires-clause-shards : goal.hand_in_all-requires-clause-shards

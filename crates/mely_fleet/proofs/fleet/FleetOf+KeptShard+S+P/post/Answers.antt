@@ -1,5 +1,5 @@
 use Rattle.std.proofs.Common.{Ok}
-use Rattle.mely_fleet.proofs.Siding.{names_core}
+use Rattle.mely_fleet.proofs.SideLemmas.{names_core}
 use Rattle.mely_fleet.proofs.fleet.FleetOf+KeptShard+S+P.post.Goals as goal
 
 pub deliver-requires-clause-may : goal.deliver-requires-clause-may

@@ -2,7 +2,7 @@ use Rattle.std.proofs.Common.{◌<◌, sym, ap, subst}
 use Rattle.mely_fleet.specs.declared.kept_chain.ChainFrame.{ChainFrame}
 use Rattle.mely_fleet.specs.Chains.{RetellsAt}
 use Rattle.mely_fleet.specs.Frames.{shard_frame}
-use Rattle.mely_fleet.proofs.Calling.{may_enter, numbers_are, are_still, reaches}
+use Rattle.mely_fleet.proofs.CallLemmas.{may_enter, numbers_are, are_still, reaches}
 use Rattle.mely_fleet.proofs.fleet.FleetOf+KeptShard+S+P.retell.Goals as goal
 
 pub retell_at-is_found-requires-clause-pass : goal.retell_at-is_found-requires-clause-pass

@@ -1,16 +1,16 @@
 use Rattle.std.proofs.Common.{◌≡◌, ◌+◌, ◌≤◌, ◌∙◌, [], ap, subst, sym, refl, arith}
 use Rattle.std.proofs.lemmas.Option.{slice_get_within, get_or_from_slice_get}
 use Rattle.mely_history.specs.Setup.{colours_of}
-use Rattle.mely_shard.specs.Contents.{givens}
-use Rattle.mely_weave.proofs.GatherLaws.{get_there}
-use Rattle.mely_weave.proofs.MakeLaws.{first_piles}
-use Rattle.mely_core.specs.Chains.{empty_core}
+use Rattle.mely_shard.specs.Shard.{givens}
+use Rattle.mely_weave.proofs.Wholes.GatherLemmas.{get_there}
+use Rattle.mely_weave.proofs.Wholes.MakeLemmas.{first_piles}
+use Rattle.mely_core.specs.CoreQueue.{empty_core}
 use Rattle.mely_fleet.specs.declared.kept_chain.ChainFrame.{ChainFrame}
 use Rattle.mely_fleet.specs.Frames.{HaveFrame, shard_frame, chain_frame, numbers_of}
 use Rattle.mely_fleet.specs.Rows.{ArePassesOf, AreFramed}
 use Rattle.mely_fleet.specs.Fleets.{frame_for}
 use Rattle.mely_fleet.specs.Dealing.{IsFirstRow}
-use Rattle.mely_fleet.proofs.OpeningLaws.{shard_framed, shard_is_first, shards_framed, first_frame, chains_framed, kept_empty, chains_untouched, all_here, all_unseen}
+use Rattle.mely_fleet.proofs.OpeningLemmas.{shard_framed, shard_is_first, shards_framed, first_frame, chains_framed, kept_empty, chains_untouched, all_here, all_unseen}
 use Rattle.mely_fleet.proofs.opening.FleetOf+KeptShard+S+P.new.Goals as goal
 
 pub shards_of-requires-clause-first : goal.shards_of-requires-clause-first

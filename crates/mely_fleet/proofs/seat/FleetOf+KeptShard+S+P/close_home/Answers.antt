@@ -2,7 +2,7 @@ use Rattle.std.proofs.Common.{◌≡◌, ◌+◌, ◌++◌, ◌≤◌, ◌<◌, 
 use Rattle.std.specs.Prelude.{IsSome, option_map, IsTrue, slice_get}
 use Rattle.std.proofs.lemmas.List.{length-map}
 use Rattle.mely_history.specs.Setup.{shape_of}
-use Rattle.mely_worker.specs.Rest.{woken}
+use Rattle.mely_worker.specs.IdleWorker.{resumed_worker}
 use Rattle.mely_worker.specs.Phase.{is_free}
 use Rattle.mely_weave.specs.Gathering.{MayGatherWorker}
 use Rattle.mely_weave.specs.Dealing.{AtEach}
@@ -10,7 +10,7 @@ use Rattle.mely_fleet.specs.Closed.{IsClosedOver, IsLeftByOthers}
 use Rattle.mely_fleet.specs.Frames.{shard_frame}
 use Rattle.mely_fleet.specs.Fleets.{ArePasses, frame_in}
 use Rattle.mely_fleet.specs.Work.{HasFinishedBut, standpoint}
-use Rattle.mely_fleet.proofs.Seating.{each_append, each_mapped, seated_worker, some_mapped}
+use Rattle.mely_fleet.proofs.SeatLemmas.{each_append, each_mapped, seated_worker, some_mapped}
 use Rattle.mely_fleet.proofs.seat.FleetOf+KeptShard+S+P.close_home.Goals as goal
 
 pub leave_all-callers-requires-clause-rest : goal.leave_all-callers-requires-clause-rest
@@ -52,7 +52,7 @@ close-requires-clause-finished g c = λ n own at.
 pub close-requires-clause-worker_count : goal.close-requires-clause-worker_count
 close-requires-clause-worker_count g c =
     let rested = c.leave_all-callers.result.1.items in
-    ap length c.wake_all-workers.ensures ∙ length-map rested (λ rest. woken rest) ∙ sym (length-map rested (λ rest. Some rest)) ∙ ap length c.leave_all-callers.ensures.rested ∙ length-map c.args.seats.items (λ seat. seat.worker) ∙ c.requires.cores
+    ap length c.wake_all-workers.ensures ∙ length-map rested (λ rest. resumed_worker rest) ∙ sym (length-map rested (λ rest. Some rest)) ∙ ap length c.leave_all-callers.ensures.rested ∙ length-map c.args.seats.items (λ seat. seat.worker) ∙ c.requires.cores
 
 pub close-requires-clause-workers : goal.close-requires-clause-workers
 close-requires-clause-workers g c = λ n w at.
@@ -67,9 +67,9 @@ returns-clause-left g c = subst (λ l. AtEach (λ k has. IsLeftByOthers c.args.s
 pub returns-clause-free : goal.returns-clause-free
 returns-clause-free g c =
     subst (λ ws. AtEach (λ core w. IsTrue (is_free w.phase)) ws) (sym (c.close.ensures.workers ∙ c.wake_all-workers.ensures))
-    (each_mapped (λ w. IsTrue (is_free w.phase)) (λ rest. woken rest) c.leave_all-callers.result.1.items (λ i x is. refl))
+    (each_mapped (λ w. IsTrue (is_free w.phase)) (λ rest. resumed_worker rest) c.leave_all-callers.result.1.items (λ i x is. refl))
 
 pub returns-clause-workers : goal.returns-clause-workers
 returns-clause-workers g c =
     let rested = c.leave_all-callers.result.1.items in
-    ap (map (λ w. Some w)) (c.close.ensures.workers ∙ c.wake_all-workers.ensures) ∙ some_mapped (λ rest. woken rest) rested ∙ ap (map (option_map (λ rest. woken rest))) c.leave_all-callers.ensures.rested
+    ap (map (λ w. Some w)) (c.close.ensures.workers ∙ c.wake_all-workers.ensures) ∙ some_mapped (λ rest. resumed_worker rest) rested ∙ ap (map (option_map (λ rest. resumed_worker rest))) c.leave_all-callers.ensures.rested

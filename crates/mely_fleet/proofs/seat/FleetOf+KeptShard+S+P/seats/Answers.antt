@@ -1,10 +1,10 @@
 use Rattle.std.proofs.Common.{◌≡◌, ◌∙◌, Some, ap, sym, subst, arith}
 use Rattle.std.proofs.lemmas.Option.{slice_get_within}
-use Rattle.mely_weave.proofs.GatherLaws.{get_there}
+use Rattle.mely_weave.proofs.Wholes.GatherLemmas.{get_there}
 use Rattle.mely_weave.specs.Making.{first_rest}
 use Rattle.mely_fleet.specs.Frames.{shard_frame}
 use Rattle.mely_fleet.specs.Opening.{AreFirstPasses}
-use Rattle.mely_fleet.proofs.Seating.{first_seat}
+use Rattle.mely_fleet.proofs.SeatLemmas.{first_seat}
 use Rattle.mely_fleet.proofs.seat.FleetOf+KeptShard+S+P.seats.Goals as goal
 
 pub returns-clause-each : goal.returns-clause-each

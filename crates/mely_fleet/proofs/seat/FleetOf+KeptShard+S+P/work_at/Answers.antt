@@ -1,5 +1,5 @@
 use Rattle.std.proofs.Common.{◌∙◌, sym}
-use Rattle.mely_fleet.proofs.Seating.{seat_may, seat_back}
+use Rattle.mely_fleet.proofs.SeatLemmas.{seat_may, seat_back}
 use Rattle.mely_fleet.proofs.seat.FleetOf+KeptShard+S+P.work_at.Goals as goal
 
 pub work-worked-requires-clause-may : goal.work-worked-requires-clause-may

@@ -1,6 +1,6 @@
 use Rattle.mely_fleet.specs.Frames.{shard_frame}
 use Rattle.mely_fleet.specs.Work.{standpoint}
-use Rattle.mely_fleet.proofs.WorkLaws.{works_free}
+use Rattle.mely_fleet.proofs.WorkLemmas.{works_free}
 use Rattle.mely_fleet.proofs.working.FleetOf+KeptShard+S+P.pause.Goals as goal
 
 pub returns-then-are_drained-clause-quiet : goal.returns-then-are_drained-clause-quiet

@@ -1,5 +1,5 @@
 use Rattle.std.proofs.Common.{sym, ap, ◌∙◌, refl, length, Some}
-use Rattle.mely_lock.proofs.Calls.{may_put, go_out}
+use Rattle.mely_lock.proofs.CallsLemmas.{may_put, go_out}
 use Rattle.mely_lock.proofs.held.Held.leave.Goals as goal
 
 pub put_back-requires-clause-inside : goal.put_back-requires-clause-inside

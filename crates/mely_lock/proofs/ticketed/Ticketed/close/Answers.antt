@@ -4,8 +4,8 @@ use Rattle.mely_lock.specs.Seen.{OthersSince}
 use Rattle.mely_lock.specs.Words.{front, IsPassOf, IsOutside}
 use Rattle.mely_lock.specs.declared.claim.Claim.{Claim}
 use Rattle.mely_lock.specs.declared.pass.Pass.{Pass}
-use Rattle.mely_lock.proofs.SeenLaws.{since_own}
-use Rattle.mely_lock.proofs.Lists.{All-at, Each-at, get_or_at, some_passes}
+use Rattle.mely_lock.proofs.SeenLemmas.{since_own}
+use Rattle.mely_lock.proofs.ListsLemmas.{All-at, Each-at, get_or_at, some_passes}
 use Rattle.mely_lock.proofs.ticketed.Ticketed.close.Goals as goal
 
 pub gather-seat-requires-clause-each : goal.gather-seat-requires-clause-each

@@ -1,7 +1,7 @@
 use Rattle.std.proofs.Common.{sym, ap, ◌∙◌, refl, length, subst}
 use Rattle.mely_lock.specs.Seen.{OthersSince}
 use Rattle.mely_lock.specs.Words.{front}
-use Rattle.mely_lock.proofs.Calls.{as_waiting, come_in}
+use Rattle.mely_lock.proofs.CallsLemmas.{as_waiting, come_in}
 use Rattle.mely_lock.proofs.ticketed.Ticketed.enter.Goals as goal
 
 pub go_in-value-requires-clause-outside : goal.go_in-value-requires-clause-outside

@@ -2,8 +2,8 @@ use Rattle.std.proofs.Common.{ap, ◌∙◌, sym, ◌++◌, ◌∷◌, [], Some,
 use Rattle.mely_lock.specs.Rule.{Locked}
 use Rattle.mely_lock.specs.Views.{first_view}
 use Rattle.atomic_table.specs.Table.{opening}
-use Rattle.mely_lock.proofs.Keeps.{opens}
-use Rattle.mely_lock.proofs.Lists.{get_or_at, at_place}
+use Rattle.mely_lock.proofs.KeepsLemmas.{opens}
+use Rattle.mely_lock.proofs.ListsLemmas.{get_or_at, at_place}
 use Rattle.mely_lock.proofs.ticketed.Ticketed.new.Goals as goal
 
 pub new-requires : goal.new-requires

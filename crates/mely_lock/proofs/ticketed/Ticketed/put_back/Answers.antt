@@ -1,6 +1,6 @@
 use Rattle.std.proofs.Common.{arith, ap, ◌∙◌, refl, Some, None}
 use Rattle.mely_lock.specs.Steps.{having_seen}
-use Rattle.mely_lock.proofs.Calls.{notes_at, leaves_at, put_in, as_seen, went_out}
+use Rattle.mely_lock.proofs.CallsLemmas.{notes_at, leaves_at, put_in, as_seen, went_out}
 use Rattle.mely_lock.proofs.ticketed.Ticketed.put_back.Goals as goal
 use Rattle.mely_lock.proofs.ticketed.Ticketed.put_back.Goals.{then-grown, else-grown}
 

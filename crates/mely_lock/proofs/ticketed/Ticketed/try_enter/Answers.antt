@@ -1,5 +1,5 @@
 use Rattle.std.proofs.Common.{arith, ℕ, ◌+◌, sym, ap, ◌∙◌}
-use Rattle.mely_lock.proofs.Calls.{tries_at, has_slot, came_in}
+use Rattle.mely_lock.proofs.CallsLemmas.{tries_at, has_slot, came_in}
 use Rattle.mely_lock.proofs.ticketed.Ticketed.try_enter.Goals as goal
 
 pub compare_exchange-found-requires : goal.compare_exchange-found-requires

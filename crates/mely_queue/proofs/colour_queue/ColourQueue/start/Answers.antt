@@ -1,5 +1,5 @@
 use Rattle.std.proofs.Common.{refl}
-use Rattle.mely_queue.proofs.Fronts.{kept_after_take}
+use Rattle.mely_queue.proofs.FrontsLemmas.{kept_after_take}
 use Rattle.mely_queue.proofs.colour_queue.ColourQueue.start.Goals as goal
 
 pub invariant_of-self : goal.invariant_of-self

@@ -1,4 +1,4 @@
-use Rattle.mely_shard.proofs.OnceLaws.{stands_once}
+use Rattle.mely_shard.proofs.OnceLemmas.{stands_once}
 use Rattle.mely_shard.proofs.shard.Shard.events_stand_once.Goals as goal
 
 pub returns : goal.returns

@@ -3,25 +3,25 @@ use Rattle.std.specs.Prelude.{slice_get, reverse}
 use Rattle.std.proofs.lemmas.List.{map-set, append-nil, reverse-reverse}
 use Rattle.std.proofs.Math.ListN.{set}
 use Rattle.mely_history.specs.Setup.{shape_of, colours_of}
-use Rattle.mely_history.specs.Account.{account_of}
+use Rattle.mely_history.specs.ColourAccount.{account_of}
 use Rattle.mely_history.specs.Legal.{IsRunningOn}
 use Rattle.mely_history.specs.declared.entry.Entry.TheVariants.{Fin}
-use Rattle.mely_shard.specs.Kept.{CellStands, lane_of}
-use Rattle.mely_shard.proofs.Registering.{cell_there, lane_there}
-use Rattle.mely_shard.proofs.Finishing.{finish_whole, running_positive, kept_finished, told_finished}
-use Rattle.mely_shard.proofs.Cells.{has_room_set}
-use Rattle.mely_shard.proofs.Exposing.{kept_contents, givens_set, given_there}
+use Rattle.mely_shard.specs.Invariant.{CellStands, lane_of}
+use Rattle.mely_shard.proofs.RegisterLemmas.{cell_there, lane_there}
+use Rattle.mely_shard.proofs.FinishLemmas.{finish_whole, running_positive, kept_finished, told_finished}
+use Rattle.mely_shard.proofs.SlotLemmas.{has_room_set}
+use Rattle.mely_shard.proofs.ExposeLemmas.{kept_contents, givens_set, given_there}
 use Rattle.mely_shard.proofs.shard.Shard.finish.Goals as goal
-use Rattle.mely_shard.proofs.shard.Shard.finish.Goals.{After-shards, After-index_mut}
+use Rattle.mely_shard.proofs.shard.Shard.finish.Goals.{After-push_reserved-arg-1, After-index_mut}
 
 -- the colour of the turn runs on it, so its state is away
-record Away (g : _) (c : After-shards g) : Type 0 where
+record Away (g : _) (c : After-push_reserved-arg-1 g) : Type 0 where
   pub there : c.args.turn.colour.0 < colours_of c.self.inside.setup
   pub here : c.args.turn.colour.0 % (shape_of c.self.inside.setup).shards ≡ c.self.inside.shard
   pub runs : IsRunningOn c.self.inside.history.items c.args.turn.colour c.args.turn.core c.args.turn.count
   pub some : 1 ≤ c.self.inside.running
 
-away : (g : _) (c : After-shards g) → Away g c
+away : (g : _) (c : After-push_reserved-arg-1 g) → Away g c
 away g c =
     let own = rw (← c.self.view_is) at c.requires.own in
     let runs = rw (← c.self.view_is) at c.requires.stands.away in
@@ -44,7 +44,7 @@ found g c =
     let own = rw (← c.self.view_is) at c.requires.own in
     let cells = c.self.inside.cells.items in
     let cell = c.index_mut.result.now in
-    let is = c.index_mut.ensures.value ∙ ap (λ k. get_or cells (k.0 / c.shards.result) cell) c.colour-colour.ensures ∙ ap (λ n. get_or cells (c.args.turn.colour.0 / n) cell) c.shards.ensures.value in
+    let is = c.index_mut.ensures.value ∙ ap (λ n. get_or cells n cell) c.place_of-place.ensures ∙ ap (λ k. get_or cells (k.0 / (shape_of c.self.inside.setup).shards) cell) c.colour-colour.ensures in
     record {
       is = is;
       lane = lane_there c.self.invariant.0 c.args.turn.colour cell own.there own.here is;
@@ -54,28 +54,28 @@ found g c =
 
 pub index_mut-requires : goal.index_mut-requires
 index_mut-requires g c =
-    let a = away g (goal.at.index_mut-requires g c).After-shards in
+    let a = away g (goal.at.index_mut-requires g c).After-push_reserved-arg-1 in
     let there = c.self.invariant.0.whole c.args.turn.colour.0 a.there a.here in
-    rw (c.colour-colour.ensures, c.shards.ensures.value) (omega (arith, there, c.self.inside.cells.ok.0))
+    rw (c.place_of-place.ensures, c.colour-colour.ensures) (omega (arith, there, c.self.inside.cells.ok.0))
 
 pub finish-requires : goal.finish-requires
 finish-requires g c =
-    let a = away g (goal.at.finish-requires g c).After-shards in
+    let a = away g (goal.at.finish-requires g c).After-push_reserved-arg-1 in
     let f = found g (goal.at.finish-requires g c).After-index_mut in
     let whole = finish_whole c.self.invariant.0 c.args.turn.colour c.args.turn.core c.args.turn.count c.index_mut.result.now f.stands a.runs in
     omega (arith, whole.1, f.stands.started, f.stands.finished, c.count-count.ensures)
 
 pub overflow_sub-self : goal.overflow_sub-self
-overflow_sub-self g c = (away g (goal.at.overflow_sub-self g c).After-shards).some
+overflow_sub-self g c = (away g (goal.at.overflow_sub-self g c).After-push_reserved-arg-1).some
 
 pub push_reserved-requires : goal.push_reserved-requires
 push_reserved-requires g c =
-    let a = away g (goal.at.push_reserved-requires g c).After-shards in
+    let a = away g (goal.at.push_reserved-requires g c).After-push_reserved-arg-1 in
     omega (arith, a.some, c.self.invariant.0.room, c.self.inside.history.ok.0)
 
 pub invariant_of-self : goal.invariant_of-self
 invariant_of-self g c =
-    let a = away g (goal.at.invariant_of-self g c).After-shards in
+    let a = away g (goal.at.invariant_of-self g c).After-push_reserved-arg-1 in
     let f = found g (goal.at.invariant_of-self g c).After-index_mut in
     let cell = c.index_mut.result.now in
     let i = c.args.turn.colour.0 / (shape_of c.self.inside.setup).shards in
@@ -85,7 +85,7 @@ invariant_of-self g c =
     let kept = kept_finished c.self.invariant.0 c.args.turn.colour c.args.turn.core c.args.turn.count c.args.turn.state cell a.there a.here f.is a.runs c.requires.stands.coloured (of_frame i cell.given.value (given_there (map lane_of c.self.inside.cells.items) i (lane_of cell) f.lane)) of_trail in
     let emptied = c.into_parts-state.result.1.items in
     let none : emptied ≡ [] = sym (reverse-reverse emptied) ∙ ap reverse (c.into_parts-state.ensures.left ∙ c.requires.spent) in
-    rw (f.history, c.push_reserved.ensures.capacity, c.finish.ensures.cell, c.into_parts-state.ensures.state, c.colour-colour.ensures, c.count-count.ensures, c.shards.ensures.value) (kept.1, has_room_set _ _ _ _ _ _ _ c.self.invariant.1, none)
+    rw (f.history, c.push_reserved.ensures.capacity, c.finish.ensures.cell, c.into_parts-state.ensures.state, c.place_of-place.ensures, c.colour-colour.ensures, c.count-count.ensures) (kept.1, has_room_set _ _ _ _ _ _ _ c.self.invariant.1, none)
 
 pub returns-clause-home : goal.returns-clause-home
 returns-clause-home g c =
@@ -99,7 +99,7 @@ returns-clause-home g c =
         same_setup = refl;
         same_shard = refl;
         history = f.history;
-        lanes = rw (c.colour-colour.ensures, c.shards.ensures.value) (map-set lane_of cells i c.finish.new.self ∙ ap (λ b. set (map lane_of cells) i (lane_of b)) c.finish.ensures.cell ∙ rw c.into_parts-state.ensures.state refl);
+        lanes = rw (c.place_of-place.ensures, c.colour-colour.ensures) (map-set lane_of cells i c.finish.new.self ∙ ap (λ b. set (map lane_of cells) i (lane_of b)) c.finish.ensures.cell ∙ rw c.into_parts-state.ensures.state refl);
       };
     })
 
@@ -111,7 +111,7 @@ returns-clause-reply g c =
 
 pub returns-clause-spare_stays : goal.returns-clause-spare_stays
 returns-clause-spare_stays g c =
-    let a = away g (goal.at.returns-clause-spare_stays g c).After-shards in
+    let a = away g (goal.at.returns-clause-spare_stays g c).After-push_reserved-arg-1 in
     let f = found g (goal.at.returns-clause-spare_stays g c).After-index_mut in
     let longer : length c.push_reserved.new.self.items ≡ length c.self.inside.history.items + 1 = ap length f.history ∙ length-append c.self.inside.history.items (Fin c.args.turn.colour c.args.turn.core c.args.turn.count ∷ []) in
     rw (← c.self.view_is, c.push_reserved.ensures.capacity) (omega (arith, a.some, longer))

@@ -1,4 +1,4 @@
-use Rattle.mely_shard.proofs.Exposing.{kept_contents}
+use Rattle.mely_shard.proofs.ExposeLemmas.{kept_contents}
 use Rattle.mely_shard.proofs.shard.Shard.history.Goals as goal
 
 pub returns-clause-kept : goal.returns-clause-kept

@@ -1,7 +1,7 @@
-use Rattle.mely_shard.specs.Kept.{lane_of}
+use Rattle.mely_shard.specs.Invariant.{lane_of}
 use Rattle.std.proofs.Common.{◌≡◌, ◌++◌, [], Some, map, sym, ap, ◌∙◌}
 use Rattle.std.proofs.lemmas.List.{nil_from_length}
-use Rattle.mely_shard.proofs.Ending.{all_at_home, map_twice}
+use Rattle.mely_shard.proofs.EndLemmas.{all_at_home, map_twice}
 use Rattle.mely_shard.proofs.shard.Shard.into_parts.Goals as goal
 
 pub take_apart-requires-clause-at_home : goal.take_apart-requires-clause-at_home

@@ -1,5 +1,5 @@
-use Rattle.mely_shard.proofs.DrainedLaws.{drained_everywhere}
-use Rattle.mely_shard.proofs.Ending.{drained_exactly}
+use Rattle.mely_shard.proofs.DrainedLemmas.{drained_everywhere}
+use Rattle.mely_shard.proofs.EndLemmas.{drained_exactly}
 use Rattle.mely_shard.proofs.shard.Shard.is_drained.Goals as goal
 
 pub returns : goal.returns

@@ -1,6 +1,6 @@
 use Rattle.std.proofs.Common.{refl, arith}
-use Rattle.mely_shard.proofs.FirstCells.{kept_first, lanes_first}
-use Rattle.mely_shard.proofs.Exposing.{kept_contents}
+use Rattle.mely_shard.proofs.FirstSlotLemmas.{kept_first, lanes_first}
+use Rattle.mely_shard.proofs.ExposeLemmas.{kept_contents}
 use Rattle.mely_shard.proofs.shard.Shard.new.Goals as goal
 
 pub invariant_of-result : goal.invariant_of-result

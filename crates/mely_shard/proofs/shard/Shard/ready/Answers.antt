@@ -1,6 +1,6 @@
-use Rattle.std.proofs.Common.{◌/◌, ap, ◌∙◌, get_or}
-use Rattle.mely_shard.proofs.Registering.{cell_there}
-use Rattle.mely_shard.proofs.Exposing.{told_ready}
+use Rattle.std.proofs.Common.{ap, ◌∙◌, get_or}
+use Rattle.mely_shard.proofs.RegisterLemmas.{cell_there}
+use Rattle.mely_shard.proofs.ExposeLemmas.{told_ready}
 use Rattle.mely_shard.proofs.shard.Shard.ready.Goals as goal
 
 pub returns : goal.returns
@@ -8,6 +8,6 @@ returns g c =
     let own = rw (← c.self.view_is) at c.requires in
     let cells = c.self.inside.cells.items in
     let cell = c.index.result.now in
-    let is = c.index.ensures ∙ ap (λ n. get_or cells (c.args.colour.0 / n) cell) c.shards.ensures.value in
+    let is = c.index.ensures ∙ ap (λ n. get_or cells n cell) c.place_of-place.ensures in
     let stands = cell_there c.self.invariant.0 c.args.colour cell own.there own.here is in
     rw (← c.self.view_is, c.ready.ensures) (told_ready c.self.invariant.0 c.args.colour cell stands)

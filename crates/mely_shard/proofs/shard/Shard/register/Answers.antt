@@ -5,12 +5,12 @@ use Rattle.std.proofs.lemmas.List.{set-get_or, map-set}
 use Rattle.mely_event.specs.HandlerTable.{rows_of, weight_of}
 use Rattle.mely_history.specs.Setup.{shape_of, colours_of}
 use Rattle.mely_history.specs.History.{weight}
-use Rattle.mely_history.specs.Account.{account_of}
+use Rattle.mely_history.specs.ColourAccount.{account_of}
 use Rattle.mely_history.specs.declared.entry.Entry.TheVariants.{Reg}
-use Rattle.mely_shard.specs.Kept.{CellStands, lane_of, most_of}
-use Rattle.mely_shard.proofs.Registering.{kept_with_room, cell_there, registered_few, kept_registered, lane_there, told_registered}
-use Rattle.mely_shard.proofs.Cells.{has_room_set}
-use Rattle.mely_shard.proofs.Exposing.{kept_contents, givens_set}
+use Rattle.mely_shard.specs.Invariant.{CellStands, lane_of, most_of}
+use Rattle.mely_shard.proofs.RegisterLemmas.{kept_with_room, cell_there, registered_few, kept_registered, lane_there, told_registered}
+use Rattle.mely_shard.proofs.SlotLemmas.{has_room_set}
+use Rattle.mely_shard.proofs.ExposeLemmas.{kept_contents, givens_set}
 use Rattle.mely_shard.proofs.shard.Shard.register.Goals as goal
 use Rattle.mely_shard.proofs.shard.Shard.register.Goals.{After-index_mut, After-push_reserved, In_err-reply}
 
@@ -30,7 +30,7 @@ found g c =
     let fit = rw (← c.self.view_is) at c.requires.fit in
     let cells = c.self.inside.cells.items in
     let cell = c.index_mut.result.now in
-    let is = c.index_mut.ensures.value ∙ ap (λ n. get_or cells (c.args.colour.0 / n) cell) c.shards.ensures.value in
+    let is = c.index_mut.ensures.value ∙ ap (λ n. get_or cells n cell) c.place_of-place.ensures in
     let lane = lane_there c.self.invariant.0 c.args.colour cell own.there own.here is in
     record {
       there = own.there;
@@ -68,10 +68,10 @@ invariant_of-self g c =
     rw c.make_room.ensures.same (kept_with_room c.self.invariant.0 (most_of (vec_capacity c.make_room.new.history)) (omega (arith, more)) (omega arith), c.self.invariant.1, c.self.invariant.2)
 
 -- a refused push leaves the cells as they were
-same_cells : (g : _) (c : In_err-reply g) → set c.self.inside.cells.items (c.args.colour.0 / c.shards.result) c.register.new.self ≡ c.self.inside.cells.items
+same_cells : (g : _) (c : In_err-reply g) → set c.self.inside.cells.items c.place_of-place.result c.register.new.self ≡ c.self.inside.cells.items
 same_cells g c =
     let cells = c.self.inside.cells.items in
-    let k = c.args.colour.0 / c.shards.result in
+    let k = c.place_of-place.result in
     ap (set cells k) (c.in_err-reply.ensures.err ∙ c.index_mut.ensures.value) ∙ set-get_or cells k c.index_mut.result.now
 
 pub invariant_of-self-in_err-reply : goal.invariant_of-self-in_err-reply
@@ -99,7 +99,7 @@ invariant_of-self-2 g c =
     let f = found g (goal.at.invariant_of-self-2 g c).After-index_mut in
     let p = pushed g c in
     let may = rw (← c.self.view_is) at c.requires.may in
-    rw (p.history, c.in_ok-reply.ensures.ok, f.weighed, c.shards.ensures.value) (
+    rw (p.history, c.in_ok-reply.ensures.ok, f.weighed, c.place_of-place.ensures) (
       kept_registered c.self.invariant.0 c.args.colour c.args.event c.args.load c.args.by (most_of (vec_capacity c.push_reserved.new.self)) c.index_mut.result.now f.there f.here f.is may f.fit p.room (omega arith),
       has_room_set _ _ _ _ _ _ _ c.self.invariant.1,
       c.self.invariant.2,
@@ -119,7 +119,7 @@ returns-clause-ok g c =
         same_setup = refl;
         same_shard = refl;
         history = p.history;
-        lanes = ap (λ n. map lane_of (set cells (c.args.colour.0 / n) c.register.new.self)) c.shards.ensures.value ∙ map-set lane_of cells i c.register.new.self ∙ ap (λ b. set (map lane_of cells) i (lane_of b)) c.in_ok-reply.ensures.ok;
+        lanes = ap (λ n. map lane_of (set cells n c.register.new.self)) c.place_of-place.ensures ∙ map-set lane_of cells i c.register.new.self ∙ ap (λ b. set (map lane_of cells) i (lane_of b)) c.in_ok-reply.ensures.ok;
       };
     })
 
@@ -142,4 +142,4 @@ returns-clause-kept g c = kept_contents (invariant_of-self-2 g c).0
 pub returns-clause-frame : goal.returns-clause-frame
 returns-clause-frame g c =
     let cell = c.index_mut.result.now in
-    rw (← c.self.view_is) (record { same_setup = refl; same_shard = refl; same_givens = givens_set c.self.inside.cells.items (c.args.colour.0 / c.shards.result) c.register.new.self cell (ap (λ b. b.given.value) c.in_ok-reply.ensures.ok ∙ ap (λ b. b.given.value) c.index_mut.ensures.value) })
+    rw (← c.self.view_is) (record { same_setup = refl; same_shard = refl; same_givens = givens_set c.self.inside.cells.items c.place_of-place.result c.register.new.self cell (ap (λ b. b.given.value) c.in_ok-reply.ensures.ok ∙ ap (λ b. b.given.value) c.index_mut.ensures.value) })

@@ -1,7 +1,7 @@
 use Rattle.std.proofs.Common.{arith, vec_capacity}
-use Rattle.mely_shard.specs.Kept.{most_of}
-use Rattle.mely_shard.proofs.Registering.{kept_with_room}
-use Rattle.mely_shard.proofs.Exposing.{kept_contents}
+use Rattle.mely_shard.specs.Invariant.{most_of}
+use Rattle.mely_shard.proofs.RegisterLemmas.{kept_with_room}
+use Rattle.mely_shard.proofs.ExposeLemmas.{kept_contents}
 use Rattle.mely_shard.proofs.shard.Shard.reserve.Goals as goal
 
 pub invariant_of-self : goal.invariant_of-self

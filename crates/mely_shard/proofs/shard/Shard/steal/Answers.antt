@@ -6,14 +6,14 @@ use Rattle.std.proofs.lemmas.List.Sums.{sum-map}
 use Rattle.std.specs.List.{sum_by}
 use Rattle.mely_history.specs.Setup.{shape_of, pinned_of, colours_of}
 use Rattle.mely_history.specs.History.{weight, queued_of}
-use Rattle.mely_history.specs.Account.{Account, account_of}
+use Rattle.mely_history.specs.ColourAccount.{ColourAccount, account_of}
 use Rattle.mely_history.specs.declared.entry.Entry.TheVariants.{Steal}
-use Rattle.mely_history.proofs.AccountLaws.{account-own}
-use Rattle.mely_shard.specs.Kept.{CellStands, lane_of, most_of}
-use Rattle.mely_shard.proofs.Registering.{cell_there, kept_with_room}
-use Rattle.mely_shard.proofs.Stealing.{Refuses, cell_refuses, kept_stolen}
-use Rattle.mely_shard.proofs.Cells.{has_room_set}
-use Rattle.mely_shard.proofs.Exposing.{kept_contents, givens_set}
+use Rattle.mely_history.proofs.ColourAccountLemmas.{account-own}
+use Rattle.mely_shard.specs.Invariant.{CellStands, lane_of, most_of}
+use Rattle.mely_shard.proofs.RegisterLemmas.{cell_there, kept_with_room}
+use Rattle.mely_shard.proofs.StealLemmas.{Refuses, cell_refuses, kept_stolen}
+use Rattle.mely_shard.proofs.SlotLemmas.{has_room_set}
+use Rattle.mely_shard.proofs.ExposeLemmas.{kept_contents, givens_set}
 use Rattle.mely_shard.proofs.shard.Shard.steal.Goals as goal
 use Rattle.mely_shard.proofs.shard.Shard.steal.Goals.{After-no_steal, After-push_reserved}
 
@@ -25,7 +25,7 @@ record Asked (g : _) (c : After-no_steal g) : Type 0 where
   pub is : c.index_mut-cell.result.now ≡ get_or c.self.inside.cells.items (c.args.colour.0 / (shape_of c.self.inside.setup).shards) c.index_mut-cell.result.now
   pub stands : CellStands g.S.Trail g.S.Fits.fits_under c.self.inside.setup c.args.colour (account_of c.self.inside.setup c.self.inside.history.items c.args.colour) c.index_mut-cell.result.now
   pub refuses : Refuses c.self.invariant.0 c.args.colour c.args.to c.no_steal.result
-  pub same : set c.self.inside.cells.items (c.args.colour.0 / c.shards.result) c.index_mut-cell.result.now ≡ c.self.inside.cells.items
+  pub same : set c.self.inside.cells.items c.place_of-place.result c.index_mut-cell.result.now ≡ c.self.inside.cells.items
 
 asked : (g : _) (c : After-no_steal g) → Asked g c
 asked g c =
@@ -33,7 +33,7 @@ asked g c =
     let cells = c.self.inside.cells.items in
     let cell = c.index_mut-cell.result.now in
     let free : pinned_of c.self.inside.setup ≤ c.args.colour.0 = omega (arith, c.pinned.ensures.value, c.from.ensures, c.if-from-pinned.false) in
-    let is = c.index_mut-cell.ensures.value ∙ ap (λ n. get_or cells (c.args.colour.0 / n) cell) c.shards.ensures.value in
+    let is = c.index_mut-cell.ensures.value ∙ ap (λ n. get_or cells n cell) c.place_of-place.ensures in
     let stands = cell_there c.self.invariant.0 c.args.colour cell own.there own.here is in
     record {
       free = free;
@@ -42,14 +42,14 @@ asked g c =
       is = is;
       stands = stands;
       refuses = rw c.no_steal.ensures (cell_refuses c.self.invariant.0 c.args.colour free c.args.to c.steal_cost.result cell stands c.steal_cost.ensures);
-      same = ap (set cells (c.args.colour.0 / c.shards.result)) c.index_mut-cell.ensures.value ∙ set-get_or cells (c.args.colour.0 / c.shards.result) cell;
+      same = ap (set cells c.place_of-place.result) c.index_mut-cell.ensures.value ∙ set-get_or cells c.place_of-place.result cell;
     }
 
 pub index_mut-cell-requires : goal.index_mut-cell-requires
 index_mut-cell-requires g c =
     let own = rw (← c.self.view_is) at c.requires.own in
     let there = c.self.invariant.0.whole c.args.colour.0 own.there own.here in
-    rw c.shards.ensures.value (omega (arith, there, c.self.inside.cells.ok.0))
+    rw c.place_of-place.ensures (omega (arith, there, c.self.inside.cells.ok.0))
 
 pub returns-then-from-pinned-clause-kept : goal.returns-then-from-pinned-clause-kept
 returns-then-from-pinned-clause-kept g c = rw (← c.self.view_is) (kept_contents c.self.invariant.0)
@@ -105,7 +105,7 @@ invariant_of-self-2 g c =
     let p = pushed g c in
     let core = rw (← c.self.view_is) at c.requires.core in
     let ready = rw c.in_default.is at a.refuses in
-    rw (p.history, c.shards.ensures.value)
+    rw (p.history, c.place_of-place.ensures)
     ((kept_stolen c.self.invariant.0 c.args.colour a.free c.args.to (most_of (vec_capacity c.push_reserved.new.self)) c.index_mut-cell.result.now a.there a.here a.is core ready p.room (omega arith)).1, has_room_set _ _ _ _ _ _ _ c.self.invariant.1, c.self.invariant.2)
 
 pub returns-clause-ok : goal.returns-clause-ok
@@ -123,9 +123,9 @@ returns-clause-ok g c =
       same_setup = refl;
       same_shard = refl;
       history = p.history;
-      lanes = map-set_same lane_of cells (c.args.colour.0 / c.shards.result) _ cell (ap lane_of c.index_mut-cell.ensures.value);
-      started = rw p.history (c.started-started.ensures ∙ a.stands.started ∙ ap (λ (s : Account). s.begun) (sym next));
-      left = rw p.history (c.time_left-worth.ensures ∙ ap sum a.stands.weights ∙ sum-map (weight c.self.inside.setup) (queued_of c.self.inside.history.items c.args.colour) ∙ ap (λ (s : Account). sum_by (weight c.self.inside.setup) (drop s.begun s.registered)) (sym next));
+      lanes = map-set_same lane_of cells c.place_of-place.result _ cell (ap lane_of c.index_mut-cell.ensures.value);
+      started = rw p.history (c.started-started.ensures ∙ a.stands.started ∙ ap (λ (s : ColourAccount). s.begun) (sym next));
+      left = rw p.history (c.time_left-worth.ensures ∙ ap sum a.stands.weights ∙ sum-map (weight c.self.inside.setup) (queued_of c.self.inside.history.items c.args.colour) ∙ ap (λ (s : ColourAccount). sum_by (weight c.self.inside.setup) (drop s.begun s.registered)) (sym next));
     })
 
 pub returns-clause-kept : goal.returns-clause-kept

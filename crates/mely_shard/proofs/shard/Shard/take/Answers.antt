@@ -3,16 +3,16 @@ use Rattle.std.specs.Prelude.{min, slice_get}
 use Rattle.std.proofs.Math.ListN.{set}
 use Rattle.std.proofs.lemmas.List.{map-set, length-map, length-set, set-get_or, take_min}
 use Rattle.mely_history.specs.Setup.{shape_of, colours_of}
-use Rattle.mely_history.specs.Account.{account_of}
+use Rattle.mely_history.specs.ColourAccount.{account_of}
 use Rattle.mely_history.specs.Legal.{MayTake}
 use Rattle.mely_history.specs.declared.entry.Entry.TheVariants.{Take}
-use Rattle.mely_queue.specs.Waiting.{taken}
-use Rattle.mely_queue.specs.Taken.{EachFits}
-use Rattle.mely_shard.specs.Kept.{CellStands, IsKeptShard, lane_of, most_of}
-use Rattle.mely_shard.proofs.Registering.{kept_with_room, cell_there, lane_there}
-use Rattle.mely_shard.proofs.Taking.{RoomierLaws, Refuses, cell_refuses, ready_home, kept_taken, kept_alike, each_alike, taken_turn, all_by_recursion-take, lanes_as_they_are}
-use Rattle.mely_shard.proofs.Cells.{has_room_set}
-use Rattle.mely_shard.proofs.Exposing.{kept_contents, givens_set, given_frame}
+use Rattle.mely_queue.specs.ColourQueue.{taken}
+use Rattle.mely_queue.specs.Turn.{EachFits}
+use Rattle.mely_shard.specs.Invariant.{CellStands, IsKeptShard, lane_of, most_of}
+use Rattle.mely_shard.proofs.RegisterLemmas.{kept_with_room, cell_there, lane_there}
+use Rattle.mely_shard.proofs.TakeLemmas.{RoomierLaws, Refuses, cell_refuses, ready_home, kept_taken, kept_alike, each_alike, taken_turn, all_by_recursion-take, lanes_as_they_are}
+use Rattle.mely_shard.proofs.SlotLemmas.{has_room_set}
+use Rattle.mely_shard.proofs.ExposeLemmas.{kept_contents, givens_set, given_frame}
 use Rattle.mely_shard.proofs.shard.Shard.take.Goals as goal
 use Rattle.mely_shard.proofs.shard.Shard.take.Goals.{After-no_take, After-push_reserved}
 
@@ -24,7 +24,7 @@ record Asked (g : _) (c : After-no_take g) : Type 0 where
   pub is : c.index_mut-cell.result.now ≡ get_or c.self.inside.cells.items (c.args.colour.0 / (shape_of c.self.inside.setup).shards) c.index_mut-cell.result.now
   pub stands : CellStands g.S.Trail g.S.Fits.fits_under c.self.inside.setup c.args.colour (account_of c.self.inside.setup c.self.inside.history.items c.args.colour) c.index_mut-cell.result.now
   pub refuses : Refuses c.self.invariant.0 c.args.colour c.args.core c.index_mut-cell.result.now.given.value c.index_mut-cell.result.now.home c.no_take.result
-  pub same : set c.self.inside.cells.items (c.args.colour.0 / c.shards.result) c.index_mut-cell.result.now ≡ c.self.inside.cells.items
+  pub same : set c.self.inside.cells.items c.place_of-place.result c.index_mut-cell.result.now ≡ c.self.inside.cells.items
   pub laws : RoomierLaws g.S.Trail
 
 asked : (g : _) (c : After-no_take g) → Asked g c
@@ -32,7 +32,7 @@ asked g c =
     let own = rw (← c.self.view_is) at c.requires.own in
     let cells = c.self.inside.cells.items in
     let cell = c.index_mut-cell.result.now in
-    let is = c.index_mut-cell.ensures.value ∙ ap (λ n. get_or cells (c.args.colour.0 / n) cell) c.shards.ensures.value in
+    let is = c.index_mut-cell.ensures.value ∙ ap (λ n. get_or cells n cell) c.place_of-place.ensures in
     let stands = cell_there c.self.invariant.0 c.args.colour cell own.there own.here is in
     record {
       there = own.there;
@@ -41,7 +41,7 @@ asked g c =
       is = is;
       stands = stands;
       refuses = rw c.no_take.ensures (cell_refuses c.self.invariant.0 c.args.colour c.args.core cell stands);
-      same = ap (set cells (c.args.colour.0 / c.shards.result)) c.index_mut-cell.ensures.value ∙ set-get_or cells (c.args.colour.0 / c.shards.result) cell;
+      same = ap (set cells c.place_of-place.result) c.index_mut-cell.ensures.value ∙ set-get_or cells c.place_of-place.result cell;
       laws = record {
         itself = λ s. (g.met.S.Trail.alike_itself s, omega arith);
         trail = λ s u same. g.met.S.Trail.alike_trail s u same.0;
@@ -156,15 +156,15 @@ pub invariant_of-self-in_default-take : goal.invariant_of-self-in_default-take
 invariant_of-self-in_default-take g c =
     let a = asked g (goal.at.invariant_of-self-in_default-take g c).After-no_take in
     let more = c.make_room.ensures.not_lower in
-    rw (c.make_room.ensures.same, c.shards.ensures.value)
+    rw (c.make_room.ensures.same, c.place_of-place.ensures)
     (kept_alike c.self.invariant.0 a.laws c.args.colour c.index_mut-cell.result.now c.take.new.self (most_of (vec_capacity c.make_room.new.history)) a.there a.here a.is c.in_default-take.ensures.err (omega (arith, more)) (omega arith), has_room_set _ _ _ _ _ _ _ c.self.invariant.1, c.take.ensures.emptied)
 
 pub returns-in_default-take-clause-err : goal.returns-in_default-take-clause-err
 returns-in_default-take-clause-err g c =
     let a = asked g (goal.at.returns-in_default-take-clause-err g c).After-no_take in
     let cells = c.self.inside.cells.items in
-    let k = c.args.colour.0 / c.shards.result in
-    let place : k < length cells = rw c.shards.ensures.value a.place in
+    let k = c.place_of-place.result in
+    let place : k < length cells = rw c.place_of-place.ensures a.place in
     rw (← c.self.view_is) (record {
       same_setup = refl;
       same_shard = refl;
@@ -192,7 +192,7 @@ invariant_of-self-2 g c =
     let a = asked g (goal.at.invariant_of-self-2 g c).After-no_take in
     let ready = rw c.in_default.is at a.refuses in
     let p = pushed g (goal.at.invariant_of-self-2 g c).After-push_reserved a.there a.here a.is ready in
-    rw (p.history, c.shards.ensures.value) (p.kept, has_room_set _ _ _ _ _ _ _ c.self.invariant.1, c.take.ensures.emptied)
+    rw (p.history, c.place_of-place.ensures) (p.kept, has_room_set _ _ _ _ _ _ _ c.self.invariant.1, c.take.ensures.emptied)
 
 pub returns-clause-ok : goal.returns-clause-ok
 returns-clause-ok g c =
@@ -216,7 +216,7 @@ returns-clause-ok g c =
         same_setup = refl;
         same_shard = refl;
         history = rw (p.history, c.count-count.ensures) refl;
-        lanes = ap (λ m. map lane_of (set cells (c.args.colour.0 / m) c.take.new.self)) c.shards.ensures.value ∙ map-set lane_of cells i c.take.new.self ∙ ap (λ b. set (map lane_of cells) i (lane_of b)) p.after ∙ rw c.count-count.ensures refl;
+        lanes = ap (λ m. map lane_of (set cells m c.take.new.self)) c.place_of-place.ensures ∙ map-set lane_of cells i c.take.new.self ∙ ap (λ b. set (map lane_of cells) i (lane_of b)) p.after ∙ rw c.count-count.ensures refl;
       };
     })
 
@@ -236,7 +236,7 @@ returns-clause-stands g c =
       trailed = rw (p.history, ← take_min c.batch-batch.result cell.queue.events, ← p.first) turn.1;
       coloured = turn.2;
       framed = λ j given_j there. turn.3 ∙ given_frame c.self.invariant.0 (c.args.colour.0 / (shape_of c.self.inside.setup).shards) cell a.place a.is j given_j
-          (subst (λ gs. slice_get gs j ≡ Some given_j) (givens_set cells (c.args.colour.0 / c.shards.result) c.take.new.self cell (given ∙ ap (λ b. b.given.value) c.index_mut-cell.ensures.value)) there);
+          (subst (λ gs. slice_get gs j ≡ Some given_j) (givens_set cells c.place_of-place.result c.take.new.self cell (given ∙ ap (λ b. b.given.value) c.index_mut-cell.ensures.value)) there);
       fit = subst (λ f. EachFits (g.S.Fits.fits_under f c.args.colour) (take c.batch-batch.result cell.queue.events)) (sym turn.3) (all_by_recursion-take _ c.batch-batch.result cell.queue.events a.stands.fit);
     })
 

@@ -3,7 +3,7 @@ use Rattle.std.proofs.lemmas.List.{get_or_read}
 use Rattle.mely_steal.specs.declared.links.Link.{Link}
 use Rattle.mely_steal.specs.Links.{unlinked}
 use Rattle.mely_steal.specs.Entering.{Ranking, class_in}
-use Rattle.mely_steal.proofs.OrderLaws.{class-is}
+use Rattle.mely_steal.proofs.OrderLemmas.{class-is}
 use Rattle.mely_steal.proofs.classes.Classes.class_of.Goals as goal
 
 pub returns : goal.returns

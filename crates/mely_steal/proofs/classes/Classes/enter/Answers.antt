@@ -4,7 +4,7 @@ use Rattle.std.proofs.lemmas.List.{with_items_is}
 use Rattle.mely_steal.specs.declared.links.Link.{Link}
 use Rattle.mely_steal.specs.Links.{list_at, listed, SparesOthers, MovesOnly}
 use Rattle.mely_steal.specs.Entering.{Ranked, Ranking, class_in, entries_of, StandInOrder}
-use Rattle.mely_steal.proofs.OrderLaws.{class-from, class-is, enter-stands, list_of}
+use Rattle.mely_steal.proofs.OrderLemmas.{class-from, class-is, enter-stands, list_of}
 use Rattle.mely_steal.proofs.classes.Classes.enter.Goals as goal
 
 pub push_back-requires-clause-free : goal.push_back-requires-clause-free

@@ -3,9 +3,9 @@ use Rattle.std.specs.Option.{option_map}
 use Rattle.mely_steal.specs.declared.links.Ends.{Ends}
 use Rattle.mely_steal.specs.Links.{after_at, followed, is_in}
 use Rattle.mely_steal.specs.Entering.{Ranked, Ranking, ranked, ends_at, entries_of}
-use Rattle.mely_steal.proofs.EnterLaws.{find-of_class}
-use Rattle.mely_steal.proofs.LinkLaws.{in-here}
-use Rattle.mely_steal.proofs.OrderLaws.{class-from, entries-class, strung-class}
+use Rattle.mely_steal.proofs.EnterLemmas.{find-of_class}
+use Rattle.mely_steal.proofs.LinkLemmas.{in-here}
+use Rattle.mely_steal.proofs.OrderLemmas.{class-from, entries-class, strung-class}
 use Rattle.mely_steal.proofs.classes.Classes.first.Goals as goal
 
 -- the first of a list that is followed

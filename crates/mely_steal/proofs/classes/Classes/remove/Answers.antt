@@ -4,7 +4,7 @@ use Rattle.std.proofs.lemmas.List.{get_or_read, with_items_is}
 use Rattle.mely_steal.specs.declared.links.Link.{Link}
 use Rattle.mely_steal.specs.Links.{unlinked, list_at, listed, dropped, IsStrung, SparesOthers, MovesOnly}
 use Rattle.mely_steal.specs.Entering.{Ranked, Ranking, gone, entries_of, StandInOrder}
-use Rattle.mely_steal.proofs.OrderLaws.{IsClass, class-cases, class-is, has-none, gone-absent, leave-stands, list_of}
+use Rattle.mely_steal.proofs.OrderLemmas.{IsClass, class-cases, class-is, has-none, gone-absent, leave-stands, list_of}
 use Rattle.mely_steal.proofs.classes.Classes.remove.Goals as goal
 
 pub returns-then-class-eq0 : goal.returns-then-class-eq0

@@ -4,8 +4,9 @@ use Rattle.std.proofs.lemmas.List.{get_or_read}
 use Rattle.std.proofs.lemmas.Option.{slice_get_past}
 use Rattle.mely_steal.specs.declared.links.Link.{Link}
 use Rattle.mely_steal.specs.Links.{unlinked, after_at, listed}
-use Rattle.mely_steal.specs.ColourLists.{Colours}
-use Rattle.mely_steal.proofs.LinkLaws.{walked, walked-more, walked-at, walked-in, length-followed}
+use Rattle.mely_steal.specs.ColourList.{ColourListState}
+use Rattle.mely_steal.proofs.LinkLemmas.{walked, walked-more, walked-at, length-followed}
+use Rattle.mely_steal.proofs.TableLemmas.{walked-below}
 use Rattle.mely_steal.proofs.colour_list.ColourList.at.Goals as goal
 
 pub returns-then-place-self-clause-value : goal.returns-then-place-self-clause-value
@@ -14,43 +15,39 @@ returns-then-place-self-clause-value c =
     let e = c.self.inside.ends in
     let long = length-followed (after_at L) e.len e.first in
     let short : length (listed L e) ≤ c.args.place = let le = c.if-place-self.true in omega arith in
-    let Past : Colours → Type 0 = λ v. None ≡ slice_get v.list c.args.place in
+    let Past : ColourListState → Type 0 = λ v. None ≡ slice_get v.list c.args.place in
     subst Past c.self.view_is (sym (slice_get_past (listed L e) c.args.place short))
 
 pub index-requires : goal.index-requires
 index-requires c =
-    let L = c.self.inside.links.items in
-    let e = c.self.inside.ends in
-    let lt : c.places.counter < e.len = (let one = c.places-test.true in let two = c.if-place-self.false in omega arith) in
-    let within : c.places.colour < length L = rw c.places.invariant (c.self.invariant.strung.below (walked (after_at L) c.places.counter e.first) (walked-in (after_at L) e.len c.places.counter e.first lt)) in
-    let long : vec_len c.self.inside.links ≡ length L = grind (arith, common_steps) in
+    let lt : c.places.counter < c.self.inside.ends.len = (let one = c.places-test.true in let two = c.if-place-self.false in omega arith) in
+    let within : c.places.colour < length c.self.inside.links.items = rw c.places.invariant (walked-below c.self.invariant.strung c.places.counter lt) in
+    let long : vec_len c.self.inside.links ≡ length c.self.inside.links.items = grind (arith, common_steps) in
     omega arith
 
 pub places-preserved : goal.places-preserved
 places-preserved c =
     let L = c.self.inside.links.items in
-    let e = c.self.inside.ends in
-    let lt : c.places.counter < e.len = (let one = c.places-test.true in let two = c.if-place-self.false in omega arith) in
-    let within : c.places.colour < length L = rw c.places.invariant (c.self.invariant.strung.below (walked (after_at L) c.places.counter e.first) (walked-in (after_at L) e.len c.places.counter e.first lt)) in
+    let first = c.self.inside.ends.first in
+    let lt : c.places.counter < c.self.inside.ends.len = (let one = c.places-test.true in let two = c.if-place-self.false in omega arith) in
+    let within : c.places.colour < length c.self.inside.links.items = rw c.places.invariant (walked-below c.self.invariant.strung c.places.counter lt) in
     let read : c.index.result.now ≡ get_or L c.places.colour unlinked = get_or_read L c.places.colour c.index.result.now within c.index.ensures unlinked in
-    rw add-one (ap (λ (l : Link). l.after) read ∙ (ap (after_at L) c.places.invariant ∙ walked-more (after_at L) c.places.counter e.first))
+    rw add-one (ap (λ (l : Link). l.after) read ∙ (ap (after_at L) c.places.invariant ∙ walked-more (after_at L) c.places.counter first))
 
 pub returns-clause-value : goal.returns-clause-value
 returns-clause-value c =
-    let L = c.self.inside.links.items in
-    let e = c.self.inside.ends in
+    let a = after_at c.self.inside.links.items in
+    let first = c.self.inside.ends.first in
     let last : c.places.counter ≡ c.args.place = (let one = c.places-test.false in let two = c.places.auto.counter-end in omega arith) in
-    let At : Colours → Type 0 = λ v. Some c.places.colour ≡ slice_get v.list c.args.place in
+    let At : ColourListState → Type 0 = λ v. Some c.places.colour ≡ slice_get v.list c.args.place in
     subst At c.self.view_is
-    (ap (λ n. Some n) (c.places.invariant ∙ ap (λ n. walked (after_at L) n e.first) last) ∙ sym (walked-at (after_at L) e.len c.args.place e.first c.if-place-self.false))
+    (ap (λ n. Some n) (c.places.invariant ∙ ap (λ n. walked a n first) last) ∙ sym (walked-at a c.self.inside.ends.len c.args.place first c.if-place-self.false))
 
 pub returns-clause-within : goal.returns-clause-within
 returns-clause-within c =
-    let L = c.self.inside.links.items in
-    let e = c.self.inside.ends in
-    let lt : c.places.counter < e.len = (let one = c.places.auto.counter-end in let two = c.if-place-self.false in omega arith) in
-    let within : c.places.colour < length L = rw c.places.invariant (c.self.invariant.strung.below (walked (after_at L) c.places.counter e.first) (walked-in (after_at L) e.len c.places.counter e.first lt)) in
+    let lt : c.places.counter < c.self.inside.ends.len = (let one = c.places.auto.counter-end in let two = c.if-place-self.false in omega arith) in
+    let within : c.places.colour < length c.self.inside.links.items = rw c.places.invariant (walked-below c.self.invariant.strung c.places.counter lt) in
     let long = c.self.invariant.long in
-    let Within : Colours → Type 0 = λ v. c.places.colour < v.colours in
+    let Within : ColourListState → Type 0 = λ v. c.places.colour < v.colours in
     let fits : c.places.colour < c.self.inside.colours = omega arith in
     subst Within c.self.view_is fits

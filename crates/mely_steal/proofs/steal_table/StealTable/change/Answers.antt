@@ -1,8 +1,8 @@
 use Rattle.std.proofs.Common.{◌≡◌, ◌<◌, List, sym, ap, subst, ◌∙◌}
-use Rattle.mely_steal.specs.Stealing.{changed}
+use Rattle.mely_steal.specs.StealQueue.{changed}
 use Rattle.mely_steal.specs.Entering.{Ranking, Ranked, moved_to}
-use Rattle.mely_steal.specs.Tables.{Stealable, AreStealable, marks_of, worthy_of}
-use Rattle.mely_steal.proofs.StealableLaws.{stealing_class, change-stealable}
+use Rattle.mely_steal.specs.StealTable.{StealTableState, AreStealable, marks_of, worthy_of}
+use Rattle.mely_steal.proofs.StealableLemmas.{stealing_class, change-stealable}
 use Rattle.mely_steal.proofs.steal_table.StealTable.change.Goals as goal
 
 -- what stands once the mark is written
@@ -11,7 +11,7 @@ settled : (c : goal.After-move_to) → (marks_of c.set.new.self c.move_to.new.cl
 settled c =
     let t = c.self.inside in
     let m = c.args.mark in
-    let Below : Stealable → Type 0 = λ v. m.colour.0 < v.colours in
+    let Below : StealTableState → Type 0 = λ v. m.colour.0 < v.colours in
     let done = change-stealable t.marks c.set.new.self t.classes.entries t.colours t.cost t.pinned m c.self.invariant.0 c.set.ensures (subst Below (sym c.self.view_is) c.requires) in
     let is : c.move_to.new.classes.entries ≡ moved_to (stealing_class t.cost t.pinned m) m.colour.0 t.classes.entries =
     ap (λ (r : Ranking). r.entries) c.move_to.ensures ∙ ap (λ k. moved_to k m.colour.0 t.classes.entries) c.stealing_class-class.ensures in
@@ -25,7 +25,7 @@ invariant_of-self c = ((settled c).1, c.set.ensures.long ∙ c.self.invariant.1,
 pub returns-clause-worthy : goal.returns-clause-worthy
 returns-clause-worthy c =
     let t = c.self.inside in
-    let Entered : Stealable → Type 0 = λ v. worthy_of (record { told = c.set.new.self; entries = c.move_to.new.classes.entries; colours = t.colours; cost = t.cost; pinned = t.pinned })
+    let Entered : StealTableState → Type 0 = λ v. worthy_of (record { told = c.set.new.self; entries = c.move_to.new.classes.entries; colours = t.colours; cost = t.cost; pinned = t.pinned })
     ≡ record { marks = changed v.cost v.pinned c.args.mark (marks_of v.told v.entries); colours = v.colours; cost = v.cost; pinned = v.pinned } in
     subst Entered c.self.view_is (λ i. record { marks = (settled c).0 i; colours = t.colours; cost = t.cost; pinned = t.pinned })
 

@@ -1,16 +1,16 @@
 use Rattle.std.proofs.Common.{◌≡◌, ◌<◌, List, None, sym, ap, subst, ◌∙◌}
 use Rattle.mely_steal.specs.Marks.{mark_of}
-use Rattle.mely_steal.specs.Stealing.{entered}
+use Rattle.mely_steal.specs.StealQueue.{entered}
 use Rattle.mely_steal.specs.Entering.{Ranking, Ranked, joined_by}
-use Rattle.mely_steal.specs.Tables.{Stealable, AreStealable, marks_of, worthy_of}
-use Rattle.mely_steal.proofs.TableMarks.{absent-has, class-none}
-use Rattle.mely_steal.proofs.StealableLaws.{stealing_class, enter-stealable}
+use Rattle.mely_steal.specs.StealTable.{StealTableState, AreStealable, marks_of, worthy_of}
+use Rattle.mely_steal.proofs.TableMarksLemmas.{absent-has, class-none}
+use Rattle.mely_steal.proofs.StealableLemmas.{stealing_class, enter-stealable}
 use Rattle.mely_steal.proofs.steal_table.StealTable.enter.Goals as goal
 
 pub add_to-requires-clause-absent : goal.add_to-requires-clause-absent
 add_to-requires-clause-absent c =
     let g = c.self.inside.classes.entries in
-    let Absent : Stealable → Type 0 = λ v. mark_of c.args.mark.colour (worthy_of v).marks ≡ None in
+    let Absent : StealTableState → Type 0 = λ v. mark_of c.args.mark.colour (worthy_of v).marks ≡ None in
     class-none c.args.mark.colour.0 g (absent-has c.self.inside.marks c.args.mark.colour g (subst Absent (sym c.self.view_is) c.requires.absent))
 
 -- what stands once the colour entered
@@ -19,8 +19,8 @@ settled : (c : goal.After-add_to) → (marks_of c.set.new.self c.add_to.new.clas
 settled c =
     let t = c.self.inside in
     let m = c.args.mark in
-    let Absent : Stealable → Type 0 = λ v. mark_of m.colour (worthy_of v).marks ≡ None in
-    let Below : Stealable → Type 0 = λ v. m.colour.0 < v.colours in
+    let Absent : StealTableState → Type 0 = λ v. mark_of m.colour (worthy_of v).marks ≡ None in
+    let Below : StealTableState → Type 0 = λ v. m.colour.0 < v.colours in
     let none = subst Absent (sym c.self.view_is) c.requires.absent in
     let done = enter-stealable t.marks c.set.new.self t.classes.entries t.colours t.cost t.pinned m c.self.invariant.0 c.set.ensures (subst Below (sym c.self.view_is) c.requires.below)
     (absent-has t.marks m.colour t.classes.entries none) none in
@@ -36,7 +36,7 @@ invariant_of-self c = ((settled c).1, c.set.ensures.long ∙ c.self.invariant.1,
 pub returns-clause-worthy : goal.returns-clause-worthy
 returns-clause-worthy c =
     let t = c.self.inside in
-    let Entered : Stealable → Type 0 = λ v. worthy_of (record { told = c.set.new.self; entries = c.add_to.new.classes.entries; colours = t.colours; cost = t.cost; pinned = t.pinned })
+    let Entered : StealTableState → Type 0 = λ v. worthy_of (record { told = c.set.new.self; entries = c.add_to.new.classes.entries; colours = t.colours; cost = t.cost; pinned = t.pinned })
     ≡ record { marks = entered v.cost v.pinned c.args.mark (marks_of v.told v.entries); colours = v.colours; cost = v.cost; pinned = v.pinned } in
     subst Entered c.self.view_is (λ i. record { marks = (settled c).0 i; colours = t.colours; cost = t.cost; pinned = t.pinned })
 

@@ -3,12 +3,12 @@ use Rattle.std.specs.Option.{option_map}
 use Rattle.mely_event.specs.declared.colour.Colour.{Colour}
 use Rattle.mely_event.specs.declared.mark.Mark.{Mark}
 use Rattle.mely_steal.specs.Marks.{without}
-use Rattle.mely_steal.specs.Stealing.{pick_of}
+use Rattle.mely_steal.specs.StealQueue.{pick_of}
 use Rattle.mely_steal.specs.Entering.{Ranking, gone}
-use Rattle.mely_steal.specs.Tables.{Stealable, mark_in, marks_of, worthy_of}
-use Rattle.mely_steal.proofs.StealLaws.{pick_of-All}
-use Rattle.mely_steal.proofs.TableMarks.{pick-entries, without-entries}
-use Rattle.mely_steal.proofs.StealableLaws.{leave-stealable}
+use Rattle.mely_steal.specs.StealTable.{StealTableState, mark_in, marks_of, worthy_of}
+use Rattle.mely_steal.proofs.StealLemmas.{pick_of-All}
+use Rattle.mely_steal.proofs.TableMarksLemmas.{pick-entries, without-entries}
+use Rattle.mely_steal.proofs.StealableLemmas.{leave-stealable}
 use Rattle.mely_steal.proofs.steal_table.StealTable.pick.Goals as goal
 
 pub returns-in_err-colour-clause-value : goal.returns-in_err-colour-clause-value
@@ -16,7 +16,7 @@ returns-in_err-colour-clause-value c =
     let t = c.self.inside in
     let none : pick_of t.cost (marks_of t.marks t.classes.entries) ≡ None =
     pick-entries t.cost t.marks t.classes.entries c.self.invariant.0.classed ∙ ap (option_map (mark_in t.marks)) (sym c.first_of_highest.ensures.value ∙ c.in_err-colour.was) in
-    let Picks : Stealable → Type 0 = λ v. None ≡ pick_of v.cost (marks_of v.told v.entries) in
+    let Picks : StealTableState → Type 0 = λ v. None ≡ pick_of v.cost (marks_of v.told v.entries) in
     c.from_residual.ensures ∙ subst Picks c.self.view_is (sym none)
 
 pub of-mark-requires : goal.of-mark-requires
@@ -38,14 +38,14 @@ picked c =
 
 pub returns-clause-value : goal.returns-clause-value
 returns-clause-value c =
-    let Picks : Stealable → Type 0 = λ v. Some c.of-mark.result ≡ pick_of v.cost (marks_of v.told v.entries) in
+    let Picks : StealTableState → Type 0 = λ v. Some c.of-mark.result ≡ pick_of v.cost (marks_of v.told v.entries) in
     subst Picks c.self.view_is (picked c)
 
 pub returns-clause-colour : goal.returns-clause-colour
 returns-clause-colour c =
     let t = c.self.inside in
     let Below : Mark → Type 0 = λ m. m.colour.0 < t.colours in
-    let Mine : Stealable → Type 0 = λ v. c.of-mark.result.colour.0 < v.colours in
+    let Mine : StealTableState → Type 0 = λ v. c.of-mark.result.colour.0 < v.colours in
     subst Mine c.self.view_is (pick_of-All t.cost Below (marks_of t.marks t.classes.entries) c.of-mark.result c.self.invariant.0.worthy.below (sym (picked c)))
 
 pub returns-clause-worthy : goal.returns-clause-worthy
@@ -57,7 +57,7 @@ returns-clause-worthy c =
     let is : g ≡ gone c.in_ok-colour.colour t.classes.entries = ap (λ (r : Ranking). r.entries) c.remove.ensures in
     let marks : marks_of t.marks g ≡ without c.of-mark.result.colour (marks_of t.marks t.classes.entries) =
     ap (marks_of t.marks) is ∙ (sym (without-entries t.marks colour t.classes.entries) ∙ ap (λ x. without x (marks_of t.marks t.classes.entries)) same) in
-    let Left : Stealable → Type 0 = λ v. worthy_of (record { told = t.marks; entries = g; colours = t.colours; cost = t.cost; pinned = t.pinned })
+    let Left : StealTableState → Type 0 = λ v. worthy_of (record { told = t.marks; entries = g; colours = t.colours; cost = t.cost; pinned = t.pinned })
     ≡ record { marks = without c.of-mark.result.colour (marks_of v.told v.entries); colours = v.colours; cost = v.cost; pinned = v.pinned } in
     subst Left c.self.view_is (λ i. record { marks = marks i; colours = t.colours; cost = t.cost; pinned = t.pinned })
 

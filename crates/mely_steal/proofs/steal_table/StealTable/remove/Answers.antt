@@ -1,9 +1,9 @@
 use Rattle.std.proofs.Common.{◌≡◌, sym, ap, subst, ◌∙◌}
 use Rattle.mely_steal.specs.Marks.{without}
 use Rattle.mely_steal.specs.Entering.{Ranking, gone}
-use Rattle.mely_steal.specs.Tables.{Stealable, marks_of, worthy_of}
-use Rattle.mely_steal.proofs.TableMarks.{without-entries}
-use Rattle.mely_steal.proofs.StealableLaws.{leave-stealable}
+use Rattle.mely_steal.specs.StealTable.{StealTableState, marks_of, worthy_of}
+use Rattle.mely_steal.proofs.TableMarksLemmas.{without-entries}
+use Rattle.mely_steal.proofs.StealableLemmas.{leave-stealable}
 use Rattle.mely_steal.proofs.steal_table.StealTable.remove.Goals as goal
 
 pub invariant_of-self : goal.invariant_of-self
@@ -17,7 +17,7 @@ returns-clause-worthy c =
     let g = c.remove.new.self.entries in
     let is : g ≡ gone c.args.colour.0 t.classes.entries = ap (λ (r : Ranking). r.entries) c.remove.ensures in
     let marks : marks_of t.marks g ≡ without c.args.colour (marks_of t.marks t.classes.entries) = ap (marks_of t.marks) is ∙ sym (without-entries t.marks c.args.colour t.classes.entries) in
-    let Left : Stealable → Type 0 = λ v. worthy_of (record { told = t.marks; entries = g; colours = t.colours; cost = t.cost; pinned = t.pinned })
+    let Left : StealTableState → Type 0 = λ v. worthy_of (record { told = t.marks; entries = g; colours = t.colours; cost = t.cost; pinned = t.pinned })
     ≡ record { marks = without c.args.colour (marks_of v.told v.entries); colours = v.colours; cost = v.cost; pinned = v.pinned } in
     subst Left c.self.view_is (λ i. record { marks = marks i; colours = t.colours; cost = t.cost; pinned = t.pinned })
 

@@ -1,34 +1,46 @@
+use Rattle.std.proofs.Common.{refl, ◌≡◌, Some, ◌<◌}
+use Rattle.mely_weave.specs.Side.{SideState}
 use Rattle.mely_weave.specs.Calls.{PopAs}
-use Rattle.mely_weave.proofs.SideLaws.{chain_there, chains_stand, at_chain}
-use Rattle.mely_weave.proofs.CallLaws.{pop_does, chain_owes, mark_low}
+use Rattle.std.specs.Prelude.{slice_get}
+use Rattle.mely_history.specs.Setup.{shape_of}
+use Rattle.mely_weave.proofs.Entries.SideLemmas.{chain_there, chains_stand, at_chain}
+use Rattle.mely_weave.proofs.Entries.CallLemmas.{pop_does, chain_owes, mark_low}
 use Rattle.mely_weave.proofs.side.SideAccess.pop.Goals as goal
+use Rattle.mely_weave.proofs.side.SideAccess.pop.Goals.{After-index_mut}
+
+-- the side that was lent
+abbrev lent : (g : _) (c : After-index_mut g) → SideState g.row.S.Denot g.row.P.Denot
+lent g c = record { setup = c.shared.inside.setup; core = c.args.self.now.core; given = c.shared.inside.given.value; shards = c.shared.inside.shards.items; chains = c.shared.inside.chains.items }
+
+-- the core is one of the setup
+low : (g : _) (c : After-index_mut g) → c.args.self.now.core < (shape_of (lent g c).setup).cores
+low g c = rw (← c.shared.view_is) at c.requires.own
+
+-- the chain of the core is there
+there : (g : _) (c : After-index_mut g) → slice_get (lent g c).chains c.args.self.now.core ≡ Some c.index_mut.result.now
+there g c = chain_there g.S.Trail g.S.Fits.fits_under (lent g c) c.shared.invariant c.args.self.now.core c.index_mut.result.now (low g c) c.index_mut.ensures.value
 
 pub returns-clause-mark : goal.returns-clause-mark
 returns-clause-mark g c =
-    let low = c.self.invariant.core in
-    let there = chain_there g.S.Trail g.S.Fits.fits_under _ c.self.invariant c.self.inside.core c.index_mut.result.now low c.index_mut.ensures.value in
-    rw (← c.self.view_is) (mark_low g.S.Trail g.S.Fits.fits_under _ c.self.invariant _ c.index_mut.result.now there c.pop.result c.pop.ensures.mark)
+    let at = (goal.at.returns-clause-mark g c).After-index_mut in
+    rw (← c.shared.view_is) (mark_low g.S.Trail g.S.Fits.fits_under (lent g at) c.shared.invariant _ c.index_mut.result.now (there g at) c.pop.result c.pop.ensures.mark)
 
-pub invariant_of-self : goal.invariant_of-self
-invariant_of-self g c =
-    let low = c.self.invariant.core in
-    let there = chain_there g.S.Trail g.S.Fits.fits_under _ c.self.invariant c.self.inside.core c.index_mut.result.now low c.index_mut.ensures.value in
-    chains_stand g.S.Trail g.S.Fits.fits_under _ c.self.invariant c.self.inside.core c.index_mut.result.now c.pop.new.self there c.pop.ensures.same c.pop.ensures.together
+pub invariant_of-shared : goal.invariant_of-shared
+invariant_of-shared g c =
+    let at = (goal.at.invariant_of-shared g c).After-index_mut in
+    chains_stand g.S.Trail g.S.Fits.fits_under (lent g at) c.shared.invariant c.args.self.now.core c.index_mut.result.now c.pop.new.self (there g at) c.pop.ensures.same c.pop.ensures.together
 
 pub returns-clause-called : goal.returns-clause-called
 returns-clause-called g c =
-    let low = c.self.invariant.core in
-    let there = chain_there g.S.Trail g.S.Fits.fits_under _ c.self.invariant c.self.inside.core c.index_mut.result.now low c.index_mut.ensures.value in
-    rw (← c.self.view_is) (at_chain _ c.self.inside.core c.index_mut.result.now c.pop.new.self (PopAs c.pop.result) there (pop_does _ _ c.pop.result c.pop.ensures.front c.pop.ensures.rest))
+    let at = (goal.at.returns-clause-called g c).After-index_mut in
+    rw (← c.shared.view_is) (at_chain (lent g at) c.args.self.now.core c.index_mut.result.now c.pop.new.self (PopAs c.pop.result) (there g at) (pop_does _ _ c.pop.result c.pop.ensures.front c.pop.ensures.rest))
 
 pub returns-clause-kept : goal.returns-clause-kept
 returns-clause-kept g c =
-    let low = c.self.invariant.core in
-    let there = chain_there g.S.Trail g.S.Fits.fits_under _ c.self.invariant c.self.inside.core c.index_mut.result.now low c.index_mut.ensures.value in
-    λ _. chains_stand g.S.Trail g.S.Fits.fits_under _ c.self.invariant c.self.inside.core c.index_mut.result.now c.pop.new.self there c.pop.ensures.same c.pop.ensures.together
+    let at = (goal.at.returns-clause-kept g c).After-index_mut in
+    record { same = refl; stand = λ _. chains_stand g.S.Trail g.S.Fits.fits_under (lent g at) c.shared.invariant c.args.self.now.core c.index_mut.result.now c.pop.new.self (there g at) c.pop.ensures.same c.pop.ensures.together }
 
 pub returns-clause-owed : goal.returns-clause-owed
 returns-clause-owed g c =
-    let low = c.self.invariant.core in
-    let there = chain_there g.S.Trail g.S.Fits.fits_under _ c.self.invariant c.self.inside.core c.index_mut.result.now low c.index_mut.ensures.value in
-    rw (← c.self.view_is) (chain_owes _ _ c.self.inside.core (PopAs c.pop.result) (at_chain _ c.self.inside.core c.index_mut.result.now c.pop.new.self (PopAs c.pop.result) there (pop_does _ _ c.pop.result c.pop.ensures.front c.pop.ensures.rest)))
+    let at = (goal.at.returns-clause-owed g c).After-index_mut in
+    rw (← c.shared.view_is) (chain_owes (lent g at) _ c.args.self.now.core (PopAs c.pop.result) (at_chain (lent g at) c.args.self.now.core c.index_mut.result.now c.pop.new.self (PopAs c.pop.result) (there g at) (pop_does _ _ c.pop.result c.pop.ensures.front c.pop.ensures.rest)))

@@ -3,9 +3,9 @@ use Rattle.mely_history.specs.declared.setup.Setup.{Setup}
 use Rattle.mely_history.specs.Setup.{shape_of}
 use Rattle.mely_weave.specs.Drains.{AreDriven}
 use Rattle.mely_weave.specs.Runs.{KeepsSetup}
-use Rattle.mely_weave.proofs.RunLaws.{serves_on, same_onward}
-use Rattle.mely_weave.proofs.DrainLaws.{rounds_same, rounds_none, rounds_more, driven_same, quiet_drained, driven_free_all, driven_halted}
-use Rattle.mely_weave.proofs.CallRuns.{rounds_are_run, runs_on, driven_are_run}
+use Rattle.mely_weave.proofs.Runs.RunLemmas.{serves_on, same_onward}
+use Rattle.mely_weave.proofs.Runs.DrainLemmas.{rounds_same, rounds_none, rounds_more, driven_same, quiet_drained, driven_free_all, driven_halted}
+use Rattle.mely_weave.proofs.Runs.CallRunsLemmas.{rounds_are_run, runs_on, driven_are_run}
 use Rattle.mely_weave.proofs.weave.Weave.drain.Goals as goal
 
 pub loop-init : goal.loop-init

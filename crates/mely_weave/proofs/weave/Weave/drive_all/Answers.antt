@@ -1,8 +1,8 @@
 use Rattle.std.proofs.Common.{◌≡◌, ◌+◌, subst, suc, ℕ, arith}
 use Rattle.mely_history.specs.Setup.{shape_of}
 use Rattle.mely_weave.specs.Drains.{AreDriven}
-use Rattle.mely_weave.proofs.RunLaws.{low_on, serves_on}
-use Rattle.mely_weave.proofs.DrainLaws.{driven_none, driven_more, driven_same}
+use Rattle.mely_weave.proofs.Runs.RunLemmas.{low_on, serves_on}
+use Rattle.mely_weave.proofs.Runs.DrainLemmas.{driven_none, driven_more, driven_same}
 use Rattle.mely_weave.proofs.weave.Weave.drive_all.Goals as goal
 
 pub loop-core-init : goal.loop-core-init

@@ -1,8 +1,8 @@
 use Rattle.std.proofs.Common.{◌≡◌, subst, ℕ, arith}
 use Rattle.mely_history.specs.Setup.{shape_of}
 use Rattle.mely_weave.specs.Drains.{MakesRound}
-use Rattle.mely_weave.proofs.RunLaws.{low_on, serves_on}
-use Rattle.mely_weave.proofs.DrainLaws.{round_none, round_more, round_same}
+use Rattle.mely_weave.proofs.Runs.RunLemmas.{low_on, serves_on}
+use Rattle.mely_weave.proofs.Runs.DrainLemmas.{round_none, round_more, round_same}
 use Rattle.mely_weave.proofs.weave.Weave.make_round.Goals as goal
 
 pub loop-core-init : goal.loop-core-init

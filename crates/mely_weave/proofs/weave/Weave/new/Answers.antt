@@ -2,7 +2,7 @@ use Rattle.std.proofs.Common.{◌∙◌, ap, sym, subst}
 use Rattle.std.specs.Prelude.{slice_get}
 use Rattle.mely_history.specs.declared.setup.Setup.{Setup}
 use Rattle.mely_weave.specs.Gathering.{MayGather}
-use Rattle.mely_weave.proofs.MakeLaws.{first_piles, first_may, first_weave}
+use Rattle.mely_weave.proofs.Wholes.MakeLemmas.{first_piles, first_may, first_weave}
 use Rattle.mely_weave.proofs.weave.Weave.new.Goals as goal
 
 pub shards_of-requires-clause-first : goal.shards_of-requires-clause-first

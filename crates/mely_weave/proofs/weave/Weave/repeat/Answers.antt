@@ -1,7 +1,7 @@
 use Rattle.std.proofs.Common.{◌≡◌, ◌+◌, sym, subst, replicate, ℕ, arith}
 use Rattle.mely_weave.specs.Runs.{RunsTo}
 use Rattle.mely_weave.specs.declared.running.Went.TheVariants as went
-use Rattle.mely_weave.proofs.RunLaws.{run_none, run_same, low_on, serves_on, repeat_more, repeat_stops}
+use Rattle.mely_weave.proofs.Runs.RunLemmas.{run_none, run_same, low_on, serves_on, repeat_more, repeat_stops}
 use Rattle.mely_weave.proofs.weave.Weave.repeat.Goals as goal
 
 pub loop-number-init : goal.loop-number-init

@@ -3,9 +3,9 @@ use Rattle.mely_worker.specs.declared.access.Access.{Ghosts as AccessWords}
 use Rattle.mely_worker.specs.declared.app.App.{Ghosts as AppWords}
 use Rattle.mely_worker.specs.declared.made.Made.{Made}
 use Rattle.mely_worker.specs.declared.tests.lent.Lent.{Lent}
-use Rattle.mely_worker.specs.WorkerView.{WorkerView}
+use Rattle.mely_worker.specs.Worker.{WorkerState}
 use Rattle.mely_worker.specs.Step.{Steps}
-use Rattle.mely_worker.proofs.Views.{steps_under}
+use Rattle.mely_worker.proofs.ViewsLemmas.{steps_under}
 use Rattle.mely_worker.proofs.tests.lent.step_lent.Goals as goal
 
 -- what contracts see of an access that is lent
@@ -27,7 +27,7 @@ lent_words x = record {
 }
 
 -- a step at a lent access is a step at the access
-lent_steps : {A R S P F : Type 0} (x : AccessWords A S P F) (y : AppWords R P S F) (app : R) (b b' : Lent A) (w v : WorkerView S P) (step : Made) → Steps (lent_words x) y app b w step b' v → Steps x y app b.inner.now w step b'.inner.now v
+lent_steps : {A R S P F : Type 0} (x : AccessWords A S P F) (y : AppWords R P S F) (app : R) (b b' : Lent A) (w v : WorkerState S P) (step : Made) → Steps (lent_words x) y app b w step b' v → Steps x y app b.inner.now w step b'.inner.now v
 lent_steps x y app b b' w v step line = steps_under (lent_words x) x y (λ s. s.inner.now) app b w step b' v (record {
   registers = λ c event load answer h. h;
   takes = λ c answer h. h;

@@ -1,6 +1,6 @@
 use Rattle.std.proofs.Common.{rules}
-use Rattle.mely_worker.specs.Holdings.{worker_of}
-use Rattle.mely_worker.proofs.RuleLaws.{Leaves, steps_leave}
+use Rattle.mely_worker.specs.WorkerFields.{worker_of}
+use Rattle.mely_worker.proofs.RuleLemmas.{Leaves, steps_leave}
 use Rattle.mely_worker.proofs.worker.Worker.step.Goals as goal
 
 -- what the step leaves of the worker

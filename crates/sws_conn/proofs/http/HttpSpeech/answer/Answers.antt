@@ -2,7 +2,7 @@ use Rattle.std.proofs.Common.{◌≡◌, ◌≤◌, ℕ, List, length, drop, sym
 use Rattle.std.proofs.lemmas.List.{length-take-le}
 use Rattle.sws_request.specs.declared.cuts.Cut.TheVariants.{Head}
 use Rattle.sws_request.specs.Cuts.{cut_of}
-use Rattle.sws_request.proofs.CutLaws.{IsCutOf-cut_of}
+use Rattle.sws_request.proofs.CutLemmas.{IsCutOf-cut_of}
 use Rattle.sws_answer.specs.Asked.{Asked}
 use Rattle.sws_answer.specs.Answers.{Answer, answer_of}
 use Rattle.sws_steps.specs.Speaking.{AnswersFirst}

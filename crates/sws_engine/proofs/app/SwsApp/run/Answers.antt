@@ -1,8 +1,8 @@
 use Rattle.std.proofs.Common.{sym, subst, ◌∙◌}
 use Rattle.sws_engine.specs.declared.place.Place.TheInside.{Inside}
-use Rattle.sws_engine.specs.Kept.{IsKept}
-use Rattle.sws_engine.specs.PlaceShown.{shown}
-use Rattle.sws_engine.proofs.StateKept.{accept_back, seat_back, first_few, fit_of, desk_of, accept_of, seat_of, desk_after, desk_known, desk_few, seat_after, puts_of, first_total, accept_after_of}
+use Rattle.sws_engine.specs.Invariant.{IsConsistent}
+use Rattle.sws_engine.specs.PlaceShown.{state_of}
+use Rattle.sws_engine.proofs.Events.StateKeptLemmas.{accept_back, seat_back, first_few, fit_of, desk_of, accept_of, seat_of, desk_after, desk_known, desk_few, seat_after, puts_of, first_total, accept_after_of}
 use Rattle.sws_engine.proofs.app.SwsApp.run.Goals as goal
 use Rattle.sws_engine.proofs.app.SwsApp.run.Goals.{in-Polling, in-Accepting, in-Talking}
 
@@ -22,15 +22,15 @@ invariant_of-state g c = elim c.match-deref_mut.branch [
       let stands = desk_of g.W.World g.W.Link.Link g.T.Talk _ _ _ _ _ _ (sym c.deref_mut.ensures.value ∙ w.in-Polling.is) c.state.invariant in
       let fit = fit_of g.W.World g.W.Link.Link _ _ c.args.event c.args.load c.state.view_is c.requires.fits in
       let after = desk_after g.W.World g.W.Link.Link _ _ c.args.event c.args.load _ _ _ stands.0 stands.1 fit w.run_desk.ensures.runs w.run_desk.ensures.room in
-      subst (λ (i : Inside _ _ _ _ _). IsKept g.W.World g.W.Link.Link g.T.Talk (shown g.T.Talk.contents_of i)) (sym w.state-inside-is) (stands.0, after.0)
+      subst (λ (i : Inside _ _ _ _ _). IsConsistent g.W.World g.W.Link.Link g.T.Talk (state_of g.T.Talk.contents_of i)) (sym w.state-inside-is) (stands.0, after.0)
   | in-Accepting w ↦
       let one = accept_of g.W.World g.W.Link.Link g.T.Talk _ _ _ _ _ (sym c.deref_mut.ensures.value ∙ w.in-Accepting.is) c.state.invariant in
-      subst (λ (i : Inside _ _ _ _ _). IsKept g.W.World g.W.Link.Link g.T.Talk (shown g.T.Talk.contents_of i)) (sym w.state-inside-is) (accept_back g.W.World g.W.Link.Link g.T.Talk _ _ _ _ _ w.in-Accepting.is one)
+      subst (λ (i : Inside _ _ _ _ _). IsConsistent g.W.World g.W.Link.Link g.T.Talk (state_of g.T.Talk.contents_of i)) (sym w.state-inside-is) (accept_back g.W.World g.W.Link.Link g.T.Talk _ _ _ _ _ w.in-Accepting.is one)
   | in-Talking w ↦
       let stands = seat_of g.W.World g.W.Link.Link g.T.Talk _ _ _ _ _ _ (sym c.deref_mut.ensures.value ∙ w.in-Talking.is) c.state.invariant in
       let fit = fit_of g.W.World g.W.Link.Link _ _ c.args.event c.args.load c.state.view_is c.requires.fits in
       let after = seat_after g.W.World g.W.Link.Link _ g.T.Talk _ _ c.args.event c.args.load _ _ _ _ stands.0 stands.1 fit w.serve.ensures.runs w.serve.ensures.next w.serve.ensures.once in
-      subst (λ (i : Inside _ _ _ _ _). IsKept g.W.World g.W.Link.Link g.T.Talk (shown g.T.Talk.contents_of i)) (sym w.state-inside-is)
+      subst (λ (i : Inside _ _ _ _ _). IsConsistent g.W.World g.W.Link.Link g.T.Talk (state_of g.T.Talk.contents_of i)) (sym w.state-inside-is)
       (seat_back g.W.World g.W.Link.Link g.T.Talk _ _ _ _ _ c.args.event _ c.push_reserved.ensures.items stands.0 after.0)
 ]
 

@@ -3,7 +3,8 @@ use Rattle.sws_link.specs.declared.Accepted.TheVariants as accepted
 use Rattle.sws_link.specs.Counts.{kept_count, no_faults}
 use Rattle.sws_link.specs.MemLinks.{mem_link_tells}
 use Rattle.sws_link.specs.Worlds.{Accepts}
-use Rattle.sws_link.specs.MemWorlds.{MemWorldState, mem_world_tells}
+use Rattle.sws_link.specs.MemWorlds.{mem_world_tells}
+use Rattle.sws_link.specs.MemWorld.{MemWorldState}
 use Rattle.sws_link.proofs.WorldLemmas.{mem-accepts}
 use Rattle.sws_link.proofs.mem_world.MemWorldWorld.accept.Goals as goal
 

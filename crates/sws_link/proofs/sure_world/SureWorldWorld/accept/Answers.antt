@@ -1,9 +1,11 @@
 use Rattle.std.proofs.Common.{subst}
 use Rattle.sws_link.specs.declared.Accepted.TheVariants as accepted
 use Rattle.sws_link.specs.Counts.{kept_count, no_faults}
-use Rattle.sws_link.specs.MemLinks.{SureLinkState, sure_link_tells}
+use Rattle.sws_link.specs.MemLinks.{sure_link_tells}
+use Rattle.sws_link.specs.SureLink.{SureLinkState}
 use Rattle.sws_link.specs.Worlds.{Accepts}
-use Rattle.sws_link.specs.MemWorlds.{LobbyState, sure_world_tells}
+use Rattle.sws_link.specs.MemWorlds.{sure_world_tells}
+use Rattle.sws_link.specs.Lobby.{LobbyState}
 use Rattle.sws_link.proofs.WorldLemmas.{sure-accepts}
 use Rattle.sws_link.proofs.sure_world.SureWorldWorld.accept.Goals as goal
 

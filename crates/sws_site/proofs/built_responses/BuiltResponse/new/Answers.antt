@@ -1,6 +1,6 @@
 use Rattle.std.proofs.Common.{None, true, false}
 use Rattle.sws_site.specs.ResponseHeads.{ResponseHead}
-use Rattle.sws_site.proofs.HeadLengths.{head_text-short}
+use Rattle.sws_site.proofs.HeadLengthsLemmas.{head_text-short}
 use Rattle.sws_site.proofs.built_responses.BuiltResponse.new.Goals as goal
 
 pub write_head-requires : goal.write_head-requires

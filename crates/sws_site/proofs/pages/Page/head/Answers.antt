@@ -1,5 +1,5 @@
 use Rattle.std.proofs.Common.{sym, ◌∙◌}
-use Rattle.sws_site.specs.Sites.{page_head}
+use Rattle.sws_site.specs.Site.{page_head}
 use Rattle.sws_site.proofs.SiteLemmas.{built_head-file, built_head-not_modified}
 use Rattle.sws_site.proofs.pages.Page.head.Goals as goal
 

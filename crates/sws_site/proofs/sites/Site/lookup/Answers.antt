@@ -1,7 +1,7 @@
 use Rattle.std.proofs.Common.{◌≡◌, length, get_or, subst, arith, sym, ◌∙◌, ap}
 use Rattle.sws_site.specs.Stored.{HasHeads, file_of, files_of}
 use Rattle.sws_site.specs.declared.stored.StoredFile.{StoredFile}
-use Rattle.sws_site.proofs.FileLaws.{file_named-short}
+use Rattle.sws_site.proofs.FileLemmas.{file_named-short}
 use Rattle.sws_site.proofs.PlaceLemmas.{place_from-some, place_from-none, found_in-some, found_in-none}
 use Rattle.sws_site.proofs.sites.Site.lookup.Goals as goal
 

@@ -2,9 +2,9 @@ use Rattle.std.proofs.Common.{rules, ◌≡◌, ◌++◌, true, take, drop, sym,
 use Rattle.std.specs.Prelude.{not}
 use Rattle.sws_text.specs.Texts.{sign_before}
 use Rattle.sws_text.specs.Shown.{margin, shown_sign, still_shown}
-use Rattle.sws_text.proofs.SignLaws.{found_at}
-use Rattle.sws_text.proofs.ShownLaws.{still_shown-sign}
-use Rattle.sws_text.proofs.PlainLaws.{behind, still_shown-front}
+use Rattle.sws_text.proofs.SignLemmas.{found_at}
+use Rattle.sws_text.proofs.ShownLemmas.{still_shown-sign}
+use Rattle.sws_text.proofs.PlainLemmas.{behind, still_shown-front}
 use Rattle.sws_text.proofs.showing.ShownLines.push_next.Goals as goal
 
 pub returns-clause-moves : goal.returns-clause-moves

@@ -1,0 +1,43 @@
+-- Where a weave's histories are drained, its parts show that every event was run.
+use Rattle.std.proofs.Common.{◌≡◌, ℕ, List, [], ◌++◌, length, map, take, drop, sym, ◌∙◌, ap, subst}
+use Rattle.std.proofs.lemmas.List.{length-map, append-nil, take-append-drop}
+use Rattle.std.specs.Prelude.{Option}
+use Rattle.mely_event.specs.declared.colour.Colour.{Colour}
+use Rattle.mely_event.specs.declared.event.Event.{Event}
+use Rattle.mely_event.specs.declared.trail.Trail.{Ghosts as TrailWords}
+use Rattle.mely_history.specs.declared.entry.Entry.{Entry}
+use Rattle.mely_history.specs.declared.setup.Setup.{Setup}
+use Rattle.mely_history.specs.History.{registered_of, begun_of, ran_of}
+use Rattle.mely_history.specs.Legal.{IsDrainedOf}
+use Rattle.mely_shard.specs.Shard.{ShardState}
+use Rattle.mely_history.specs.Setup.{shape_of}
+use Rattle.mely_weave.specs.Drains.{HistoriesAreDrained}
+use Rattle.mely_weave.specs.Side.{shard_of}
+use Rattle.mely_weave.specs.Weave.{WeaveState}
+use Rattle.mely_tally.specs.Tallies.{Carried}
+use Rattle.mely_tally.specs.Tells.{IsTakenApart}
+use Rattle.mely_app.specs.RanAll.{RanAll}
+
+-- where nothing is left behind a front, that is the whole
+front_whole : {A : Type 0} (n : ℕ) (xs : List A) → drop n xs ≡ [] → take n xs ≡ xs
+front_whole n xs none = sym (append-nil (take n xs)) ∙ ap (λ l. take n xs ++ l) (sym none) ∙ take-append-drop n xs
+
+-- where nothing runs or waits, all that was registered was run
+all_ran : (history : List Entry) (c : Colour) → IsDrainedOf history c → ran_of history c ≡ registered_of history c
+all_ran history c drained = ap (λ n. take n (registered_of history c)) (sym drained.at_rest) ∙ front_whole (begun_of history c) (registered_of history c) drained.none_queued
+
+pub ran_all : {S P F : Type 0} (t : TrailWords S F) (setup : Setup) (weave : WeaveState S P) (histories : List (List Entry)) (states : List S) (queued : List (List (Carried P))) (lost : List (Colour × Event × Option P))
+    → weave.setup ≡ setup → length weave.shards ≡ (shape_of weave.setup).shards → histories ≡ map (λ (has : ShardState S P). has.history) weave.shards
+    → HistoriesAreDrained weave → IsTakenApart t weave histories states queued lost → RanAll t setup histories states
+ran_all {S} {P} t setup weave histories states queued lost of_setup shards are drained apart =
+    let whole : RanAll t weave.setup histories states = record {
+      legal = apart.legal;
+      shards = ap length are ∙ length-map weave.shards (λ (has : ShardState S P). has.history) ∙ shards;
+      drained = apart.drained drained;
+      colours = apart.many;
+      coloured = apart.coloured;
+      ran = λ c state history at there.
+          let shard = shard_of weave.setup c in
+          apart.trailed c state history at there ∙ all_ran history c (apart.drained drained shard history there c);
+    } in
+    subst (λ (k : Setup). RanAll t k histories states) of_setup whole

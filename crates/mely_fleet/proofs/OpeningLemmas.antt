@@ -1,0 +1,138 @@
+-- A fleet as it is made.
+use Rattle.std.proofs.Common.{◌≡◌, ℕ, ◌+◌, ◌*◌, ◌%◌, ◌<◌, ◌≤◌, List, [], ◌∷◌, ◌++◌, length-append, Some, length, map, refl, sym, ◌∙◌, ap, arith, zero, suc, All}
+use Rattle.std.specs.Prelude.{slice_get, option_map}
+use Rattle.std.proofs.lemmas.Option.{slice_get-get_or, slice_get-map, slice_get_within, unwrap_or-slice_get}
+use Rattle.std.proofs.lemmas.List.Elements.{All-from_recursion}
+use Rattle.std.proofs.Math.Seq.{get_or-append_seam}
+use Rattle.mely_event.specs.declared.trail.Trail.{Ghosts as TrailWords}
+use Rattle.mely_history.specs.declared.setup.Setup.{Setup}
+use Rattle.mely_history.specs.Setup.{shape_of}
+use Rattle.mely_shard.specs.Shard.{ShardState, ColourState, IsFirst, givens, first_lane}
+use Rattle.mely_weave.specs.Dealing.{AreDealt}
+use Rattle.mely_weave.proofs.Wholes.MakeLemmas.{dealt_to}
+use Rattle.mely_weave.proofs.Wholes.DealLemmas.{each_push, both_push}
+use Rattle.mely_lock.specs.declared.ticketed.Ticketed.{Ticketed}
+use Rattle.mely_lock.specs.declared.pass.Pass.{Pass}
+use Rattle.mely_lock.specs.Words.{first_value, IsPassOf, IsOutside, front}
+use Rattle.mely_history.specs.declared.entry.Entry.{Entry}
+use Rattle.mely_core.specs.CoreQueue.{CoreQueueState}
+use Rattle.mely_weave.specs.Making.{AreFirst, empty_chain}
+use Rattle.mely_weave.proofs.Wholes.GatherLemmas.{get_there}
+use Rattle.std.specs.List.{AllByRecursion}
+use Rattle.mely_fleet.specs.declared.kept_shard.ShardFrame.{ShardFrame}
+use Rattle.mely_fleet.specs.declared.kept_chain.ChainFrame.{ChainFrame}
+use Rattle.mely_fleet.specs.Calls.{front_in}
+use Rattle.mely_fleet.specs.Fleets.{frame_for, chain_frame_for, first_of_some}
+use Rattle.mely_fleet.specs.Rows.{IsPassAt, AreFramed, fronts}
+use Rattle.mely_fleet.specs.Dealing.{IsFirstRow}
+use Rattle.mely_fleet.specs.Frames.{HaveFrame, shard_frame, chain_frame, numbers_of}
+use Rattle.mely_fleet.specs.KeptChain.{KeptChainState}
+use Rattle.mely_fleet.specs.KeptShard.{KeptShardState}
+
+givens_first : {S : Type 0} (P : Type 0) (states : List S) → map (λ (lane : ColourState S P). lane.given) (map (λ state. first_lane {S = S} {P = P} state) states) ≡ states
+givens_first P [] = refl
+givens_first P (state ∷ states) = ap (λ rest. state ∷ rest) (givens_first P states)
+
+module _ {S P F Y : Type 0} (t : TrailWords S F) (setup : Setup) (states : List S) (first : AreFirst t setup states) (items : Y → List S) (piles : List Y) (dealt : AreDealt items (shape_of setup).shards states piles)
+    (shards : List (ShardState S P)) (many : length shards ≡ (shape_of setup).shards) (are : (shard : ℕ) (pile : Y) (has : ShardState S P) → slice_get piles shard ≡ Some pile → slice_get shards shard ≡ Some has → IsFirst setup shard (items pile) has) where
+  -- the states of each shard have the frame of the first state
+  pub shard_framed : (given : S) → slice_get states 0 ≡ Some given → (k : ℕ) (has : ShardState S P) → slice_get shards k ≡ Some has → HaveFrame t.frame_of (t.frame_of given) (givens has)
+  shard_framed given at k has here i state is =
+      let to = dealt_to t (λ f c e l. Unit {0}) setup states first items piles dealt shards many are k has here in
+      let there : slice_get (items to.pile) i ≡ Some state = ap (λ xs. slice_get xs i) (sym (ap (λ lanes. map (λ (lane : ColourState S P). lane.given) lanes) to.is.lanes ∙ givens_first P (items to.pile))) ∙ is in
+      first.one_frame (i * (shape_of setup).shards + k) 0 state given (sym (dealt.each k to.pile to.there i) ∙ there) at
+
+  -- each shard is the setup's of its number, and nothing was registered there
+  pub shard_is_first : (k : ℕ) (has : ShardState S P) → slice_get shards k ≡ Some has → ((has.setup ≡ setup) × (has.shard ≡ k)) × (has.history ≡ [])
+  shard_is_first k has here =
+      let to = dealt_to t (λ f c e l. Unit {0}) setup states first items piles dealt shards many are k has here in
+      ((to.is.of_setup, to.is.of_shard), to.is.no_entry)
+
+first_of : {A B C : Type 0} → A × B × C → A
+first_of (a, b, c) = a
+
+second_of : {A B C : Type 0} → A × B × C → B
+second_of (a, b, c) = b
+
+third_of : {A B C : Type 0} → A × B × C → C
+third_of (a, b, c) = c
+
+module _ {V N F : Type 0} {g : _} (frame_of : V → F) (locks : List (Ticketed V N F)) (n : ℕ) (row : List (Pass V N F g)) (first : IsFirstRow frame_of locks n row) (lock : Ticketed V N F) (pass : Pass V N F g) (fresh : IsPassOf frame_of lock pass × IsOutside pass × (front pass ≡ [])) (numbered : pass.number ≡ n) where
+  -- one more lock, and a pass of it
+  pub row_grow : IsFirstRow frame_of (locks ++ lock ∷ []) n (row ++ pass ∷ [])
+  row_grow = record {
+    are = record {
+      many = length-append row (pass ∷ []) ∙ ap (λ m. m + 1) first.are.many ∙ sym (length-append locks (lock ∷ []));
+      each = both_push (λ _ l p. IsPassAt frame_of l n p) locks row lock pass (length locks) refl first.are.many first.are.each (record { of_lock = first_of {A = IsPassOf frame_of lock pass} {B = IsOutside pass} {C = front pass ≡ []} fresh; outside = second_of {A = IsPassOf frame_of lock pass} {B = IsOutside pass} {C = front pass ≡ []} fresh; numbered = numbered });
+    };
+    unseen = each_push (λ _ p. front p ≡ []) row pass (length row) refl first.unseen (third_of {A = IsPassOf frame_of lock pass} {B = IsOutside pass} {C = front pass ≡ []} fresh);
+  }
+
+-- what stands where two lists meet
+pub at_seam : {A : Type 0} (xs : List A) (y : A) (rest : List A) → slice_get (xs ++ y ∷ rest) (length xs) ≡ Some y
+at_seam xs y rest = slice_get-get_or (xs ++ y ∷ rest) (length xs) y (let many : length (xs ++ y ∷ rest) ≡ length xs + length (y ∷ rest) = length-append xs (y ∷ rest) in omega (arith, many)) ∙ ap (λ x. Some x) (get_or-append_seam xs y rest y)
+
+-- one number more, of those that fit in two bytes
+pub number_onward : {A : Type 0} (number : ℕ) (before : List A) (here : A) (rest all : List A) → number ≡ length before → before ++ here ∷ rest ≡ all → length all ≤ 65535 → (number + 1) % 65536 ≡ length (before ++ here ∷ [])
+number_onward number before here rest all is split few =
+    let many : length before + length (here ∷ rest) ≡ length all = sym (length-append before (here ∷ rest)) ∙ ap length split in
+    let longer : length (before ++ here ∷ []) ≡ length before + 1 = length-append before (here ∷ []) in
+    let low : number + 1 < 65536 = omega (arith, is, many, few) in
+    omega (arith, low, longer, is)
+
+-- passes that have seen nothing, by place
+pub all_unseen : {V F : Type 0} {g : _} (row : List (Pass V Entry F g)) → ((k : ℕ) (pass : Pass V Entry F g) → slice_get row k ≡ Some pass → front pass ≡ []) → (k : ℕ) → front_in (fronts row) k ≡ []
+all_unseen [] none k = sym (unwrap_or-slice_get [] k [])
+all_unseen (pass ∷ row) none zero = none 0 pass refl
+all_unseen (pass ∷ row) none (suc k) = all_unseen row (λ j. none (suc j)) k
+
+module _ {S P F : Type 0} (frame_of : S → F) (setup : Setup) (sample : S) (shards : List (ShardState S P)) (kept : List (KeptShardState S P)) (kept_many : length kept ≡ length shards)
+    (are : (k : ℕ) (has : ShardState S P) (one : KeptShardState S P) → slice_get shards k ≡ Some has → slice_get kept k ≡ Some one → one ≡ record { has = has; sample = sample }) where
+  -- shards behind their locks have the frames of their places
+  pub shards_framed : (own : (k : ℕ) (has : ShardState S P) → slice_get shards k ≡ Some has → (has.setup ≡ setup) × (has.shard ≡ k)) (locks : List (Ticketed (KeptShardState S P) Entry (ShardFrame F))) → length locks ≡ length kept
+      → ((k : ℕ) (lock : _) (value : KeptShardState S P) → slice_get locks k ≡ Some lock → slice_get kept k ≡ Some value → shard_frame frame_of (first_value lock) ≡ shard_frame frame_of value)
+      → AreFramed (shard_frame frame_of) (frame_for setup (frame_of sample)) locks
+  shards_framed own locks many frames k lock at =
+      let low = slice_get_within locks k lock at in
+      let one = get_there kept k (omega (arith, low, many)) in
+      let has = get_there shards k (omega (arith, low, many, kept_many)) in
+      let is = own k has.0 has.1 in
+      frames k lock one.0 at one.1 ∙ ap (shard_frame frame_of) (are k has.0 one.0 has.1 one.1) ∙ (λ i. record { setup = is.0 i; shard = is.1 i; states = frame_of sample })
+
+  -- whose histories are empty
+  pub kept_empty : ((k : ℕ) (has : ShardState S P) → slice_get shards k ≡ Some has → has.history ≡ []) → (k : ℕ) (one : KeptShardState S P) → slice_get kept k ≡ Some one → one.has.history ≡ []
+  kept_empty empty k one at =
+      let low = slice_get_within kept k one at in
+      let has = get_there shards k (omega (arith, low, kept_many)) in
+      ap (λ (c : KeptShardState S P). c.has.history) (are k has.0 one has.1 at) ∙ empty k has.0 has.1
+
+-- the frame of the first of them
+pub first_frame : {V N F : Type 0} (kept_frame : V → ShardFrame F) (setup : Setup) (f : F) (locks : List (Ticketed V N (ShardFrame F))) (some : 0 < length locks) → AreFramed kept_frame (frame_for setup f) locks → (kept_frame (first_value (first_of_some locks some))).states ≡ f
+first_frame kept_frame setup f [] some framed = absurd (omega (arith, some))
+first_frame kept_frame setup f (lock ∷ locks) some framed = ap (λ frame. frame.states) (framed 0 lock refl)
+
+-- the same of chains
+pub chains_framed : (setup : Setup) (chains : List CoreQueueState) (kept : List KeptChainState) → length kept ≡ length chains → ((k : ℕ) (queue : CoreQueueState) (one : KeptChainState) → slice_get chains k ≡ Some queue → slice_get kept k ≡ Some one → one ≡ record { has = queue; changes = [] }) → ((k : ℕ) (queue : CoreQueueState) → slice_get chains k ≡ Some queue → queue ≡ empty_chain setup)
+    → {N : Type 0} (locks : List (Ticketed KeptChainState N ChainFrame)) → length locks ≡ length kept → ((k : ℕ) (lock : _) (value : KeptChainState) → slice_get locks k ≡ Some lock → slice_get kept k ≡ Some value → chain_frame (first_value lock) ≡ chain_frame value)
+    → AreFramed chain_frame (λ _. chain_frame_for setup) locks
+chains_framed setup chains kept kept_many are empty locks many frames k lock at =
+    let low = slice_get_within locks k lock at in
+    let one = get_there kept k (omega (arith, low, many)) in
+    let queue = get_there chains k (omega (arith, low, many, kept_many)) in
+    frames k lock one.0 at one.1 ∙ ap chain_frame (are k queue.0 one.0 queue.1 one.1) ∙ ap numbers_of (empty k queue.0 queue.1)
+
+-- whose histories are empty
+pub chains_untouched : (chains : List CoreQueueState) (kept : List KeptChainState) → length kept ≡ length chains → ((k : ℕ) (queue : CoreQueueState) (one : KeptChainState) → slice_get chains k ≡ Some queue → slice_get kept k ≡ Some one → one ≡ record { has = queue; changes = [] }) → (k : ℕ) (one : KeptChainState) → slice_get kept k ≡ Some one → one.changes ≡ []
+chains_untouched chains kept many are k one at =
+    let low = slice_get_within kept k one at in
+    let queue = get_there chains k (omega (arith, low, many)) in
+    ap (λ (kept : KeptChainState). kept.changes) (are k queue.0 one queue.1 at)
+
+-- what holds at each place holds of each element, one after another
+pub all_from_places : {X : Type 0} (P : X → Type 0) (xs : List X) → ((i : ℕ) (x : X) → slice_get xs i ≡ Some x → P x) → AllByRecursion P xs
+all_from_places P [] each = tt
+all_from_places P (x ∷ xs) each = (each 0 x refl, all_from_places P xs (λ i y is. each (suc i) y is))
+
+-- what holds at each place holds of each element
+pub all_here : {A : Type 0} (Has : A → Type 0) (xs : List A) → ((k : ℕ) (x : A) → slice_get xs k ≡ Some x → Has x) → All Has xs
+all_here Has xs each = All-from_recursion Has xs (all_from_places Has xs each)

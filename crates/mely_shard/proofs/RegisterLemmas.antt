@@ -1,0 +1,116 @@
+-- What a registration keeps, and what it tells.
+use Rattle.std.proofs.Common.{◌≡◌, ℕ, ◌+◌, ◌-◌, ◌*◌, ◌/◌, ◌%◌, ◌<◌, ◌≤◌, List, [], ◌∷◌, ◌++◌, Option, Some, None, Bool, true, false, cond, suc, length, map, drop, sum, get_or, refl, sym, ◌∙◌, ap, subst, arith, nat_lt, div-add-mod'}
+use Rattle.std.proofs.lemmas.Bool.Decides.{nat_tests}
+use Rattle.std.specs.List.{cons_option}
+use Rattle.std.proofs.lemmas.List.Sums.{sum_by-set, sum-map}
+use Rattle.std.proofs.Math.ListN.{set}
+use Rattle.std.specs.List.{slice_get, filter_map, count_by, sum_by}
+use Rattle.std.proofs.lemmas.Option.{slice_get-get_or, slice_get-map}
+use Rattle.std.proofs.lemmas.List.{length-map, length-drop, get_or_default}
+use Rattle.std.specs.Option.{option_map}
+use Rattle.mely_event.specs.declared.colour.Colour.{Colour}
+use Rattle.mely_event.specs.declared.event.Event.{Event}
+use Rattle.mely_event.specs.declared.trail.Trail.{Ghosts as TrailWords}
+use Rattle.mely_history.specs.Setup.{shape_of, colours_of}
+use Rattle.mely_history.specs.declared.setup.Setup.{Setup}
+use Rattle.mely_history.specs.declared.entry.Entry.{Entry}
+use Rattle.mely_history.specs.declared.entry.Entry.TheVariants.{Reg}
+use Rattle.mely_history.specs.History.{registered_of, queued_of, begun_of, owner_of, worth_of, weight}
+use Rattle.mely_history.specs.Legal.{MayRegister}
+use Rattle.mely_history.specs.declared.registered.Registered.TheVariants.{Woke, Told, Running}
+use Rattle.std.specs.Prelude.{is_none, if◌then◌else◌}
+use Rattle.std.proofs.lemmas.List.{nil_from_length}
+use Rattle.mely_queue.specs.ColourQueue.{pushed, registered_in}
+use Rattle.mely_shard.specs.declared.colour_slot.ColourSlot.{ColourSlot}
+use Rattle.mely_shard.specs.Shard.{RegisteredAs}
+use Rattle.mely_history.specs.ColourAccount.{ColourAccount, account_of, next_account}
+use Rattle.mely_shard.specs.Invariant.{IsKeptShard, CellStands, StateStands, is_away, lane_of}
+use Rattle.mely_shard.specs.Shard.{colour_at}
+use Rattle.mely_shard.specs.declared.room.TheConstants.{MOST_ENTRIES}
+use Rattle.mely_shard.specs.Replies.{reply_of}
+use Rattle.mely_history.proofs.ColourAccountLemmas.{account-own}
+use Rattle.mely_shard.proofs.SlotLemmas.{kept_after, stands_registered}
+
+-- the colour of the place of a colour
+pub colour_at-place : (setup : Setup) (shard : ℕ) (c : Colour) → c.0 % (shape_of setup).shards ≡ shard → colour_at setup shard (c.0 / (shape_of setup).shards) ≡ c
+colour_at-place setup shard c is = let same : (c.0 / (shape_of setup).shards) * (shape_of setup).shards + shard ≡ c.0 = sym (ap (λ n. (c.0 / (shape_of setup).shards) * (shape_of setup).shards + n) is) ∙ div-add-mod' c.0 (shape_of setup).shards in ap (λ n. record { 0 = n }) same
+
+length-filter_map-le : {X Y : Type 0} (f : X → Option Y) (xs : List X) → length (filter_map f xs) ≤ length xs
+length-filter_map-le f [] = omega arith
+length-filter_map-le f (x ∷ xs) = let h = length-filter_map-le f xs in longest (f x) (filter_map f xs) (length xs) h
+  where
+    longest : {Y : Type 0} (o : Option Y) (ys : List Y) (n : ℕ) → length ys ≤ n → length (cons_option o ys) ≤ suc n
+    longest None ys n h = omega arith
+    longest (Some y) ys n h = omega arith
+
+module _ {S P F : Type 0} {t : TrailWords S F} {fits : F → Colour → Event → Option P → Type 0} {setup : Setup} {shard : ℕ} {history : List Entry} {cells : List (ColourSlot S P)} {running capacity : ℕ} (kept : IsKeptShard t fits setup shard history cells running capacity) where
+  -- more room
+  pub kept_with_room : (capacity' : ℕ) → capacity ≤ capacity' → capacity' ≤ MOST_ENTRIES → IsKeptShard t fits setup shard history cells running capacity'
+  kept_with_room capacity' le limited = record { legal = kept.legal; numbered = kept.numbered; whole = kept.whole; only = kept.only; each = kept.each; own = kept.own; frames = kept.frames; counted = kept.counted; room = omega (arith, kept.room); limited = limited }
+
+  -- the cell of a colour
+  pub cell_stands : (c : Colour) (d : ColourSlot S P) → c.0 < colours_of setup → c.0 % (shape_of setup).shards ≡ shard → CellStands t fits setup c (account_of setup history c) (get_or cells (c.0 / (shape_of setup).shards) d)
+  cell_stands c d there here = subst (λ k. CellStands t fits setup k (account_of setup history k) (get_or cells (c.0 / (shape_of setup).shards) d)) (colour_at-place setup shard c here) (kept.each (c.0 / (shape_of setup).shards) d (kept.whole c.0 there here))
+
+  -- fewer than 2 ^ 64 were registered
+  pub registered_few : (c : Colour) (cell : ColourSlot S P) → CellStands t fits setup c (account_of setup history c) cell → registered_in cell.queue ≤ length history
+  registered_few c cell stands =
+      let few : length (registered_of history c) ≤ length history = length-filter_map-le _ history in
+      let waiting : length cell.queue.events ≡ length (registered_of history c) - (account_of setup history c).begun =
+      sym (length-map cell.queue.events (λ e. e.0)) ∙ ap length stands.events ∙ length-drop (account_of setup history c).begun (registered_of history c) in
+      omega (arith, stands.started, stands.begun)
+
+  -- as many are away where the home stays
+  pub same_count : (all : List (ColourSlot S P)) (i : ℕ) (cell after : ColourSlot S P) → i < length all → cell ≡ get_or all i cell → is_away after ≡ is_away cell → count_by is_away (set all i after) ≡ count_by is_away all
+  same_count all i cell after lt is same =
+      let sums = sum_by-set (λ b. cond (is_away b) 1 0) all i after cell lt in
+      let one : Bool → ℕ = λ t. cond t 1 0 in
+      let at : one (is_away (get_or all i cell)) ≡ one (is_away after) = ap (λ b. one (is_away b)) (sym is) ∙ ap one (sym same) in
+      omega (arith, sums, at)
+
+  -- a registration keeps what the fields keep
+  pub kept_registered : (c : Colour) (event : Event) (load : Option P) (by capacity' : ℕ) (cell : ColourSlot S P) → c.0 < colours_of setup → c.0 % (shape_of setup).shards ≡ shard
+      → cell ≡ get_or cells (c.0 / (shape_of setup).shards) cell → MayRegister setup c event → fits (t.frame_of cell.given.value) c event load → length history + 1 + running ≤ capacity' → capacity' ≤ MOST_ENTRIES
+      → IsKeptShard t fits setup shard (history ++ Reg c event by ∷ []) (set cells (c.0 / (shape_of setup).shards) (record cell { queue = pushed cell.queue event load (weight setup event) })) running capacity'
+  kept_registered c event load by capacity' cell there here is may fit room limited =
+      let i = c.0 / (shape_of setup).shards in
+      let place : i < length cells = kept.whole c.0 there here in
+      let after = record cell { queue = pushed cell.queue event load (weight setup event) } in
+      let at : colour_at setup shard i ≡ c = colour_at-place setup shard c here in
+      let old : CellStands t fits setup c (account_of setup history c) cell = subst (λ b. CellStands t fits setup c (account_of setup history c) b) (sym is) (cell_stands c cell there here) in
+      kept_after (Reg c event by) i after running capacity' kept place (sym (ap (λ k. k.0) at)) may
+      (subst (λ k. CellStands t fits setup k (next_account (account_of setup history k) (Reg c event by)) after) (sym at) (stands_registered c (account_of setup history c) cell event load by old fit))
+      (ap (λ b. t.frame_of b.given.value) is ∙ ap (λ b. t.frame_of b.given.value) (get_or_default cells i cell after place))
+      (kept.counted ∙ sym (same_count cells i cell after place is refl))
+      room limited
+
+  -- the cell of a colour, as it was read
+  pub cell_there : (c : Colour) (cell : ColourSlot S P) → c.0 < colours_of setup → c.0 % (shape_of setup).shards ≡ shard → cell ≡ get_or cells (c.0 / (shape_of setup).shards) cell → CellStands t fits setup c (account_of setup history c) cell
+  cell_there c cell there here is = subst (λ b. CellStands t fits setup c (account_of setup history c) b) (sym is) (cell_stands c cell there here)
+
+  -- the lane of a colour
+  pub lane_there : (c : Colour) (cell : ColourSlot S P) → c.0 < colours_of setup → c.0 % (shape_of setup).shards ≡ shard → cell ≡ get_or cells (c.0 / (shape_of setup).shards) cell → slice_get (map lane_of cells) (c.0 / (shape_of setup).shards) ≡ Some (lane_of cell)
+  lane_there c cell there here is =
+      let i = c.0 / (shape_of setup).shards in
+      slice_get-map lane_of cells i ∙ ap (option_map lane_of) (slice_get-get_or cells i cell (kept.whole c.0 there here) ∙ ap (λ b. Some b) (sym is))
+
+  -- what a registration is told, where the state is at home or away
+  told : (after : List Entry) (c : Colour) (given : S) (core count own started left : ℕ) (waiting : ℕ) → waiting ≡ length (queued_of history c) → own ≡ owner_of setup after c → started ≡ begun_of after c → left ≡ worth_of setup after c
+      → (home : Option S) → StateStands t c given (account_of setup history c) core count home → (waited : Bool) → nat_lt 0 waiting ≡ waited
+      → RegisteredAs setup history after c (if is_none home then Running core else if waited then Told own started left else Woke own started left)
+  told after c given core count own started left waiting many own_is started_is left_is None stands waited is = (omega (arith, stands.1, stands.2), (count, stands.0))
+  told after c given core count own started left waiting many own_is started_is left_is (Some state) stands true is = (stands.0, grind (arith, nat_tests), own_is, started_is, left_is)
+  told after c given core count own started left waiting many own_is started_is left_is (Some state) stands false is = (stands.0, nil_from_length (queued_of history c) (grind (arith, nat_tests)), own_is, started_is, left_is)
+
+  -- what a registration is told
+  pub told_registered : (c : Colour) (event : Event) (load : Option P) (by : ℕ) (cell : ColourSlot S P) → CellStands t fits setup c (account_of setup history c) cell → fits (t.frame_of cell.given.value) c event load
+      → RegisteredAs setup history (history ++ Reg c event by ∷ []) c (reply_of (record cell { queue = pushed cell.queue event load (weight setup event) }) (nat_lt 0 (length cell.queue.events)))
+  told_registered c event load by cell old fit =
+      let after = history ++ Reg c event by ∷ [] in
+      let next = account-own setup history (Reg c event by) c refl in
+      let new = stands_registered c (account_of setup history c) cell event load by old fit in
+      let many : length cell.queue.events ≡ length (queued_of history c) = sym (length-map cell.queue.events (λ e. e.0)) ∙ ap length old.events in
+      let left : sum (cell.queue.weights ++ weight setup event ∷ []) ≡ worth_of setup after c =
+      ap sum new.weights ∙ sum-map (weight setup) (drop (account_of setup history c).begun ((account_of setup history c).registered ++ event ∷ [])) ∙ ap (λ (s : ColourAccount). sum_by (weight setup) (drop s.begun s.registered)) (sym next) in
+      told after c cell.given.value cell.core cell.count cell.owner cell.queue.started (sum (cell.queue.weights ++ weight setup event ∷ [])) (length cell.queue.events) many
+      (new.owner ∙ ap (λ (s : ColourAccount). s.owner) (sym next)) (new.started ∙ ap (λ (s : ColourAccount). s.begun) (sym next)) left cell.home old.state (nat_lt 0 (length cell.queue.events)) refl

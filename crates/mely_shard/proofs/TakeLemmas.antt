@@ -1,0 +1,240 @@
+-- What a take keeps, and why it is refused.
+use Rattle.std.proofs.Common.{◌≡◌, ℕ, ◌+◌, ◌-◌, ◌/◌, ◌%◌, ◌<◌, ◌≤◌, List, [], ◌∷◌, ◌++◌, Option, Some, None, Bool, true, false, cond, suc, zero, length, map, take, drop, get_or, refl, sym, ◌∙◌, ap, subst, arith, ⊎_elim, nat_lt, eq-eqb}
+use Rattle.std.proofs.lemmas.Bool.{eqb-true}
+use Rattle.std.proofs.lemmas.List.{drop-map, drop-drop}
+use Rattle.std.proofs.Math.Seq.{take-add}
+use Rattle.std.proofs.lemmas.List.{take-map}
+use Rattle.std.specs.List.{AllByRecursion}
+use Rattle.std.proofs.Math.ListN.{get_or-map}
+use Rattle.std.proofs.lemmas.Bool.Decides.{nat_tests}
+use Rattle.std.proofs.lemmas.List.Sums.{sum_by-set}
+use Rattle.std.proofs.Math.ListN.{set, length-set}
+use Rattle.std.specs.List.{slice_get, count_by}
+use Rattle.std.proofs.lemmas.Option.{slice_get-get_or, slice_get-map}
+use Rattle.std.proofs.lemmas.List.{length-map, length-drop, get_or_default, map-set}
+use Rattle.std.specs.Option.{option_map}
+use Rattle.mely_event.specs.declared.colour.Colour.{Colour}
+use Rattle.mely_event.specs.declared.event.Event.{Event}
+use Rattle.mely_event.specs.declared.trail.Trail.{Ghosts as TrailWords}
+use Rattle.mely_history.specs.Setup.{shape_of, colours_of}
+use Rattle.mely_history.specs.declared.setup.Setup.{Setup}
+use Rattle.mely_history.specs.declared.entry.Entry.{Entry}
+use Rattle.mely_history.specs.declared.entry.Entry.TheVariants.{Take}
+use Rattle.mely_history.specs.History.{registered_of, queued_of, begun_of, ended_of, owner_of, weight}
+use Rattle.mely_history.specs.Legal.{IsRunningOn, MayTake, IsReady}
+use Rattle.mely_history.specs.declared.no_take.NoTake.{NoTake}
+use Rattle.mely_history.specs.declared.no_take.NoTake.TheVariants.{Elsewhere, Busy, Empty}
+use Rattle.std.specs.Prelude.{IsSomeAnd, min}
+use Rattle.std.proofs.Common.{◌==◌, get_or-set_same, get_or-set_other}
+use Rattle.std.specs.Prelude.{is_none, if◌then◌else◌}
+use Rattle.std.proofs.lemmas.List.{nil_from_length}
+use Rattle.mely_queue.specs.ColourQueue.{taken, registered_in}
+use Rattle.mely_shard.specs.declared.colour_slot.ColourSlot.{ColourSlot}
+use Rattle.mely_shard.specs.Shard.{ColourState, NoTakeAs, IsLaneAlike, IsRoomier, AreAlike}
+use Rattle.mely_history.specs.ColourAccount.{ColourAccount, account_of, next_account}
+use Rattle.mely_shard.specs.Invariant.{IsKeptShard, CellStands, StateStands, is_away, lane_of}
+use Rattle.mely_shard.specs.Shard.{colour_at}
+use Rattle.mely_shard.specs.declared.room.TheConstants.{MOST_ENTRIES}
+use Rattle.mely_shard.specs.Replies.{no_take_of, CellKeepsState}
+use Rattle.mely_history.proofs.ColourAccountLemmas.{account-own}
+use Rattle.mely_shard.proofs.SlotLemmas.{kept_after, same_or_not, same_frame_at}
+use Rattle.mely_shard.proofs.RegisterLemmas.{colour_at-place, cell_there, same_count}
+
+all_by_recursion-drop : {X : Type 0} (P : X → Type 0) (n : ℕ) (xs : List X) → AllByRecursion P xs → AllByRecursion P (drop n xs)
+all_by_recursion-drop P zero xs all = all
+all_by_recursion-drop P (suc n) [] all = all
+all_by_recursion-drop P (suc n) (x ∷ xs) all = all_by_recursion-drop P n xs all.1
+
+pub all_by_recursion-take : {X : Type 0} (P : X → Type 0) (n : ℕ) (xs : List X) → AllByRecursion P xs → AllByRecursion P (take n xs)
+all_by_recursion-take P zero xs all = tt
+all_by_recursion-take P (suc n) [] all = all
+all_by_recursion-take P (suc n) (x ∷ xs) all = (all.0, all_by_recursion-take P n xs all.1)
+
+-- the laws of states that are the same but for a greater spare
+pub record RoomierLaws {S F : Type 0} (t : TrailWords S F) : Type 0 where
+  pub itself : (s : S) → IsRoomier t s s
+  pub trail : (s u : S) → IsRoomier t s u → t.trail_of s ≡ t.trail_of u
+  pub colour : (s u : S) → IsRoomier t s u → t.colour_of s ≡ t.colour_of u
+  pub frame : (s u : S) → IsRoomier t s u → t.frame_of s ≡ t.frame_of u
+
+module _ {S P F : Type 0} {t : TrailWords S F} {fits : F → Colour → Event → Option P → Type 0} {setup : Setup} {shard : ℕ} {history : List Entry} {cells : List (ColourSlot S P)} {running capacity : ℕ} (kept : IsKeptShard t fits setup shard history cells running capacity) where
+  -- a state at home, as the history has it
+  pub record IsHome (c : Colour) (given state : S) : Type 0 where
+    pub trailed : t.trail_of state ≡ take (ended_of history c) (registered_of history c)
+    pub coloured : t.colour_of state ≡ c
+    pub framed : t.frame_of state ≡ t.frame_of given
+
+  -- what a refusal says, and what is known where there is none
+  abbrev pub Refuses : Colour → ℕ → S → Option S → Option NoTake → Type 0
+  Refuses c core given home (Some refusal) = NoTakeAs setup history c core refusal
+  Refuses c core given home None = (core ≡ owner_of setup history c) × IsReady history c × IsSomeAnd home (IsHome c given)
+
+  refuse : (c : Colour) (core : ℕ) (given : S) (own k n many : ℕ) → own ≡ owner_of setup history c → many ≡ length (queued_of history c) → (m : ℕ) → m ≡ length (registered_of history c)
+      → (b : Bool) → (core == own) ≡ b → (home : Option S) → StateStands t c given (account_of setup history c) k n home → (t : Bool) → nat_lt 0 many ≡ t
+      → Refuses c core given home (if b then if is_none home then Some (Busy k) else if t then None else Some (Empty m) else Some (Elsewhere own))
+  refuse c core given own k n many own_is many_is m m_is false b_is home stands t t_is = ((λ e. let no : (core == own) ≡ true = eq-eqb core own (e ∙ sym own_is) in cc), own_is)
+  refuse c core given own k n many own_is many_is m m_is true b_is None stands t t_is = (eqb-true core own b_is ∙ own_is, omega (arith, stands.1, stands.2), (n, stands.0))
+  refuse c core given own k n many own_is many_is m m_is true b_is (Some state) stands true t_is = (eqb-true core own b_is ∙ own_is, record { at_rest = stands.0; waiting = grind (arith, nat_tests) }, record { trailed = stands.1; coloured = stands.2; framed = stands.3 })
+  refuse c core given own k n many own_is many_is m m_is true b_is (Some state) stands false t_is = (eqb-true core own b_is ∙ own_is, stands.0, nil_from_length (queued_of history c) (grind (arith, nat_tests)), m_is)
+
+  -- what a cell refuses
+  pub cell_refuses : (c : Colour) (core : ℕ) (cell : ColourSlot S P) → CellStands t fits setup c (account_of setup history c) cell → Refuses c core cell.given.value cell.home (no_take_of cell core)
+  cell_refuses c core cell old =
+      let many : length cell.queue.events ≡ length (queued_of history c) = sym (length-map cell.queue.events (λ e. e.0)) ∙ ap length old.events in
+      let all : registered_in cell.queue ≡ length (registered_of history c) = omega (arith, many, old.started, old.begun, length-drop (begun_of history c) (registered_of history c)) in
+      refuse c core cell.given.value cell.owner cell.core cell.count (length cell.queue.events) old.owner many (registered_in cell.queue) all (core == cell.owner) refl cell.home old.state (nat_lt 0 (length cell.queue.events)) refl
+
+  -- the state of a ready colour
+  pub ready_home : (c : Colour) (given : S) (home : Option S) → IsSomeAnd home (IsHome c given) → IsSomeAnd home (λ state. (t.colour_of state ≡ c) × (t.frame_of state ≡ t.frame_of given))
+  ready_home c given None h = h
+  ready_home c given (Some state) h = (h.coloured, h.framed)
+
+  -- one state more is away
+  pub one_more : (i : ℕ) (cell after : ColourSlot S P) → i < length cells → cell ≡ get_or cells i cell → is_away cell ≡ false → is_away after ≡ true → count_by is_away (set cells i after) ≡ count_by is_away cells + 1
+  one_more i cell after lt is here away =
+      let one : Bool → ℕ = λ t. cond t 1 0 in
+      let old : one (is_away (get_or cells i cell)) ≡ 0 = ap (λ b. one (is_away b)) (sym is) ∙ ap one here in
+      let new : one (is_away after) ≡ 1 = ap one away in
+      omega (arith, sum_by-set (λ b. one (is_away b)) cells i after cell lt, old, new)
+
+  at_home : (given : S) (c : Colour) (home : Option S) → IsSomeAnd home (IsHome c given) → is_none home ≡ false
+  at_home given c None h = absurd h
+  at_home given c (Some state) h = refl
+
+  -- a take keeps what the fields keep
+  pub kept_taken : (c : Colour) (core capacity' : ℕ) (cell after : ColourSlot S P) → c.0 < colours_of setup → c.0 % (shape_of setup).shards ≡ shard → cell ≡ get_or cells (c.0 / (shape_of setup).shards) cell
+      → Refuses c core cell.given.value cell.home None → (n : ℕ) → n ≡ min (shape_of setup).batch (length cell.queue.events) → 1 ≤ (shape_of setup).batch
+      → after ≡ record cell { queue = taken cell.queue n; home = None; core = core; count = n } → length history + 2 + running ≤ capacity' → capacity' ≤ MOST_ENTRIES
+      → MayTake setup history c core n × IsKeptShard t fits setup shard (history ++ Take c core n ∷ []) (set cells (c.0 / (shape_of setup).shards) after) (running + 1) capacity'
+  kept_taken c core capacity' cell after there here is ready n n_is batch after_is room limited =
+      let i = c.0 / (shape_of setup).shards in
+      let place : i < length cells = kept.whole c.0 there here in
+      let at : colour_at setup shard i ≡ c = colour_at-place setup shard c here in
+      let old = cell_there kept c cell there here is in
+      let many : length cell.queue.events ≡ length (queued_of history c) = sym (length-map cell.queue.events (λ e. e.0)) ∙ ap length old.events in
+      let behind : length (queued_of history c) ≡ length (registered_of history c) - begun_of history c = length-drop (begun_of history c) (registered_of history c) in
+      let some : 1 ≤ n = omega (arith, n_is, many, ready.1.waiting, batch) in
+      let few : n ≤ length cell.queue.events = omega (arith, n_is) in
+      let may : MayTake setup history c core n = record { by_owner = ready.0; ready = ready.1; whole_batch = n_is ∙ ap (min (shape_of setup).batch) many } in
+      let next : ColourSlot S P = record cell { queue = taken cell.queue n; home = None; core = core; count = n } in
+      let stands : CellStands t fits setup c (next_account (account_of setup history c) (Take c core n)) next = record {
+        events = sym (drop-map (λ (e : Event × Option P). e.0) n cell.queue.events) ∙ ap (drop n) old.events ∙ drop-drop n (begun_of history c) (registered_of history c);
+        weights = ap (drop n) old.weights ∙ drop-map (weight setup) n (queued_of history c) ∙ ap (map (weight setup)) (drop-drop n (begun_of history c) (registered_of history c));
+        started = ap (λ k. k + n) old.started;
+        finished = old.finished;
+        begun = omega (arith, few, many, behind, old.begun);
+        owner = old.owner;
+        fit = all_by_recursion-drop _ n cell.queue.events old.fit;
+        state = (refl, ap (λ k. k + n) ready.1.at_rest, omega (arith, some));
+      } in
+      let stood = subst (λ b. CellStands t fits setup c (next_account (account_of setup history c) (Take c core n)) b) (sym after_is) stands in
+      let home : is_away cell ≡ false = at_home cell.given.value c cell.home ready.2 in
+      let more = one_more i cell after place is home (ap is_away after_is) in (
+        may,
+        kept_after (Take c core n) i after (running + 1) capacity' kept place (sym (ap (λ k. k.0) at)) may
+            (subst (λ k. CellStands t fits setup k (next_account (account_of setup history k) (Take c core n)) after) (sym at) stood)
+            (ap (λ b. t.frame_of b.given.value) after_is ∙ ap (λ b. t.frame_of b.given.value) is ∙ ap (λ b. t.frame_of b.given.value) (get_or_default cells i cell after place))
+            (omega (arith, more, kept.counted))
+            (omega (arith, room))
+            limited,
+      )
+
+  -- one cell changed, with the history as it is
+  kept_cell : (i : ℕ) (cell after : ColourSlot S P) (capacity' : ℕ) → i < length cells → cell ≡ get_or cells i cell
+      → CellStands t fits setup (colour_at setup shard i) (account_of setup history (colour_at setup shard i)) after
+      → t.frame_of after.given.value ≡ t.frame_of cell.given.value → is_away after ≡ is_away cell → capacity ≤ capacity' → capacity' ≤ MOST_ENTRIES
+      → IsKeptShard t fits setup shard history (set cells i after) running capacity'
+  kept_cell i cell after capacity' there is stands same_frame same_home room limited =
+      let same : t.frame_of after.given.value ≡ t.frame_of (get_or cells i after).given.value = same_frame ∙ ap (λ b. t.frame_of b.given.value) is ∙ ap (λ b. t.frame_of b.given.value) (get_or_default cells i cell after there) in
+      record {
+        legal = kept.legal;
+        numbered = kept.numbered;
+        whole = λ k lt of. rw length-set (kept.whole k lt of);
+        only = λ j lt. kept.only j (subst (λ n. j < n) (length-set cells i after) lt);
+        each = λ j d lt. ⊎_elim
+            (λ (e : j ≡ i). subst (λ k. CellStands t fits setup (colour_at setup shard k) (account_of setup history (colour_at setup shard k)) (get_or (set cells i after) k d)) (sym e)
+            (rw (get_or-set_same cells i after d there) stands))
+            (λ (ne : j ≡ i → ⊥). rw (get_or-set_other cells i j after d ne) (kept.each j d (subst (λ n. j < n) (length-set cells i after) lt)))
+            (same_or_not j i);
+        own = kept.own;
+        frames = λ j k d lj lk.
+            same_frame_at t.frame_of cells i after there same j d
+            ∙ kept.frames j k d (subst (λ n. j < n) (length-set cells i after) lj) (subst (λ n. k < n) (length-set cells i after) lk)
+            ∙ sym (same_frame_at t.frame_of cells i after there same k d);
+        counted = kept.counted ∙ sym (same_count kept cells i cell after there is same_home);
+        room = omega (arith, kept.room, room);
+        limited = limited;
+      }
+
+  module _ (laws : RoomierLaws t) where
+    -- a greater spare keeps what the fields keep
+    pub kept_alike : (c : Colour) (cell after : ColourSlot S P) (capacity' : ℕ) → c.0 < colours_of setup → c.0 % (shape_of setup).shards ≡ shard → cell ≡ get_or cells (c.0 / (shape_of setup).shards) cell
+        → CellKeepsState t cell after → capacity ≤ capacity' → capacity' ≤ MOST_ENTRIES → IsKeptShard t fits setup shard history (set cells (c.0 / (shape_of setup).shards) after) running capacity'
+    kept_alike c cell after capacity' there here is keeps room limited =
+        let i = c.0 / (shape_of setup).shards in
+        let place : i < length cells = kept.whole c.0 there here in
+        let at : colour_at setup shard i ≡ c = colour_at-place setup shard c here in
+        let old = cell_there kept c cell there here is in
+        let was : StateStands t c cell.given.value (account_of setup history c) cell.core cell.count (Some keeps.home) = subst (λ o. StateStands t c cell.given.value (account_of setup history c) cell.core cell.count o) keeps.was old.state in
+        let stands : CellStands t fits setup c (account_of setup history c) (record cell { home = Some keeps.state }) = record {
+          events = old.events;
+          weights = old.weights;
+          started = old.started;
+          finished = old.finished;
+          begun = old.begun;
+          owner = old.owner;
+          fit = old.fit;
+          state = (was.0, sym (laws.trail keeps.home keeps.state keeps.alike) ∙ was.1, sym (laws.colour keeps.home keeps.state keeps.alike) ∙ was.2, sym (laws.frame keeps.home keeps.state keeps.alike) ∙ was.3);
+        } in
+        let stood = subst (λ b. CellStands t fits setup c (account_of setup history c) b) (sym keeps.left) stands in
+        kept_cell i cell after capacity' place is (subst (λ k. CellStands t fits setup k (account_of setup history k) after) (sym at) stood)
+        (ap (λ b. t.frame_of b.given.value) keeps.left) (ap is_away keeps.left ∙ sym (ap is_none keeps.was)) room limited
+
+    -- two states that are the same but for the spare, or the same
+    pub alike_options : (o : Option S) → AreAlike (IsRoomier t) o o
+    alike_options None = tt
+    alike_options (Some s) = laws.itself s
+
+    lanes_alike : (a b : ColourSlot S P) → CellKeepsState t a b → IsLaneAlike (IsRoomier t) (lane_of a) (lane_of b)
+    lanes_alike a b keeps = record {
+      given = ap (λ k. k.given.value) keeps.left;
+      events = ap (λ k. k.queue.events) keeps.left;
+      state = subst (λ o. AreAlike (IsRoomier t) o b.home) (sym keeps.was) (subst (λ o. AreAlike (IsRoomier t) (Some keeps.home) o) (sym (ap (λ k. k.home) keeps.left)) keeps.alike);
+    }
+
+    -- each lane is the same but for the spare
+    pub each_alike : (i : ℕ) (cell after : ColourSlot S P) → i < length cells → cell ≡ get_or cells i cell → CellKeepsState t cell after
+        → (j : ℕ) (d : ColourState S P) → j < length (map lane_of cells) → IsLaneAlike (IsRoomier t) (get_or (map lane_of cells) j d) (get_or (map lane_of (set cells i after)) j d)
+    each_alike i cell after place is keeps j d lt = rw (map-set lane_of cells i after)
+        (⊎_elim
+        (λ (e : j ≡ i). subst (λ k. IsLaneAlike (IsRoomier t) (get_or (map lane_of cells) k d) (get_or (set (map lane_of cells) i (lane_of after)) k d)) (sym e)
+        (rw (get_or-set_same (map lane_of cells) i (lane_of after) d (subst (λ n. i < n) (sym (length-map cells lane_of)) place))
+        (subst (λ l. IsLaneAlike (IsRoomier t) l (lane_of after)) (lane_read i cell d place is) (lanes_alike cell after keeps))))
+        (λ (ne : j ≡ i → ⊥). rw (get_or-set_other (map lane_of cells) i j (lane_of after) d ne) (record { given = refl; events = refl; state = alike_options (get_or (map lane_of cells) j d).state }))
+        (same_or_not j i))
+      where
+        lane_read : (i : ℕ) (cell : ColourSlot S P) (d : ColourState S P) → i < length cells → cell ≡ get_or cells i cell → lane_of cell ≡ get_or (map lane_of cells) i d
+        lane_read i cell d place is = ap lane_of is ∙ sym (get_or-map lane_of cells i cell) ∙ get_or_default (map lane_of cells) i (lane_of cell) d (subst (λ n. i < n) (sym (length-map cells lane_of)) place)
+
+    -- the lanes as they are
+    pub lanes_as_they_are : (lanes : List (ColourState S P)) (j : ℕ) (d : ColourState S P) → IsLaneAlike (IsRoomier t) (get_or lanes j d) (get_or lanes j d)
+    lanes_as_they_are lanes j d = record { given = refl; events = refl; state = alike_options (get_or lanes j d).state }
+
+    -- the turn of a take
+    pub taken_turn : (c : Colour) (core n : ℕ) (cell : ColourSlot S P) → CellStands t fits setup c (account_of setup history c) cell → Refuses c core cell.given.value cell.home None → 1 ≤ n
+        → (home state : S) → cell.home ≡ Some home → IsRoomier t home state
+        → IsRunningOn (history ++ Take c core n ∷ []) c core n × (t.trail_of state ++ map (λ e. e.0) (take n cell.queue.events) ≡ take (begun_of (history ++ Take c core n ∷ []) c) (registered_of (history ++ Take c core n ∷ []) c)) × (t.colour_of state ≡ c) × (t.frame_of state ≡ t.frame_of cell.given.value)
+    taken_turn c core n cell old ready some home state was alike =
+        let next = account-own setup history (Take c core n) c refl in
+        let h : IsHome c cell.given.value home = subst (λ o. IsSomeAnd o (IsHome c cell.given.value)) was ready.2 in
+        let begun_is : begun_of (history ++ Take c core n ∷ []) c ≡ begun_of history c + n = ap (λ (s : ColourAccount). s.begun) next in
+        let ended_is : ended_of (history ++ Take c core n ∷ []) c ≡ ended_of history c = ap (λ (s : ColourAccount). s.ended) next in
+        let registered_is : registered_of (history ++ Take c core n ∷ []) c ≡ registered_of history c = ap (λ (s : ColourAccount). s.registered) next in (
+          record { running = omega (arith, begun_is, ended_is, ready.1.at_rest, some); last = ap (λ (s : ColourAccount). s.last) next },
+          rw (begun_is, registered_is)
+              (ap (λ es. es ++ map (λ e. e.0) (take n cell.queue.events)) (sym (laws.trail home state alike) ∙ h.trailed ∙ ap (λ k. take k (registered_of history c)) (sym ready.1.at_rest))
+              ∙ ap (λ es. take (begun_of history c) (registered_of history c) ++ es) (sym (take-map (λ (e : Event × Option P). e.0) n cell.queue.events) ∙ ap (take n) old.events)
+              ∙ sym (take-add (begun_of history c) n (registered_of history c))),
+          sym (laws.colour home state alike) ∙ h.coloured,
+          sym (laws.frame home state alike) ∙ h.framed,
+        )

@@ -1,0 +1,7 @@
+pub mod GatherLemmas
+pub mod DealLemmas
+pub mod MakeLemmas
+pub mod SpreadLemmas
+pub mod PartsLemmas
+pub mod PartsOfStandingLemmas
+pub mod FirstStatesLemmas

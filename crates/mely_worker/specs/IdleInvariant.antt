@@ -1,0 +1,20 @@
+-- What contracts see of a worker at rest, and what its type keeps.
+use Rattle.mely_worker.specs.declared.idle_worker.IdleWorker.TheInside.{Inside}
+use Rattle.mely_worker.specs.declared.phase.Phase.TheVariants.{Free}
+use Rattle.mely_worker.specs.IdleWorker.{IdleWorkerState}
+use Rattle.mely_worker.specs.WorkerFields.{IsConsistent}
+
+-- a worker at rest, of its private fields
+abbrev pub rest_of : {P : Type 0} → Inside P → IdleWorkerState P
+rest_of r = record {
+  core = r.holdings.core;
+  batch = r.holdings.batch;
+  halted = r.holdings.halted;
+  victims = r.holdings.victims.items;
+  lost = r.holdings.lost.items;
+  place = r.place;
+}
+
+-- what each worker at rest keeps: that of a free worker
+abbrev pub IsRestKept : {P : Type 0} → Inside P → Type 0
+IsRestKept {P} r = IsConsistent {S = Unit {0}} {P = P} r.holdings (Free r.place)

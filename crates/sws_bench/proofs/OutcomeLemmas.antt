@@ -1,0 +1,64 @@
+-- What becomes of a connection of the bench.
+use Rattle.std.proofs.Common.{◌≡◌, ℕ, ◌<◌, Bool, true, false, List, [], ◌∷◌, ◌++◌, length, map, take, refl, ap, ◌∙◌, arith, cond}
+use Rattle.std.specs.List.{flat_map, range_with_len, sum}
+use Rattle.std.proofs.lemmas.Bool.{lt-leb}
+use Rattle.std.proofs.lemmas.Simd.{map-map}
+use Rattle.sws_link.specs.LinkItems.{all_bytes}
+use Rattle.sws_site.specs.Site.{SiteState}
+use Rattle.sws_answer.specs.Responses.{answers_to, is_closed}
+use Rattle.sws_script.specs.Scripted.{script_of, link_items}
+use Rattle.sws_script.specs.declared.input.ScriptConn.{ScriptConn}
+use Rattle.sws_steps.specs.declared.End.TheVariants.{Done}
+use Rattle.sws_conn.specs.Outcome.{Input, at_end, at_limit, preceded, input_from, limited, end_of, scripted_input, outcome_of}
+use Rattle.sws_bench.specs.BenchScript.{bytes_from, piece_size, pieces, sends, conn_from, conn_state, bench_conns, bench_bytes}
+use Rattle.sws_bench.proofs.PieceLemmas.{joined}
+use Rattle.sws_bench.proofs.ConnLemmas.{length-bytes_from}
+
+-- the bytes of what is sent
+sent_bytes : (parts : List (List ℕ)) → all_bytes (flat_map link_items (sends parts)) ≡ flat_map (λ part. part) parts
+sent_bytes [] = refl
+sent_bytes (part ∷ parts) = ap (λ rest. part ++ rest) (sent_bytes parts)
+
+-- a connection sends its bytes
+pub all_bytes-conn_from : (state : ℕ) → all_bytes (script_of (conn_from state)).items ≡ bytes_from state
+unfolding conn_from
+all_bytes-conn_from state = sent_bytes (pieces (piece_size state) (bytes_from state)) ∙ joined (piece_size state) (bytes_from state) (omega arith)
+
+-- the bytes of all connections, by their draws
+pub bench_bytes-sum : (number count : ℕ) → bench_bytes number count ≡ sum (map (λ conn. length (bytes_from (conn_state number conn))) (range_with_len 0 count))
+unfolding bench_bytes bench_conns
+bench_bytes-sum number count =
+    ap sum (map-map (λ (conn : ScriptConn). length (all_bytes (script_of conn).items)) (λ (i : ℕ). conn_from (conn_state number i)) (range_with_len 0 count))
+    ∙ (λ i. sum (map (λ (conn : ℕ). length (all_bytes-conn_from (conn_state number conn) i)) (range_with_len 0 count)))
+
+-- an input of pieces alone ends with them
+abbrev whole : List ℕ → Input
+whole bytes = record { bytes = bytes; stop = at_end }
+
+input_of_pieces : (waits : ℕ) (parts : List (List ℕ)) → input_from waits (flat_map link_items (sends parts)) ≡ whole (flat_map (λ part. part) parts)
+input_of_pieces waits [] = refl
+input_of_pieces waits ([] ∷ parts) = input_of_pieces waits parts
+input_of_pieces waits ((byte ∷ bytes) ∷ parts) = ap (preceded (byte ∷ bytes)) (input_of_pieces 0 parts)
+
+not_limited : (limit : ℕ) (input : Input) → length input.bytes < limit → limited limit input ≡ input
+not_limited limit input short = λ i. cond (lt-leb limit (length input.bytes) short i) (record { bytes = take limit input.bytes; stop = at_limit }) input
+
+-- all that it sends counts, and its input ends behind it
+scripted_input-conn_from : (state : ℕ) → scripted_input (script_of (conn_from state)) ≡ whole (bytes_from state)
+unfolding conn_from
+scripted_input-conn_from state =
+    let parts = pieces (piece_size state) (bytes_from state) in
+    let short = length-bytes_from state in
+    ap (limited 65536) (input_of_pieces 0 parts ∙ ap whole (joined (piece_size state) (bytes_from state) (omega arith)))
+    ∙ not_limited 65536 (whole (bytes_from state)) (omega arith)
+
+done : (closed : Bool) → end_of closed at_end ≡ Done
+done true = refl
+done false = refl
+
+-- so it is done
+pub ends_done : (site : SiteState) (state : ℕ) → (outcome_of site (script_of (conn_from state))).end ≡ Done
+unfolding conn_from
+ends_done site state =
+    ap (λ (input : Input). end_of (is_closed (answers_to site input.bytes)) input.stop) (scripted_input-conn_from state)
+    ∙ done (is_closed (answers_to site (bytes_from state)))

@@ -1,0 +1,6 @@
+pub mod BalanceLemmas
+pub mod ConnBalanceLemmas
+pub mod DeskBalanceLemmas
+pub mod PollBalanceLemmas
+pub mod AcceptBalanceLemmas
+pub mod ConcludesLemmas

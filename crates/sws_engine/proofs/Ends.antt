@@ -1,0 +1,11 @@
+pub mod ServedLemmas
+pub mod PartedLemmas
+pub mod LeftLemmas
+pub mod HandingLemmas
+pub mod ConcludeLemmas
+pub mod SeatsOfRunLemmas
+pub mod ConcludedLemmas
+pub mod NeverApartLemmas
+pub mod ThreadLemmas
+pub mod FreshServedLemmas
+pub mod HandedLemmas

@@ -1,0 +1,235 @@
+-- What a conclusion shows of the connections and the world, by what the states keep and what is still under way.
+use Rattle.std.proofs.Common.{◌≡◌, ◌≢◌, ℕ, zero, suc, ◌+◌, ◌⊎◌, Bool, true, false, true≢false, List, [], ◌∷◌, Option, None, Some, length, map, refl, sym, ◌∙◌, ap, subst, arith, inl, inr}
+use Rattle.std.proofs.lemmas.Option.{same_Some, slice_get_within}
+use Rattle.std.specs.List.{AllByRecursion}
+use Rattle.std.specs.Prelude.{slice_get, is_some, is_none, IsSome, IfSome, option_map, ◌||◌}
+use Rattle.mely_event.specs.declared.event.Event.{Event}
+use Rattle.mely_event.specs.HandlerTable.{rows_of}
+use Rattle.mely_history.specs.Setup.{shape_of, handlers_of, pinned_of}
+use Rattle.mely_history.specs.declared.setup.Setup.{Setup}
+use Rattle.mely_history.specs.declared.shape.Shape.{Shape}
+use Rattle.mely_weave.proofs.Wholes.GatherLemmas.{get_there}
+use Rattle.mely_machine.specs.Rules.{rules_of}
+use Rattle.mely_weave.specs.declared.draining.Drained.{Drained}
+use Rattle.mely_weave.specs.declared.draining.Drained.TheVariants as drained
+use Rattle.mely_weave.specs.declared.parts.WeaveParts.{WeaveParts}
+use Rattle.sws_link.specs.declared.Link.{Ghosts as LinkWords}
+use Rattle.sws_link.specs.declared.world.World.{Ghosts as WorldWords}
+use Rattle.sws_steps.specs.declared.Next.{Next}
+use Rattle.sws_steps.specs.declared.Next.TheVariants as next
+use Rattle.sws_conn.specs.declared.talk.Talk.{Ghosts as TalkWords}
+use Rattle.sws_conn.specs.Talks.{TalkView, HasServed, due}
+use Rattle.sws_conn.specs.Conn.{end_at}
+use Rattle.sws_engine.specs.declared.ended.Served.{Served}
+use Rattle.sws_engine.specs.declared.ended.Ended.{Ended}
+use Rattle.sws_engine.specs.declared.ended.Verdict.{Verdict}
+use Rattle.sws_engine.specs.declared.ended.Verdict.TheVariants as verdict
+use Rattle.sws_engine.specs.declared.load.WorldLoad.{WorldLoad}
+use Rattle.sws_engine.specs.declared.load.Load.{Load}
+use Rattle.sws_engine.specs.declared.load.Load.TheVariants as load
+use Rattle.sws_engine.specs.Place.{PlaceState}
+use Rattle.sws_engine.specs.RunEnds.{IsPlacedAs}
+use Rattle.sws_engine.specs.ServerRun.{server_rules, handler_rows}
+use Rattle.sws_engine.specs.RunFits.{CarriesStanding, RunFits}
+use Rattle.sws_link.specs.Scripts.{Script}
+use Rattle.sws_link.specs.Worlds.{Coming}
+use Rattle.sws_engine.specs.ConnFollows.{ConnFollows}
+use Rattle.sws_engine.specs.ConnLeft.{LinkLeft, ConnLeft}
+use Rattle.sws_engine.specs.Loads.{WorldStands, LinkStands}
+use Rattle.sws_engine.specs.Served.{SeatServes, ServedBy}
+use Rattle.sws_engine.specs.Handling.{conn_of}
+use Rattle.sws_engine.specs.declared.place.Seat.{Seat}
+use Rattle.sws_engine.specs.declared.place.Role.{Role}
+use Rattle.sws_engine.specs.declared.place.Role.TheVariants.{Talking}
+use Rattle.sws_engine.specs.RunLeaves.{talkers, resting_in, ShowsSeat, RoleTells, StateTells, is_lacking, is_out_of_memory, IsJudged, VerdictIs}
+use Rattle.sws_engine.specs.Handing.{place_link, served_with_load, served_with}
+use Rattle.sws_engine.specs.Conclusion.{is_empty, is_whole, accepted_of, failed_of, ways_of, world_found, IsConcluded}
+use Rattle.sws_engine.proofs.Ends.FreshServedLemmas.{fresh_served}
+use Rattle.sws_engine.proofs.Paths.ScriptFollowedLemmas.{followed}
+use Rattle.sws_engine.proofs.Ends.HandedLemmas.{GotLink, ways_stand, world_stands, served_given}
+use Rattle.sws_engine.proofs.Ends.SeatsOfRunLemmas.{SeatsStand, seats_stand}
+
+-- a setup of the shape with the server's handlers has the server's rules
+pub rules_are : (setup : Setup) (shape : Shape) → shape_of setup ≡ shape → rows_of (handlers_of setup) ≡ handler_rows → pinned_of setup ≡ 1 → rules_of setup ≡ server_rules shape
+rules_are setup shape of_shape of_rows of_pinned = λ i. record { shape = of_shape i; rows = of_rows i; pinned = of_pinned i }
+
+-- what stands at a place after a map stood there before
+pub from_map : {A B : Type 0} (f : A → B) (xs : List A) (k : ℕ) (b : B) → slice_get (map f xs) k ≡ Some b → (a : A) × (slice_get xs k ≡ Some a) × (f a ≡ b)
+from_map f [] k b at = cc
+from_map f (x ∷ xs) zero b at = (x, refl, same_Some (f x) b at)
+from_map f (x ∷ xs) (suc k) b at = from_map f xs k b at
+
+place_length : {L : Type 0} (link : L) (i : ℕ) (served : List (Served L)) → length (place_link link i served) ≡ length served
+place_length link i [] = refl
+place_length link zero (s ∷ served) = refl
+place_length link (suc i) (s ∷ served) = ap suc (place_length link i served)
+
+load_length : {W L : Type 0} (i : ℕ) (carried : Option (Load W L)) (served : List (Served L)) → length (served_with_load i carried served) ≡ length served
+load_length i None served = refl
+load_length i (Some (load.World held)) served = refl
+load_length i (Some (load.Link link)) served = place_length link i served
+
+served_length : {W L : Type 0} (events : List (Event × Option (Load W L))) (served : List (Served L)) → length (served_with events served) ≡ length served
+served_length [] served = refl
+served_length (e ∷ events) served = served_length events (served_with_load e.0.arg e.1 served) ∙ load_length e.0.arg e.1 served
+
+empty_is : {A : Type 0} (xs : List A) → is_empty xs ≡ true → xs ≡ []
+empty_is [] is = refl
+empty_is (x ∷ xs) is = cc
+
+pub whole_is : {A : Type 0} (how : Drained) (lost : List A) → is_whole how lost ≡ true → (how ≡ drained.Empty) × (lost ≡ [])
+whole_is drained.Empty lost is = (refl, empty_is lost is)
+whole_is drained.Memory lost is = cc
+
+-- a verdict but want of memory is over a run that was whole
+pub judged : {L : Type 0} (served : List (Served L)) (whole there failed : Bool) (total accepted : ℕ) (told : Verdict) → told ≢ verdict.Memory → VerdictIs served whole total there accepted failed told → IsJudged served whole
+judged served whole there failed total accepted verdict.Ok isnt is = is.0
+judged served whole there failed total accepted verdict.World isnt is = is.0
+judged served whole there failed total accepted (verdict.Apart conn) isnt is = is.0
+judged served whole there failed total accepted verdict.Memory isnt is = absurd (isnt refl)
+
+all_at : {A : Type 0} (P : A → Type 0) (xs : List A) (i : ℕ) (a : A) → AllByRecursion P xs → slice_get xs i ≡ Some a → P a
+all_at P [] i a all at = cc
+all_at P (x ∷ xs) zero a all at = subst P (same_Some x a at) all.0
+all_at P (x ∷ xs) (suc i) a all at = all_at P xs i a all.1 at
+
+-- the world that was found is the one that is handed out
+ours : {W L : Type 0} (x : WorldWords W L) (l : LinkWords L) (first : W) (found : Option (WorldLoad W)) → IfSome found (WorldStands x l first) → (world : W) (accepted : ℕ) (failed : Bool) → option_map (λ held. held.world) found ≡ Some world → accepted ≡ accepted_of found → failed ≡ failed_of found → WorldStands x l first (record { world = world; accepted = accepted; failed = failed })
+ours x l first None stands world accepted failed there accepted_is failed_is = cc
+ours {W} x l first (Some held) stands world accepted failed there accepted_is failed_is =
+    let same : held ≡ record { world = world; accepted = accepted; failed = failed } = (λ i. record { world = same_Some held.world world there i; accepted = sym accepted_is i; failed = sym failed_is i }) in
+    subst (λ (h : WorldLoad W). WorldStands x l first h) same stands
+
+link_left : {W L T G H : Type 0} (x : WorldWords W L) (l : LinkWords L) (y : TalkWords T L G H) (hall : H) (first : W) (i : ℕ) (place : PlaceState H W T) (seat : Seat T) → conn_of place.colour ≡ i → place.hall ≡ hall → place.first ≡ first → (o : Option L) → ServedBy x l y place seat o → LinkLeft x l y hall first i o (y.view_of seat.talk)
+link_left x l y hall first i place seat conn_is of_hall of_first None served = served
+link_left {W} {L} {T} {G} {H} x l y hall first i place seat conn_is of_hall of_first (Some now) served = (
+  served.0,
+  subst (λ (w : W). LinkStands x l w i served.0) of_first (subst (λ (n : ℕ). LinkStands x l place.first n served.0) conn_is served.1),
+  subst (λ (h : H). HasServed l (y.responses h) (y.outcome h) served.0 now (y.view_of seat.talk)) of_hall served.2,
+)
+
+-- what is left of a connection, of its state
+left_of : {W L T G H : Type 0} (x : WorldWords W L) (l : LinkWords L) (y : TalkWords T L G H) (hall : H) (first : W) (i : ℕ) (trail : List Event) (place : PlaceState H W T) (seat : Seat T) (before after : Served L) → ShowsSeat y seat before → place.colour.0 ≡ i + 2 → place.hall ≡ hall → place.first ≡ first → place.trail ≡ trail → SeatServes x l y place seat
+    → (after ≡ before) ⊎ GotLink x l first i before after → ConnLeft x l y hall first i trail after
+left_of {W} {L} {T} {G} {H} x l y hall first i trail place seat before after shows colour of_hall of_first of_trail serves given =
+    let conn_is : conn_of place.colour ≡ i = omega (arith, colour) in
+    let view : TalkView = y.view_of seat.talk in
+    let link_by : (o : Option L) → y.link_of seat.talk ≡ o → LinkLeft x l y hall first i o view = λ o is. link_left x l y hall first i place seat conn_is of_hall of_first o (subst (λ (k : Option L). ServedBy x l y place seat k) is serves.served) in
+    elim given [
+      | inl same ↦ subst (λ (s : Served L). ConnLeft x l y hall first i trail s) (sym same) (record {
+        place = place;
+        seat = seat;
+        colour = colour;
+        over = (of_hall, of_first, of_trail);
+        link = link_by before.link (sym shows.link);
+        end = shows.end;
+        closed = shows.closed;
+        read = shows.read;
+        few_read = shows.few_read;
+        written = shows.written;
+        few_written = shows.few_written;
+        stray = shows.stray;
+        serves = serves;
+      })
+      | inr got ↦ subst (λ (s : Served L). ConnLeft x l y hall first i trail s) (sym got.becomes) (record {
+        place = place;
+        seat = seat;
+        colour = colour;
+        over = (of_hall, of_first, of_trail);
+        link = (got.link, got.fresh, subst (λ (v : TalkView). HasServed l (y.responses hall) (y.outcome hall) got.link got.link v) (sym (link_by None (sym shows.link ∙ got.none))) (fresh_served x l first i got.link (y.responses hall) (y.outcome hall) got.fresh));
+        end = shows.end;
+        closed = shows.closed;
+        read = shows.read;
+        few_read = shows.few_read;
+        written = shows.written;
+        few_written = shows.few_written;
+        stray = shows.stray;
+        serves = serves;
+      })
+    ]
+
+-- what lacks nothing has an end, and met no stray event
+has_end : {A : Type 0} (a : Bool) (o : Option A) (c : Bool) → (a || is_none o) || c ≡ false → IsSome o
+has_end a (Some e) c whole = refl
+has_end true None c whole = cc
+has_end false None c whole = cc
+
+no_more : {A : Type 0} (a : Bool) (o : Option A) → a || is_some o ≡ false → o ≡ None
+no_more a None whole = refl
+no_more true (Some e) whole = cc
+no_more false (Some e) whole = cc
+
+not_ended : {A : Type 0} (o : Option A) → IsSome o → o ≡ None → ⊥
+not_ended o some none = let both : true ≡ false = sym some ∙ ap is_some none in true≢false both
+
+module _ {W L T G H : Type 0} (x : WorldWords W L) (l : LinkWords L) (y : TalkWords T L G H) (hall : H) (first : W) (how : Drained) (parts : WeaveParts (PlaceState H W T) (Load W L)) (ended : Ended W L)
+    (many : length parts.states.items ≡ (x.tells first).total + 2)
+    (placed : (i : ℕ) (place : PlaceState H W T) → slice_get parts.states.items i ≡ Some place → IsPlacedAs i place)
+    (of_world : (i : ℕ) (place : PlaceState H W T) → slice_get parts.states.items i ≡ Some place → place.first ≡ first)
+    (fits : RunFits x l first hall parts.states.items (map (λ events. events.items) parts.queued.items) parts.lost.items)
+    (is : IsConcluded y (x.tells first).total how parts ended)
+    (tell : AllByRecursion (StateTells x l y) parts.states.items) where
+  abbrev total : ℕ
+  total = (x.tells first).total
+
+  seats : SeatsStand total parts.states.items
+  seats = seats_stand total parts.states.items many placed
+
+  pub served_many : length ended.served.items ≡ total
+  served_many = ap length is.served ∙ served_length (ways_of y total how parts ended) is.found ∙ is.shows.many ∙ seats.many
+
+  -- the state of a connection, and what its type keeps
+  told_of : (i : ℕ) (place : PlaceState H W T) → slice_get parts.states.items i ≡ Some place → StateTells x l y place
+  told_of i place at = all_at (StateTells x l y) parts.states.items i place tell at
+
+  ways_all : AllByRecursion (λ (e : Event × Option (Load W L)). CarriesStanding x l first e.0.arg e.1) (ways_of y total how parts ended)
+  ways_all = ways_stand x l first hall parts.states.items (map (λ events. events.items) parts.queued.items) parts.lost.items fits
+
+  pub conn_left : (i : ℕ) (s : Served L) (trail : List Event) → slice_get ended.served.items i ≡ Some s → slice_get (map (λ t. t.items) ended.trails.items) (i + 2) ≡ Some trail → ConnLeft x l y hall first i trail s
+  conn_left i s trail at there =
+      let handed = served_given x l first i (ways_of y total how parts ended) is.found s ways_all (ap (λ (all : List (Served L)). slice_get all i) (sym is.served) ∙ at) in
+      let within = slice_get_within is.found i handed.before handed.there in
+      let shown = is.shows.many in
+      let talker = get_there (talkers parts.states.items) i (omega (arith, within, shown)) in
+      let from = seats.each i talker.0 talker.1 in
+      let shows = is.shows.each i talker.0 handed.before talker.1 handed.there in
+      let stands = placed (i + 2) talker.0.place from.there in
+      let serves : SeatServes x l y talker.0.place talker.0.seat = subst (λ (r : Role W T). RoleTells x l y talker.0.place r) from.talks (told_of (i + 2) talker.0.place from.there) in
+      let trail_same : talker.0.place.trail ≡ trail = (let back = from_map (λ (p : PlaceState H W T). p.trail) parts.states.items (i + 2) trail (ap (λ (all : List (List Event)). slice_get all (i + 2)) (sym is.trails) ∙ there) in
+      let same : back.0 ≡ talker.0.place = same_Some back.0 talker.0.place (sym back.1 ∙ from.there) in ap (λ (p : PlaceState H W T). p.trail) (sym same) ∙ back.2) in
+      left_of x l y hall first i trail talker.0.place talker.0.seat handed.before s shows stands.colour (fits.of_hall (i + 2) talker.0.place from.there) (of_world (i + 2) talker.0.place from.there) trail_same serves handed.given
+
+  -- a connection over a script followed it, where nothing is due on it once it has its end
+  pub conn_follows : ended.served.items ≡ is.found → (i : ℕ) → ((place : PlaceState H W T) (seat : Seat T) → slice_get parts.states.items (i + 2) ≡ Some place → place.role ≡ Talking seat → (y.view_of seat.talk).pending ≡ next.Nothing → IsSome (y.view_of seat.talk).end → due (y.view_of seat.talk) ≡ None)
+      → (coming : List Coming) (one : Coming) (script : Script) (s : Served L) (trail : List Event) → (x.tells first).coming ≡ Some coming → slice_get coming i ≡ Some one → one.answers ≡ Some script
+      → slice_get ended.served.items i ≡ Some s → slice_get (map (λ t. t.items) ended.trails.items) (i + 2) ≡ Some trail → is_lacking s ≡ false → is_out_of_memory s.end ≡ false → ConnFollows l y hall i script trail s
+  conn_follows served_are i closed_by coming one script s trail known at answers there run_of whole enough =
+      let here : slice_get is.found i ≡ Some s = ap (λ (all : List (Served L)). slice_get all i) (sym served_are) ∙ there in
+      let within = slice_get_within is.found i s here in
+      let shown = is.shows.many in
+      let talker = get_there (talkers parts.states.items) i (omega (arith, within, shown)) in
+      let from = seats.each i talker.0 talker.1 in
+      let shows = is.shows.each i talker.0 s talker.1 here in
+      let colour = (placed (i + 2) talker.0.place from.there).colour in
+      let shut : IsSome s.end = has_end (is_none s.link) s.end (is_some s.stray) whole in
+      let nothing : (y.view_of talker.0.seat.talk).pending ≡ next.Nothing = shows.closed.0 shut in
+      let end_is : s.end ≡ (y.view_of talker.0.seat.talk).end = shows.end ∙ ap (λ (n : Next). end_at n (y.view_of talker.0.seat.talk).end) nothing in
+      let unstrayed : talker.0.seat.stray ≡ None = sym shows.stray ∙ no_more (is_none s.link || is_none s.end) s.stray whole in
+      let closed : due (y.view_of talker.0.seat.talk) ≡ None = closed_by talker.0.place talker.0.seat from.there from.talks nothing (ap is_some (sym end_is) ∙ shut) in
+      let serves : SeatServes x l y talker.0.place talker.0.seat = subst (λ (r : Role W T). RoleTells x l y talker.0.place r) from.talks (told_of (i + 2) talker.0.place from.there) in
+      let of_first : talker.0.place.first ≡ first = of_world (i + 2) talker.0.place from.there in
+      let of_hall : talker.0.place.hall ≡ hall = fits.of_hall (i + 2) talker.0.place from.there in
+      let trail_same : talker.0.place.trail ≡ trail = (let back = from_map (λ (p : PlaceState H W T). p.trail) parts.states.items (i + 2) trail (ap (λ (all : List (List Event)). slice_get all (i + 2)) (sym is.trails) ∙ run_of) in
+      let same : back.0 ≡ talker.0.place = same_Some back.0 talker.0.place (sym back.1 ∙ from.there) in ap (λ (p : PlaceState H W T). p.trail) (sym same) ∙ back.2) in
+      let conn_is : conn_of talker.0.place.colour ≡ i = omega (arith, colour) in
+      let all = followed x l y i talker.0.place talker.0.seat s serves shows conn_is closed nothing unstrayed enough coming one script (ap (λ (w : W). (x.tells w).coming) of_first ∙ known) at answers (not_ended s.end shut) in
+      subst (λ (h : H). ConnFollows l y h i script trail s) of_hall (subst (λ (t : List Event). ConnFollows l y talker.0.place.hall i script t s) trail_same all)
+
+  desk_stands : IfSome seats.desk.resting (WorldStands x l first)
+  desk_stands = subst (λ (w : W). IfSome seats.desk.resting (WorldStands x l w)) (of_world 0 seats.place seats.first) (subst (λ (r : Role W T). RoleTells x l y seats.place r) seats.polls (told_of 0 seats.place seats.first))
+
+  found_stands : IfSome (world_found y total how parts ended) (WorldStands x l first)
+  found_stands = world_stands x l first (ways_of y total how parts ended) (resting_in None parts.states.items) ways_all (subst (λ (o : Option (WorldLoad W)). IfSome o (WorldStands x l first)) (sym seats.resting) desk_stands)
+
+  pub world_is_ours : (world : W) → ended.world ≡ Some world → WorldStands x l first (record { world = world; accepted = ended.accepted; failed = ended.failed })
+  world_is_ours world there = ours x l first (world_found y total how parts ended) found_stands world ended.accepted ended.failed (sym is.world ∙ there) is.accepted is.failed

@@ -1,0 +1,208 @@
+-- What a run by steps leaves: nothing is ever amiss.
+use Rattle.std.proofs.Common.{◌≡◌, ℕ, ◌+◌, ◌≤◌, ◌<◌, Bool, true, false, true≢false, List, [], ◌++◌, Option, None, Some, length, map, refl, sym, ◌∙◌, ap, subst, arith, inl, inr}
+use Rattle.std.proofs.lemmas.List.{length-map}
+use Rattle.std.proofs.lemmas.Option.{slice_get_within}
+use Rattle.std.proofs.lemmas.Bool.Decides.{nat_tests}
+use Rattle.std.specs.List.{AllByRecursion}
+use Rattle.std.specs.Prelude.{slice_get, is_some, is_none, IsSome, option_map, not, nat_lt, ◌&&◌, ◌||◌}
+use Rattle.mely_event.specs.declared.colour.Colour.{Colour}
+use Rattle.mely_event.specs.declared.event.Event.{Event}
+use Rattle.mely_history.specs.History.{ran_of}
+use Rattle.mely_history.specs.Legal.{AreLegal}
+use Rattle.mely_history.specs.Setup.{colours_of}
+use Rattle.mely_history.specs.declared.entry.Entry.{Entry}
+use Rattle.mely_history.specs.declared.setup.Setup.{Setup}
+use Rattle.mely_history.specs.declared.shape.Shape.{Shape}
+use Rattle.mely_weave.proofs.Wholes.GatherLemmas.{get_there}
+use Rattle.mely_machine.specs.Rules.{Rules, rules_of}
+use Rattle.mely_weave.specs.Side.{shard_of}
+use Rattle.mely_weave.specs.declared.draining.Drained.{Drained}
+use Rattle.mely_weave.specs.declared.draining.Drained.TheVariants as drained
+use Rattle.mely_weave.specs.declared.parts.WeaveParts.{WeaveParts}
+use Rattle.mely_tally.specs.Tallies.{carried_by}
+use Rattle.sws_link.specs.declared.Link.{Ghosts as LinkWords}
+use Rattle.sws_link.specs.declared.world.World.{Ghosts as WorldWords}
+use Rattle.sws_steps.specs.declared.Next.{Next}
+use Rattle.sws_steps.specs.declared.Next.TheVariants as next
+use Rattle.sws_conn.specs.declared.talk.Talk.{Ghosts as TalkWords}
+use Rattle.sws_conn.specs.Talks.{due, due_after}
+use Rattle.sws_conn.specs.Conn.{reported_by}
+use Rattle.sws_engine.specs.declared.ended.Served.{Served}
+use Rattle.sws_engine.specs.declared.ended.Ended.{Ended}
+use Rattle.sws_engine.specs.declared.ended.Verdict.{Verdict}
+use Rattle.sws_engine.specs.declared.ended.Verdict.TheVariants as verdict
+use Rattle.sws_engine.specs.declared.load.WorldLoad.{WorldLoad}
+use Rattle.sws_engine.specs.declared.load.Load.{Load}
+use Rattle.sws_engine.specs.Place.{PlaceState}
+use Rattle.sws_engine.specs.RunEnds.{RunEnds}
+use Rattle.sws_engine.specs.RunParts.{RunParts}
+use Rattle.sws_engine.specs.ServerRun.{server_rules}
+use Rattle.sws_engine.specs.RunFits.{RunFits}
+use Rattle.sws_engine.specs.declared.place.Seat.{Seat}
+use Rattle.sws_engine.specs.declared.place.Role.TheVariants.{Talking}
+use Rattle.sws_engine.specs.RunLeaves.{Talker, talkers, resting_in, ShowsSeat, StateTells, is_lacking, owed, AreWhole, VerdictIs}
+use Rattle.sws_engine.specs.Handing.{served_with, world_with}
+use Rattle.sws_engine.specs.Conclusion.{is_whole, accepted_of, failed_of, ways_of, world_found, IsConcluded}
+use Rattle.sws_engine.specs.StepsLeave.{HasRun, histories_in}
+use Rattle.sws_engine.proofs.Ends.ConcludedLemmas.{from_map, whole_is, judged, served_many, conn_left, conn_follows, world_is_ours}
+use Rattle.sws_engine.proofs.Ends.SeatsOfRunLemmas.{SeatsStand, seats_stand}
+
+-- where nothing is due, nothing is pending
+none_pending : (waiting : Bool) (pending : Next) → due_after (reported_by waiting pending) ≡ None → pending ≡ next.Nothing
+none_pending true pending none = cc
+none_pending false next.Open none = cc
+none_pending false next.Read none = cc
+none_pending false next.Parse none = cc
+none_pending false next.Look none = cc
+none_pending false next.Write none = cc
+none_pending false next.Wait none = cc
+none_pending false next.Close none = cc
+none_pending false next.Nothing none = refl
+
+some_there : {A : Type 0} (o : Option A) → IsSome o → is_none o ≡ false
+some_there None some = cc
+some_there (Some a) some = refl
+
+not_none : {A : Type 0} (o : Option A) → (o ≡ None → ⊥) → is_none o ≡ false
+not_none None isnt = absurd (isnt refl)
+not_none (Some a) isnt = refl
+
+not_less : (a b : ℕ) → nat_lt a b ≡ false → b ≤ a
+not_less a b is = grind (arith, nat_tests)
+
+-- a connection whose link is shut, and that met no stray event, lacks nothing
+module _ {W L T G H : Type 0} (y : TalkWords T L G H) (talker : Talker H W T) (s : Served L) (shows : ShowsSeat y talker.seat s) (closed : due (y.view_of talker.seat.talk) ≡ None) (unstrayed : talker.seat.stray ≡ None) where
+  nothing : (y.view_of talker.seat.talk).pending ≡ next.Nothing
+  nothing = none_pending (y.view_of talker.seat.talk).waiting (y.view_of talker.seat.talk).pending closed
+
+  no_link : s.link ≡ None → ⊥
+  no_link none = let fresh : (y.view_of talker.seat.talk).pending ≡ next.Open = shows.linked.0 none in let both : next.Nothing ≡ next.Open = sym nothing ∙ fresh in cc
+
+  lacks_nothing : is_lacking s ≡ false
+  lacks_nothing =
+      ap (λ b. (b || is_none s.end) || is_some s.stray) (not_none s.link no_link)
+      ∙ ap (λ b. (false || b) || is_some s.stray) (some_there s.end (shows.closed.1 nothing))
+      ∙ ap (λ o. (false || false) || is_some o) (shows.stray ∙ unstrayed)
+
+-- the links that were to be served were all accepted
+owed_below : (failed : Bool) (accepted total i : ℕ) → not failed && nat_lt accepted total ≡ false → i < owed failed accepted total → i < total → i < accepted
+owed_below true accepted total i ended low under = low
+owed_below false accepted total i ended low under = let more : total ≤ accepted = not_less accepted total ended in omega (arith, more, under)
+
+module _ {W L T G H : Type 0} (x : WorldWords W L) (l : LinkWords L) (y : TalkWords T L G H) (shape : Shape) (setup : Setup) (hall : H) (first : W) (how : Drained) (parts : WeaveParts (PlaceState H W T) (Load W L)) (ended : Ended W L)
+    (rules : rules_of setup ≡ server_rules shape) (colours : colours_of setup ≡ (x.tells first).total + 2)
+    (ran : RunParts x y setup first how (map (λ history. history.items) parts.histories.items) parts.states.items (map (λ events. events.items) parts.queued.items) parts.lost.items)
+    (fits : RunFits x l first hall parts.states.items (map (λ events. events.items) parts.queued.items) parts.lost.items)
+    (is : IsConcluded y (x.tells first).total how parts ended)
+    (tell : AllByRecursion (StateTells x l y) parts.states.items) where
+  abbrev total : ℕ
+  total = (x.tells first).total
+
+  seats : SeatsStand total parts.states.items
+  seats = seats_stand total parts.states.items ran.many ran.placed
+
+  found_many : length is.found ≡ total
+  found_many = is.shows.many ∙ seats.many
+
+  histories_are : histories_in x l y shape hall first ended ≡ map (λ history. history.items) parts.histories.items
+  histories_are = ap (λ v. map (λ history. history.items) v.items) is.histories
+
+  -- where all was run, nothing is under way
+  module _ (empty : how ≡ drained.Empty) (none_lost : parts.lost.items ≡ []) where
+    ends : RunEnds y total parts.states.items seats.desk
+    ends = ran.ends empty none_lost seats.place seats.desk seats.first seats.polls
+
+    none_left : ways_of y total how parts ended ≡ []
+    none_left = ap (λ (l : List (Event × Option (Load W L))). l ++ carried_by parts.lost.items) (ran.emptied empty) ∙ ap (λ l. carried_by l) none_lost
+
+    served_are : ended.served.items ≡ is.found
+    served_are = is.served ∙ ap (λ (l : List (Event × Option (Load W L))). served_with l is.found) none_left
+
+    world_is : world_found y total how parts ended ≡ Some ends.held
+    world_is = ap (λ (l : List (Event × Option (Load W L))). world_with l (resting_in None parts.states.items)) none_left ∙ seats.resting ∙ ends.rests
+
+    there_is : is_some ended.world ≡ true
+    there_is = ap is_some (is.world ∙ ap (λ (o : Option (WorldLoad W)). option_map (λ held. held.world) o) world_is)
+
+    unended : not ended.failed && nat_lt ended.accepted total ≡ false
+    unended =
+        ap (λ (b : Bool). not b && nat_lt ended.accepted total) (is.failed ∙ ap (λ (o : Option (WorldLoad W)). failed_of o) world_is)
+        ∙ ap (λ (n : ℕ). not ends.held.failed && nat_lt n total) (is.accepted ∙ ap (λ (o : Option (WorldLoad W)). accepted_of o) world_is)
+        ∙ ends.ended
+
+    all_whole : AreWhole ended.served.items (owed ended.failed ended.accepted total)
+    all_whole i s low at =
+        let here : slice_get is.found i ≡ Some s = ap (λ (l : List (Served L)). slice_get l i) (sym served_are) ∙ at in
+        let under : i < total = (let within = slice_get_within is.found i s here in omega (arith, within, found_many)) in
+        let many = seats.many in
+        let talker = get_there (talkers parts.states.items) i (omega (arith, under, many)) in
+        let from = seats.each i talker.0 talker.1 in
+        let conn = ends.conn i talker.0.place talker.0.seat under from.there from.talks in
+        let accepted_same : ended.accepted ≡ ends.held.accepted = is.accepted ∙ ap (λ (o : Option (WorldLoad W)). accepted_of o) world_is in
+        let below = owed_below ended.failed ended.accepted total i unended low under in
+        lacks_nothing y talker.0 s (is.shows.each i talker.0 s talker.1 here) (conn.closed (omega (arith, below, accepted_same))) conn.no_stray
+
+    -- at Ok each link was accepted
+    below_all : ended.failed ≡ false → (i : ℕ) → i < total → i < ends.held.accepted
+    below_all fine i under =
+        let accepted_same : ended.accepted ≡ ends.held.accepted = is.accepted ∙ ap (λ (o : Option (WorldLoad W)). accepted_of o) world_is in
+        let low : i < owed ended.failed ended.accepted total = subst (λ (b : Bool). i < owed b ended.accepted total) (sym fine) under in
+        let below = owed_below ended.failed ended.accepted total i unended low under in
+        omega (arith, below, accepted_same)
+
+    not_apart : (conn : ℕ) → VerdictIs ended.served.items (is_whole how parts.lost.items) total (is_some ended.world) ended.accepted ended.failed (verdict.Apart conn) → ⊥
+    not_apart conn told = elim told.1 [
+      | inl lacking ↦ true≢false (sym lacking.lacks ∙ all_whole conn lacking.s lacking.below lacking.there)
+      | inr gone ↦ true≢false (sym there_is ∙ gone.0)
+    ]
+
+  abbrev Told : Verdict → Type 0
+  Told v = VerdictIs ended.served.items (is_whole how parts.lost.items) total (is_some ended.world) ended.accepted ended.failed v
+
+  told_as : (v : Verdict) → ended.verdict ≡ v → Told v
+  told_as v same = subst Told same is.verdict
+
+  trail_is : (c : Colour) (history : List Entry) (trail : List Event) → slice_get (map (λ t. t.items) ended.trails.items) c.0 ≡ Some trail → slice_get (histories_in x l y shape hall first ended) (shard_of setup c) ≡ Some history → trail ≡ ran_of history c
+  trail_is c history trail at there =
+      let from = from_map (λ (p : PlaceState H W T). p.trail) parts.states.items c.0 trail (ap (λ (l : List (List Event)). slice_get l c.0) (sym is.trails) ∙ at) in
+      sym from.2 ∙ ran.trailed c from.0 history from.1 (ap (λ (l : List (List Entry)). slice_get l (shard_of setup c)) (sym histories_are) ∙ there)
+
+  -- where all was run and the world is sound, nothing is due on any connection
+  is_shut : (empty : how ≡ drained.Empty) (none_lost : parts.lost.items ≡ []) → ended.failed ≡ false → (i : ℕ) → i < total → (place : PlaceState H W T) (seat : Seat T) → slice_get parts.states.items (i + 2) ≡ Some place → place.role ≡ Talking seat → due (y.view_of seat.talk) ≡ None
+  is_shut empty none_lost fine i under place seat there talks = ((ends empty none_lost).conn i place seat under there talks).closed (below_all empty none_lost fine i under)
+
+  pub has_run : HasRun x l y shape hall first ended
+  has_run = record {
+    setup = setup;
+    rules = rules;
+    colours = colours;
+    how = how;
+    parts = parts;
+    ran = ran;
+    fits = fits;
+    concluded = is;
+    legal = subst (λ (l : List (List Entry)). AreLegal setup l) (sym histories_are) ran.legal;
+    shards = ap length histories_are ∙ ran.shards ∙ ap (λ (r : Rules). r.shape.shards) rules;
+    drained = λ isnt shard history at.
+        let whole = judged ended.served.items (is_whole how parts.lost.items) (is_some ended.world) ended.failed total ended.accepted ended.verdict isnt is.verdict in
+        let run = whole_is how parts.lost.items whole.ran in
+        ran.drained run.0 shard history (ap (λ (l : List (List Entry)). slice_get l shard) (sym histories_are) ∙ at);
+    trailed = trail_is;
+    many_trails = sym (length-map ended.trails.items (λ t. t.items)) ∙ ap length is.trails ∙ length-map parts.states.items (λ (p : PlaceState H W T). p.trail) ∙ ran.many;
+    many_served = served_many x l y hall first how parts ended ran.many ran.placed ran.of_world fits is tell;
+    ok = λ same. (let told = told_as verdict.Ok same in (told.1, told.2, subst (λ (b : Bool). AreWhole ended.served.items (owed b ended.accepted total)) told.2 told.3, told.0.enough));
+    world = λ same. (let told = told_as verdict.World same in (told.1, told.2, subst (λ (b : Bool). AreWhole ended.served.items (owed b ended.accepted total)) told.2 told.3, told.0.enough));
+    conn = conn_left x l y hall first how parts ended ran.many ran.placed ran.of_world fits is tell;
+    follows = λ same coming one script i s trail known at answers there run_of.
+        let told = told_as verdict.Ok same in
+        let run = whole_is how parts.lost.items told.0.ran in
+        let whole = subst (λ (b : Bool). AreWhole ended.served.items (owed b ended.accepted total)) told.2 told.3 in
+        let many = served_many x l y hall first how parts ended ran.many ran.placed ran.of_world fits is tell in
+        let under : i < total = (let within = slice_get_within ended.served.items i s there in omega (arith, within, many)) in
+        conn_follows x l y hall first how parts ended ran.many ran.placed ran.of_world fits is tell (served_are run.0 run.1) i (λ place seat at talks nothing some. is_shut run.0 run.1 told.2 i under place seat at talks) coming one script s trail known at answers there run_of (whole i s under there) (told.0.enough i s there);
+    stands = world_is_ours x l y hall first how parts ended ran.many ran.placed ran.of_world fits is tell;
+    never_apart = λ conn same.
+        let told = told_as (verdict.Apart conn) same in
+        let run = whole_is how parts.lost.items told.0.ran in
+        not_apart run.0 run.1 conn told;
+  }

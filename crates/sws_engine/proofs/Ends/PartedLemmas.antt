@@ -1,0 +1,90 @@
+-- What a run leaves in the parts of its weave.
+use Rattle.std.proofs.Common.{◌≡◌, ℕ, ◌+◌, List, [], ◌++◌, Option, Some, length, map, sym, ◌∙◌, ap, subst}
+use Rattle.std.proofs.lemmas.List.{length-map}
+use Rattle.std.specs.Prelude.{slice_get, flat_map}
+use Rattle.mely_event.specs.declared.colour.Colour.{Colour}
+use Rattle.mely_event.specs.declared.event.Event.{Event}
+use Rattle.mely_event.specs.declared.trail.Trail.{Ghosts as TrailWords}
+use Rattle.mely_history.specs.Legal.{AreLegal}
+use Rattle.mely_history.specs.Setup.{shape_of, colours_of}
+use Rattle.mely_history.specs.declared.entry.Entry.{Entry}
+use Rattle.mely_history.specs.declared.setup.Setup.{Setup}
+use Rattle.mely_shard.specs.Shard.{ShardState}
+use Rattle.mely_weave.specs.Drains.{HistoriesAreDrained}
+use Rattle.mely_weave.specs.Side.{shard_of}
+use Rattle.mely_weave.specs.Weave.{WeaveState}
+use Rattle.mely_weave.specs.declared.draining.Drained.{Drained}
+use Rattle.mely_weave.specs.declared.draining.Drained.TheVariants.{Empty}
+use Rattle.mely_tally.specs.Tallies.{carried_by, states_of, under_way}
+use Rattle.mely_tally.specs.Tells.{IsTakenApart, PartsFit}
+use Rattle.mely_worker.specs.Access.{FitsSetup}
+use Rattle.sws_link.specs.declared.Link.{Ghosts as LinkWords}
+use Rattle.sws_link.specs.declared.world.World.{Ghosts as WorldWords}
+use Rattle.sws_conn.specs.declared.talk.Talk.{Ghosts as TalkWords}
+use Rattle.sws_engine.specs.declared.load.Load.{Load}
+use Rattle.sws_engine.specs.declared.place.Frame.{Frame}
+use Rattle.sws_engine.specs.Place.{PlaceState}
+use Rattle.sws_engine.specs.Loads.{Fit}
+use Rattle.sws_engine.specs.RunFits.{RunFits}
+use Rattle.sws_engine.specs.RunFact.{RunFact}
+use Rattle.sws_engine.specs.RunParts.{RunParts}
+use Rattle.sws_engine.specs.RunStands.{Way, RunStands}
+use Rattle.sws_engine.proofs.Balances.ConcludesLemmas.{placed_as, run_ends}
+use Rattle.sws_engine.proofs.Events.WaitingListsLemmas.{each_weaker}
+use Rattle.sws_engine.proofs.Runs.SameStandsLemmas.{same_stands}
+
+-- there is a history for each shard
+pub as_many_histories : {S P : Type 0} (shards : List (ShardState S P)) (histories : List (List Entry)) (count : ℕ) → histories ≡ map (λ (has : ShardState S P). has.history) shards → length shards ≡ count → length histories ≡ count
+as_many_histories {S} {P} shards histories count are many = ap length are ∙ length-map shards (λ (has : ShardState S P). has.history) ∙ many
+
+module _ {W L T G H : Type 0} (x : WorldWords W L) (y : TalkWords T L G H) (t : TrailWords (PlaceState H W T) (Frame H W)) (setup : Setup) (first : W) (ended : Drained) (weave : WeaveState (PlaceState H W T) (Load W L))
+    (histories : List (List Entry)) (states : List (PlaceState H W T)) (queued : List (List (Way W L))) (lost : List (Colour × Event × Option (Load W L)))
+    (apart : IsTakenApart t weave histories states queued lost) (fact : RunFact x y first weave) (of_setup : weave.setup ≡ setup) (colours : colours_of setup ≡ (x.tells first).total + 2) (drained_is : ended ≡ Empty → HistoriesAreDrained weave) (many_histories : length histories ≡ (shape_of weave.setup).shards)
+    (colour_is : (s : PlaceState H W T) → t.colour_of s ≡ s.colour) (trail_is : (s : PlaceState H W T) → t.trail_of s ≡ s.trail) (frame_is : (s : PlaceState H W T) → t.frame_of s ≡ record { hall = s.hall; first = s.first }) where
+  abbrev total : ℕ
+  total = (x.tells first).total
+
+  abbrev ways : List (Way W L)
+  ways = flat_map (λ events. events) queued ++ carried_by lost
+
+  stands : RunStands y total states ways
+  stands = same_stands y total (states_of weave) states (under_way weave) ways (λ f blind. sym (apart.made.states f)) (λ g. sym (apart.made.ways g)) fact.stands
+
+  coloured : (i : ℕ) (place : PlaceState H W T) → slice_get states i ≡ Some place → place.colour.0 ≡ i
+  coloured i place at = ap (λ (c : Colour). c.0) (sym (colour_is place) ∙ apart.coloured (record { 0 = i }) place at)
+
+  first_is : (s : PlaceState H W T) → (t.frame_of s).first ≡ s.first
+  first_is s = ap (λ (f : Frame H W). f.first) (frame_is s)
+
+  none_left : ended ≡ Empty → lost ≡ [] → ways ≡ []
+  none_left empty none = ap (λ (l : List (Way W L)). l ++ carried_by lost) (apart.emptied (drained_is empty)) ∙ ap (λ (l : List (Colour × Event × Option (Load W L))). carried_by l) none
+
+  pub run_parts : RunParts x y setup first ended histories states queued lost
+  run_parts = record {
+    legal = subst (λ (s : Setup). AreLegal s histories) of_setup apart.legal;
+    shards = many_histories ∙ ap (λ (s : Setup). (shape_of s).shards) of_setup;
+    drained = λ empty. apart.drained (drained_is empty);
+    emptied = λ empty. apart.emptied (drained_is empty);
+    many = apart.many ∙ ap (λ (s : Setup). colours_of s) of_setup ∙ colours;
+    placed = placed_as y total states coloured stands.placed;
+    of_world = λ i place at. sym (first_is place) ∙ ap (λ (f : Frame H W). f.first) (apart.framed (record { 0 = i }) place at) ∙ first_is weave.given ∙ fact.framed;
+    trailed = λ c place history at there. sym (trail_is place) ∙ apart.trailed c place history at (ap (λ (s : Setup). slice_get histories (shard_of s c)) of_setup ∙ there);
+    stands = stands;
+    ends = λ empty none place desk at role. run_ends y total states coloured (subst (λ (l : List (Way W L)). RunStands y total states l) (none_left empty none) stands) place desk at role;
+  }
+
+-- what is still under way fits, and the states are over the hall
+pub run_fits : {W L T H : Type 0} (x : WorldWords W L) (l : LinkWords L) (t : TrailWords (PlaceState H W T) (Frame H W)) (fits : Frame H W → Colour → Event → Option (Load W L) → Type 0) (first : W) (hall : H) (weave : WeaveState (PlaceState H W T) (Load W L))
+    (histories : List (List Entry)) (states : List (PlaceState H W T)) (queued : List (List (Way W L))) (lost : List (Colour × Event × Option (Load W L)))
+    → IsTakenApart t weave histories states queued lost → PartsFit t fits weave queued lost → weave.given.first ≡ first → weave.given.hall ≡ hall
+    → ((s : PlaceState H W T) → t.frame_of s ≡ record { hall = s.hall; first = s.first })
+    → ((frame : Frame H W) (c : Colour) (event : Event) (carried : Option (Load W L)) → fits frame c event carried → Fit x l frame.first c event carried)
+    → RunFits x l first hall states queued lost
+run_fits {W} {L} {T} {H} x l t fits first hall weave histories states queued lost apart fit of_first of_hall frame_is fits_is =
+    let given_first : (t.frame_of weave.given).first ≡ first = ap (λ (f : Frame H W). f.first) (frame_is weave.given) ∙ of_first in
+    let under : (c : Colour) (event : Event) (carried : Option (Load W L)) → fits (t.frame_of weave.given) c event carried → Fit x l first c event carried = λ c event carried is. subst (λ (w : W). Fit x l w c event carried) given_first (fits_is (t.frame_of weave.given) c event carried is) in
+    record {
+      of_hall = λ i place at. sym (ap (λ (f : Frame H W). f.hall) (frame_is place)) ∙ ap (λ (f : Frame H W). f.hall) (apart.framed (record { 0 = i }) place at) ∙ ap (λ (f : Frame H W). f.hall) (frame_is weave.given) ∙ of_hall;
+      queued = λ c events at. each_weaker (λ (e : Way W L). fits (t.frame_of weave.given) c e.0 e.1) (λ (e : Way W L). Fit x l first c e.0 e.1) (λ e is. under c e.0 e.1 is) events (fit.queued c events at);
+      lost = each_weaker (FitsSetup fits weave.setup (t.frame_of weave.given)) (λ put. Fit x l first put.0 put.1 put.2) (λ put is. under put.0 put.1 put.2 is.load) lost fit.lost;
+    }

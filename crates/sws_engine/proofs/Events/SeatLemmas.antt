@@ -1,0 +1,69 @@
+-- The due event of a connection.
+use Rattle.std.proofs.Common.{◌≡◌, ℕ, Bool, true, false, true≢false, inl, inr, arith, Option, Some, None, IsSome, refl, sym, ◌∙◌, ap}
+use Rattle.std.proofs.lemmas.Bool.Decides.{eqb_tells}
+use Rattle.std.specs.Prelude.{◌==◌, ◌&&◌}
+use Rattle.mely_event.specs.declared.event.Event.{Event}
+use Rattle.sws_link.specs.declared.Link.{Ghosts as LinkWords}
+use Rattle.sws_engine.specs.declared.load.WorldLoad.{WorldLoad}
+use Rattle.sws_engine.specs.declared.load.Load.TheVariants as load
+use Rattle.sws_engine.specs.Handling.{is_due}
+use Rattle.sws_engine.specs.Seating.{LoadSuits}
+use Rattle.sws_steps.specs.declared.Next.{Next}
+use Rattle.sws_steps.specs.declared.Next.TheVariants as next
+use Rattle.sws_conn.specs.Path.{Handler, open_link, read_piece, parse, look, write_part, resume, close}
+use Rattle.sws_conn.specs.Conn.{reported_by}
+use Rattle.sws_conn.specs.Talks.{TalkView, unopened_view, ServesNow, due, due_after}
+
+opening_at : (waiting : Bool) (pending : Next) → due_after (reported_by waiting pending) ≡ Some open_link → pending ≡ next.Open
+opening_at true pending is = cc
+opening_at false next.Open is = refl
+opening_at false next.Read is = cc
+opening_at false next.Parse is = cc
+opening_at false next.Look is = cc
+opening_at false next.Write is = cc
+opening_at false next.Wait is = cc
+opening_at false next.Close is = cc
+opening_at false next.Nothing is = cc
+
+pub opening_is : (view : TalkView) → due view ≡ Some open_link → view.pending ≡ next.Open
+opening_is view is = opening_at view.waiting view.pending is
+
+pub some_of : (d : Option Handler) → IsSome d → (step : Handler) × (d ≡ Some step)
+some_of None is = cc
+some_of (Some step) is = (step, refl)
+
+pub linked_none : {L : Type 0} (Served : L → TalkView → Type 0) (link : Option L) (view : TalkView) → ServesNow Served link view → link ≡ None → ⊥
+linked_none Served None view serves none = serves
+linked_none Served (Some link) view serves none = cc
+
+first_of : (a b : Bool) → (a && b) ≡ true → a ≡ true
+first_of true b is = refl
+first_of false b is = cc
+
+two_numbers : (h n : ℕ) (b : Bool) → ((h == n) && b) ≡ true → (h == 3) ≡ true → (n ≡ 3 → ⊥) → ⊥
+two_numbers h n b one other apart = elim (eqb_tells h n) [
+  | inl same ↦ elim (eqb_tells h 3) [ inl three ↦ apart (sym same.1 ∙ three.1) | inr no_three ↦ absurd (true≢false (sym other ∙ no_three.0)) ]
+  | inr not_n ↦ absurd (true≢false (sym (first_of (h == n) b one) ∙ not_n.0))
+]
+
+due_opens : (conn : ℕ) (d : Option Handler) (event : Event) → is_due conn d event ≡ true → (event.handler == 3) ≡ true → d ≡ Some open_link
+due_opens conn None event due_is three = cc
+due_opens conn (Some open_link) event due_is three = refl
+due_opens conn (Some read_piece) event due_is three = absurd (two_numbers event.handler 4 (event.arg == conn) due_is three (λ e. omega (arith, e)))
+due_opens conn (Some parse) event due_is three = absurd (two_numbers event.handler 5 (event.arg == conn) due_is three (λ e. omega (arith, e)))
+due_opens conn (Some look) event due_is three = absurd (two_numbers event.handler 6 (event.arg == conn) due_is three (λ e. omega (arith, e)))
+due_opens conn (Some write_part) event due_is three = absurd (two_numbers event.handler 7 (event.arg == conn) due_is three (λ e. omega (arith, e)))
+due_opens conn (Some close) event due_is three = absurd (two_numbers event.handler 8 (event.arg == conn) due_is three (λ e. omega (arith, e)))
+due_opens conn (Some resume) event due_is three = absurd (two_numbers event.handler 9 (event.arg == conn) due_is three (λ e. omega (arith, e)))
+
+suits_link : (W : Type 0) {L : Type 0} (l : LinkWords L) (b : Bool) (link : L) → LoadSuits {W = W} l b (Some (load.Link link)) → b ≡ true
+suits_link W l true link is = refl
+suits_link W l false link is = absurd is
+
+suits_none : (W : Type 0) {L : Type 0} (l : LinkWords L) (b : Bool) → b ≡ true → LoadSuits {W = W} l b None → ⊥
+suits_none W l true three is = is
+suits_none W l false three is = cc
+
+suits_world : {W L : Type 0} (l : LinkWords L) (b : Bool) (held : WorldLoad W) → b ≡ true → LoadSuits l b (Some (load.World held)) → ⊥
+suits_world l true held three is = is
+suits_world l false held three is = cc

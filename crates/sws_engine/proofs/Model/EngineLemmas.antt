@@ -1,0 +1,185 @@
+-- A run of the engine over a scripted world is the server's on the paths of its links.
+use Rattle.std.proofs.lemmas.Bool.{ne_eqb}
+use Rattle.std.proofs.Common.{cond, ◌≡◌, ◌+◌, ℕ, zero, suc, All, Bool, false, List, Option, None, Some, Ok, length, map, arith, refl, sym, ap, subst, ◌∙◌}
+use Rattle.mely_event.specs.declared.colour.Colour.{Colour}
+use Rattle.mely_event.specs.declared.event.Event.{Event}
+use Rattle.mely_event.specs.declared.trail.Trail.{Ghosts as TrailWords}
+use Rattle.mely_history.specs.declared.setup.Setup.{Setup}
+use Rattle.mely_history.specs.declared.shape.Shape.{Shape}
+use Rattle.mely_history.specs.declared.entry.Entry.{Entry}
+use Rattle.mely_worker.specs.declared.app.App.{Ghosts as AppWords}
+use Rattle.mely_history.specs.declared.registered.Registered.{Registered}
+use Rattle.mely_history.specs.Setup.{colours_of}
+use Rattle.mely_weave.specs.StandsWell.{StandsWell}
+use Rattle.mely_weave.specs.Weave.{WeaveState}
+use Rattle.mely_weave.specs.Steps.{PostsAt}
+use Rattle.mely_weave.specs.Making.{IsFirstWeave}
+use Rattle.mely_weave.specs.Runs.{KeepsSetup, RunsTo, spelled_out}
+use Rattle.mely_weave.specs.Drains.{Drains}
+use Rattle.mely_weave.specs.declared.running.Went.TheVariants as went
+use Rattle.mely_weave.specs.declared.draining.Drained.{Drained}
+use Rattle.mely_weave.specs.declared.draining.Drained.TheVariants.{Empty}
+use Rattle.mely_weave.specs.Lanes.{AreByColour}
+use Rattle.mely_machine.specs.Rules.{rules_of}
+use Rattle.mely_run.specs.WholeRuns.{IsBegun, IsRunOut, IsWholeRun}
+use Rattle.mely_run.proofs.Lists.ElementsLemmas.{there_of}
+use Rattle.mely_run.proofs.Runs.FrameLemmas.{framed_there}
+use Rattle.sws_link.specs.declared.Link.{Ghosts as LinkWords}
+use Rattle.sws_link.specs.declared.world.World.{Ghosts as WorldWords}
+use Rattle.sws_conn.specs.declared.talk.Talk.{Ghosts as TalkWords}
+use Rattle.sws_conn.specs.Outcome.{UnlessMemory}
+use Rattle.sws_conn.specs.Path.{Handler, TakesOff}
+use Rattle.sws_conn.specs.Talks.{due, path_to_come, IsDue}
+use Rattle.sws_engine.specs.declared.load.WorldLoad.{WorldLoad}
+use Rattle.sws_engine.specs.declared.load.Load.{Load}
+use Rattle.sws_engine.specs.declared.load.Load.TheVariants as load
+use Rattle.sws_engine.specs.declared.place.Frame.{Frame}
+use Rattle.sws_engine.specs.declared.place.Seat.{Seat}
+use Rattle.sws_engine.specs.declared.place.Role.{Role}
+use Rattle.sws_engine.specs.declared.place.Role.TheVariants.{Polling, Accepting, Talking}
+use Rattle.sws_engine.specs.Place.{PlaceState}
+use Rattle.sws_engine.specs.PlaceShown.{IsAlike}
+use Rattle.sws_engine.specs.Loads.{Fit}
+use Rattle.sws_engine.specs.Fresh.{FreshRole, AreFirstPlaces as AreFresh, first_poll, first_load}
+use Rattle.sws_engine.specs.Handling.{Runs}
+use Rattle.sws_engine.specs.PathPlaces as path
+use Rattle.sws_engine.specs.PathStates.{TellsPaths, HasRest, HasRole, HasPlace, HasLoad, IsPlacedAt, is_spoilt, worlds_of_state, worlds_of_load, ArePuts}
+use Rattle.sws_engine.specs.Server.{Server, first_event}
+use Rattle.sws_engine.specs.ServerRun.{server_rules, IsRunOfPaths}
+use Rattle.sws_engine.specs.Agrees.{AreOpened, PlaceStands}
+use Rattle.sws_engine.specs.Placed.{IsPlaced, first_place, AreFirstPlaces}
+use Rattle.sws_engine.specs.ServedRun.{HasRunOut}
+use Rattle.sws_engine.proofs.Paths.PathServerLemmas.{place_runs, stays_spoilt, state_counts, load_counts, alike_has, alike_spoilt, first_world}
+use Rattle.sws_engine.proofs.Model.FirstLemmas.{server_run}
+
+-- where a place stands by the function, it is that of its colour
+placed_at : (whole : List (List Handler)) (s : Server) (c : Colour) (place : path.Place) → PlaceStands whole s c place → IsPlacedAt c place
+placed_at whole s c (path.polling d) stands = stands.0
+placed_at whole s c path.accepting stands = stands
+placed_at whole s c (path.talking rest) stands = stands.0
+
+-- the first event is the first poll
+abbrev poll_told : Bool → Colour × Event
+poll_told none = (record { 0 = 0 }, record { handler = 0; arg = cond none 1 0 })
+
+first_is : (n : ℕ) → first_event n ≡ (record { 0 = 0 }, first_poll n)
+first_is zero = refl
+first_is (suc n) = ap poll_told (sym (ne_eqb (suc n) 0 (λ e. omega (arith, e))))
+
+module _ {W L T G H : Type 0} (x : WorldWords W L) (l : LinkWords L) (y : TalkWords T L G H) (hall : H) (first : W) (paths : List (List Handler)) where
+  -- a fresh role has what there is at first
+  fresh_role : (i : ℕ) (role : Role W T) → FreshRole y first i role → ((seat : Seat T) → role ≡ Talking seat → y.hall_of seat.talk ≡ hall) → HasRole x l y hall paths role (first_place i)
+  fresh_role zero (Polling desk) fresh own = record {
+    waiting = sym fresh.1;
+    last = sym fresh.2;
+    resting = subst (λ (r : Option (WorldLoad W)). HasRest x l y hall paths r None) (sym fresh.3) tt;
+  }
+  fresh_role zero Accepting fresh own = absurd (omega (arith, fresh))
+  fresh_role zero (Talking seat) fresh own = let low = fresh.0 in absurd (omega (arith, low))
+  fresh_role (suc zero) (Polling desk) fresh own = let nought = fresh.0 in absurd (omega (arith, nought))
+  fresh_role (suc zero) Accepting fresh own = tt
+  fresh_role (suc zero) (Talking seat) fresh own = let low = fresh.0 in absurd (omega (arith, low))
+  fresh_role (suc (suc n)) (Polling desk) fresh own = let nought = fresh.0 in absurd (omega (arith, nought))
+  fresh_role (suc (suc n)) Accepting fresh own = absurd (omega (arith, fresh))
+  fresh_role (suc (suc n)) (Talking seat) fresh own = (own seat refl, fresh.1)
+
+  fresh_places : (count : ℕ) (states : List (PlaceState H W T)) → AreFresh y first hall count states → AreFirstPlaces (HasPlace x l y hall paths) 0 states
+  fresh_places count states fresh i state there =
+      let is = fresh.each i state there in
+      subst (λ (n : ℕ). HasPlace x l y hall paths state (first_place n)) (let e : i ≡ 0 + i = omega arith in e) (fresh_role i state.role is.fresh.role is.own_hall)
+
+  module _ {R : Type 0} (t : TrailWords (PlaceState H W T) (Frame H W)) (fits : Frame H W → Colour → Event → Option (Load W L) → Type 0) (a : AppWords R (Load W L) (PlaceState H W T) (Frame H W)) (total_of : R → ℕ)
+      (alike_is : (p q : PlaceState H W T) → t.alike p q → IsAlike p q) (coloured : (s : PlaceState H W T) → t.colour_of s ≡ s.colour) (framed : (s : PlaceState H W T) → t.frame_of s ≡ record { hall = s.hall; first = s.first })
+      (fits_is : (frame : Frame H W) (c : Colour) (event : Event) (carried : Option (Load W L)) → fits frame c event carried → Fit x l frame.first c event carried)
+      (runs_is : (app : R) (s : PlaceState H W T) (event : Event) (carried : Option (Load W L)) (after : PlaceState H W T) (puts : List (Colour × Event × Option (Load W L))) → a.runs app s event carried after puts → Runs x l y (total_of app) s event carried after puts) where
+    abbrev frame : Frame H W
+    frame = record { hall = hall; first = first }
+
+    -- over a scripted world the engine's app is the server on the paths
+    engine_placed : (app : R) → total_of app ≡ length paths → TellsPaths x l y hall first paths
+        → ((link : L) (trail : List Handler) (talk : T) → y.has_run link trail talk → UnlessMemory (y.view_of talk).end (TakesOff trail (path_to_come (y.path (y.hall_of talk)) (l.tells link)) (y.rest_of talk)))
+        → ((link : L) (trail : List Handler) (talk : T) → y.has_run link trail talk → IsDue (due (y.view_of talk)) (y.rest_of talk))
+        → IsPlaced t fits a app frame (HasPlace x l y hall paths) (HasLoad x l y hall paths) worlds_of_state worlds_of_load (is_spoilt y) paths
+    engine_placed app total tells path_law due_law = record {
+      held = λ state place is. state_counts x l y hall paths state place is;
+      carriage = λ carried p is. load_counts x l y hall paths carried p is;
+      roomy = λ state roomy place alike is. alike_has x l y hall paths state roomy place (alike_is state roomy alike) is;
+      runs = λ s state after event carried puts place p of_frame fit is_place stands are comes alone ran fine.
+          let c_is : t.colour_of state ≡ state.colour = coloured state in
+          let fit_there : Fit x l first state.colour event carried = subst (λ (c : Colour). Fit x l first c event carried) c_is (fits_is frame (t.colour_of state) event carried fit) in
+          let at : IsPlacedAt state.colour place = subst (λ (c : Colour). IsPlacedAt c place) c_is (placed_at paths s (t.colour_of state) place stands) in
+          let did = place_runs x l y hall first paths tells path_law due_law (total_of app) state after event carried puts place p fit_there at is_place are alone (runs_is app state event carried after puts ran) fine in
+          subst (λ (c : Colour). HasPlace x l y hall paths after (path.runs_place (length paths) c place event p).place × ArePuts (HasLoad x l y hall paths) puts (path.runs_place (length paths) c place event p).puts) (sym c_is)
+          (subst (λ (n : ℕ). HasPlace x l y hall paths after (path.runs_place n state.colour place event p).place × ArePuts (HasLoad x l y hall paths) puts (path.runs_place n state.colour place event p).puts) total did);
+      spoilt_roomier = λ state roomy alike is. alike_spoilt x l y hall paths state roomy (alike_is state roomy alike) is;
+      spoilt_after = λ state after event carried puts ran is. stays_spoilt x l y (total_of app) state after event carried puts (runs_is app state event carried after puts ran) is;
+    }
+
+    -- and so its histories are the server's
+    pub engine_run : (setup : Setup) (schedule : List (ℕ × ℕ)) (end : WeaveState (PlaceState H W T) (Load W L)) (histories : List (List Entry)) (left : List (PlaceState H W T))
+        → ((link : L) (trail : List Handler) (talk : T) → y.has_run link trail talk → UnlessMemory (y.view_of talk).end (TakesOff trail (path_to_come (y.path (y.hall_of talk)) (l.tells link)) (y.rest_of talk)))
+        → ((link : L) (trail : List Handler) (talk : T) → y.has_run link trail talk → IsDue (due (y.view_of talk)) (y.rest_of talk))
+        → HasRunOut x y t fits a total_of setup first hall schedule end
+        → histories ≡ map (λ has. has.history) end.shards → AreByColour (λ lane. lane.state) end.setup end.shards (map (λ state. Some state) left)
+        → TellsPaths x l y hall first paths → AreOpened paths → All (λ place. is_spoilt y place ≡ false) left
+        → (shape : Shape) → rules_of setup ≡ server_rules shape → IsRunOfPaths shape paths schedule histories
+    engine_run setup schedule end histories left path_law due_law has told states_left tells opened fine shape ruled =
+        let posts : first_event (length paths) ≡ (record { 0 = 0 }, first_poll (x.tells first).total) = first_is (length paths) ∙ ap (λ (n : ℕ). (record { 0 = 0 }, first_poll n)) (sym tells.many) in
+        let whole : IsWholeRun t fits a has.app setup has.states (first_event (length paths)).0 (first_event (length paths)).1 (Some (load.World (first_load first))) schedule histories left =
+        record {
+          posted = has.posted;
+          end = end;
+          begun = subst (λ (e : Colour × Event). IsBegun t fits setup has.states e.0 e.1 (Some (load.World (first_load first))) has.posted) (sym posts) has.begun;
+          out = has.out;
+          told = told;
+          states_left = states_left;
+        } in
+        let many = has.fresh.many in
+        let one = there_of has.states 0 (omega (arith, many)) in
+        let fresh = has.fresh.each 0 one.0 one.1 in
+        let same_frame : t.frame_of whole.posted.given ≡ frame =
+        framed_there whole one.0 one.1 ∙ framed one.0 ∙ (λ i. record { hall = fresh.hall_is i; first = fresh.fresh.world i }) in
+        server_run frame (HasPlace x l y hall paths) (HasLoad x l y hall paths) worlds_of_state worlds_of_load (is_spoilt y) paths opened (engine_placed has.app (has.total ∙ tells.many) tells path_law due_law)
+        (fresh_places ((x.tells first).total + 2) has.states has.fresh) (first_world x l y hall paths first) whole same_frame fine shape ruled
+
+-- ---- what the calls of a run leave
+
+-- a post of an event that is the one that is told
+pub begun_at : {S P F : Type 0} (t : TrailWords S F) (fits : F → Colour → Event → Option P → Type 0) (setup : Setup) (states : List S) (c : Colour) (event posted_event : Event) (load : Option P) (first posted : WeaveState S P) (reply : Registered)
+    → posted_event ≡ event → length states ≡ colours_of setup → IsFirstWeave setup states first → StandsWell t fits first → PostsAt t first c posted_event load (Ok reply) posted → KeepsSetup first posted → StandsWell t fits posted
+    → IsBegun t fits setup states c event load posted
+begun_at t fits setup states c event posted_event load first posted reply same_event all made well posts same well_posted = record {
+  first = first;
+  reply = reply;
+  all = all;
+  made = made;
+  well = well;
+  posts = subst (λ (e : Event). PostsAt t first c e load (Ok reply) posted) same_event posts;
+  same = same;
+  well_posted = well_posted;
+}
+
+-- a run of the schedule, and then a drain that was answered so
+pub run_out_at : {S P F R : Type 0} (t : TrailWords S F) (fits : F → Colour → Event → Option P → Type 0) (y : AppWords R P S F) (app : R) (posted ran end : WeaveState S P) (schedule : List (ℕ × ℕ)) (ended : Drained)
+    → RunsTo t fits y app posted (spelled_out schedule) went.All ran → Drains t fits y app ran ended end → StandsWell t fits end → ended ≡ Empty → IsRunOut t fits y app posted schedule end
+run_out_at t fits y app posted ran end schedule ended runs drains well empty = record {
+  ran = ran;
+  runs = runs;
+  drains = subst (λ (d : Drained). Drains t fits y app ran d end) empty drains;
+  well = well;
+}
+
+-- the same from the fresh states on, over as many links as the world tells
+pub has_run_out : {W L T G H R : Type 0} (x : WorldWords W L) (y : TalkWords T L G H) (t : TrailWords (PlaceState H W T) (Frame H W)) (fits : Frame H W → Colour → Event → Option (Load W L) → Type 0) (a : AppWords R (Load W L) (PlaceState H W T) (Frame H W)) (total_of : R → ℕ)
+    (setup : Setup) (first : W) (hall : H) (schedule : List (ℕ × ℕ)) (app : R) (n : ℕ) (states : List (PlaceState H W T)) (posted end : WeaveState (PlaceState H W T) (Load W L))
+    → n ≡ (x.tells first).total → total_of app ≡ n → AreFresh y first hall (n + 2) states → IsBegun t fits setup states (record { 0 = 0 }) (first_poll n) (Some (load.World (first_load first))) posted → IsRunOut t fits a app posted schedule end
+    → HasRunOut x y t fits a total_of setup first hall schedule end
+has_run_out x y t fits a total_of setup first hall schedule app n states posted end is total fresh begun out = record {
+  app = app;
+  total = total ∙ is;
+  states = states;
+  fresh = subst (λ (k : ℕ). AreFresh y first hall (k + 2) states) is fresh;
+  posted = posted;
+  begun = subst (λ (k : ℕ). IsBegun t fits setup states (record { 0 = 0 }) (first_poll k) (Some (load.World (first_load first))) posted) is begun;
+  out = out;
+}

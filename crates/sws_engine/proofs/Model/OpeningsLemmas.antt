@@ -1,0 +1,125 @@
+-- A path begins with the opening and has no other.
+use Rattle.std.proofs.Common.{◌≡◌, ◌≢◌, ◌+◌, ℕ, zero, suc, Bool, true, false, cond, List, [], ◌∷◌, length, map, arith, refl, sym, ap, subst, ◌∙◌}
+use Rattle.std.specs.Prelude.{nat_le}
+use Rattle.std.proofs.lemmas.Option.{none-some, same_Some}
+use Rattle.sws_link.specs.declared.LinkRead.{LinkRead}
+use Rattle.sws_link.specs.declared.LinkRead.TheVariants as read
+use Rattle.sws_link.specs.declared.LinkWrite.{LinkWrite}
+use Rattle.sws_link.specs.declared.LinkWrite.TheVariants as write
+use Rattle.sws_link.specs.Scripts.{Script, read_of, write_of}
+use Rattle.sws_request.specs.declared.cuts.Cut.{Cut}
+use Rattle.sws_request.specs.declared.cuts.Cut.TheVariants.{Head, TooLong, NotYet}
+use Rattle.sws_request.specs.Cuts.{cut_of}
+use Rattle.sws_site.specs.Site.{SiteState}
+use Rattle.sws_site.specs.Limits.{IsWithinLimits}
+use Rattle.sws_parts.specs.Parts.{front_of, after_sending}
+use Rattle.sws_conn.specs.Conn.{ConnCoreState, is_sent, is_waiting}
+use Rattle.sws_steps.specs.declared.End.TheVariants as ending
+use Rattle.sws_steps.specs.declared.Next.{Next}
+use Rattle.sws_steps.specs.declared.Next.TheVariants as next
+use Rattle.sws_conn.specs.Step.{going_to, ending_as, still_waiting, has_all_input, room_of, after_read, after_parse, after_look, after_part, after_write, wait_limit}
+use Rattle.sws_conn.specs.Sound.{unopened}
+use Rattle.sws_steps.specs.Path.{IsPathFrom as IsPathBy}
+use Rattle.sws_conn.specs.Path.{Handler, open_link, read_piece, parse, look, write_part, resume, close, handler_of, Scripted, scripted_at, scripted_step, IsPathFrom, path_of}
+use Rattle.sws_conn.proofs.PathLemmas.{path_of-path}
+use Rattle.sws_engine.specs.Handling.{number_of}
+use Rattle.sws_engine.specs.Agrees.{HasNoOpening, AreOpened}
+
+-- the step isn't the opening
+abbrev IsOpened : Next → Type 0
+IsOpened next.Open = ⊥
+IsOpened next.Read = Unit {0}
+IsOpened next.Parse = Unit {0}
+IsOpened next.Look = Unit {0}
+IsOpened next.Write = Unit {0}
+IsOpened next.Wait = Unit {0}
+IsOpened next.Close = Unit {0}
+IsOpened next.Nothing = Unit {0}
+
+module _ (c : ConnCoreState) where
+  waiting_opened : (b : Bool) → IsOpened c.pending → IsOpened (still_waiting c b).pending
+  waiting_opened true is = tt
+  waiting_opened false is = is
+
+  read_opened : (answer : LinkRead) (bytes : List ℕ) → IsOpened c.pending → IsOpened (after_read c answer bytes).pending
+  read_opened (read.Took count) bytes is = tt
+  read_opened read.End bytes is = tt
+  read_opened read.NotReady bytes is = waiting_opened (nat_le wait_limit (c.waits + 1)) is
+  read_opened read.Failed bytes is = tt
+
+  parse_opened : (cut : Cut) → IsOpened (after_parse c cut).pending
+  parse_opened (Head len) = tt
+  parse_opened TooLong = tt
+  parse_opened NotYet = elim (has_all_input c) as (λ b. IsOpened (cond b (ending_as c ending.Done) (going_to c next.Read)).pending) [ true ↦ tt | false ↦ tt ]
+
+  look_opened : (cut : Cut) → IsOpened c.pending → IsOpened (after_look c cut).pending
+  look_opened (Head len) is = tt
+  look_opened TooLong is = tt
+  look_opened NotYet is = is
+
+part_opened : (c : ConnCoreState) (sent closes : Bool) → IsOpened c.pending → IsOpened (after_part sent closes c).pending
+part_opened c false closes is = is
+part_opened c true true is = tt
+part_opened c true false is = tt
+
+write_opened : (c : ConnCoreState) (answer : LinkWrite) → IsOpened c.pending → IsOpened (after_write c answer).pending
+write_opened c (write.Wrote count) is = part_opened (record c { parts = after_sending count c.parts; written = c.written + count; waits = 0 }) (is_sent (after_sending count c.parts)) c.closes is
+write_opened c write.NotReady is = waiting_opened c (nat_le wait_limit (c.waits + 1)) is
+write_opened c write.Failed is = tt
+write_opened c write.Memory is = tt
+
+step_opened : (pending : Next) (c : Scripted) → c.standing.pending ≡ pending → IsOpened pending → IsOpened (scripted_at pending c).standing.pending
+step_opened next.Open c e is = absurd is
+step_opened next.Read c e is = read_opened c.standing (read_of (room_of c.standing) c.script.items).answer (read_of (room_of c.standing) c.script.items).bytes (subst IsOpened (sym e) is)
+step_opened next.Parse c e is = parse_opened c.standing (cut_of c.standing.buffer)
+step_opened next.Look c e is = look_opened c.standing (cut_of c.standing.buffer) (subst IsOpened (sym e) is)
+step_opened next.Write c e is = write_opened c.standing (write_of c.script (length (front_of c.standing.parts))).answer (subst IsOpened (sym e) is)
+step_opened next.Wait c e is = subst IsOpened (sym e) is
+step_opened next.Close c e is = tt
+step_opened next.Nothing c e is = subst IsOpened (sym e) is
+
+-- the event of a step that isn't the opening
+other : (is event : Handler) → is ∷ [] ≡ event ∷ [] → number_of is ≢ 3 → number_of event ≢ 3
+other is event e apart = subst (λ (h : Handler). number_of h ≢ 3) (let same : is ≡ event = cc in same) apart
+
+handler_opened : (pending : Next) (event : Handler) → IsOpened pending → handler_of pending ≡ event ∷ [] → number_of event ≢ 3
+handler_opened next.Open event is e = absurd is
+handler_opened next.Read event is e = other read_piece event e (λ k. omega (arith, k))
+handler_opened next.Parse event is e = other parse event e (λ k. omega (arith, k))
+handler_opened next.Look event is e = other look event e (λ k. omega (arith, k))
+handler_opened next.Write event is e = other write_part event e (λ k. omega (arith, k))
+handler_opened next.Wait event is e = let no_event : [] ≡ event ∷ [] = e in cc
+handler_opened next.Close event is e = other close event e (λ k. omega (arith, k))
+handler_opened next.Nothing event is e = let no_event : [] ≡ event ∷ [] = e in cc
+
+waiting_event : (b : Bool) (c : ConnCoreState) (event : Handler) → IsOpened c.pending → cond b (resume ∷ []) (handler_of c.pending) ≡ event ∷ [] → number_of event ≢ 3
+waiting_event true c event is e = other resume event e (λ k. omega (arith, k))
+waiting_event false c event is e = handler_opened c.pending event is e
+
+path_opened : (c : Scripted) (path : List Handler) → IsOpened c.standing.pending → IsPathFrom c path → HasNoOpening path
+unfolding IsPathBy
+path_opened c [] is from = tt
+path_opened c (event ∷ later) is from = (
+  waiting_event (is_waiting c.standing) c.standing event is from.0,
+  path_opened (scripted_step c) later (step_opened c.standing.pending c refl is) from.1,
+)
+
+path_opens : (site : SiteState) (script : Script) → IsWithinLimits site.files → (later : List Handler) × (path_of site script ≡ open_link ∷ later) × HasNoOpening later
+unfolding IsPathBy
+path_opens site script limits = by_path (path_of site script) (path_of-path site script limits)
+  where
+    by_path : (path : List Handler) → IsPathFrom (record { standing = unopened site; script = script }) path → (later : List Handler) × (path ≡ open_link ∷ later) × HasNoOpening later
+    by_path [] from = let never : open_link ∷ [] ≡ [] = from in cc
+    by_path (event ∷ later) from = (
+      later,
+      ap (λ (h : Handler). h ∷ later) (let e : open_link ∷ [] ≡ event ∷ [] = from.0 in let same : event ≡ open_link = cc in same),
+      path_opened (scripted_step (record { standing = unopened site; script = script })) later tt from.1,
+    )
+
+-- the paths of scripts do
+pub paths_open : (site : SiteState) (scripts : List Script) → IsWithinLimits site.files → AreOpened (map (path_of site) scripts)
+paths_open site [] limits i path there = absurd (none-some path there)
+paths_open site (script ∷ scripts) limits zero path there =
+    let o = path_opens site script limits in
+    (o.0, sym (same_Some (path_of site script) path there) ∙ o.1, o.2)
+paths_open site (script ∷ scripts) limits (suc i) path there = paths_open site scripts limits i path there

@@ -1,0 +1,4 @@
+pub mod PathRunsLemmas
+pub mod PathTalksLemmas
+pub mod PathServerLemmas
+pub mod ScriptFollowedLemmas

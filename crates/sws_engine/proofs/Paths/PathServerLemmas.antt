@@ -1,0 +1,254 @@
+-- On a scripted world every handler makes of what its colour has, and of its load, what the paths say.
+use Rattle.std.proofs.Common.{◌∙◌, ◌≡◌, ◌≤◌, ◌+◌, ◌⊎◌, ℕ, Bool, true, false, true≢false, List, Option, None, Some, arith, refl, sym, ap, subst, inl, inr}
+use Rattle.mely_event.specs.declared.colour.Colour.{Colour}
+use Rattle.mely_event.specs.declared.event.Event.{Event}
+use Rattle.sws_link.specs.declared.Link.{Ghosts as LinkWords}
+use Rattle.sws_link.specs.declared.world.World.{Ghosts as WorldWords}
+use Rattle.sws_steps.specs.declared.End.{End}
+use Rattle.sws_steps.specs.declared.End.TheVariants.{Done, Idle, Fault, Memory}
+use Rattle.sws_conn.specs.declared.talk.Talk.{Ghosts as TalkWords}
+use Rattle.sws_conn.specs.Outcome.{UnlessMemory}
+use Rattle.sws_conn.specs.Path.{Handler, TakesOff}
+use Rattle.sws_conn.specs.Talks.{due, path_to_come, IsDue}
+use Rattle.sws_engine.specs.declared.load.WorldLoad.{WorldLoad}
+use Rattle.sws_engine.specs.declared.load.Load.{Load}
+use Rattle.sws_engine.specs.declared.load.Load.TheVariants as load
+use Rattle.sws_engine.specs.declared.place.Desk.{Desk}
+use Rattle.sws_engine.specs.declared.place.Seat.{Seat}
+use Rattle.sws_engine.specs.declared.place.Role.{Role}
+use Rattle.sws_engine.specs.declared.place.Role.TheVariants.{Polling, Accepting, Talking}
+use Rattle.sws_engine.specs.declared.task.Task.{Task}
+use Rattle.sws_engine.specs.declared.task.Task.TheVariants as task
+use Rattle.sws_engine.specs.Place.{PlaceState}
+use Rattle.sws_engine.specs.PlaceShown.{IsAlike}
+use Rattle.sws_engine.specs.Tasks.{task_of}
+use Rattle.sws_engine.specs.Loads.{TaskFits, Fit}
+use Rattle.sws_engine.specs.Handling.{Put, is_due, conn_of, RunsDesk, RunsAccepting, RunsSeat, RunsRole}
+use Rattle.sws_engine.specs.PathPlaces as path
+use Rattle.sws_engine.specs.PathStates.{TellsPaths, HasWorld, HasRest, HasDesk, HasTalk, HasRole, HasPlace, HasLoad, IsPlacedAt, is_memory, is_spoilt_role, is_spoilt, AreLoads, ArePuts, FollowsPaths, StaysSpoilt, worlds_of_rest, worlds_of_role, worlds_of_state, worlds_of_load}
+use Rattle.sws_engine.proofs.Events.FitLemmas.{number_is, conn_fit, desk_fit, accept_fit}
+use Rattle.sws_engine.proofs.Paths.PathRunsLemmas.{poll_runs, wait_runs, accept_runs}
+use Rattle.sws_engine.proofs.Paths.PathTalksLemmas.{opened_runs, waiting_runs, opening_runs}
+
+module _ {W L T G H : Type 0} (x : WorldWords W L) (l : LinkWords L) (y : TalkWords T L G H) (hall : H) (first : W) (paths : List (List Handler)) (tells : TellsPaths x l y hall first paths)
+    (path_law : (first : L) (trail : List Handler) (talk : T) → y.has_run first trail talk → UnlessMemory (y.view_of talk).end (TakesOff trail (path_to_come (y.path (y.hall_of talk)) (l.tells first)) (y.rest_of talk)))
+    (due_law : (first : L) (trail : List Handler) (talk : T) → y.has_run first trail talk → IsDue (due (y.view_of talk)) (y.rest_of talk)) where
+  abbrev Loads : Load W L → path.Load → Type 0
+  Loads carried p = HasLoad x l y hall paths carried p
+
+  -- what a handler leaves of a role, and what it puts: want of memory, or what the paths say
+  abbrev pub RoleRan : Role W T → List (Put W L) → path.Ran → Type 0
+  RoleRan role puts ran = (is_spoilt_role y role ≡ true) ⊎ (HasRole x l y hall paths role ran.place × ArePuts Loads puts ran.puts)
+
+  no_rest : (resting : Option (WorldLoad W)) (rests : Option path.World) → HasRest x l y hall paths resting rests → path.worlds_of_rest rests ≡ 0 → resting ≡ None
+  no_rest None rests has none = refl
+  no_rest (Some held) None has none = absurd has
+  no_rest (Some held) (Some w) has none = absurd (omega (arith, none))
+
+  -- a load that is the world
+  world_load : (held : WorldLoad W) (p : Option path.Load) → AreLoads Loads (Some (load.World held)) p → (w : path.World) × (p ≡ Some (path.world w)) × HasWorld x l y hall paths held w
+  world_load held None are = absurd are
+  world_load held (Some (path.world w)) are = (w, refl, are)
+  world_load held (Some (path.link way)) are = absurd are
+
+  link_load : (link : L) (p : Option path.Load) → AreLoads Loads (Some (load.Link link)) p → (way : List Handler) × (p ≡ Some (path.link way)) × (path_to_come (y.path hall) (l.tells link) ≡ Some way)
+  link_load link None are = absurd are
+  link_load link (Some (path.world w)) are = absurd are
+  link_load link (Some (path.link way)) are = (way, refl, are)
+
+  no_load : (p : Option path.Load) → AreLoads Loads None p → p ≡ None
+  no_load None are = refl
+  no_load (Some p) are = absurd are
+
+  -- an event that fits a connection is the opening with its link, or another one without a load
+  open_or_not : (c : Colour) (arg : ℕ) (which : Option Task) (carried : Option (Load W L)) → 2 ≤ c.0 → TaskFits x l first c arg which carried
+      → ((link : L) × (which ≡ Some task.Open) × (carried ≡ Some (load.Link link))) ⊎ ((which ≡ Some task.Open → ⊥) × (carried ≡ None))
+  open_or_not c arg None None high fit = absurd fit
+  open_or_not c arg None (Some (load.World held)) high fit = absurd fit
+  open_or_not c arg None (Some (load.Link link)) high fit = absurd fit
+  open_or_not c arg (Some task.Poll) None high fit = absurd fit
+  open_or_not c arg (Some task.Accept) None high fit = absurd fit
+  open_or_not c arg (Some task.Open) None high fit = absurd fit
+  open_or_not c arg (Some task.Wait) None high fit = inr (λ is. cc, refl)
+  open_or_not c arg (Some task.Read) None high fit = inr (λ is. cc, refl)
+  open_or_not c arg (Some task.Parse) None high fit = inr (λ is. cc, refl)
+  open_or_not c arg (Some task.Look) None high fit = inr (λ is. cc, refl)
+  open_or_not c arg (Some task.Write) None high fit = inr (λ is. cc, refl)
+  open_or_not c arg (Some task.Close) None high fit = inr (λ is. cc, refl)
+  open_or_not c arg (Some task.Resume) None high fit = inr (λ is. cc, refl)
+  open_or_not c arg (Some task.Poll) (Some (load.World held)) high fit = let z = fit.colour in absurd (omega (arith, z, high))
+  open_or_not c arg (Some task.Wait) (Some (load.World held)) high fit = absurd fit
+  open_or_not c arg (Some task.Accept) (Some (load.World held)) high fit = let z = fit.colour in absurd (omega (arith, z, high))
+  open_or_not c arg (Some task.Open) (Some (load.World held)) high fit = absurd fit
+  open_or_not c arg (Some task.Read) (Some (load.World held)) high fit = absurd fit
+  open_or_not c arg (Some task.Parse) (Some (load.World held)) high fit = absurd fit
+  open_or_not c arg (Some task.Look) (Some (load.World held)) high fit = absurd fit
+  open_or_not c arg (Some task.Write) (Some (load.World held)) high fit = absurd fit
+  open_or_not c arg (Some task.Close) (Some (load.World held)) high fit = absurd fit
+  open_or_not c arg (Some task.Resume) (Some (load.World held)) high fit = absurd fit
+  open_or_not c arg (Some task.Poll) (Some (load.Link link)) high fit = absurd fit
+  open_or_not c arg (Some task.Wait) (Some (load.Link link)) high fit = absurd fit
+  open_or_not c arg (Some task.Accept) (Some (load.Link link)) high fit = absurd fit
+  open_or_not c arg (Some task.Open) (Some (load.Link link)) high fit = inl (link, refl, refl)
+  open_or_not c arg (Some task.Read) (Some (load.Link link)) high fit = absurd fit
+  open_or_not c arg (Some task.Parse) (Some (load.Link link)) high fit = absurd fit
+  open_or_not c arg (Some task.Look) (Some (load.Link link)) high fit = absurd fit
+  open_or_not c arg (Some task.Write) (Some (load.Link link)) high fit = absurd fit
+  open_or_not c arg (Some task.Close) (Some (load.Link link)) high fit = absurd fit
+  open_or_not c arg (Some task.Resume) (Some (load.Link link)) high fit = absurd fit
+
+  module _ (c : Colour) (event : Event) (carried : Option (Load W L)) (puts : List (Put W L)) (fit : Fit x l first c event carried) (p : Option path.Load) (are : AreLoads Loads carried p) where
+    -- ---- colour 0
+
+    desk_runs : (desk after : Desk W) (d : path.Desk) → c.0 ≡ 0 → HasDesk x l y hall paths desk d → path.worlds_of_rest d.resting + path.worlds_of_load p ≤ 1 → RunsDesk x desk (task_of event.handler) event.arg carried after puts
+        → RoleRan (Polling after) puts (path.runs_desk d event.handler event.arg p)
+    desk_runs desk after d nought has alone does = elim (desk_fit x l first c event.arg (task_of event.handler) carried nought fit) [
+      | inl polls ↦
+          let w = world_load polls.held p (subst (λ (o : Option (Load W L)). AreLoads Loads o p) polls.carries are) in
+          let did = subst (λ (o : Option (Load W L)). RunsDesk x desk (Some task.Poll) event.arg o after puts) polls.carries (subst (λ (t : Option Task). RunsDesk x desk t event.arg carried after puts) polls.is does) in
+          let one = ap path.worlds_of_load w.1 in
+          let none = no_rest desk.resting d.resting has.resting (omega (arith, alone, one)) in
+          let ran = poll_runs x l y hall first paths tells desk after event.arg c polls.held puts polls.fit did none w.0 w.2 d has in
+          let number = number_is event.handler task.Poll polls.is in
+          let all : RoleRan (Polling after) puts (path.runs_desk d 0 event.arg (Some (path.world w.0))) = inr (subst (λ (q : path.Place). HasRole x l y hall paths (Polling after) q) (sym ran.1) (let r = ran.2 in r.desk), (let r = ran.2 in r.puts_are)) in
+          subst (λ (n : ℕ). RoleRan (Polling after) puts (path.runs_desk d n event.arg p)) (sym number) (subst (λ (o : Option path.Load). RoleRan (Polling after) puts (path.runs_desk d 0 event.arg o)) (sym w.1) all)
+      | inr waits ↦
+          let nothing = no_load p (subst (λ (o : Option (Load W L)). AreLoads Loads o p) waits.carries are) in
+          let did = subst (λ (o : Option (Load W L)). RunsDesk x desk (Some task.Wait) event.arg o after puts) waits.carries (subst (λ (t : Option Task). RunsDesk x desk t event.arg carried after puts) waits.is does) in
+          let ran = wait_runs x l y hall first paths tells desk after event.arg puts did d has in
+          let number = number_is event.handler task.Wait waits.is in
+          let all : RoleRan (Polling after) puts (path.runs_desk d 1 event.arg None) = inr (ran.desk, ran.puts_are) in
+          subst (λ (n : ℕ). RoleRan (Polling after) puts (path.runs_desk d n event.arg p)) (sym number) (subst (λ (o : Option path.Load). RoleRan (Polling after) puts (path.runs_desk d 1 event.arg o)) (sym nothing) all)
+    ]
+
+    -- ---- colour 1
+
+    accepting_runs : (total : ℕ) → c.0 ≡ 1 → RunsAccepting x l total (task_of event.handler) carried puts → RoleRan Accepting puts (path.runs_accepting total event.handler p)
+    accepting_runs total one does =
+        let accepts = accept_fit x l first c event.arg (task_of event.handler) carried one fit in
+        let w = world_load accepts.held p (subst (λ (o : Option (Load W L)). AreLoads Loads o p) accepts.carries are) in
+        let did = subst (λ (o : Option (Load W L)). RunsAccepting x l total (Some task.Accept) o puts) accepts.carries (subst (λ (t : Option Task). RunsAccepting x l total t carried puts) accepts.is does) in
+        let ran = accept_runs x l y hall first paths tells total c event.arg accepts.held puts accepts.fit did w.0 w.2 in
+        let number = number_is event.handler task.Accept accepts.is in
+        let all : RoleRan Accepting puts (path.runs_accepting total 2 (Some (path.world w.0))) = inr (subst (λ (q : path.Place). HasRole x l y hall paths Accepting q) (sym ran.0) tt, ran.1) in
+        subst (λ (n : ℕ). RoleRan Accepting puts (path.runs_accepting total n p)) (sym number) (subst (λ (o : Option path.Load). RoleRan Accepting puts (path.runs_accepting total 2 o)) (sym w.1) all)
+
+    -- ---- a connection
+
+    talk_back : (after : Seat T) (ran : path.Ran) → ((y.view_of after.talk).end ≡ Some Memory) ⊎ ((rest : Option (List Handler)) × (ran.place ≡ path.talking rest) × HasTalk x l y hall paths after.talk rest × ArePuts Loads puts ran.puts) → RoleRan (Talking after) puts ran
+    talk_back after ran is = elim is [
+      | inl memory ↦ inl (ap is_memory memory)
+      | inr told ↦ inr (subst (λ (q : path.Place). HasRole x l y hall paths (Talking after) q) (sym told.1) told.2, told.3)
+    ]
+
+    talk_runs : (seat after : Seat T) (rest : Option (List Handler)) → 2 ≤ c.0 → HasTalk x l y hall paths seat.talk rest → RunsSeat y (is_due (conn_of c) (due (y.view_of seat.talk)) event) (conn_of c) seat event carried after puts
+        → RoleRan (Talking after) puts (path.runs_talk (conn_of c) event.handler rest p)
+    talk_runs seat after (Some rest) high has does =
+        let own = conn_fit x l first c event.arg (task_of event.handler) carried high fit in
+        let colour = own.step.colour in
+        talk_back after (path.runs_talk (conn_of c) event.handler (Some rest) p)
+        (opened_runs x l y hall paths path_law due_law (conn_of c) seat after event carried puts (omega (arith, colour)) has.0 rest has.1 does)
+    talk_runs seat after None high has does =
+        let own = conn_fit x l first c event.arg (task_of event.handler) carried high fit in
+        let colour = own.step.colour in
+        let arg : event.arg ≡ conn_of c = omega (arith, colour) in
+        elim (open_or_not c event.arg (task_of event.handler) carried high fit) [
+          | inl opens ↦
+              let way = link_load opens.0 p (subst (λ (o : Option (Load W L)). AreLoads Loads o p) opens.2 are) in
+              let ran = opening_runs x l y hall paths path_law due_law (conn_of c) seat after event carried puts arg has.0 has.1 (number_is event.handler task.Open opens.1) opens.0 opens.2 way.0 way.2 does in
+              subst (λ (o : Option path.Load). RoleRan (Talking after) puts (path.runs_talk (conn_of c) event.handler None o)) (sym way.1) (talk_back after (path.takes_off (conn_of c) event.handler None way.0) ran)
+          | inr other ↦
+              let nothing = no_load p (subst (λ (o : Option (Load W L)). AreLoads Loads o p) other.1 are) in
+              let ran = waiting_runs x l y hall paths path_law due_law (conn_of c) seat after event carried puts arg has.0 has.1 (λ three. other.0 (ap task_of three)) does in
+              subst (λ (o : Option path.Load). RoleRan (Talking after) puts (path.runs_talk (conn_of c) event.handler None o)) (sym nothing) (talk_back after (path.stays (path.talking None)) ran)
+        ]
+
+    -- ---- all of them
+
+    role_runs : (total : ℕ) (role after : Role W T) (place : path.Place) → IsPlacedAt c place → HasRole x l y hall paths role place → path.worlds_of_place place + path.worlds_of_load p ≤ 1 → RunsRole x l y c role event carried after puts total
+        → RoleRan after puts (path.runs_place total c place event p)
+    role_runs total (Polling desk) (Polling after) (path.polling d) at has alone does = desk_runs desk after d at has alone does
+    role_runs total Accepting Accepting path.accepting at has alone does = accepting_runs total at does
+    role_runs total (Talking seat) (Talking after) (path.talking rest) at has alone does = talk_runs seat after rest at has does
+    role_runs total (Polling desk) after path.accepting at has alone does = absurd has
+    role_runs total (Polling desk) after (path.talking rest) at has alone does = absurd has
+    role_runs total Accepting after (path.polling d) at has alone does = absurd has
+    role_runs total Accepting after (path.talking rest) at has alone does = absurd has
+    role_runs total (Talking seat) after (path.polling d) at has alone does = absurd has
+    role_runs total (Talking seat) after path.accepting at has alone does = absurd has
+    role_runs total (Polling desk) Accepting (path.polling d) at has alone does = absurd does
+    role_runs total (Polling desk) (Talking after) (path.polling d) at has alone does = absurd does
+    role_runs total Accepting (Polling after) path.accepting at has alone does = absurd does
+    role_runs total Accepting (Talking after) path.accepting at has alone does = absurd does
+    role_runs total (Talking seat) (Polling after) (path.talking rest) at has alone does = absurd does
+    role_runs total (Talking seat) Accepting (path.talking rest) at has alone does = absurd does
+
+  -- a handler leaves and puts what the paths say, unless its connection has met want of memory
+  pub place_runs : (total : ℕ) → FollowsPaths x l y hall first paths total
+  place_runs total before after event carried puts place p fit at has are alone does sound =
+      elim (role_runs before.colour event carried puts fit p are total before.role after.role place at has alone does.does) [ inl spoilt ↦ absurd (true≢false (sym spoilt ∙ sound)) | inr ran ↦ ran ]
+
+-- ---- want of memory stays
+
+met_memory : (end : Option End) → is_memory end ≡ true → end ≡ Some Memory
+met_memory None is = cc
+met_memory (Some Done) is = cc
+met_memory (Some Idle) is = cc
+met_memory (Some Fault) is = cc
+met_memory (Some Memory) is = refl
+
+module _ {W L T G H : Type 0} (x : WorldWords W L) (l : LinkWords L) (y : TalkWords T L G H) (c : Colour) (event : Event) (carried : Option (Load W L)) (puts : List (Put W L)) (total : ℕ) where
+  seat_spoilt : (i : ℕ) (seat after : Seat T) (b : Bool) → RunsSeat y b i seat event carried after puts → is_memory (y.view_of seat.talk).end ≡ true → is_memory (y.view_of after.talk).end ≡ true
+  seat_spoilt i seat after true does is = ap is_memory (does.5 Memory (met_memory (y.view_of seat.talk).end is))
+  seat_spoilt i seat after false does is = ap (λ (t : T). is_memory (y.view_of t).end) does.0 ∙ is
+
+  role_spoilt : (role after : Role W T) → RunsRole x l y c role event carried after puts total → is_spoilt_role y role ≡ true → is_spoilt_role y after ≡ true
+  role_spoilt (Polling desk) after does is = absurd (true≢false (sym is))
+  role_spoilt Accepting after does is = absurd (true≢false (sym is))
+  role_spoilt (Talking seat) (Talking after) does is = seat_spoilt (conn_of c) seat after (is_due (conn_of c) (due (y.view_of seat.talk)) event) does is
+  role_spoilt (Talking seat) (Polling after) does is = absurd does
+  role_spoilt (Talking seat) Accepting does is = absurd does
+
+pub stays_spoilt : {W L T G H : Type 0} (x : WorldWords W L) (l : LinkWords L) (y : TalkWords T L G H) (total : ℕ) → StaysSpoilt {H = H} x l y total
+stays_spoilt x l y total before after event carried puts does is = role_spoilt x l y before.colour event carried puts total before.role after.role does.does is
+
+-- ---- worlds, room, and what there is at first
+
+module _ {W L T G H : Type 0} (x : WorldWords W L) (l : LinkWords L) (y : TalkWords T L G H) (hall : H) (paths : List (List Handler)) where
+  rest_counts : (resting : Option (WorldLoad W)) (rests : Option path.World) → HasRest x l y hall paths resting rests → worlds_of_rest resting ≡ path.worlds_of_rest rests
+  rest_counts None None has = refl
+  rest_counts None (Some w) has = absurd has
+  rest_counts (Some held) None has = absurd has
+  rest_counts (Some held) (Some w) has = refl
+
+  role_counts : (role : Role W T) (place : path.Place) → HasRole x l y hall paths role place → worlds_of_role role ≡ path.worlds_of_place place
+  role_counts (Polling desk) (path.polling d) has = rest_counts desk.resting d.resting has.resting
+  role_counts (Polling desk) path.accepting has = absurd has
+  role_counts (Polling desk) (path.talking rest) has = absurd has
+  role_counts Accepting (path.polling d) has = absurd has
+  role_counts Accepting path.accepting has = refl
+  role_counts Accepting (path.talking rest) has = absurd has
+  role_counts (Talking seat) (path.polling d) has = absurd has
+  role_counts (Talking seat) path.accepting has = absurd has
+  role_counts (Talking seat) (path.talking rest) has = refl
+
+  -- a state has as many worlds as what the paths have of it, and so has a load
+  pub state_counts : (s : PlaceState H W T) (place : path.Place) → HasPlace x l y hall paths s place → worlds_of_state s ≡ path.worlds_of_place place
+  state_counts s place has = role_counts s.role place has
+
+  pub load_counts : (carried : Load W L) (p : path.Load) → HasLoad x l y hall paths carried p → worlds_of_load carried ≡ path.worlds_of_load (Some p)
+  load_counts (load.World held) (path.world w) has = refl
+  load_counts (load.World held) (path.link way) has = absurd has
+  load_counts (load.Link link) (path.world w) has = absurd has
+  load_counts (load.Link link) (path.link way) has = refl
+
+  -- with more room a state is what it was
+  pub alike_has : (s t : PlaceState H W T) (place : path.Place) → IsAlike s t → HasPlace x l y hall paths s place → HasPlace x l y hall paths t place
+  alike_has s t place same has = let role_is : t.role ≡ s.role = ap (λ (p : PlaceState H W T). p.role) same in subst (λ (r : Role W T). HasRole x l y hall paths r place) (sym role_is) has
+
+  pub alike_spoilt : (s t : PlaceState H W T) → IsAlike s t → is_spoilt y s ≡ true → is_spoilt y t ≡ true
+  alike_spoilt s t same is = let role_is : t.role ≡ s.role = ap (λ (p : PlaceState H W T). p.role) same in ap (λ (r : Role W T). is_spoilt_role y r) role_is ∙ is
+
+  -- a world of which no link was accepted has all paths to come
+  pub first_world : (world : W) → HasLoad x l y hall paths (load.World (record { world = world; accepted = 0; failed = false })) (path.world (record { accepted = 0; coming = paths }))
+  first_world world = record { accepted = refl; coming = refl }

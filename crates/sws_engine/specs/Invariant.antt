@@ -1,0 +1,68 @@
+-- What the state of a colour keeps, whoever runs it: what it has is what the events of its trail have made of the fresh state.
+use Rattle.std.specs.Prelude.{◌≡◌, ℕ, ◌≤◌, false, List, [], ◌∷◌, ◌++◌, map, Option, Some, None, IfSome}
+use Rattle.mely_event.specs.declared.colour.Colour.{Colour}
+use Rattle.mely_event.specs.declared.event.Event.{Event}
+use Rattle.sws_link.specs.declared.Link.{Ghosts as LinkWords}
+use Rattle.sws_link.specs.declared.world.World.{Ghosts as WorldWords}
+use Rattle.sws_conn.specs.declared.talk.Talk.{Ghosts as TalkWords}
+use Rattle.sws_conn.specs.Path.{Handler}
+use Rattle.sws_conn.specs.Talks.{unopened_view, next_told, due}
+use Rattle.sws_engine.specs.declared.place.Desk.{Desk}
+use Rattle.sws_engine.specs.declared.place.Seat.{Seat}
+use Rattle.sws_engine.specs.declared.place.Role.{Role}
+use Rattle.sws_engine.specs.declared.place.Role.TheVariants.{Polling, Accepting, Talking}
+use Rattle.sws_engine.specs.Loads.{WorldStands, LinkStands}
+use Rattle.sws_engine.specs.Handling.{number_of, is_due, conn_of}
+use Rattle.sws_engine.specs.Place.{PlaceState}
+use Rattle.sws_engine.specs.Counting.{times}
+
+-- the event of a connection that asks for a step
+abbrev pub event_for : ℕ → Handler → Event
+event_for i step = record { handler = number_of step; arg = i }
+
+module _ {W L : Type 0} (x : WorldWords W L) (l : LinkWords L) (first : W) where
+  -- each connection of the run may wait, once at most, nobody else does, and a world that rests is the one of the run
+  pub record DeskStands (desk : Desk W) : Type 0 where
+    pub room : desk.waiting.total ≡ (x.tells first).total
+    pub once : (i : ℕ) → times i desk.waiting.items ≤ 1
+    pub below : (i : ℕ) → (x.tells first).total ≤ i → times i desk.waiting.items ≡ 0
+    pub resting : IfSome desk.resting (WorldStands x l first)
+
+module _ {W L T G H : Type 0} (x : WorldWords W L) (l : LinkWords L) (y : TalkWords T L G H) (hall : H) (first : W) (i : ℕ) where
+  -- these steps were run on the connection, from the fresh one on
+  abbrev pub RanBy : List Handler → T → Type 0
+  RanBy [] talk = (y.link_of talk ≡ None) × (y.view_of talk ≡ unopened_view)
+  RanBy (step ∷ steps) talk = (link : L) × LinkStands x l first i link
+      × y.has_run link (step ∷ steps) talk
+
+  -- the first event that wasn't due came after these steps
+  pub record FirstStray (trail : List Event) (event : Event) : Type 0 where
+    pub front : List Handler
+    pub talk : T
+    pub more : List Event
+    pub is : trail ≡ map (event_for i) front ++ event ∷ more
+    pub ran : RanBy front talk
+    pub hall_is : y.hall_of talk ≡ hall
+    pub stray : is_due i (due (y.view_of talk)) event ≡ false
+
+  -- without a stray event the trail is the steps that were run
+  abbrev pub TrailIs : List Event → List Handler → Option Event → Type 0
+  TrailIs trail ran None = trail ≡ map (event_for i) ran
+  TrailIs trail ran (Some event) = FirstStray trail event
+
+  pub record SeatStands (trail : List Event) (seat : Seat T) : Type 0 where
+    pub hall_is : y.hall_of seat.talk ≡ hall
+    pub next : seat.next ≡ next_told (y.view_of seat.talk)
+    pub ran : List Handler
+    pub runs : RanBy ran seat.talk
+    pub trailed : TrailIs trail ran seat.stray
+
+module _ {W L T G H : Type 0} (x : WorldWords W L) (l : LinkWords L) (y : TalkWords T L G H) where
+  abbrev pub RoleStands : H → W → Colour → List Event → Role W T → Type 0
+  RoleStands hall first c trail (Polling desk) = (c.0 ≡ 0) × DeskStands x l first desk
+  RoleStands hall first c trail Accepting = c.0 ≡ 1
+  RoleStands hall first c trail (Talking seat) = (2 ≤ c.0)
+      × SeatStands x l y hall first (conn_of c) trail seat
+
+  abbrev pub IsConsistent : PlaceState H W T → Type 0
+  IsConsistent place = RoleStands place.hall place.first place.colour place.trail place.role

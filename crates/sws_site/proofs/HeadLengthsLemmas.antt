@@ -1,0 +1,175 @@
+-- How long a head is at most.
+use Rattle.std.specs.Prelude.{◌≡◌, ℕ, ◌+◌, ◌-◌, ◌^◌, ◌<◌, ◌≤◌, ◌&&◌, nat_le, Bool, true, false, if◌then◌else◌, List, [], ◌∷◌, ◌++◌, length, get_or, codes, decimal, Option, Some, None, ⊤}
+use Rattle.std.specs.List.{list_all}
+use Rattle.std.specs.Str.{str_eq_ignore_ascii_case}
+use Rattle.std.proofs.Common.{zero, suc, refl, ap, ◌∙◌, arith, length-append, lit≤, lit<, leb-true}
+use Rattle.std.proofs.lemmas.List.Concat.{flat_map-append}
+use Rattle.std.proofs.lemmas.Fmt.{length-decimal-le}
+use Rattle.httpdate.specs.declared.date.HttpDate.{HttpDate}
+use Rattle.httpdate.specs.Date.{date_text}
+use Rattle.httpdate.specs.Text.{day_name, month_name}
+use Rattle.sws_site.specs.declared.statuses.Status.{Status}
+use Rattle.sws_site.specs.declared.statuses.Status.TheVariants.{Success, PartialContent, NotModified, BadRequest, NotFound, MethodNotAllowed, RangeNotSatisfiable, HeaderFieldsTooLarge, NotImplemented}
+use Rattle.sws_site.specs.declared.statuses.Body.{Body}
+use Rattle.sws_site.specs.declared.statuses.Body.TheVariants.{Nothing, WholeFile, PartOfFile, StatusText}
+use Rattle.sws_site.specs.declared.heads.ContentRange.{ContentRange}
+use Rattle.sws_site.specs.declared.heads.ContentRange.TheVariants.{Selected, NoSuch}
+use Rattle.sws_site.specs.Statuses.{row_of}
+use Rattle.sws_site.specs.ContentTypes.{media_types, type_in, extension_of, content_type}
+use Rattle.sws_site.specs.ResponseHeads.{ResponseHead, status_line, server_line, connection_lines, date_lines, last_modified_lines, allow_lines, content_range_lines, range_lines, kind_and_len_lines, content_lines, head_lines, line_end, lines_text, head_text}
+
+-- ---- words out of lists
+
+both : (a b : Bool) → (a && b) ≡ true → (a ≡ true) × (b ≡ true)
+both true b e = (refl, e)
+both false b e = absurd (cc)
+
+-- one of the words, or none
+chosen : (words : List (List ℕ)) (n limit : ℕ) → list_all (λ word. nat_le (length word) limit) words ≡ true → length (get_or words n []) ≤ limit
+chosen [] n limit short = omega arith
+chosen (word ∷ words) zero limit short =
+    leb-true (length word) limit (both (nat_le (length word) limit) (list_all (λ word. nat_le (length word) limit) words) short).0
+chosen (word ∷ words) (suc n) limit short =
+    chosen words n limit (both (nat_le (length word) limit) (list_all (λ word. nat_le (length word) limit) words) short).1
+
+type_in-short : (rows : List (List ℕ × List ℕ)) (extension : List ℕ) → list_all (λ row. nat_le (length row.1) 32) rows ≡ true → length (type_in rows extension) ≤ 32
+type_in-short [] extension short = lit≤ tt
+type_in-short (row ∷ rows) extension short =
+    by_test (str_eq_ignore_ascii_case extension row.0) (type_in-short rows extension (parts.1))
+  where
+    parts : (nat_le (length row.1) 32 ≡ true) × (list_all (λ row. nat_le (length row.1) 32) rows ≡ true)
+    parts = both (nat_le (length row.1) 32) (list_all (λ row. nat_le (length row.1) 32) rows) short
+
+    by_test : (t : Bool) → length (type_in rows extension) ≤ 32 → length (if t then row.1 else type_in rows extension) ≤ 32
+    by_test true later = leb-true (length row.1) 32 parts.0
+    by_test false later = later
+
+-- the media type of a file
+pub content_type-short : (name : List ℕ) → length (content_type name) ≤ 32
+unfolding content_type media_types
+content_type-short name = type_in-short media_types (extension_of name) refl
+
+day_name-short : (day : ℕ) → length (day_name day) ≤ 3
+day_name-short day =
+    chosen (codes "Mon" ∷ codes "Tue" ∷ codes "Wed" ∷ codes "Thu" ∷ codes "Fri" ∷ codes "Sat" ∷ codes "Sun" ∷ []) (day - 1) 3 refl
+
+month_name-short : (month : ℕ) → length (month_name month) ≤ 3
+month_name-short month =
+    chosen (codes "Jan" ∷ codes "Feb" ∷ codes "Mar" ∷ codes "Apr" ∷ codes "May" ∷ codes "Jun"
+    ∷ codes "Jul" ∷ codes "Aug" ∷ codes "Sep" ∷ codes "Oct" ∷ codes "Nov" ∷ codes "Dec" ∷ []) (month - 1) 3 refl
+
+date_text-short : (date : HttpDate) → length (date_text date) ≤ 29
+date_text-short date =
+    let day = day_name-short date.parts.wday in
+    let month = month_name-short date.parts.mon in
+    simp length-append (omega (arith, day, month))
+
+-- ---- the lines of a head
+
+lines-append : (a b : List (List ℕ)) → length (lines_text (a ++ b)) ≡ length (lines_text a) + length (lines_text b)
+lines-append a b = ap length (flat_map-append (λ line. line ++ line_end) a b) ∙ length-append (lines_text a) (lines_text b)
+
+connection-short : (closes : Bool) → length (lines_text (connection_lines closes)) ≤ 19
+connection-short true = lit≤ tt
+connection-short false = lit≤ tt
+
+date_line-short : (text : List ℕ) → length text ≤ 29 → length (lines_text ((codes "Last-Modified: " ++ text) ∷ [])) ≤ 46
+date_line-short text short = simp length-append (omega arith)
+
+dates-short : (date : Option HttpDate) → length (lines_text (date_lines date)) ≤ 46
+dates-short None = lit≤ tt
+dates-short (Some date) = date_line-short (date_text date) (date_text-short date)
+
+-- the numbers of a range have at most 32 bits
+abbrev pub IsShortRange : Option ContentRange → Type 0
+IsShortRange None = ⊤
+IsShortRange (Some (Selected first last len)) = (first < 2 ^ 32) × (last < 2 ^ 32) × (len < 2 ^ 32)
+IsShortRange (Some (NoSuch len)) = len < 2 ^ 32
+
+digits-short : (n : ℕ) → n < 2 ^ 32 → length (decimal n) ≤ 10
+digits-short n small = length-decimal-le 10 n (lit< tt) (omega arith) (omega arith)
+
+range-short : (range : Option ContentRange) → IsShortRange range → length (lines_text (content_range_lines range)) ≤ 55
+range-short None short = lit≤ tt
+range-short (Some (Selected first last len)) short =
+    let a = digits-short first short.0 in
+    let b = digits-short last short.1 in
+    let c = digits-short len short.2 in
+    simp length-append (omega (arith, a, b, c))
+range-short (Some (NoSuch len)) short =
+    let a = digits-short len short in
+    simp length-append (omega (arith, a))
+
+kind_and_len-short : (kind : List ℕ) (len : ℕ) → length kind ≤ 32 → len < 2 ^ 64 → length (lines_text (kind_and_len_lines kind len)) ≤ 86
+kind_and_len-short kind len short few =
+    let digits = length-decimal-le 20 len (lit< tt) (omega arith) few in simp length-append (omega (arith, digits))
+
+-- a head is as long as its groups of lines together
+pub length-head_text : (head : ResponseHead)
+    → length (head_text head)
+    ≡ length (status_line head.status ++ line_end) + length (server_line ++ line_end) + length (lines_text (connection_lines head.closes))
+    + length (lines_text (last_modified_lines (row_of head.status).is_dated head.date)) + length (lines_text (allow_lines (row_of head.status).lists_methods))
+    + length (lines_text (range_lines (row_of head.status).has_range head.range)) + length (lines_text (content_lines (row_of head.status).body head.kind head.len))
+    + 2
+unfolding head_text
+length-head_text head =
+    let a = connection_lines head.closes in
+    let b = last_modified_lines (row_of head.status).is_dated head.date in
+    let c = allow_lines (row_of head.status).lists_methods in
+    let d = range_lines (row_of head.status).has_range head.range in
+    let e = content_lines (row_of head.status).body head.kind head.len in
+    omega (
+      arith,
+      length-append (lines_text (head_lines head)) line_end,
+      length-append (status_line head.status ++ line_end) ((server_line ++ line_end) ++ lines_text (a ++ b ++ c ++ d ++ e)),
+      length-append (server_line ++ line_end) (lines_text (a ++ b ++ c ++ d ++ e)),
+      lines-append (a ++ b ++ c ++ d) e,
+      lines-append (a ++ b ++ c) d,
+      lines-append (a ++ b) c,
+      lines-append a b,
+    )
+
+-- whatever it says, a head is short
+pub head_text-short : (head : ResponseHead) → length head.kind ≤ 32 → head.len < 2 ^ 64 → IsShortRange head.range → length (head_text head) ≤ 256
+head_text-short head kind few range = by_status head.status
+  where
+    connection : length (lines_text (connection_lines head.closes)) ≤ 19
+    connection = connection-short head.closes
+
+    dates : length (lines_text (date_lines head.date)) ≤ 46
+    dates = dates-short head.date
+
+    about : length (lines_text (content_range_lines head.range)) ≤ 55
+    about = range-short head.range range
+
+    content : length (lines_text (kind_and_len_lines head.kind head.len)) ≤ 86
+    content = kind_and_len-short head.kind head.len kind few
+
+    by_status : (status : Status) → length (head_text (record head { status = status })) ≤ 256
+    by_status Success =
+        let line : length (status_line Success ++ line_end) ≤ 17 = lit≤ tt in
+        omega (arith, length-head_text (record head { status = Success }), line, connection, dates, about, content)
+    by_status PartialContent =
+        let line : length (status_line PartialContent ++ line_end) ≤ 30 = lit≤ tt in
+        omega (arith, length-head_text (record head { status = PartialContent }), line, connection, dates, about, content)
+    by_status NotModified =
+        let line : length (status_line NotModified ++ line_end) ≤ 27 = lit≤ tt in
+        omega (arith, length-head_text (record head { status = NotModified }), line, connection, dates, about, content)
+    by_status BadRequest =
+        let line : length (status_line BadRequest ++ line_end) ≤ 26 = lit≤ tt in
+        omega (arith, length-head_text (record head { status = BadRequest }), line, connection, dates, about, content)
+    by_status NotFound =
+        let line : length (status_line NotFound ++ line_end) ≤ 24 = lit≤ tt in
+        omega (arith, length-head_text (record head { status = NotFound }), line, connection, dates, about, content)
+    by_status MethodNotAllowed =
+        let line : length (status_line MethodNotAllowed ++ line_end) ≤ 33 = lit≤ tt in
+        omega (arith, length-head_text (record head { status = MethodNotAllowed }), line, connection, dates, about, content)
+    by_status RangeNotSatisfiable =
+        let line : length (status_line RangeNotSatisfiable ++ line_end) ≤ 36 = lit≤ tt in
+        omega (arith, length-head_text (record head { status = RangeNotSatisfiable }), line, connection, dates, about, content)
+    by_status HeaderFieldsTooLarge =
+        let line : length (status_line HeaderFieldsTooLarge ++ line_end) ≤ 46 = lit≤ tt in
+        omega (arith, length-head_text (record head { status = HeaderFieldsTooLarge }), line, connection, dates, about, content)
+    by_status NotImplemented =
+        let line : length (status_line NotImplemented ++ line_end) ≤ 30 = lit≤ tt in
+        omega (arith, length-head_text (record head { status = NotImplemented }), line, connection, dates, about, content)

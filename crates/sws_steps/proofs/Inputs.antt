@@ -1,0 +1,8 @@
+pub mod PartLemmas
+pub mod InputLemmas
+pub mod AnswerLemmas
+pub mod SinceLemmas
+pub mod ServedLemmas
+pub mod ExchangingLemmas
+pub mod KeptLemmas
+pub mod FrontLemmas

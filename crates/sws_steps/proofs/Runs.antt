@@ -1,0 +1,5 @@
+pub mod ScriptedPathLemmas
+pub mod PathLemmas
+pub mod RunLemmas
+pub mod TalkLemmas
+pub mod SilentRows
