@@ -13,6 +13,7 @@ little of what else the machine does; but how much faster several workers are is
 that does nothing else, and the calls of the system that wake and sleep are counted where strace is there.
 """
 import argparse
+import itertools
 import os
 import random
 import shutil
@@ -237,17 +238,18 @@ def wakes(folder, programs):
 
 
 def speedup(programs):
-    """How much faster 2, 3 and 4 workers are than one, by the clock, with handlers of about 10 us and 1 us, over 1, 8 and 64 shards."""
-    for rounds, passes in ((50_000, 500), (5_000, 2000)):
+    """How much faster 2, 3 and 4 workers are than one, by the clock, with handlers of about 10 us and 1 us, over 1, 8 and 64 shards:
+    events that are passed on to a colour that is drawn, and events that stay on theirs."""
+    for way, (rounds, passes) in itertools.product(("drawn", "stay"), ((62_000, 500), (5_000, 2000))):
         for shards in (1, 8, 64):
             for name, program in programs.items():
                 least = {}
                 for workers in (1, 2, 3, 4):
                     words = [program, str(workers), str(shards), "64", str(passes), str(rounds), "10"]
-                    least[workers] = min(clocked(words) for _ in range(3))
+                    least[workers] = min(clocked(words + ["stay"] * (way == "stay")) for _ in range(3))
                 micros = least[1] / (64 * (passes + 1)) * 1e6
                 times = ", ".join(f"{least[1] / least[workers]:.2f}" for workers in (2, 3, 4))
-                print(f"| 2, 3 and 4 workers, events of {micros:.1f} us, {shards} shards | {name} | {times} times as fast |")
+                print(f"| 2, 3 and 4 workers, events of {micros:.1f} us ({way}), {shards} shards | {name} | {times} times as fast |")
 
 
 def fleet(folder, peer):

@@ -38,6 +38,7 @@ struct Fleet {
     colours: u16,
     rounds: u32,
     batch: usize,
+    stays: bool,
     ran: AtomicU64,
 }
 
@@ -98,7 +99,8 @@ impl Fleet {
                 seed = next(seed);
             }
             if arg > 0 {
-                self.post((seed >> 16) as u16 % self.colours, arg - 1);
+                let to = if self.stays { colour } else { (seed >> 16) as u16 % self.colours };
+                self.post(to, arg - 1);
             }
         }
         let left = {
@@ -192,7 +194,8 @@ impl Fleet {
 }
 
 fn main() {
-    let words: Vec<u32> = env::args().skip(1).map(|word| word.parse().expect("a number")).collect();
+    let stays = env::args().any(|word| word == "stay");
+    let words: Vec<u32> = env::args().skip(1).filter_map(|word| word.parse().ok()).collect();
     let (workers, shards, colours, passes) = (words[0] as usize, words[1] as usize, words[2] as u16, words[3] as u16);
     let mut made: Vec<Vec<Colour>> = (0..shards).map(|_| Vec::new()).collect();
     for colour in 0..colours as usize {
@@ -213,6 +216,7 @@ fn main() {
         colours,
         rounds: words[4],
         batch: words[5] as usize,
+        stays,
         ran: AtomicU64::new(0),
     };
     for colour in 0..colours {
