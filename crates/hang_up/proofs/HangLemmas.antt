@@ -21,7 +21,7 @@ use Rattle.sws_conn.specs.Path.{Handler, open_link, close, answers_to_come, Take
 use Rattle.sws_conn.specs.Serving.{RoseBy}
 use Rattle.sws_conn.specs.Sound.{is_over, IsShutAtEnd}
 use Rattle.sws_conn.specs.Talks.{due, due_after, ServesTold, ComesTo, HasServed, ServesNow, path_to_come, BeginsWith, IsDue}
-use Rattle.hang_up.specs.HangUp.{WaitingState, HangUpState, unopened, is_waiting_by, hang_view, after_wait, after_read, ReadsOnce, ShutsOnce, StepsFrom, IsReadyTo, IsLinked, IsSound, Progress, course_after, try_of, tried, course_from, whole_course, hang_outcome, hang_path, hang_responses, known_or_idle, course_at, course_of, rest_left, HasTaken, HasTakenTold, Follows, FollowsTold, HasRunOver, HasRunBy, HasRun}
+use Rattle.hang_up.specs.HangUp.{WaitingState, HangUpState, waiting_at_first, is_waiting_by, hang_view, after_wait, after_read, ReadsOnce, ShutsOnce, StepsFrom, IsReadyTo, IsLinked, IsSound, Progress, course_after, try_of, after_try, course_from, whole_course, hang_outcome, hang_path, hang_responses, known_or_idle, course_at, course_of, rest_left, HasTaken, HasTakenTold, Follows, FollowsTold, HasRunOver, HasRunBy, HasRun}
 
 -- ---- small facts
 
@@ -90,7 +90,7 @@ taken-told (Some first) (Some before) after s d answer into size fits takes is (
 
 course-next : (more waits : ℕ) (items : List Item) (n : ℕ) → n ≡ suc more
     → course_from n waits items
-    ≡ tried (try_of waits) (course_after (read_of 16 items).answer (nat_le 30 (waits + 1)) (course_from more (waits + 1) (read_of 16 items).items))
+    ≡ after_try (try_of waits) (course_after (read_of 16 items).answer (nat_le 30 (waits + 1)) (course_from more (waits + 1) (read_of 16 items).items))
 unfolding course_from
 course-next more waits items n e = ap (λ k. course_from k waits items) e
 
@@ -118,13 +118,13 @@ follows-read (Some script) (Some before) after trail s d answer into pending non
     let said = read_of 16 before.items in
     let now : Script = record before { items = said.items } in
     let later = course_from (30 - (s.waits + 1)) (s.waits + 1) said.items in
-    let course : course_of s before ≡ tried (try_of s.waits) (course_after said.answer (nat_le 30 (s.waits + 1)) later) =
+    let course : course_of s before ≡ after_try (try_of s.waits) (course_after said.answer (nat_le 30 (s.waits + 1)) later) =
     ap (λ p. course_at p s before.items) pending
     ∙ course-next (30 - (s.waits + 1)) s.waits before.items (30 - s.waits) (let n : 30 - s.waits ≡ suc (30 - (s.waits + 1)) = omega arith in n) in
     let behind : course_of d now ≡ course_after said.answer (nat_le 30 (s.waits + 1)) later =
     ap (λ (e : WaitingState). course_at e.pending e said.items) is ∙ read-course s answer said.items pending none
     ∙ ap (λ a. course_after a (nat_le 30 (s.waits + 1)) later) reads.0 in
-    let all : course_of s before ≡ tried (try_of s.waits) (course_of d now) = course ∙ ap (tried (try_of s.waits)) (sym behind) in
+    let all : course_of s before ≡ after_try (try_of s.waits) (course_of d now) = course ∙ ap (after_try (try_of s.waits)) (sym behind) in
     let was : Follows script before trail s = subst (λ (l : Script). Follows script l trail s) before_is follows in (
       now,
       reads.2,
@@ -215,10 +215,10 @@ no-link None e = refl
 no-link (Some link) e = cc
 
 -- where there is no link, nothing has happened
-pub not-opened : {L : Type 0} (x : LinkWords L) (talk : HangUpState L) → IsSound x talk → talk.link ≡ None → talk.standing ≡ unopened
+pub not-opened : {L : Type 0} (x : LinkWords L) (talk : HangUpState L) → IsSound x talk → talk.link ≡ None → talk.standing ≡ waiting_at_first
 not-opened x talk sound none = by_pending talk.standing.pending sound.ready sound.linked
   where
-    by_pending : (pending : Next) → IsReadyTo pending talk.standing → IsLinked pending talk.link → talk.standing ≡ unopened
+    by_pending : (pending : Next) → IsReadyTo pending talk.standing → IsLinked pending talk.link → talk.standing ≡ waiting_at_first
     by_pending next.Open ready linked = ready
     by_pending next.Read ready linked = absurd (linked none)
     by_pending next.Close ready linked = absurd (linked none)
@@ -309,7 +309,7 @@ module _ {L : Type 0} (x : LinkWords L) where
   -- ---- to open it
 
   pub opened-run : (first : L) → IsFresh (x.tells first) → x.is_shut first ≡ false
-      → HasRun x first (open_link ∷ []) (record { standing = record unopened { pending = next.Read }; link = Some first })
+      → HasRun x first (open_link ∷ []) (record { standing = record waiting_at_first { pending = next.Read }; link = Some first })
   unfolding Exchanges
   opened-run first fresh not_shut = record {
     ready = (refl, omega arith);
@@ -328,13 +328,13 @@ module _ {L : Type 0} (x : LinkWords L) where
   }
     where
       s : WaitingState
-      s = record unopened { pending = next.Read }
+      s = record waiting_at_first { pending = next.Read }
 
-      by_tells : (tells : Option LinkTells) → IsFresh tells → HasTakenTold tells tells (record unopened { pending = next.Read })
+      by_tells : (tells : Option LinkTells) → IsFresh tells → HasTakenTold tells tells (record waiting_at_first { pending = next.Read })
       by_tells None fresh = refl
       by_tells (Some tells) fresh = (tells, refl, record { input = refl; taken = ap length fresh.0; written = fresh.1 })
 
-      by_script : (script : Option Script) → FollowsTold script script (open_link ∷ []) (record unopened { pending = next.Read })
+      by_script : (script : Option Script) → FollowsTold script script (open_link ∷ []) (record waiting_at_first { pending = next.Read })
       by_script None = refl
       by_script (Some script) = (script, refl, record { events = refl; end = refl })
 
@@ -381,7 +381,7 @@ module _ {L : Type 0} (x : LinkWords L) where
       → FollowsTold first now trail s → FollowsTold first now (trail ++ close ∷ []) (record s { pending = next.Nothing })
   follows-shut None now trail s pending told = told
   follows-shut (Some script) now trail s pending (left, same, follows) =
-      let course : course_of s left ≡ tried close (course_of (record s { pending = next.Nothing }) left) =
+      let course : course_of s left ≡ after_try close (course_of (record s { pending = next.Nothing }) left) =
       ap (λ p. course_at p s left.items) pending in (
         left,
         same,

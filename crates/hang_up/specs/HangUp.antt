@@ -24,18 +24,22 @@ pub record WaitingState : Type 0 where
   pub end : Option End
   pub read : ℕ
 
+-- how it stands, and its link where it has one
 pub record HangUpState (L : Type 0) : Type 0 where
   pub standing : WaitingState
   pub link : Option L
 
-abbrev pub unopened : WaitingState
-unopened = record { pending = next.Open; waits = 0; end = None; read = 0 }
+-- before it has a link
+abbrev pub waiting_at_first : WaitingState
+waiting_at_first = record { pending = next.Open; waits = 0; end = None; read = 0 }
 
+-- whether its link wasn't ready at the last try, by its end and how often it wasn't
 abbrev pub is_waiting_by : Option End → ℕ → Bool
 is_waiting_by None zero = false
 is_waiting_by None (suc more) = true
 is_waiting_by (Some end) waits = false
 
+-- how it stands as any talk is seen
 abbrev pub hang_view : WaitingState → TalkView
 hang_view s = record {
   pending = s.pending;
@@ -47,13 +51,16 @@ hang_view s = record {
 
 -- ---- its steps
 
+-- it ends so, and shuts its link next
 abbrev pub ending_as : WaitingState → End → WaitingState
 ending_as s end = record s { pending = next.Close; end = Some end }
 
+-- the link wasn't ready once more, and whether that was the last time
 abbrev pub after_wait : Bool → WaitingState → WaitingState
 after_wait true s = record s { waits = s.waits + 1; pending = next.Close; end = Some ending.Idle }
 after_wait false s = record s { waits = s.waits + 1 }
 
+-- after a read that answered so
 abbrev pub after_read : WaitingState → LinkRead → WaitingState
 after_read s (read.Took count) = record (ending_as s ending.Done) { read = s.read + count }
 after_read s read.End = ending_as s ending.Done
@@ -61,21 +68,25 @@ after_read s read.NotReady = after_wait (nat_le 30 (s.waits + 1)) s
 after_read s read.Failed = ending_as s ending.Fault
 
 module _ {L : Type 0} (x : LinkWords L) (before after : WaitingState) where
+  -- it reads once, of 16 bytes at most
   pub record ReadsOnce (link now : L) : Type 0 where
     pub answer : LinkRead
     pub into : List ℕ
     pub called : Reads x.tells x.is_shut x.faults x.waits link 16 answer into now
     pub becomes : after ≡ after_read before answer
 
+  -- it shuts its link, and has nothing more to do
   pub record ShutsOnce (link now : L) : Type 0 where
     pub called : Shuts x.tells x.is_shut x.faults x.waits link now
     pub becomes : after ≡ record before { pending = next.Nothing }
 
+  -- what it does to the link that it has, which it keeps
   abbrev pub OverLink : (L → L → Type 0) → Option L → Option L → Type 0
   OverLink Does (Some link) (Some now) = Does link now
   OverLink Does (Some link) None = ⊥
   OverLink Does None now = ⊥
 
+  -- a step, by what was pending
   abbrev pub StepsFrom : Next → Option L → Option L → Type 0
   StepsFrom next.Read link now = OverLink ReadsOnce link now
   StepsFrom next.Close link now = OverLink ShutsOnce link now
@@ -86,13 +97,14 @@ module _ {L : Type 0} (x : LinkWords L) (before after : WaitingState) where
   StepsFrom next.Write link now = (after ≡ before) × (now ≡ link)
   StepsFrom next.Wait link now = (after ≡ before) × (now ≡ link)
 
+-- one step
 abbrev pub Steps : {L : Type 0} → LinkWords L → HangUpState L → HangUpState L → Type 0
 Steps x before after =
     StepsFrom x before.standing after.standing before.standing.pending before.link after.link
 
 -- where it stands as it may
 abbrev pub IsReadyTo : Next → WaitingState → Type 0
-IsReadyTo next.Open s = s ≡ unopened
+IsReadyTo next.Open s = s ≡ waiting_at_first
 IsReadyTo next.Read s = (s.end ≡ None) × (s.waits < 30)
 IsReadyTo next.Close s = (s.end ≢ None) × (s.end ≡ Some ending.Idle → s.waits ≡ 30)
 IsReadyTo next.Nothing s = (s.end ≢ None) × (s.end ≡ Some ending.Idle → s.waits ≡ 30)
@@ -101,6 +113,7 @@ IsReadyTo next.Look s = ⊥
 IsReadyTo next.Write s = ⊥
 IsReadyTo next.Wait s = ⊥
 
+-- whether it has a link, by what is pending
 abbrev pub IsLinked : {L : Type 0} → Next → Option L → Type 0
 IsLinked next.Open link = link ≡ None
 IsLinked next.Read link = link ≢ None
@@ -111,6 +124,7 @@ IsLinked next.Look link = ⊥
 IsLinked next.Write link = ⊥
 IsLinked next.Wait link = ⊥
 
+-- what holds between two steps
 pub record IsSound {L : Type 0} (x : LinkWords L) (s : HangUpState L) : Type 0 where
   pub ready : IsReadyTo s.standing.pending s.standing
   pub linked : IsLinked s.standing.pending s.link
@@ -138,26 +152,31 @@ abbrev pub try_of : ℕ → Handler
 try_of zero = read_piece
 try_of (suc waits) = resume
 
-abbrev pub tried : Handler → Progress → Progress
-tried event course = record { events = event ∷ course.events; end = course.end }
+-- a course behind one more event
+abbrev pub after_try : Handler → Progress → Progress
+after_try event course = record { events = event ∷ course.events; end = course.end }
 
 -- from a read on that was tried so often, with so many more tries to come
 unfoldable pub course_from : ℕ → ℕ → List Item → Progress
 course_from zero waits items = record { events = []; end = ending.Idle }
 course_from (suc more) waits items =
     let said = read_of 16 items in
-    tried (try_of waits) (course_after said.answer (nat_le 30 (waits + 1))
+    after_try (try_of waits) (course_after said.answer (nat_le 30 (waits + 1))
     (course_from more (waits + 1) said.items))
 
+-- from the first read on
 abbrev pub whole_course : Script → Progress
 whole_course script = course_from 30 0 script.items
 
+-- nothing is written, and the end is that of the course
 abbrev pub hang_outcome : Unit {0} → Script → Outcome
 hang_outcome hall script = record { bytes = []; end = (whole_course script).end }
 
+-- the opening, and the events of the course
 abbrev pub hang_path : Unit {0} → Script → List Handler
 hang_path hall script = open_link ∷ (whole_course script).events
 
+-- no bytes are answered
 abbrev pub hang_responses : Unit {0} → List ℕ → List ℕ
 hang_responses hall bytes = []
 
@@ -166,8 +185,9 @@ abbrev pub known_or_idle : Option End → End
 known_or_idle None = ending.Idle
 known_or_idle (Some end) = end
 
+-- what is left of a course, by what is pending, how it stands and what its link has left
 abbrev pub course_at : Next → WaitingState → List Item → Progress
-course_at next.Open s items = tried open_link (course_from 30 0 items)
+course_at next.Open s items = after_try open_link (course_from 30 0 items)
 course_at next.Read s items = course_from (30 - s.waits) s.waits items
 course_at next.Close s items = record { events = close ∷ []; end = known_or_idle s.end }
 course_at next.Nothing s items = record { events = []; end = known_or_idle s.end }
@@ -176,13 +196,16 @@ course_at next.Look s items = record { events = []; end = known_or_idle s.end }
 course_at next.Write s items = record { events = []; end = known_or_idle s.end }
 course_at next.Wait s items = record { events = []; end = known_or_idle s.end }
 
+-- the same of a script
 abbrev pub course_of : WaitingState → Script → Progress
 course_of s script = course_at s.pending s script.items
 
+-- what its link tells, where it has one
 abbrev pub told_by : {L : Type 0} → LinkWords L → Option L → Option LinkTells
 told_by x None = None
 told_by x (Some link) = x.tells link
 
+-- the events that are left, where its link answers by a script
 abbrev pub rest_left : {L : Type 0} → LinkWords L → HangUpState L → Option (List Handler)
 rest_left x s = option_map (λ script. (course_of s.standing script).events)
     (answers_to_come (told_by x s.link))
@@ -195,6 +218,7 @@ pub record HasTaken (before now : LinkTells) (s : WaitingState) : Type 0 where
   pub taken : length now.taken ≡ s.read
   pub written : now.written ≡ []
 
+-- the same where the link tells anything
 abbrev pub HasTakenTold : Option LinkTells → Option LinkTells → WaitingState → Type 0
 HasTakenTold None now s = now ≡ None
 HasTakenTold (Some before) now s = (told : LinkTells) × (now ≡ Some told) × HasTaken before told s
@@ -204,11 +228,13 @@ pub record Follows (script now : Script) (trail : List Handler) (s : WaitingStat
   pub events : hang_path tt script ≡ trail ++ (course_of s now).events
   pub end : (course_of s now).end ≡ (whole_course script).end
 
+-- the same where the link answers by a script
 abbrev pub FollowsTold : Option Script → Option Script → List Handler → WaitingState → Type 0
 FollowsTold None now trail s = now ≡ None
 FollowsTold (Some script) now trail s = (left : Script) × (now ≡ Some left)
     × Follows script left trail s
 
+-- what it has run since it got its link, which was so at first and is so now
 pub record HasRunOver {L : Type 0} (x : LinkWords L) (first : L) (trail : List Handler) (s : WaitingState) (now : L) : Type 0 where
   pub ready : IsReadyTo s.pending s
   pub opened : s.pending ≢ next.Open
@@ -225,10 +251,12 @@ pub record HasRunOver {L : Type 0} (x : LinkWords L) (first : L) (trail : List H
   pub follows : FollowsTold (answers_to_come (x.tells first))
       (answers_to_come (x.tells now)) trail s
 
+-- the same where it has a link still
 abbrev pub HasRunBy : {L : Type 0} → LinkWords L → L → List Handler → WaitingState → Option L
     → Type 0
 HasRunBy x first trail s None = ⊥
 HasRunBy x first trail s (Some now) = HasRunOver x first trail s now
 
+-- the same of how it stands and its link
 abbrev pub HasRun : {L : Type 0} → LinkWords L → L → List Handler → HangUpState L → Type 0
 HasRun x first trail s = HasRunBy x first trail s.standing s.link

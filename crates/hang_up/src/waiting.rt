@@ -6,7 +6,7 @@ ghost use Rattle.sws_conn.specs.Responses.{input_limit};
 ghost use Rattle.sws_conn.specs.Conn.{reported_by, end_at};
 ghost use Rattle.sws_conn.specs.Path.{open_link};
 ghost use Rattle.sws_conn.specs.Talks.{OpensTalk};
-ghost use Rattle.hang_up.specs.HangUp.{HangUpState, hang_view, HasRun, unopened, is_waiting_by, ReadsOnce, ShutsOnce, StepsFrom, Steps, IsSound, IsReadyTo};
+ghost use Rattle.hang_up.specs.HangUp.{HangUpState, hang_view, HasRun, waiting_at_first, is_waiting_by, ReadsOnce, ShutsOnce, StepsFrom, Steps, IsSound, IsReadyTo};
 ghost use Rattle.hang_up.specs.Shown.{state_of};
 
 use std::marker::Model;
@@ -49,7 +49,7 @@ impl<L: Link> Model for HangUp<L> {
 impl<L: Link + Drop> HangUp<L> {
     /// No link was given yet.
     pub fn new() -> HangUp<L>
-        ensures { result ≡ record { standing = unopened; link = None } }
+        ensures { result ≡ record { standing = waiting_at_first; link = None } }
     {
         HangUp {
             waiting: Waiting {

@@ -2,6 +2,7 @@
 ghost use Rattle.std.specs.Prelude.{◌≡◌, ◌≤◌, ◌+◌, ◌++◌, ◌∷◌, [], IfOk, length};
 ghost use Rattle.std.specs.List.{AllByRecursion};
 ghost use Rattle.mely_worker.specs.Access.{FitsIn};
+ghost use Rattle.hello_colours.specs.declared.greeting.TheConstants.{COLOURS, HANDLERS};
 ghost use Rattle.hello_colours.specs.Greetings.{greetings_of};
 ghost use Rattle.hello_colours.specs.Counting.{AllCounted};
 
@@ -18,6 +19,12 @@ const GREET: u8 = 0;
 
 const HEAR: u8 = 1;
 
+/// How many handlers the app has; their numbers are below this.
+const HANDLERS: usize = 2;
+
+/// How many colours the app has, likewise.
+const COLOURS: u32 = 2;
+
 /// Who greets has colour 0, and who hears it colour 1.
 #[derive(Drop)]
 pub struct Greeting;
@@ -27,9 +34,9 @@ impl App for Greeting {
 
     type State = Counter;
 
-    ghost colours_of = { λ app. 2 };
+    ghost colours_of = { λ app. COLOURS };
 
-    ghost handlers_of = { λ app. 2 };
+    ghost handlers_of = { λ app. HANDLERS };
 
     ghost serves = { λ app frame. Unit {0} };
 
@@ -43,7 +50,8 @@ impl App for Greeting {
         ensures frame { Unit {0} }
         ensures trail { state.new.log.events ≡ state.old.log.events ++ event ∷ [] }
         ensures spare { state.old.log.spare ≡ state.new.log.spare + 1 }
-        ensures puts { AllByRecursion (FitsIn 2 2 (λ colour event load. Unit {0})) outs.new }
+        ensures puts { AllByRecursion (FitsIn COLOURS HANDLERS (λ colour event load. Unit {0}))
+            outs.new }
         ensures few { length outs.new ≤ 2 }
     {
         state.run(event);
@@ -84,10 +92,11 @@ pub fn greet<R: Threads + Wait + Sync>(
         steal_cost: 20,
         group: 2,
     };
-    let Ok(handlers) = Handlers::new(&[(10, 1), (10, 1)]) else {
+    let rows: [(u32, u32); HANDLERS] = [(10, 1), (10, 1)];
+    let Ok(handlers) = Handlers::new(&rows) else {
         unreachable!()
     };
-    let Ok(setup) = Setup::new(&shape, 2, handlers, 0) else {
+    let Ok(setup) = Setup::new(&shape, COLOURS, handlers, 0) else {
         unreachable!()
     };
     let first = Event {

@@ -5,7 +5,7 @@ use Rattle.std.proofs.lemmas.Grind.{flat_map-append}
 use Rattle.mely_history.specs.declared.entry.Entry.{Entry}
 use Rattle.mely_history.specs.declared.entry.Entry.TheVariants.{Fin}
 use Rattle.sws_report.specs.Journal.{entry_line, shard_line, journal_from, journal}
-use Rattle.mely_check.specs.Journals.{IsFit, IsFitHistory, BeginsJournal, joined}
+use Rattle.mely_check.specs.Journals.{IsFit, IsFitHistory, BeginsJournal, join_lines}
 use Rattle.mely_check.specs.Walks.{Walk, start, within, walk_text, begun_in, IsFitWalk, IsAt}
 use Rattle.mely_check.specs.declared.place.Place.{Place}
 use Rattle.mely_check.proofs.WalkLemmas.{all_append, journal_from-append}
@@ -77,5 +77,5 @@ walk-begins shards (within done last left) few fit =
     }
 
 -- the lines that were read begin a journal
-pub at_begins : (lines : List (List ℕ)) (place : Place) → place.begun ≤ place.shards → IsAt lines place → BeginsJournal place.shards (joined lines)
+pub at_begins : (lines : List (List ℕ)) (place : Place) → place.begun ≤ place.shards → IsAt lines place → BeginsJournal place.shards (join_lines lines)
 at_begins lines place few at = subst (BeginsJournal place.shards) (sym at.is) (walk-begins place.shards at.walk (let b = at.begun in omega arith) at.fit)

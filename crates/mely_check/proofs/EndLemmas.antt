@@ -19,7 +19,7 @@ use Rattle.mely_history.proofs.LegalLemmas.{over_legal}
 use Rattle.mely_history.proofs.LegalAccountLemmas.{begun_within, ended_within}
 use Rattle.mely_history.proofs.BeyondLemmas.{none_registered}
 use Rattle.sws_report.proofs.UniqueJournalLemmas.{journal-unique}
-use Rattle.mely_check.specs.Journals.{IsFirstOutside, joined, entries_in}
+use Rattle.mely_check.specs.Journals.{IsFirstOutside, join_lines, entries_in}
 use Rattle.mely_check.specs.Reports.{all_entries, AreReports}
 use Rattle.mely_check.specs.Verdicts.{IsFirstIllegal, IsLeastLeft, IsJournalOf, IsDrainedRun, IsNotLegal, IsNotDrained, Says, Finds, IsAcceptance, Accepts, AgreesWith, IsExact}
 use Rattle.mely_check.specs.Walks.{histories_in}
@@ -133,7 +133,7 @@ module _ (setup : Setup) (text : List ℕ) (reader : Reader) (k : Knows setup te
   journal_of : IsJournalOf setup (histories_in k.heard.at.walk) text
   journal_of = record {
     fit = whole.fit;
-    is = k.is ∙ ap (λ t. joined k.lines ++ t) empty ∙ append-nil (joined k.lines) ∙ k.heard.at.is ∙ whole.is;
+    is = k.is ∙ ap (λ t. join_lines k.lines ++ t) empty ∙ append-nil (join_lines k.lines) ∙ k.heard.at.is ∙ whole.is;
     few = (
         let at = k.heard.at in
         let lines_are = at.counted in

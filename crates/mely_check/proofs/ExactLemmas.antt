@@ -4,7 +4,7 @@ use Rattle.std.specs.List.{flat_map, AllByRecursion}
 use Rattle.std.proofs.lemmas.Bool.{cases_order}
 use Rattle.mely_history.specs.declared.entry.Entry.{Entry}
 use Rattle.sws_report.specs.Journal.{entry_line, shard_line, shard_text, journal_from}
-use Rattle.mely_check.specs.Journals.{IsFit, IsFitHistory, HasNoFeed, IsLine, IsJournal, BeginsJournal, IsFirstOutside, IsRead, joined, entries_in, line_limit}
+use Rattle.mely_check.specs.Journals.{IsFit, IsFitHistory, HasNoFeed, IsLine, IsJournal, BeginsJournal, IsFirstOutside, IsRead, join_lines, entries_in, line_limit}
 use Rattle.mely_check.proofs.ReadingLemmas.{tail_is}
 use Rattle.mely_check.proofs.LineLemmas.{line_same, IsLine-entry, IsLine-shard}
 
@@ -24,23 +24,23 @@ record Further (lines more : List (List ℕ)) (rest : List ℕ) : Type 0 where
   pub behind : List ℕ
   pub is_line : IsLine line
   pub is : rest ≡ line ++ later
-  pub front : joined more ≡ (joined lines ++ line) ++ behind
+  pub front : join_lines more ≡ (join_lines lines ++ line) ++ behind
 
-further : (lines more : List (List ℕ)) (rest other : List ℕ) → AllByRecursion IsLine lines → AllByRecursion IsLine more → length lines < length more → joined lines ++ rest ≡ joined more ++ other → Further lines more rest
+further : (lines more : List (List ℕ)) (rest other : List ℕ) → AllByRecursion IsLine lines → AllByRecursion IsLine more → length lines < length more → join_lines lines ++ rest ≡ join_lines more ++ other → Further lines more rest
 further [] [] rest other are are' few same = absurd (omega arith)
 further [] (l ∷ more) rest other are are' few same = record {
   line = l;
-  later = joined more ++ other;
-  behind = joined more;
+  later = join_lines more ++ other;
+  behind = join_lines more;
   is_line = are'.0;
-  is = same ∙ append_assoc l (joined more) other;
+  is = same ∙ append_assoc l (join_lines more) other;
   front = refl;
 }
 further (k ∷ lines) [] rest other are are' few same = absurd (omega arith)
 further (k ∷ lines) (l ∷ more) rest other are are' few same =
-    let whole : k ++ (joined lines ++ rest) ≡ l ++ (joined more ++ other) = sym (append_assoc k (joined lines) rest) ∙ same ∙ append_assoc l (joined more) other in
-    let first : k ≡ l = line_same k l (joined lines ++ rest) (joined more ++ other) are.0 are'.0 whole in
-    let f = further lines more rest other are.1 are'.1 (omega arith) (rest_same k l (joined lines ++ rest) (joined more ++ other) first whole) in
+    let whole : k ++ (join_lines lines ++ rest) ≡ l ++ (join_lines more ++ other) = sym (append_assoc k (join_lines lines) rest) ∙ same ∙ append_assoc l (join_lines more) other in
+    let first : k ≡ l = line_same k l (join_lines lines ++ rest) (join_lines more ++ other) are.0 are'.0 whole in
+    let f = further lines more rest other are.1 are'.1 (omega arith) (rest_same k l (join_lines lines ++ rest) (join_lines more ++ other) first whole) in
     record {
       line = f.line;
       later = f.later;
@@ -48,8 +48,8 @@ further (k ∷ lines) (l ∷ more) rest other are are' few same =
       is_line = f.is_line;
       is = f.is;
       front = ap (λ t. l ++ t) f.front
-          ∙ sym (append_assoc l (joined lines ++ f.line) f.behind)
-          ∙ ap (λ t. t ++ f.behind) (sym (append_assoc l (joined lines) f.line) ∙ ap (λ h. (h ++ joined lines) ++ f.line) (sym first));
+          ∙ sym (append_assoc l (join_lines lines ++ f.line) f.behind)
+          ∙ ap (λ t. t ++ f.behind) (sym (append_assoc l (join_lines lines) f.line) ∙ ap (λ h. (h ++ join_lines lines) ++ f.line) (sym first));
     }
 
 -- ---- once
@@ -63,7 +63,7 @@ not_before shards text one other a b few =
     let f = further a.lines b.lines a.rest b.rest a.are b.are few (sym a.is ∙ b.is) in
     let counted = a.counted in
     let within = b.within in
-    a.outside f.line f.later f.is_line f.is (omega arith) (begins_front shards (joined a.lines ++ f.line) f.behind (subst (BeginsJournal shards) f.front b.begin))
+    a.outside f.line f.later f.is_line f.is (omega arith) (begins_front shards (join_lines a.lines ++ f.line) f.behind (subst (BeginsJournal shards) f.front b.begin))
 
 pub outside_once : (shards : ℕ) (text : List ℕ) (one other : ℕ) → IsFirstOutside shards text one → IsFirstOutside shards text other → one ≡ other
 outside_once shards text one other a b =
@@ -100,10 +100,10 @@ feeds-line line is =
     let whole = ap (λ t. feeds t) is.is in
     omega (arith, front, whole, feeds-append is.front (10 ∷ []))
 
-feeds-joined : (lines : List (List ℕ)) → AllByRecursion IsLine lines → feeds (joined lines) ≡ length lines
+feeds-joined : (lines : List (List ℕ)) → AllByRecursion IsLine lines → feeds (join_lines lines) ≡ length lines
 unfolding feeds
 feeds-joined [] are = refl
-feeds-joined (l ∷ lines) are = let first = feeds-line l are.0 in let rest = feeds-joined lines are.1 in omega (arith, first, rest, feeds-append l (joined lines))
+feeds-joined (l ∷ lines) are = let first = feeds-line l are.0 in let rest = feeds-joined lines are.1 in omega (arith, first, rest, feeds-append l (join_lines lines))
 
 feeds-entries : (h : List Entry) → AllByRecursion IsFit h → feeds (flat_map entry_line h) ≡ length h
 unfolding feeds
@@ -141,14 +141,14 @@ never_outside shards text entries number few read within outside =
           let many = read.fit.many in
           let counted = outside.counted in
           let all = feeds-journal 0 read.histories (omega arith) read.fit.fit in
-          let same = ap (λ t. feeds t) (sym read.is ∙ outside.is ∙ ap (λ t. joined outside.lines ++ t) found.3) in
+          let same = ap (λ t. feeds t) (sym read.is ∙ outside.is ∙ ap (λ t. join_lines outside.lines ++ t) found.3) in
           let before = feeds-joined outside.lines outside.are in
           let one = feeds-line found.0 found.2 in
           let entries_are = read.counted in
-          let low : number < line_limit = omega (arith, all, same, before, one, entries_are, feeds-append (joined outside.lines) (found.0 ++ found.1), feeds-append found.0 found.1) in
+          let low : number < line_limit = omega (arith, all, same, before, one, entries_are, feeds-append (join_lines outside.lines) (found.0 ++ found.1), feeds-append found.0 found.1) in
           outside.outside found.0 found.1 found.2 found.3 low (record {
             more = found.1;
-            is = subst (IsJournal shards) (outside.is ∙ ap (λ t. joined outside.lines ++ t) found.3 ∙ sym (append_assoc (joined outside.lines) found.0 found.1)) journal_is;
+            is = subst (IsJournal shards) (outside.is ∙ ap (λ t. join_lines outside.lines ++ t) found.3 ∙ sym (append_assoc (join_lines outside.lines) found.0 found.1)) journal_is;
           })
       | inr none ↦ outside.unended none journal_is
     ]

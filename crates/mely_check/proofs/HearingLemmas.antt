@@ -1,9 +1,8 @@
 -- What is kept behind one more entry.
-use Rattle.std.proofs.Common.{◌≡◌, ℕ, ◌+◌, ◌-◌, ◌^◌, ◌<◌, ◌≤◌, ◌%◌, ◌⊎◌, Bool, true, false, List, [], ◌∷◌, ◌++◌, Option, None, Some, length, take, drop, get_or, set, min, unwrap_or, refl, sym, ap, subst, ◌∙◌, arith, inl, inr, length-append}
+use Rattle.std.proofs.Common.{◌≡◌, ℕ, ◌+◌, ◌<◌, ◌≤◌, ◌%◌, ◌⊎◌, Bool, true, false, List, [], ◌∷◌, ◌++◌, Option, None, Some, length, take, drop, get_or, unwrap_or, refl, sym, ap, subst, ◌∙◌, arith, inl, inr, length-append}
 use Rattle.std.specs.Prelude.{IsTrue, is_some, MatchOption, MatchBool}
 use Rattle.std.proofs.lemmas.Bool.{false≢true}
 use Rattle.std.specs.List.{slice_get}
-use Rattle.std.proofs.lemmas.List.{length-set}
 use Rattle.std.proofs.Math.Seq.{take-append_seam}
 use Rattle.std.proofs.lemmas.Option.{slice_get_within, slice_get-get_or}
 use Rattle.mely_event.specs.declared.colour.Colour.{Colour}
@@ -14,11 +13,10 @@ use Rattle.mely_history.specs.declared.setup.Setup.{Setup}
 use Rattle.mely_history.proofs.LegalLemmas.{split_below}
 use Rattle.mely_history.specs.declared.entry.Entry.{Entry}
 use Rattle.mely_check.specs.Watches.{Tells, Allows}
-use Rattle.mely_check.specs.Judges.{AreBlank, MayHear, AddsTo, HasRoom, plus, Adds, Hears, AreDrainedBelow, IsDrainedAt, IsOpenAt}
+use Rattle.mely_check.specs.Judges.{AreBlank, MayHear, Adds, Hears, AreDrainedBelow, IsDrainedAt, IsOpenAt}
 use Rattle.mely_check.specs.declared.judge.Judge.{Judge}
-use Rattle.mely_check.specs.declared.report.CoreReport.{CoreReport}
 use Rattle.mely_check.specs.declared.watch.Watch.{Watch}
-use Rattle.mely_check.proofs.ListLemmas.{in_pushed, at_changed, at_other}
+use Rattle.mely_check.proofs.ListLemmas.{in_pushed}
 
 -- what is read of a list stands there
 pub read_at : {X : Type 0} (xs ys : List X) (i k : ℕ) (x : X) → ys ≡ xs → i ≡ k → i < length ys → x ≡ get_or ys i x → slice_get xs k ≡ Some x

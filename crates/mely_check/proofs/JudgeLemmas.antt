@@ -25,7 +25,7 @@ use Rattle.mely_check.specs.Journals.{IsFit, entries_in}
 use Rattle.mely_check.specs.Reports.{finished_by, steals, loses, core_report, all_entries, AreReports}
 use Rattle.mely_check.specs.Verdicts.{IsFirstIllegal}
 use Rattle.mely_check.specs.Watches.{Tells, Allows, Follows}
-use Rattle.mely_check.specs.Judges.{AreBlank, MayHear, HasRoom, counted, Adds, Hears, LegalFrom, own_of, IsWatched, IsJudged}
+use Rattle.mely_check.specs.Judges.{AreBlank, MayHear, HasRoom, report_after, Adds, Hears, LegalFrom, own_of, IsWatched, IsJudged}
 use Rattle.mely_check.specs.declared.judge.Judge.{Judge}
 use Rattle.mely_check.specs.declared.report.CoreReport.{CoreReport}
 use Rattle.mely_check.specs.declared.watch.Watch.{Watch}
@@ -164,7 +164,7 @@ room core entries fit few =
 same_report : {a b c x y z : ℕ} → a ≡ x → b ≡ y → c ≡ z → (let one : CoreReport = record { ran = a; stolen_in = b; stolen_out = c } in one) ≡ record { ran = x; stolen_in = y; stolen_out = z }
 same_report p q r = λ i. record { ran = p i; stolen_in = q i; stolen_out = r i }
 
-report_more : (core : ℕ) (entries : List Entry) (e : Entry) → counted core e (core_report core entries) ≡ core_report core (entries ++ e ∷ [])
+report_more : (core : ℕ) (entries : List Entry) (e : Entry) → report_after core e (core_report core entries) ≡ core_report core (entries ++ e ∷ [])
 report_more core entries e =
     same_report (sym (sum_by_push (finished_by core) entries e)) (sym (sum_by_push (λ x. cond (steals core x) 1 0) entries e)) (sym (sum_by_push (λ x. cond (loses core x) 1 0) entries e))
 

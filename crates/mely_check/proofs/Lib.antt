@@ -1,7 +1,6 @@
 pub mod ListLemmas
 pub mod WatchLemmas
 pub mod HearingLemmas
-pub mod NumberLemmas
 pub mod ReadingLemmas
 pub mod WalkLemmas
 pub mod LineLemmas

@@ -9,23 +9,9 @@ in_pushed [] x y (suc k) is = absurd (cc)
 in_pushed (z ∷ xs) x y zero is = inl is
 in_pushed (z ∷ xs) x y (suc k) is = elim (in_pushed xs x y k is) [ inl front ↦ inl front | inr last ↦ inr (ap suc last.0, last.1) ]
 
--- what stands behind a front
-in_front : {X : Type 0} (xs ys : List X) (k : ℕ) (y : X) → slice_get xs k ≡ Some y → slice_get (xs ++ ys) k ≡ Some y
-in_front [] ys k y is = absurd (cc)
-in_front (x ∷ xs) ys zero y is = is
-in_front (x ∷ xs) ys (suc k) y is = in_front xs ys k y is
-
 pub at_seam : {X : Type 0} (xs ys : List X) (y : X) → slice_get (xs ++ y ∷ ys) (length xs) ≡ Some y
 at_seam [] ys y = refl
 at_seam (x ∷ xs) ys y = at_seam xs ys y
-
--- what stands in a list of which one element was changed
-in_changed : {X : Type 0} (xs : List X) (i k : ℕ) (x y : X) → slice_get (set xs i x) k ≡ Some y → ((k ≡ i) × (x ≡ y)) ⊎ (slice_get xs k ≡ Some y)
-in_changed [] i k x y is = inr is
-in_changed (z ∷ xs) zero zero x y is = inl (refl, ap (λ o. unwrap_or o x) is)
-in_changed (z ∷ xs) zero (suc k) x y is = inr is
-in_changed (z ∷ xs) (suc i) zero x y is = inr is
-in_changed (z ∷ xs) (suc i) (suc k) x y is = elim (in_changed xs i k x y is) [ inl here ↦ inl (ap suc here.0, here.1) | inr other ↦ inr other ]
 
 pub at_other : {X : Type 0} (xs : List X) (i k : ℕ) (x : X) → k ≢ i → slice_get (set xs i x) k ≡ slice_get xs k
 at_other [] i k x ne = refl

@@ -2,7 +2,7 @@
 use Rattle.std.proofs.Common.{◌≡◌, ℕ, ◌<◌, ◌≤◌, List, [], ◌∷◌, ◌++◌, length, refl, sym, ap, subst, ◌∙◌, arith, append_assoc, append-nil, length-append, inl, inr}
 use Rattle.std.proofs.lemmas.Bool.{cases_lt}
 use Rattle.sws_report.specs.Journal.{entry_line, shard_line}
-use Rattle.mely_check.specs.Journals.{HasNoFeed, IsLine, IsJournal, BeginsJournal, IsFirstOutside, joined, line_limit}
+use Rattle.mely_check.specs.Journals.{HasNoFeed, IsLine, IsJournal, BeginsJournal, IsFirstOutside, join_lines, line_limit}
 use Rattle.mely_check.specs.Walks.{IsAt, MayNotStand}
 use Rattle.mely_check.specs.declared.place.Place.{Place}
 use Rattle.mely_check.proofs.ReadingLemmas.{head_is, tail_is}
@@ -33,7 +33,7 @@ no_line rest line later none is same =
 
 -- behind the lines that were read, bytes without a LF end no journal, unless all was read and they are none
 unended_text : (lines : List (List ℕ)) (place : Place) (rest : List ℕ) → place.shards < 65536 → place.begun ≤ place.shards → IsAt lines place → HasNoFeed rest → (place.left ≡ 0 → place.begun ≡ place.shards → rest ≡ [] → ⊥)
-    → IsJournal place.shards (joined lines ++ rest) → ⊥
+    → IsJournal place.shards (join_lines lines ++ rest) → ⊥
 unended_text lines place rest few begun at none not_whole journal_is =
     let next = goes_behind lines place rest few begun at journal_is in
     elim (cases_lt 0 place.left) [
@@ -48,8 +48,8 @@ unended_text lines place rest few begun at none not_whole journal_is =
     ]
 
 -- the line that is being read is the first outside
-pub outside_by : (lines : List (List ℕ)) (place : Place) (text rest : List ℕ) → place.shards < 65536 → place.begun ≤ place.shards → place.number ≤ 4294967295 → IsAt lines place → text ≡ joined lines ++ rest
-    → ((line later : List ℕ) → IsLine line → rest ≡ line ++ later → place.number < line_limit → BeginsJournal place.shards (joined lines ++ line) → ⊥)
+pub outside_by : (lines : List (List ℕ)) (place : Place) (text rest : List ℕ) → place.shards < 65536 → place.begun ≤ place.shards → place.number ≤ 4294967295 → IsAt lines place → text ≡ join_lines lines ++ rest
+    → ((line later : List ℕ) → IsLine line → rest ≡ line ++ later → place.number < line_limit → BeginsJournal place.shards (join_lines lines ++ line) → ⊥)
     → (HasNoFeed rest → place.left ≡ 0 → place.begun ≡ place.shards → rest ≡ [] → ⊥) → IsFirstOutside place.shards text place.number
 outside_by lines place text rest few begun limit at is no_next not_whole = record {
   lines = lines;
@@ -64,10 +64,10 @@ outside_by lines place text rest few begun limit at is no_next not_whole = recor
 }
 
 -- a line of more than 64 bytes is none of a journal
-pub outside_long : (lines : List (List ℕ)) (place : Place) (text long later : List ℕ) → place.shards < 65536 → place.begun ≤ place.shards → place.number ≤ 4294967295 → IsAt lines place → text ≡ joined lines ++ long → HasNoFeed long
+pub outside_long : (lines : List (List ℕ)) (place : Place) (text long later : List ℕ) → place.shards < 65536 → place.begun ≤ place.shards → place.number ≤ 4294967295 → IsAt lines place → text ≡ join_lines lines ++ long → HasNoFeed long
     → length long ≡ 64 → IsFirstOutside place.shards (text ++ later) place.number
 outside_long lines place text long later few begun limit at is none size =
-    outside_by lines place (text ++ later) (long ++ later) few begun limit at (ap (λ t. t ++ later) is ∙ append_assoc (joined lines) long later)
+    outside_by lines place (text ++ later) (long ++ later) few begun limit at (ap (λ t. t ++ later) is ∙ append_assoc (join_lines lines) long later)
     (λ line behind is_line same within.
     let longer = longer_line long later line behind none is_line same in
     refused lines place line few begun at is_line
@@ -79,10 +79,10 @@ outside_long lines place text long later few begun limit at is none size =
     omega (arith, sum, nothing))
 
 -- a line that may not stand
-pub outside_line : (lines : List (List ℕ)) (place : Place) (text line later : List ℕ) → place.shards < 65536 → place.begun ≤ place.shards → place.number ≤ 4294967295 → IsAt lines place → text ≡ joined lines ++ line → IsLine line
+pub outside_line : (lines : List (List ℕ)) (place : Place) (text line later : List ℕ) → place.shards < 65536 → place.begun ≤ place.shards → place.number ≤ 4294967295 → IsAt lines place → text ≡ join_lines lines ++ line → IsLine line
     → MayNotStand lines line place → IsFirstOutside place.shards (text ++ later) place.number
 outside_line lines place text line later few begun limit at is is_line never =
-    outside_by lines place (text ++ later) (line ++ later) few begun limit at (ap (λ t. t ++ later) is ∙ append_assoc (joined lines) line later)
+    outside_by lines place (text ++ later) (line ++ later) few begun limit at (ap (λ t. t ++ later) is ∙ append_assoc (join_lines lines) line later)
     (λ other behind is_other same within begins.
-    never within (subst (λ l. BeginsJournal place.shards (joined lines ++ l)) (line_same other line behind later is_other is_line (sym same)) begins))
+    never within (subst (λ l. BeginsJournal place.shards (join_lines lines ++ l)) (line_same other line behind later is_other is_line (sym same)) begins))
     (λ open_rest none_left all empty. no_line (line ++ later) line later open_rest is_line refl)

@@ -6,7 +6,7 @@ use Rattle.std.proofs.lemmas.List.{take_more, take-append-drop, nil_from_length}
 use Rattle.sws_link.specs.declared.Got.TheVariants.{Took, End}
 use Rattle.sws_link.specs.Contents.{Takes}
 use Rattle.sws_report.specs.Journal.{entry_line, shard_line, journal}
-use Rattle.mely_check.specs.Journals.{IsFitHistory, HasNoFeed, IsLine, IsFirstOutside, AreFit, entries_in, joined}
+use Rattle.mely_check.specs.Journals.{IsFitHistory, HasNoFeed, IsLine, IsFirstOutside, AreFit, entries_in, join_lines}
 use Rattle.mely_history.specs.Setup.{shape_of, colours_of}
 use Rattle.mely_history.specs.declared.setup.Setup.{Setup}
 use Rattle.mely_check.specs.Verdicts.{Says, Finds}
@@ -33,8 +33,8 @@ pushed (Ok a) new old more is fine = is
 pushed (Err e) new old more is fine = absurd (cc)
 
 -- the text with a byte more
-more_text : (text line : List ℕ) (lines : List (List ℕ)) (byte : ℕ) → text ≡ joined lines ++ line → text ++ byte ∷ [] ≡ joined lines ++ (line ++ byte ∷ [])
-more_text text line lines byte is = ap (λ t. t ++ byte ∷ []) is ∙ append_assoc (joined lines) line (byte ∷ [])
+more_text : (text line : List ℕ) (lines : List (List ℕ)) (byte : ℕ) → text ≡ join_lines lines ++ line → text ++ byte ∷ [] ≡ join_lines lines ++ (line ++ byte ∷ [])
+more_text text line lines byte is = ap (λ t. t ++ byte ∷ []) is ∙ append_assoc (join_lines lines) line (byte ∷ [])
 
 -- a line is too long
 pub line_too_long : (text : List ℕ) (reader : Reader) (byte : ℕ) (fault : CheckFault) → Stands text reader → byte ≢ 10 → length reader.line.items + 1 ≡ 64 → fault ≡ BadJournal reader.place.number → Refuses reader.place.shards (text ++ byte ∷ []) fault
@@ -52,8 +52,8 @@ pub line_ended : {A : Type 0} (text : List ℕ) (before after : Reader) (byte : 
 line_ended text before after byte line (Ok a) stands feed says is_line at empty = record {
   lines = stands.lines ++ line ∷ [];
   at = at;
-  is = more_text text before.line.items stands.lines byte stands.is ∙ ap (λ t. joined stands.lines ++ t) (sym says) ∙ sym (joined-push stands.lines line)
-      ∙ sym (append-nil (joined (stands.lines ++ line ∷ []))) ∙ ap (λ t. joined (stands.lines ++ line ∷ []) ++ t) (sym empty);
+  is = more_text text before.line.items stands.lines byte stands.is ∙ ap (λ t. join_lines stands.lines ++ t) (sym says) ∙ sym (joined-push stands.lines line)
+      ∙ sym (append-nil (join_lines (stands.lines ++ line ∷ []))) ∙ ap (λ t. join_lines (stands.lines ++ line ∷ []) ++ t) (sym empty);
   unended = subst HasNoFeed (sym empty) tt;
   short = let none = ap (λ t. length t) empty in omega (arith, none);
 }
@@ -62,7 +62,7 @@ line_ended text before after byte line (Err (BadJournal number)) stands feed say
     λ later.
     subst (IsFirstOutside before.place.shards ((text ++ byte ∷ []) ++ later)) (sym stops.0)
     (outside_line stands.lines before.place (text ++ byte ∷ []) line later before.place.shards_in before.place.begun_few before.place.number_in stands.at
-    (more_text text before.line.items stands.lines byte stands.is ∙ ap (λ t. joined stands.lines ++ t) (sym says)) is_line stops.1)
+    (more_text text before.line.items stands.lines byte stands.is ∙ ap (λ t. join_lines stands.lines ++ t) (sym says)) is_line stops.1)
 line_ended text before after byte line (Err (NotLegal number)) stands feed says is_line stops empty = stops
 line_ended text before after byte line (Err (NotDrained colour)) stands feed says is_line stops empty = stops
 line_ended text before after byte line (Err Memory) stands feed says is_line stops empty = tt
@@ -105,7 +105,7 @@ pub knows_byte : (setup : Setup) (text : List ℕ) (before after : Reader) (byte
 knows_byte setup text before after byte k same is other short = record {
   lines = k.lines;
   heard = same k.lines k.heard;
-  is = more_text text before.line.items k.lines byte k.is ∙ ap (λ t. joined k.lines ++ t) (sym is);
+  is = more_text text before.line.items k.lines byte k.is ∙ ap (λ t. join_lines k.lines ++ t) (sym is);
   unended = subst HasNoFeed (sym is) (no_feed-append before.line.items (byte ∷ []) k.unended (other, tt));
   short = (let long = ap (λ t. length t) is in omega (arith, long, length-append before.line.items (byte ∷ [])));
 }
@@ -116,8 +116,8 @@ pub knows_line : {A : Type 0} (setup : Setup) (text : List ℕ) (before after : 
 knows_line setup text before after byte line (Ok a) k says heard empty = record {
   lines = k.lines ++ line ∷ [];
   heard = heard;
-  is = more_text text before.line.items k.lines byte k.is ∙ ap (λ t. joined k.lines ++ t) (sym says) ∙ sym (joined-push k.lines line)
-      ∙ sym (append-nil (joined (k.lines ++ line ∷ []))) ∙ ap (λ t. joined (k.lines ++ line ∷ []) ++ t) (sym empty);
+  is = more_text text before.line.items k.lines byte k.is ∙ ap (λ t. join_lines k.lines ++ t) (sym says) ∙ sym (joined-push k.lines line)
+      ∙ sym (append-nil (join_lines (k.lines ++ line ∷ []))) ∙ ap (λ t. join_lines (k.lines ++ line ∷ []) ++ t) (sym empty);
   unended = subst HasNoFeed (sym empty) tt;
   short = let none = ap (λ t. length t) empty in omega (arith, none);
 }

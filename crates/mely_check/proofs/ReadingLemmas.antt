@@ -10,7 +10,7 @@ use Rattle.std.proofs.lemmas.Str.Parse.{digit_from_value}
 use Rattle.std.proofs.lemmas.List.{take-append-drop}
 use Rattle.std.proofs.Math.Seq.{take-append_seam}
 use lib.Pointwise.{pointwise}
-use Rattle.sws_report.specs.Numbers.{spaced}
+use Rattle.sws_report.specs.Numbers.{space_number}
 use Rattle.mely_event.specs.declared.colour.Colour.{Colour}
 use Rattle.mely_event.specs.declared.event.Event.{Event}
 use Rattle.mely_history.specs.declared.entry.Entry.TheVariants.{Reg}
@@ -55,48 +55,48 @@ pub IsHigh-decimal : (n : ℕ) → n < 2 ^ 64 → IsHigh (decimal n)
 IsHigh-decimal n small = high_digits (decimal n) (decimal_is_IsNumeral n small).0.1
 
 -- a number with a space before it, and what stands behind it
-pub spaced_split : (m n : ℕ) (x y : List ℕ) → m < 2 ^ 64 → n < 2 ^ 64 → IsBehind x → IsBehind y → spaced m ++ x ≡ spaced n ++ y → (m ≡ n) × (x ≡ y)
+pub spaced_split : (m n : ℕ) (x y : List ℕ) → m < 2 ^ 64 → n < 2 ^ 64 → IsBehind x → IsBehind y → space_number m ++ x ≡ space_number n ++ y → (m ≡ n) × (x ≡ y)
 spaced_split m n x y small_m small_n ends_x ends_y e =
     let parts = high_split (decimal m) (decimal n) x y (IsHigh-decimal m small_m) (IsHigh-decimal n small_n) ends_x ends_y (tail_is 32 32 (decimal m ++ x) (decimal n ++ y) e) in
     (decimal_injective m n small_m small_n parts.0, parts.1)
 
 -- the digits behind a space are those of the number that is spelled there
-pub digits_are : (text rest digits later behind : List ℕ) (n : ℕ) → text ≡ 32 ∷ rest → rest ≡ digits ++ later → IsHigh digits → IsBehind later → n < 2 ^ 64 → IsBehind behind → text ≡ spaced n ++ behind → digits ≡ decimal n
+pub digits_are : (text rest digits later behind : List ℕ) (n : ℕ) → text ≡ 32 ∷ rest → rest ≡ digits ++ later → IsHigh digits → IsBehind later → n < 2 ^ 64 → IsBehind behind → text ≡ space_number n ++ behind → digits ≡ decimal n
 digits_are text rest digits later behind n at parts high ends small ends' is =
     (high_split digits (decimal n) later behind high (IsHigh-decimal n small) ends ends' (sym parts ∙ tail_is 32 32 rest (decimal n ++ behind) (sym at ∙ is))).0
 
 -- behind a number that was read stands what is spelled there
-pub rest_is : (text rest behind : List ℕ) (m n : ℕ) → m < 2 ^ 64 → n < 2 ^ 64 → IsBehind rest → IsBehind behind → text ≡ spaced m ++ rest → text ≡ spaced n ++ behind → rest ≡ behind
+pub rest_is : (text rest behind : List ℕ) (m n : ℕ) → m < 2 ^ 64 → n < 2 ^ 64 → IsBehind rest → IsBehind behind → text ≡ space_number m ++ rest → text ≡ space_number n ++ behind → rest ≡ behind
 rest_is text rest behind m n small_m small_n ends ends' read is = (spaced_split m n rest behind small_m small_n ends ends' (sym read ∙ is)).1
 
 -- ---- the numbers of a line
 
 -- behind one number that was read of two stands the other
-pub second_is : (text rest last : List ℕ) (first a b : ℕ) → first ≤ 65535 → a < 65536 → IsBehind rest → text ≡ spaced first ++ rest → text ≡ spaced a ++ (spaced b ++ last) → rest ≡ spaced b ++ last
+pub second_is : (text rest last : List ℕ) (first a b : ℕ) → first ≤ 65535 → a < 65536 → IsBehind rest → text ≡ space_number first ++ rest → text ≡ space_number a ++ (space_number b ++ last) → rest ≡ space_number b ++ last
 second_is text rest last first a b few few_a ends read is =
     let low : 32 < 48 = omega arith in
-    rest_is text rest (spaced b ++ last) first a (omega arith) (omega arith) ends low read is
+    rest_is text rest (space_number b ++ last) first a (omega arith) (omega arith) ends low read is
 
-pub last_is : (text rest last : List ℕ) (first a high : ℕ) → first ≤ high → a ≤ high → high < 2 ^ 64 → IsBehind rest → IsBehind last → text ≡ spaced first ++ rest → text ≡ spaced a ++ last → rest ≡ last
+pub last_is : (text rest last : List ℕ) (first a high : ℕ) → first ≤ high → a ≤ high → high < 2 ^ 64 → IsBehind rest → IsBehind last → text ≡ space_number first ++ rest → text ≡ space_number a ++ last → rest ≡ last
 last_is text rest last first a high few few_a small ends ends' read is = rest_is text rest last first a (omega arith) (omega arith) ends ends' read is
 
 -- what stands behind the word of a shard
-shard_rest : (number count : ℕ) → shard_line number count ≡ codes "shard" ++ (spaced number ++ (spaced count ++ 10 ∷ []))
+shard_rest : (number count : ℕ) → shard_line number count ≡ codes "shard" ++ (space_number number ++ (space_number count ++ 10 ∷ []))
 shard_rest number count = simp append_assoc
 
 pub cancel : (word a b : List ℕ) → word ++ a ≡ word ++ b → a ≡ b
 cancel [] a b e = e
 cancel (c ∷ word) a b e = cancel word a b (tail_is c c (word ++ a) (word ++ b) e)
 
-pub shard_behind : (text rest : List ℕ) (number count : ℕ) → text ≡ codes "shard" ++ rest → text ≡ shard_line number count → rest ≡ spaced number ++ (spaced count ++ 10 ∷ [])
-shard_behind text rest number count at is = cancel (codes "shard") rest (spaced number ++ (spaced count ++ 10 ∷ [])) (sym at ∙ is ∙ shard_rest number count)
+pub shard_behind : (text rest : List ℕ) (number count : ℕ) → text ≡ codes "shard" ++ rest → text ≡ shard_line number count → rest ≡ space_number number ++ (space_number count ++ 10 ∷ [])
+shard_behind text rest number count at is = cancel (codes "shard") rest (space_number number ++ (space_number count ++ 10 ∷ [])) (sym at ∙ is ∙ shard_rest number count)
 
 -- and behind `reg`
 pub reg_behind : (text : List ℕ) (colour : Colour) (event : Event) (by : ℕ) → codes "reg" ++ text ≡ entry_line (Reg colour event by)
-    → text ≡ spaced colour.0 ++ (spaced event.handler ++ (spaced event.arg ++ (spaced by ++ 10 ∷ [])))
+    → text ≡ space_number colour.0 ++ (space_number event.handler ++ (space_number event.arg ++ (space_number by ++ 10 ∷ [])))
 reg_behind text colour event by is =
-    let whole : entry_line (Reg colour event by) ≡ codes "reg" ++ (spaced colour.0 ++ (spaced event.handler ++ (spaced event.arg ++ (spaced by ++ 10 ∷ [])))) = simp append_assoc in
-    cancel (codes "reg") text (spaced colour.0 ++ (spaced event.handler ++ (spaced event.arg ++ (spaced by ++ 10 ∷ [])))) (is ∙ whole)
+    let whole : entry_line (Reg colour event by) ≡ codes "reg" ++ (space_number colour.0 ++ (space_number event.handler ++ (space_number event.arg ++ (space_number by ++ 10 ∷ [])))) = simp append_assoc in
+    cancel (codes "reg") text (space_number colour.0 ++ (space_number event.handler ++ (space_number event.arg ++ (space_number by ++ 10 ∷ [])))) (is ∙ whole)
 
 -- a rest that was told from the end of the line is another
 pub not_feed : (rest feed : List ℕ) → feed ≡ 10 ∷ [] → true ≡ not (pointwise nat_eq rest feed) → rest ≡ 10 ∷ [] → ⊥

@@ -7,7 +7,7 @@ use Rattle.std.proofs.lemmas.Grind.{flat_map-append}
 use Rattle.mely_history.specs.declared.entry.Entry.{Entry}
 use Rattle.mely_history.specs.declared.entry.Entry.TheVariants.{Reg, Take, Fin, Steal}
 use Rattle.sws_report.specs.Journal.{entry_line, shard_line, journal}
-use Rattle.mely_check.specs.Journals.{IsFit, IsFitHistory, IsLine, IsJournal, BeginsJournal, joined, entries_in}
+use Rattle.mely_check.specs.Journals.{IsFit, IsFitHistory, IsLine, IsJournal, BeginsJournal, join_lines, entries_in}
 use Rattle.mely_check.specs.Walks.{Walk, start, within, walk_text, begun_in, left_in, count_in, IsFitWalk, IsAt, GoesOn, MayStand, Moves, MayNotStand}
 use Rattle.mely_check.specs.Reading.{Says as SaysLine}
 use Rattle.mely_check.specs.declared.reading.Line.{Line}
@@ -20,7 +20,7 @@ use Rattle.mely_check.proofs.LineLemmas.{line_same, some_line, joined-push, IsLi
 -- ---- a line that may not stand
 
 -- what is behind the lines that were read, where they and more are a journal
-pub goes_behind : (lines : List (List ℕ)) (place : Place) (behind : List ℕ) → place.shards < 65536 → place.begun ≤ place.shards → IsAt lines place → IsJournal place.shards (joined lines ++ behind)
+pub goes_behind : (lines : List (List ℕ)) (place : Place) (behind : List ℕ) → place.shards < 65536 → place.begun ≤ place.shards → IsAt lines place → IsJournal place.shards (join_lines lines ++ behind)
     → Next place.left place.begun place.shards behind
 goes_behind lines place behind few begun at journal_is =
     let walk : Walk = at.walk in
@@ -32,9 +32,9 @@ goes_behind lines place behind few begun at journal_is =
 pub refused : (lines : List (List ℕ)) (place : Place) (line : List ℕ) → place.shards < 65536 → place.begun ≤ place.shards → IsAt lines place → IsLine line
     → (0 < place.left → (e : Entry) → IsFit e → line ≡ entry_line e → ⊥)
     → (place.left ≡ 0 → place.begun < place.shards → (count : ℕ) → count < 2 ^ 64 → line ≡ shard_line place.begun count → ⊥)
-    → BeginsJournal place.shards (joined lines ++ line) → ⊥
+    → BeginsJournal place.shards (join_lines lines ++ line) → ⊥
 refused lines place line few begun at is no_entry no_shard begins =
-    let whole : IsJournal place.shards (joined lines ++ (line ++ begins.more)) = subst (IsJournal place.shards) (append_assoc (joined lines) line begins.more) begins.is in
+    let whole : IsJournal place.shards (join_lines lines ++ (line ++ begins.more)) = subst (IsJournal place.shards) (append_assoc (join_lines lines) line begins.more) begins.is in
     let next = goes_behind lines place (line ++ begins.more) few begun at whole in
     elim (cases_lt 0 place.left) [
       | inl some ↦

@@ -4,7 +4,7 @@ use Rattle.std.specs.List.{flat_map, AllByRecursion}
 use Rattle.mely_history.specs.declared.entry.Entry.{Entry}
 use Rattle.mely_history.specs.declared.entry.Entry.TheVariants.{Reg, Take, Fin, Steal}
 use Rattle.sws_report.specs.Journal.{entry_line, shard_line, shard_text, journal_from, journal, IsSmall, AreSmall}
-use Rattle.sws_report.specs.Numbers.{spaced}
+use Rattle.sws_report.specs.Numbers.{space_number}
 use Rattle.sws_report.proofs.UniqueJournalLemmas.{entry_split, shard_split, nil_is, cancel}
 use Rattle.mely_check.proofs.ReadingLemmas.{spaced_split, tail_is}
 use Rattle.mely_check.specs.Journals.{IsFit, IsFitHistory, AreFit}
@@ -115,10 +115,10 @@ pub shard_line-split : (m n a b : ℕ) (x y : List ℕ) → m < 2 ^ 64 → n < 2
 shard_line-split m n a b x y small_m small_n small_a small_b is =
     let low : 32 < 48 = omega arith in
     let feed : 10 < 48 = omega arith in
-    let one : shard_line m a ++ x ≡ codes "shard" ++ (spaced m ++ (spaced a ++ 10 ∷ x)) = simp append_assoc in
-    let other : shard_line n b ++ y ≡ codes "shard" ++ (spaced n ++ (spaced b ++ 10 ∷ y)) = simp append_assoc in
-    let first = spaced_split m n (spaced a ++ 10 ∷ x) (spaced b ++ 10 ∷ y) small_m small_n low low
-    (cancel (codes "shard") (spaced m ++ (spaced a ++ 10 ∷ x)) (spaced n ++ (spaced b ++ 10 ∷ y)) (sym one ∙ is ∙ other)) in
+    let one : shard_line m a ++ x ≡ codes "shard" ++ (space_number m ++ (space_number a ++ 10 ∷ x)) = simp append_assoc in
+    let other : shard_line n b ++ y ≡ codes "shard" ++ (space_number n ++ (space_number b ++ 10 ∷ y)) = simp append_assoc in
+    let first = spaced_split m n (space_number a ++ 10 ∷ x) (space_number b ++ 10 ∷ y) small_m small_n low low
+    (cancel (codes "shard") (space_number m ++ (space_number a ++ 10 ∷ x)) (space_number n ++ (space_number b ++ 10 ∷ y)) (sym one ∙ is ∙ other)) in
     let second = spaced_split a b (10 ∷ x) (10 ∷ y) small_a small_b feed feed first.1 in
     (first.0, second.0, tail_is 10 10 x y second.1)
 

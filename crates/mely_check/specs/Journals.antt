@@ -51,8 +51,8 @@ pub record IsLine (line : List ℕ) : Type 0 where
   pub no_feed : HasNoFeed front
 
 -- the lines, one behind another
-abbrev pub joined : List (List ℕ) → List ℕ
-joined lines = flat_map (λ line. line) lines
+abbrev pub join_lines : List (List ℕ) → List ℕ
+join_lines lines = flat_map (λ line. line) lines
 
 -- the line of this number is outside, whatever else
 abbrev pub line_limit : ℕ
@@ -63,13 +63,13 @@ line_limit = 4294967295
 pub record IsFirstOutside (shards : ℕ) (text : List ℕ) (number : ℕ) : Type 0 where
   pub lines : List (List ℕ)
   pub rest : List ℕ
-  pub is : text ≡ joined lines ++ rest
+  pub is : text ≡ join_lines lines ++ rest
   pub are : AllByRecursion IsLine lines
   pub counted : number ≡ length lines + 1
   pub within : length lines < line_limit
-  pub begin : BeginsJournal shards (joined lines)
+  pub begin : BeginsJournal shards (join_lines lines)
   pub outside : (line later : List ℕ) → IsLine line → rest ≡ line ++ later → number < line_limit
-      → BeginsJournal shards (joined lines ++ line) → ⊥
+      → BeginsJournal shards (join_lines lines ++ line) → ⊥
   pub unended : HasNoFeed rest → IsJournal shards text → ⊥
 
 -- ---- what is found of a text

@@ -58,8 +58,8 @@ pub record AddsTo (before : List CoreReport) (core : ℕ) (more : CoreReport) (a
   pub others : (other : ℕ) → other ≢ core → slice_get after other ≡ slice_get before other
 
 -- a core's report with one more entry
-abbrev pub counted : ℕ → Entry → CoreReport → CoreReport
-counted core entry report = record {
+abbrev pub report_after : ℕ → Entry → CoreReport → CoreReport
+report_after core entry report = record {
   ran = report.ran + finished_by core entry;
   stolen_in = report.stolen_in + cond (steals core entry) 1 0;
   stolen_out = report.stolen_out + cond (loses core entry) 1 0;
@@ -69,7 +69,7 @@ counted core entry report = record {
 pub record Counts (before : List CoreReport) (entry : Entry) (after : List CoreReport) : Type 0 where
   pub many : length after ≡ length before
   pub each : (core : ℕ) (report : CoreReport) → slice_get before core ≡ Some report
-      → HasRoom report 65535 1 1 → slice_get after core ≡ Some (counted core entry report)
+      → HasRoom report 65535 1 1 → slice_get after core ≡ Some (report_after core entry report)
 
 -- the entry was heard: what is kept of its colour went on, and of no other, and it was counted
 pub record Adds (before : Judge) (entry : Entry) (after : Judge) : Type 0 where

@@ -1,6 +1,6 @@
 -- Within the crate: what of a text was read.
 use Rattle.std.specs.Prelude.{◌≡◌, ℕ, ◌+◌, ◌*◌, ◌<◌, List, ◌++◌, length, Option, Some, None, Result, Ok, Err, ⊤}
-use Rattle.mely_check.specs.Journals.{HasNoFeed, IsFirstOutside, joined}
+use Rattle.mely_check.specs.Journals.{HasNoFeed, IsFirstOutside, join_lines}
 use Rattle.mely_history.specs.declared.setup.Setup.{Setup}
 use Rattle.mely_check.specs.Verdicts.{IsAccepted, Says}
 use Rattle.mely_check.specs.Walks.{IsAt, MayNotStand, histories_in}
@@ -16,7 +16,7 @@ use Rattle.mely_check.specs.declared.reader.Reader.{Reader}
 pub record Stands (text : List ℕ) (reader : Reader) : Type 0 where
   pub lines : List (List ℕ)
   pub at : IsAt lines reader.place
-  pub is : text ≡ joined lines ++ reader.line.items
+  pub is : text ≡ join_lines lines ++ reader.line.items
   pub unended : HasNoFeed reader.line.items
   pub short : length reader.line.items < 64
 
@@ -55,7 +55,7 @@ pub record IsHeard (setup : Setup) (lines : List (List ℕ)) (place : Place) (ju
 pub record Knows (setup : Setup) (text : List ℕ) (reader : Reader) : Type 0 where
   pub lines : List (List ℕ)
   pub heard : IsHeard setup lines reader.place reader.judge
-  pub is : text ≡ joined lines ++ reader.line.items
+  pub is : text ≡ join_lines lines ++ reader.line.items
   pub unended : HasNoFeed reader.line.items
   pub short : length reader.line.items < 64
 

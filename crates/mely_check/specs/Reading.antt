@@ -1,7 +1,7 @@
 -- Within the crate: what a line says.
 use Rattle.std.specs.Prelude.{◌≡◌, ℕ, ◌^◌, ◌<◌, ◌≤◌, List, [], ◌∷◌, ◌++◌, Option, MatchOption, ⊤}
 use Rattle.std.specs.List.{AllByRecursion}
-use Rattle.sws_report.specs.Numbers.{spaced}
+use Rattle.sws_report.specs.Numbers.{space_number}
 use Rattle.sws_report.specs.Journal.{entry_line, shard_line}
 use Rattle.mely_check.specs.declared.reading.Line.{Line}
 use Rattle.mely_check.specs.declared.reading.Line.TheVariants as line
@@ -30,5 +30,5 @@ ReadsLine text read = MatchOption read ((says : Line) → Says text says → ⊥
 abbrev pub ReadsField : ℕ → List ℕ → Option (ℕ × List ℕ) → Type 0
 ReadsField high text read =
     MatchOption read ((n : ℕ) (rest : List ℕ) → n ≤ high → IsBehind rest
-    → text ≡ spaced n ++ rest → ⊥)
-    (λ found. (found.0 ≤ high) × IsBehind found.1 × (text ≡ spaced found.0 ++ found.1))
+    → text ≡ space_number n ++ rest → ⊥)
+    (λ found. (found.0 ≤ high) × IsBehind found.1 × (text ≡ space_number found.0 ++ found.1))

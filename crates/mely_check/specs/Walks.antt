@@ -3,7 +3,7 @@ use Rattle.std.specs.Prelude.{◌≡◌, ℕ, ◌+◌, ◌^◌, ◌<◌, List, [
 use Rattle.std.specs.List.{flat_map, AllByRecursion}
 use Rattle.mely_history.specs.declared.entry.Entry.{Entry}
 use Rattle.sws_report.specs.Journal.{entry_line, shard_line, journal}
-use Rattle.mely_check.specs.Journals.{IsFit, IsFitHistory, IsLine, BeginsJournal, joined, entries_in, line_limit}
+use Rattle.mely_check.specs.Journals.{IsFit, IsFitHistory, IsLine, BeginsJournal, join_lines, entries_in, line_limit}
 use Rattle.mely_check.specs.declared.place.Place.{Place}
 use Rattle.mely_check.specs.declared.reading.Line.{Line}
 use Rattle.mely_check.specs.declared.reading.Line.TheVariants as said_line
@@ -54,7 +54,7 @@ IsFitLine (said_line.Entry entry) = IsFit entry
 -- the whole lines of the text were read, as the place says
 pub record IsAt (lines : List (List ℕ)) (place : Place) : Type 0 where
   pub walk : Walk
-  pub is : joined lines ≡ walk_text walk
+  pub is : join_lines lines ≡ walk_text walk
   pub are : AllByRecursion IsLine lines
   pub fit : IsFitWalk walk
   pub begun : place.begun ≡ begun_in walk
@@ -66,7 +66,7 @@ pub record IsAt (lines : List (List ℕ)) (place : Place) : Type 0 where
 -- the line is no next one: with it the lines begin no journal, or it is one too many
 abbrev pub MayNotStand : List (List ℕ) → List ℕ → Place → Type 0
 MayNotStand lines line place = place.number < line_limit
-    → BeginsJournal place.shards (joined lines ++ line) → ⊥
+    → BeginsJournal place.shards (join_lines lines ++ line) → ⊥
 
 -- what a line says was read: the histories go on by it
 abbrev pub GoesOn : Walk → Line → Walk → Type 0

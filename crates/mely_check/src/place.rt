@@ -20,7 +20,7 @@ pub(crate) struct Place {
 }
 
 impl Place {
-    ghost use Rattle.mely_check.specs.Journals.{IsLine, BeginsJournal, joined, line_limit};
+    ghost use Rattle.mely_check.specs.Journals.{IsLine, BeginsJournal, join_lines, line_limit};
     ghost use Rattle.mely_check.specs.Reading.{Says};
     ghost use Rattle.mely_check.specs.Walks.{IsAt, MayNotStand, MayStand, Moves};
 

@@ -1,7 +1,7 @@
 //! What a line says.
 ghost use Rattle.std.specs.Prelude.{◌≡◌, ◌≤◌, ◌<◌, ◌^◌, ◌++◌, ◌∷◌, [], ℕ, List, MatchOption, option_map, codes};
 ghost use Rattle.std.specs.Fmt.{decimal};
-ghost use Rattle.sws_report.specs.Numbers.{spaced};
+ghost use Rattle.sws_report.specs.Numbers.{space_number};
 ghost use Rattle.mely_check.specs.Reading.{IsHigh, IsBehind, ReadsField, ReadsLine};
 ghost use Rattle.mely_history.specs.declared.entry.Entry.{Entry as EntryValue};
 ghost use Rattle.mely_event.specs.declared.colour.Colour.{Colour as ColourValue};
@@ -111,9 +111,10 @@ fn read_reg(text: &[u8]) -> Option<HistoryEntry>
 fn three(text: &[u8]) -> Option<(u16, u16, u16)>
     ensures { MatchOption result
         ((a b c : ℕ) → a < 65536 → b < 65536 → c < 65536
-        → text.now ≡ spaced a ++ (spaced b ++ (spaced c ++ 10 ∷ [])) → ⊥)
+        → text.now ≡ space_number a ++ (space_number b ++ (space_number c ++ 10 ∷ [])) → ⊥)
         (λ found. (found.0 < 65536) × (found.1 < 65536) × (found.2 < 65536)
-        × (text.now ≡ spaced found.0 ++ (spaced found.1 ++ (spaced found.2 ++ 10 ∷ [])))) }
+        × (text.now ≡ space_number found.0
+        ++ (space_number found.1 ++ (space_number found.2 ++ 10 ∷ [])))) }
 {
     let (first, rest) = field(text, 65_535)?;
     let (second, third) = two(rest)?;
@@ -123,9 +124,10 @@ fn three(text: &[u8]) -> Option<(u16, u16, u16)>
 /// Two numbers up to the end of the line.
 fn two(text: &[u8]) -> Option<(u16, u16)>
     ensures { MatchOption result
-        ((a b : ℕ) → a < 65536 → b < 65536 → text.now ≡ spaced a ++ (spaced b ++ 10 ∷ []) → ⊥)
+        ((a b : ℕ) → a < 65536 → b < 65536
+        → text.now ≡ space_number a ++ (space_number b ++ 10 ∷ []) → ⊥)
         (λ found. (found.0 < 65536) × (found.1 < 65536)
-        × (text.now ≡ spaced found.0 ++ (spaced found.1 ++ 10 ∷ []))) }
+        × (text.now ≡ space_number found.0 ++ (space_number found.1 ++ 10 ∷ []))) }
 {
     let (first, rest) = field(text, 65_535)?;
     let (second, rest) = field(rest, 65_535)?;

@@ -7,11 +7,11 @@ use Rattle.std.proofs.lemmas.Option.{none-some, same_Some}
 use Rattle.std.proofs.lemmas.List.Elements.{All-weaker}
 use Rattle.mely_event.specs.declared.colour.Colour.{Colour}
 use Rattle.mely_event.specs.declared.mark.Mark.{Mark}
-use Rattle.mely_steal.specs.Marks.{is_of, mark_of, without, replaced, IsOneEach}
-use Rattle.mely_steal.specs.StealQueue.{is_worthy, entered, changed, pick_of}
+use Rattle.mely_steal.specs.Marks.{is_of, mark_of, without, after_replacement, IsOneEach}
+use Rattle.mely_steal.specs.StealQueue.{is_worthy, after_entry, after_mark_change, pick_of}
 use Rattle.mely_steal.proofs.MarkLemmas.{mark_of-same, mark_of-append, mark_of-without_same, mark_of-without_other, mark_of-replaced_same, mark_of-replaced_other, AreApart-push, AreApart-without, AreApart-replaced}
 use Rattle.mely_steal.proofs.StealLemmas.{mark_of-entered_same, mark_of-entered_other, mark_of-push_other, mark_of-changed_same, mark_of-changed_other, each_is_mark_of, worthy-parts, worthy-from, find-All, pick_of-mark_of, AreWorthy-entered, AreWorthy-without, AreWorthy-changed}
-use Rattle.mely_steal.specs.Links.{is_in, dropped}
+use Rattle.mely_steal.specs.Links.{is_in, without_place}
 use Rattle.mely_steal.specs.StealTable.{Told, StealTableState, SetsMark, mark_in, worthy_of}
 use Rattle.mely_steal.proofs.LinkLemmas.{in-other, dropped-first, dropped-later}
 use Rattle.mely_steal.proofs.EnterLemmas.{eqb-swap}
@@ -29,7 +29,7 @@ mark_of-push_same m c xs e h =
     ∙ cond-true (is_of c m) (Some m) None (eq-eqb m.colour.0 c.0 (sym e)))
 
 -- after a mark of a new colour
-same-push : (cost pinned : ℕ) (m : Mark) (chain worthy : List Mark) → AreSame cost pinned chain worthy → mark_of m.colour chain ≡ None → AreSame cost pinned (chain ++ m ∷ []) (entered cost pinned m worthy)
+same-push : (cost pinned : ℕ) (m : Mark) (chain worthy : List Mark) → AreSame cost pinned chain worthy → mark_of m.colour chain ≡ None → AreSame cost pinned (chain ++ m ∷ []) (after_entry cost pinned m worthy)
 same-push cost pinned m chain worthy same none c = elim (cases_eq c.0 m.colour.0) [
   | inl e ↦
       let absent : mark_of c chain ≡ None = mark_of-same c m.colour chain e ∙ none in
@@ -46,7 +46,7 @@ same-without cost pinned d chain worthy same c = elim (cases_eq c.0 d.0) [
 ]
 
 -- after the mark of a colour became another
-same-told : (cost pinned : ℕ) (new old : Mark) (chain worthy : List Mark) → AreSame cost pinned chain worthy → All (λ m. cost < m.worth) worthy → All (λ m. pinned ≤ m.colour.0) worthy → mark_of new.colour chain ≡ Some old → AreSame cost pinned (replaced new chain) (changed cost pinned new worthy)
+same-told : (cost pinned : ℕ) (new old : Mark) (chain worthy : List Mark) → AreSame cost pinned chain worthy → All (λ m. cost < m.worth) worthy → All (λ m. pinned ≤ m.colour.0) worthy → mark_of new.colour chain ≡ Some old → AreSame cost pinned (after_replacement new chain) (after_mark_change cost pinned new worthy)
 same-told cost pinned new old chain worthy same all loose there c = elim (cases_eq c.0 new.colour.0) [
   | inl e ↦
       mark_of-changed_same cost pinned new c worthy e all loose
@@ -99,7 +99,7 @@ no-pick cost pinned chain worthy m same one all h =
 
 -- a chain and its stealing queue with a mark more, without a colour, and with a mark replaced
 hold-push : (m : Mark) (chain worthy : List Mark) (n cost pinned : ℕ) → HoldTogether (record { chain = chain; worthy = worthy; colours = n; cost = cost; pinned = pinned }) → m.colour.0 < n → mark_of m.colour chain ≡ None
-    → HoldTogether (record { chain = chain ++ m ∷ []; worthy = entered cost pinned m worthy; colours = n; cost = cost; pinned = pinned })
+    → HoldTogether (record { chain = chain ++ m ∷ []; worthy = after_entry cost pinned m worthy; colours = n; cost = cost; pinned = pinned })
 hold-push m chain worthy n cost pinned held lt none =
     let more = AreApart-push chain n m (record { below = held.below; apart = held.apart }) lt none in
     record {
@@ -116,7 +116,7 @@ hold-without c chain worthy n cost pinned held =
     record { below = less.below; apart = less.apart; worthy = AreWorthy-without c worthy n cost pinned held.worthy; same = same-without cost pinned c chain worthy held.same }
 
 hold-told : (new old : Mark) (chain worthy : List Mark) (n cost pinned : ℕ) → HoldTogether (record { chain = chain; worthy = worthy; colours = n; cost = cost; pinned = pinned }) → new.colour.0 < n → mark_of new.colour chain ≡ Some old
-    → HoldTogether (record { chain = replaced new chain; worthy = changed cost pinned new worthy; colours = n; cost = cost; pinned = pinned })
+    → HoldTogether (record { chain = after_replacement new chain; worthy = after_mark_change cost pinned new worthy; colours = n; cost = cost; pinned = pinned })
 hold-told new old chain worthy n cost pinned held lt there =
     let put = AreApart-replaced new chain n (record { below = held.below; apart = held.apart }) in
     record {
@@ -150,12 +150,12 @@ pub none-out : (t : Told) (c : Colour) (l : List ℕ) → mark_of c (marks_by t 
 none-out t c l h = elim (cases_Bool (is_in l c.0)) [ inl t' ↦ absurd (none-some (mark_in t c.0) (sym h ∙ mark_of-in t c l t')) | inr f ↦ f ]
 
 -- without a colour, with one more, and with the mark of one written
-without-by : (t : Told) (c : Colour) (l : List ℕ) → without c (marks_by t l) ≡ marks_by t (dropped c.0 l)
+without-by : (t : Told) (c : Colour) (l : List ℕ) → without c (marks_by t l) ≡ marks_by t (without_place c.0 l)
 without-by t c [] = refl
 without-by t c (x ∷ l) = elim (cases_eq c.0 x) [
   | inl e ↦
       cond-false (not (eqb x c.0)) (mark_in t x ∷ without c (marks_by t l)) (without c (marks_by t l)) (not_from_true (eqb x c.0) (eq-eqb x c.0 (sym e)))
-      ∙ (without-by t c l ∙ sym (ap (marks_by t) (cond-false (not (eqb c.0 x)) (x ∷ dropped c.0 l) (dropped c.0 l) (not_from_true (eqb c.0 x) (eq-eqb c.0 x e)))))
+      ∙ (without-by t c l ∙ sym (ap (marks_by t) (cond-false (not (eqb c.0 x)) (x ∷ without_place c.0 l) (without_place c.0 l) (not_from_true (eqb c.0 x) (eq-eqb c.0 x e)))))
   | inr ne ↦
       cond-true (not (eqb x c.0)) (mark_in t x ∷ without c (marks_by t l)) (without c (marks_by t l)) (not_from_false (eqb x c.0) (ne_eqb x c.0 (λ e. ne (sym e))))
       ∙ (ap (λ ys. mark_in t x ∷ ys) (without-by t c l) ∙ sym (ap (marks_by t) (dropped-later c.0 x l ne)))
@@ -172,7 +172,7 @@ push-by t u m l sets off =
     map-append (λ (x : ℕ). mark_in u x) l (m.colour.0 ∷ [])
     ∙ (ap (λ ys. ys ++ mark_in u m.colour.0 ∷ []) (stay-by t u m l sets off) ∙ ap (λ k. marks_by t l ++ k ∷ []) sets.here)
 
-told-by : (t u : Told) (m : Mark) (l : List ℕ) → SetsMark m t u → marks_by u l ≡ replaced m (marks_by t l)
+told-by : (t u : Told) (m : Mark) (l : List ℕ) → SetsMark m t u → marks_by u l ≡ after_replacement m (marks_by t l)
 told-by t u m [] sets = refl
 told-by t u m (x ∷ l) sets =
     let here : mark_in u x ≡ cond (eqb x m.colour.0) m (mark_in t x) = elim (cases_eq m.colour.0 x) [
@@ -183,41 +183,41 @@ told-by t u m (x ∷ l) sets =
 
 -- the chain and the table after a push, after a colour left both, and after a report
 pub push-holds : (l : List ℕ) (T U : StealTableState) (m : Mark) → HoldTogether (chain_of l T) → m.colour.0 < T.colours → mark_of m.colour (marks_by T.told l) ≡ None → SetsMark m T.told U.told
-    → worthy_of U ≡ record (worthy_of T) { marks = entered T.cost T.pinned m (worthy_of T).marks }
-    → (chain_of (l ++ m.colour.0 ∷ []) U ≡ record (chain_of l T) { chain = marks_by T.told l ++ m ∷ []; worthy = entered T.cost T.pinned m (worthy_of T).marks }) × HoldTogether (chain_of (l ++ m.colour.0 ∷ []) U)
+    → worthy_of U ≡ record (worthy_of T) { marks = after_entry T.cost T.pinned m (worthy_of T).marks }
+    → (chain_of (l ++ m.colour.0 ∷ []) U ≡ record (chain_of l T) { chain = marks_by T.told l ++ m ∷ []; worthy = after_entry T.cost T.pinned m (worthy_of T).marks }) × HoldTogether (chain_of (l ++ m.colour.0 ∷ []) U)
 push-holds l T U m held lt none sets w =
     let chain = push-by T.told U.told m l sets (none-out T.told m.colour l none) in
-    let is : chain_of (l ++ m.colour.0 ∷ []) U ≡ record (chain_of l T) { chain = marks_by T.told l ++ m ∷ []; worthy = entered T.cost T.pinned m (worthy_of T).marks } =
+    let is : chain_of (l ++ m.colour.0 ∷ []) U ≡ record (chain_of l T) { chain = marks_by T.told l ++ m ∷ []; worthy = after_entry T.cost T.pinned m (worthy_of T).marks } =
     λ i. record { chain = chain i; worthy = (w i).marks; colours = (w i).colours; cost = (w i).cost; pinned = (w i).pinned } in
     (is, subst HoldTogether (sym is) (hold-push m (marks_by T.told l) (worthy_of T).marks T.colours T.cost T.pinned held lt none))
 
 pub leave-holds : (l : List ℕ) (T U : StealTableState) (c : Colour) → HoldTogether (chain_of l T) → U.told ≡ T.told → worthy_of U ≡ record (worthy_of T) { marks = without c (worthy_of T).marks }
-    → (chain_of (dropped c.0 l) U ≡ record (chain_of l T) { chain = without c (marks_by T.told l); worthy = without c (worthy_of T).marks }) × HoldTogether (chain_of (dropped c.0 l) U)
+    → (chain_of (without_place c.0 l) U ≡ record (chain_of l T) { chain = without c (marks_by T.told l); worthy = without c (worthy_of T).marks }) × HoldTogether (chain_of (without_place c.0 l) U)
 leave-holds l T U c held told w =
-    let chain : marks_by U.told (dropped c.0 l) ≡ without c (marks_by T.told l) = ap (λ t. marks_by t (dropped c.0 l)) told ∙ sym (without-by T.told c l) in
-    let is : chain_of (dropped c.0 l) U ≡ record (chain_of l T) { chain = without c (marks_by T.told l); worthy = without c (worthy_of T).marks } =
+    let chain : marks_by U.told (without_place c.0 l) ≡ without c (marks_by T.told l) = ap (λ t. marks_by t (without_place c.0 l)) told ∙ sym (without-by T.told c l) in
+    let is : chain_of (without_place c.0 l) U ≡ record (chain_of l T) { chain = without c (marks_by T.told l); worthy = without c (worthy_of T).marks } =
     λ i. record { chain = chain i; worthy = (w i).marks; colours = (w i).colours; cost = (w i).cost; pinned = (w i).pinned } in
     (is, subst HoldTogether (sym is) (hold-without c (marks_by T.told l) (worthy_of T).marks T.colours T.cost T.pinned held))
 
 pub told-holds : (l : List ℕ) (T U : StealTableState) (m old : Mark) → HoldTogether (chain_of l T) → m.colour.0 < T.colours → mark_of m.colour (marks_by T.told l) ≡ Some old → SetsMark m T.told U.told
-    → worthy_of U ≡ record (worthy_of T) { marks = changed T.cost T.pinned m (worthy_of T).marks }
-    → (chain_of l U ≡ record (chain_of l T) { chain = replaced m (marks_by T.told l); worthy = changed T.cost T.pinned m (worthy_of T).marks }) × HoldTogether (chain_of l U)
+    → worthy_of U ≡ record (worthy_of T) { marks = after_mark_change T.cost T.pinned m (worthy_of T).marks }
+    → (chain_of l U ≡ record (chain_of l T) { chain = after_replacement m (marks_by T.told l); worthy = after_mark_change T.cost T.pinned m (worthy_of T).marks }) × HoldTogether (chain_of l U)
 told-holds l T U m old held lt there sets w =
     let chain = told-by T.told U.told m l sets in
-    let is : chain_of l U ≡ record (chain_of l T) { chain = replaced m (marks_by T.told l); worthy = changed T.cost T.pinned m (worthy_of T).marks } =
+    let is : chain_of l U ≡ record (chain_of l T) { chain = after_replacement m (marks_by T.told l); worthy = after_mark_change T.cost T.pinned m (worthy_of T).marks } =
     λ i. record { chain = chain i; worthy = (w i).marks; colours = (w i).colours; cost = (w i).cost; pinned = (w i).pinned } in
     (is, subst HoldTogether (sym is) (hold-told m old (marks_by T.told l) (worthy_of T).marks T.colours T.cost T.pinned held lt there))
 
 -- the first of the chain, and what is left without its colour
-first-gone : (t : Told) (l : List ℕ) (c : ℕ) → IsOneEach (marks_by t l) → slice_get l 0 ≡ Some c → marks_by t l ≡ mark_in t c ∷ marks_by t (dropped c l)
+first-gone : (t : Told) (l : List ℕ) (c : ℕ) → IsOneEach (marks_by t l) → slice_get l 0 ≡ Some c → marks_by t l ≡ mark_in t c ∷ marks_by t (without_place c l)
 first-gone t [] c one h = absurd (none-some c h)
 first-gone t (x ∷ l) c one h =
     let is : x ≡ c = same_Some x c h in
     let off : is_in l x ≡ false = none-out t (record { 0 = x }) l one.0 in
-    let less : dropped c (x ∷ l) ≡ l = ap (λ z. dropped z (x ∷ l)) (sym is) ∙ dropped-first x l off in
+    let less : without_place c (x ∷ l) ≡ l = ap (λ z. without_place z (x ∷ l)) (sym is) ∙ dropped-first x l off in
     ap (λ z. mark_in t z ∷ marks_by t l) is ∙ ap (λ ys. mark_in t c ∷ marks_by t ys) (sym less)
 
-pub front-holds : (t : Told) (l : List ℕ) (o : Option Colour) (c : Colour) → IsOneEach (marks_by t l) → o ≡ Some c → option_map (λ x. x.0) o ≡ slice_get l 0 → marks_by t l ≡ mark_in t c.0 ∷ marks_by t (dropped c.0 l)
+pub front-holds : (t : Told) (l : List ℕ) (o : Option Colour) (c : Colour) → IsOneEach (marks_by t l) → o ≡ Some c → option_map (λ x. x.0) o ≡ slice_get l 0 → marks_by t l ≡ mark_in t c.0 ∷ marks_by t (without_place c.0 l)
 front-holds t l o c one is at = first-gone t l c.0 one (sym at ∙ ap (option_map (λ (x : Colour). x.0)) is)
 
 pub front-none : (t : Told) (l : List ℕ) (o : Option Colour) → o ≡ None → option_map (λ x. x.0) o ≡ slice_get l 0 → marks_by t l ≡ []

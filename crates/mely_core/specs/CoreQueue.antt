@@ -62,11 +62,11 @@ pub record HoldTogether (core : CoreQueueState) : Type 0 where
 
 -- the mark after a report of a worth, which only raises it: nothing where the report is of another period, so of another number
 -- of started events
-abbrev pub raised : ℕ → ℕ → Option Mark → Option Mark
-raised started worth None = None
-raised started worth (Some mark) =
+abbrev pub after_report : ℕ → ℕ → Option Mark → Option Mark
+after_report started worth None = None
+after_report started worth (Some mark) =
     if mark.started == started then Some (record mark { worth = max mark.worth worth }) else None
 
 -- what a report on a colour makes of the colour's mark in a chain
 abbrev pub told_of : Colour → ℕ → ℕ → List Mark → Option Mark
-told_of colour started worth chain = raised started worth (mark_of colour chain)
+told_of colour started worth chain = after_report started worth (mark_of colour chain)

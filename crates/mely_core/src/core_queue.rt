@@ -1,7 +1,7 @@
 //! A chain of marks with its stealing queue.
 ghost use Rattle.std.specs.Prelude.{◌≡◌, ◌<◌, ◌≤◌, ◌↔◌, None, Some, [], ◌∷◌, ◌++◌, All, IfOk, IfErr, OnOk, OnErr, IfSome, IsErr, IsNone, IsSome, IsTrue, MatchOption, is_some, slice_get};
-ghost use Rattle.mely_steal.specs.Marks.{mark_of, without, replaced};
-ghost use Rattle.mely_steal.specs.StealQueue.{entered, changed, pick_of};
+ghost use Rattle.mely_steal.specs.Marks.{mark_of, without, after_replacement};
+ghost use Rattle.mely_steal.specs.StealQueue.{after_entry, after_mark_change, pick_of};
 
 use mely_event::{Colour, Mark, Memory, There};
 use mely_steal::{ColourList, StealTable};
@@ -60,7 +60,7 @@ impl CoreQueue {
     /// A mark of its colour is in the chain: the mark is handed back, and nothing changed.
     pub fn push(&mut self, mark: Mark) -> Result<(), There>
         requires { mark.colour.0 < self.old.colours }
-        ensures ok { let worthy = entered self.old.cost self.old.pinned mark self.old.worthy in
+        ensures ok { let worthy = after_entry self.old.cost self.old.pinned mark self.old.worthy in
             let chain = self.old.chain ++ mark ∷ [] in
             OnOk result (self.new ≡ record self.old { chain = chain; worthy = worthy }) }
         ensures there { IsErr result ↔ IsSome (mark_of mark.colour self.old.chain) }
@@ -103,8 +103,9 @@ impl CoreQueue {
         ensures answer { result ≡ is_some (told_of colour started worth self.old.chain) }
         ensures told { let report = told_of colour started worth self.old.chain in
             MatchOption report (self.new ≡ self.old) (λ told.
-            let worthy = changed self.old.cost self.old.pinned told self.old.worthy in
-            self.new ≡ record self.old { chain = replaced told self.old.chain; worthy = worthy }) }
+            let worthy = after_mark_change self.old.cost self.old.pinned told self.old.worthy in
+            let chain = after_replacement told self.old.chain in
+            self.new ≡ record self.old { chain = chain; worthy = worthy }) }
         ensures same { KeepsNumbers self.old self.new }
         ensures together { HoldTogether self.new }
     {

@@ -6,7 +6,7 @@ use Rattle.mely_event.specs.declared.event.Event.{Event}
 use Rattle.mely_event.specs.declared.trail.Trail.{Ghosts as TrailWords}
 use Rattle.mely_history.specs.declared.setup.Setup.{Setup}
 use Rattle.mely_history.specs.Setup.{shape_of}
-use Rattle.mely_shard.specs.Shard.{ShardState, ColourState, givens, place}
+use Rattle.mely_shard.specs.Shard.{ColourState, place}
 use Rattle.mely_weave.specs.Dealing.{AtEach}
 use Rattle.mely_weave.specs.Gathering.{MayGatherShard}
 use Rattle.mely_weave.specs.StandsWell.{StandsWell}

@@ -42,6 +42,24 @@ use Rattle.mely_fleet.specs.Closed.{AreDrainedWithin, IsLeftByOthers}
 use Rattle.std.proofs.lemmas.Bool.{cases_lt, cases_eq}
 use Rattle.std.proofs.Math.Seq.{drop-append_seam, take-append_seam}
 
+-- what stands at one place of three lists
+pub record AllThere {A B C : Type 0} (kept : List A) (locks : List B) (columns : List C) (k : ℕ) : Type 0 where
+  pub value : A
+  pub value_at : slice_get kept k ≡ Some value
+  pub lock : B
+  pub lock_at : slice_get locks k ≡ Some lock
+  pub column : C
+  pub column_at : slice_get columns k ≡ Some column
+
+-- a place of a list is there in three that are as long
+pub all_there : {A B C D : Type 0} (outs : List D) (kept : List A) (locks : List B) (columns : List C) → length outs ≡ length kept → length kept ≡ length locks → length columns ≡ length locks → (k : ℕ) (out : D) → slice_get outs k ≡ Some out → AllThere kept locks columns k
+all_there outs kept locks columns taken closed handed k out at =
+    let within = slice_get_within outs k out at in
+    let value = get_there kept k (omega (arith, within, taken)) in
+    let lock = get_there locks k (omega (arith, within, taken, closed)) in
+    let column = get_there columns k (omega (arith, within, taken, closed, handed)) in
+    record { value = value.0; value_at = value.1; lock = lock.0; lock_at = lock.1; column = column.0; column_at = column.1 }
+
 -- what a pass of a row has seen
 front_at : {V N F : Type 0} {g : _} (row : List (Pass V N F g)) (k : ℕ) (pass : Pass V N F g) → slice_get row k ≡ Some pass → get_or (fronts row) k [] ≡ front pass
 front_at row k pass is = get_or_from_slice_get (fronts row) k (front pass) [] (slice_get-map (λ p. front p) row k ∙ ap (option_map (λ p. front p)) is)

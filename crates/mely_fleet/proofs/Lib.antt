@@ -2,6 +2,7 @@ pub mod KeepLemmas
 pub mod Rows
 pub mod SideLemmas
 pub mod WorkLemmas
+pub mod WorkedLemmas
 pub mod OpeningLemmas
 mod ClosingRows
 mod ClosingLemmas

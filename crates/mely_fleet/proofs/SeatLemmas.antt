@@ -18,7 +18,7 @@ use Rattle.mely_steal.specs.Victims.{victims_of}
 use Rattle.mely_worker.specs.Access.{IsCore}
 use Rattle.mely_worker.specs.Phase.{is_free}
 use Rattle.mely_worker.specs.IdleWorker.{IdleWorkerState, resumed_worker}
-use Rattle.mely_worker.specs.Worker.{WorkerState, IsSameWorker}
+use Rattle.mely_worker.specs.Worker.{WorkerState}
 use Rattle.mely_weave.specs.Gathering.{MayGatherWorker}
 use Rattle.mely_weave.specs.Hands.{colour_run_by}
 use Rattle.mely_weave.specs.Making.{first_rest}
@@ -34,9 +34,10 @@ use Rattle.mely_fleet.specs.declared.passes.PassesOf.{PassesOf}
 use Rattle.mely_fleet.specs.declared.kept_shard.ShardFrame.{ShardFrame}
 use Rattle.mely_fleet.specs.Frames.{shard_frame}
 use Rattle.mely_fleet.specs.KeptShard.{KeptShardState}
-use Rattle.mely_fleet.specs.Fleets.{ArePasses, frame_in}
+use Rattle.mely_fleet.specs.Fleets.{frame_in}
 use Rattle.mely_fleet.specs.Opening.{AreFirstPasses}
-use Rattle.mely_fleet.specs.Work.{HasFinishedBut, MayWork, Works, standpoint}
+use Rattle.mely_fleet.specs.Work.{HasFinishedBut, standpoint}
+use Rattle.mely_fleet.specs.Working.{MayWorkOn, HasWorked}
 use Rattle.mely_fleet.specs.Seats.{MaySit, IsSeatOf}
 use Rattle.mely_fleet.proofs.WorkLemmas.{free_runs}
 
@@ -45,40 +46,45 @@ victims_are_cores setup core [] all = tt
 victims_are_cores setup core (victim ∷ victims) all = (all.0.1, victims_are_cores setup core victims all.1)
 
 module _ {S P F : Type 0} {g : _} (t : TrailWords S F) (fits : F → Colour → Event → Option P → Type 0) (fleet : FleetOf (KeptShardState S P) Entry (ShardFrame F)) where
-  -- its worker may make a step
-  pub seat_may : (own : PassesOf (KeptShardState S P) Entry (ShardFrame F) g) (worker : Option (IdleWorkerState P)) (rested : IdleWorkerState P) (w : WorkerState S P) → MaySit t.frame_of fits fleet own worker → worker ≡ Some rested → w ≡ resumed_worker rested → MayWork t fits fleet own w
+  -- its worker may work with its passes
+  pub seat_may : (own : PassesOf (KeptShardState S P) Entry (ShardFrame F) g) (worker : Option (IdleWorkerState P)) (rested : IdleWorkerState P) (w : WorkerState S P) → MaySit t.frame_of fits fleet own worker → worker ≡ Some rested → w ≡ resumed_worker rested → MayWorkOn t fits fleet own w
   seat_may own worker rested w sits taken is =
       let both : Some sits.rest ≡ Some rested = sym sits.rested ∙ taken in
       let same : sits.rest ≡ rested = cc in
       let may = subst (λ (r : IdleWorkerState P). MayGatherWorker {S = S} fits fleet.setup (frame_in (shard_frame t.frame_of) fleet) own.number (resumed_worker r)) same sits.may in
-      subst (λ (v : WorkerState S P). MayWork t fits fleet own v) (sym is) (record {
-        own_core = sym may.own_core;
-        core = subst (λ k. k < (shape_of fleet.setup).cores) (sym may.own_core) sits.core;
-        batch = may.batch;
-        victims = subst (AllByRecursion (IsCore fleet.setup)) (sym may.victims) (victims_are_cores fleet.setup own.number _ (victims_are_others own.number (shape_of fleet.setup).cores (shape_of fleet.setup).group sits.core));
-        phase = tt;
-        lost = may.lost;
+      subst (λ (v : WorkerState S P). MayWorkOn t fits fleet own v) (sym is) (record {
+        passes = sits.passes;
+        may = record {
+          own_core = sym may.own_core;
+          core = subst (λ k. k < (shape_of fleet.setup).cores) (sym may.own_core) sits.core;
+          batch = may.batch;
+          victims = subst (AllByRecursion (IsCore fleet.setup)) (sym may.victims) (victims_are_cores fleet.setup own.number _ (victims_are_others own.number (shape_of fleet.setup).cores (shape_of fleet.setup).group sits.core));
+          phase = tt;
+          lost = may.lost;
+        };
       })
 
   -- it may sit again after its work
   pub seat_back : (own back : PassesOf (KeptShardState S P) Entry (ShardFrame F) g) (worker : Option (IdleWorkerState P)) (rested rest : IdleWorkerState P) (w v : WorkerState S P) → MaySit t.frame_of fits fleet own worker → worker ≡ Some rested → w ≡ resumed_worker rested
-      → ArePasses (shard_frame t.frame_of) fleet back → back.number ≡ own.number → MayWork t fits fleet back v → IsSameWorker w v → IsTrue (is_free v.phase) → Works t.frame_of fleet own w back v → resumed_worker rest ≡ v → MaySit t.frame_of fits fleet back (Some rest)
-  seat_back own back worker rested rest w v sits taken is passes number may same free works rests =
+      → HasWorked t fits fleet own w back v → IsTrue (is_free v.phase) → resumed_worker rest ≡ v → MaySit t.frame_of fits fleet back (Some rest)
+  seat_back own back worker rested rest w v sits taken is worked free rests =
+      let number = worked.number in
+      let may = worked.still.may in
       let both : Some sits.rest ≡ Some rested = sym sits.rested ∙ taken in
       let one : sits.rest ≡ rested = cc in
       let before : w ≡ resumed_worker sits.rest = is ∙ ap (λ (r : IdleWorkerState P). resumed_worker r) (sym one) in
       let ran : colour_run_by w ≡ None = ap (λ (x : WorkerState S P). colour_run_by x) before in
       let runs : colour_run_by v ≡ None = free_runs v.phase free in
       record {
-        passes = passes;
+        passes = worked.still.passes;
         core = subst (λ k. k < (shape_of fleet.setup).cores) (sym number) sits.core;
-        finished = subst (HasFinishedBut (standpoint (shard_frame t.frame_of) fleet back)) runs (works.finished (subst (HasFinishedBut (standpoint (shard_frame t.frame_of) fleet own)) (sym ran) sits.finished));
+        finished = subst (HasFinishedBut (standpoint (shard_frame t.frame_of) fleet back)) runs (worked.works.finished (subst (HasFinishedBut (standpoint (shard_frame t.frame_of) fleet own)) (sym ran) sits.finished));
         rest = rest;
         rested = refl;
         may = subst (λ (x : WorkerState S P). MayGatherWorker {S = S} fits fleet.setup (frame_in (shard_frame t.frame_of) fleet) back.number x) (sym rests) (record {
           own_core = sym may.own_core;
           batch = may.batch;
-          victims = same.victims ∙ ap (λ (x : WorkerState S P). x.victims) before ∙ sits.may.victims ∙ ap (λ k. victims_of k (shape_of fleet.setup).cores (shape_of fleet.setup).group) (sym number);
+          victims = worked.worker.victims ∙ ap (λ (x : WorkerState S P). x.victims) before ∙ sits.may.victims ∙ ap (λ k. victims_of k (shape_of fleet.setup).cores (shape_of fleet.setup).group) (sym number);
           free = free;
           lost = may.lost;
         });

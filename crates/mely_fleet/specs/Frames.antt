@@ -1,11 +1,10 @@
 -- A shard and a chain as their locks keep them.
 use Rattle.std.specs.Prelude.{◌≡◌, ◌<◌, ◌%◌, ℕ, List, [], ◌∷◌, ◌++◌, Option, None, Some, drop, fold, slice_get}
 use Rattle.mely_event.specs.declared.mark.Mark.{Mark}
-use Rattle.mely_steal.specs.Marks.{without, replaced}
-use Rattle.mely_steal.specs.StealQueue.{entered, changed}
+use Rattle.mely_steal.specs.Marks.{without, after_replacement}
+use Rattle.mely_steal.specs.StealQueue.{after_entry, after_mark_change}
 use Rattle.mely_event.specs.declared.colour.Colour.{Colour}
 use Rattle.mely_history.specs.Setup.{shape_of, colours_of}
-use Rattle.mely_shard.specs.Shard.{ShardState}
 use Rattle.mely_core.specs.CoreQueue.{CoreQueueState, empty_core, told_of}
 use Rattle.mely_fleet.specs.declared.chain_note.ChainNote.{ChainNote}
 use Rattle.mely_fleet.specs.declared.chain_note.ChainNote.TheVariants.{Pushed, Popped, Retold, Picked}
@@ -38,15 +37,15 @@ chain_frame kept = numbers_of kept.has
 abbrev pub after_report : CoreQueueState → Option Mark → CoreQueueState
 after_report queue None = queue
 after_report queue (Some told) = record queue {
-  chain = replaced told queue.chain;
-  worthy = changed queue.cost queue.pinned told queue.worthy;
+  chain = after_replacement told queue.chain;
+  worthy = after_mark_change queue.cost queue.pinned told queue.worthy;
 }
 
 -- what a change makes of a chain
 abbrev pub after_change : CoreQueueState → ChainNote → CoreQueueState
 after_change queue (Pushed mark) = record queue {
   chain = queue.chain ++ mark ∷ [];
-  worthy = entered queue.cost queue.pinned mark queue.worthy;
+  worthy = after_entry queue.cost queue.pinned mark queue.worthy;
 }
 after_change queue (Popped mark) =
     record queue { chain = drop 1 queue.chain; worthy = without mark.colour queue.worthy }

@@ -6,8 +6,10 @@ pub mod Chains
 pub mod Rows
 pub mod Fleets
 pub mod Work
+pub mod Working
 pub mod Dealing
 pub mod Opening
 pub mod Closing
 pub mod Closed
 pub mod Seats
+pub mod ClosesHome

@@ -2,8 +2,7 @@
 ghost use Rattle.std.specs.Prelude.{◌≡◌, ◌<◌, None, length};
 ghost use Rattle.mely_history.specs.Setup.{shape_of};
 ghost use Rattle.mely_weave.specs.Dealing.{AtEach};
-ghost use Rattle.mely_weave.specs.Gathering.{AreChainedAnew, MayGatherShard, MayGatherWorker};
-ghost use Rattle.mely_fleet.specs.Closed.{IsClosedOver, IsLeftByOthers};
+ghost use Rattle.mely_weave.specs.Gathering.{MayGatherWorker};
 ghost use Rattle.mely_fleet.specs.Fleets.{ArePasses, frame_in};
 ghost use Rattle.mely_fleet.specs.Frames.{shard_frame};
 ghost use Rattle.mely_fleet.specs.Work.{HasFinishedBut, standpoint};
@@ -18,7 +17,7 @@ use mely_weave::Weave;
 use mely_worker::Worker;
 
 impl<S: Fits<P> + Drop, P: Drop> FleetOf<KeptShard<S, P>> {
-    ghost use Rattle.mely_weave.specs.StandsWell.{StandsWell};
+    ghost use Rattle.mely_fleet.specs.ClosesHome.{IsClosedInto};
 
     /// The weave of this fleet, once the passes of all callers are back and each core's worker is
     /// free, with the finish of each turn that its core took. The room is one for this fleet's setup
@@ -44,16 +43,8 @@ impl<S: Fits<P> + Drop, P: Drop> FleetOf<KeptShard<S, P>> {
         requires worker_count { length workers.items ≡ (shape_of self.setup).cores }
         requires workers { let frame = frame_in (shard_frame S.frame_of) self in
             AtEach (λ core w. MayGatherWorker S.fits_under self.setup frame core w) workers.items }
-        ensures setup { result.setup ≡ self.setup }
+        ensures closed { IsClosedInto S.Trail S.fits_under self passes.items result }
         ensures workers { result.workers ≡ workers.items }
-        ensures histories { AtEach (λ k has.
-            IsClosedOver self.passes k passes.items has.history) result.shards }
-        ensures left { AtEach (λ k has.
-            IsLeftByOthers self.setup k passes.items has.history) result.shards }
-        ensures shards { let frame = frame_in (shard_frame S.frame_of) self in
-            AtEach (λ k has. MayGatherShard S.Trail self.setup frame k has) result.shards }
-        ensures chains { AreChainedAnew result.setup result.shards result.chains }
-        ensures stands { StandsWell S.Trail S.fits_under result }
     {
         let FleetOf {
             setup: _,

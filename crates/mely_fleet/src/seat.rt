@@ -1,16 +1,13 @@
 //! The threads of a fleet's cores.
-ghost use Rattle.std.specs.Prelude.{◌≡◌, ◌≤◌, ◌+◌, ◌++◌, [], ℕ, Some, IfOk, IsSome, IsTrue, length, map, option_map, slice_get, vec_len, vec_capacity};
+ghost use Rattle.std.specs.Prelude.{◌≡◌, ◌≤◌, ◌+◌, ◌++◌, [], ℕ, Some, IfOk, IsSome, length, map, slice_get, vec_len, vec_capacity};
 ghost use Rattle.mely_history.specs.Setup.{shape_of};
 ghost use Rattle.mely_worker.specs.Conditions.{AppServes};
 ghost use Rattle.mely_weave.specs.Dealing.{AtEach};
-ghost use Rattle.mely_fleet.specs.Fleets.{ArePasses, frame_in};
+ghost use Rattle.mely_fleet.specs.Fleets.{frame_in};
 ghost use Rattle.mely_fleet.specs.Frames.{shard_frame};
 ghost use Rattle.mely_fleet.specs.Opening.{AreFirstPasses};
-ghost use Rattle.mely_fleet.specs.Seats.{MaySit, IsSeatOf, IsOutsider};
-ghost use Rattle.mely_fleet.specs.Closed.{IsClosedOver, IsLeftByOthers};
-ghost use Rattle.mely_weave.specs.Gathering.{AreChainedAnew, MayGatherShard};
+ghost use Rattle.mely_fleet.specs.Seats.{MaySit, IsSeatOf};
 ghost use Rattle.mely_worker.specs.IdleWorker.{resumed_worker};
-ghost use Rattle.mely_worker.specs.Phase.{is_free};
 ghost use Rattle.mely_fleet.specs.Work.{SeesAllDrained, SeesMore, standpoint};
 
 use crate::fleet::FleetOf;
@@ -157,7 +154,7 @@ fn wake_all<S, P: Drop>(rested: Vec<IdleWorker<P>>, workers: Vec<Worker<S, P>>) 
 }
 
 impl<S: Fits<P> + Drop, P: Drop> FleetOf<KeptShard<S, P>> {
-    ghost use Rattle.mely_weave.specs.StandsWell.{StandsWell};
+    ghost use Rattle.mely_fleet.specs.ClosesHome.{MayCloseHome, IsClosedHome};
 
     /// The weave of this fleet, once the threads of all cores are back: [`close`](FleetOf::close) with the passes and the workers of
     /// their seats, and the passes of the other callers. The list of these has room for the seats, and `rested` and `workers` are
@@ -170,33 +167,14 @@ impl<S: Fits<P> + Drop, P: Drop> FleetOf<KeptShard<S, P>> {
         rested: Vec<IdleWorker<P>>,
         workers: Vec<Worker<S, P>>,
     ) -> Weave<S, P>
-        requires of_setup { room.setup ≡ self.setup }
-        requires of_passes { room.passes ≡ self.passes }
-        requires cores { length seats.items ≡ (shape_of self.setup).cores }
-        requires all { length outsiders.items + length seats.items ≡ self.passes }
-        requires seats { AtEach (λ n seat.
-            IsSeatOf S.frame_of S.fits_under self n seat.passes seat.worker) seats.items }
-        requires outsiders { AtEach (λ n own.
-            IsOutsider (shard_frame S.frame_of) self own) outsiders.items }
+        requires home { MayCloseHome S.frame_of S.fits_under self room
+            seats.items outsiders.items }
         requires callers_room { vec_len outsiders + length seats.items ≤ vec_capacity outsiders }
         requires none_rested { rested.items ≡ [] }
         requires rested_room { length seats.items ≤ vec_capacity rested }
         requires no_workers { workers.items ≡ [] }
         requires workers_room { length seats.items ≤ vec_capacity workers }
-        ensures setup { result.setup ≡ self.setup }
-        ensures histories { let callers = outsiders.items ++ map (λ seat.
-            seat.passes) seats.items in
-            AtEach (λ k has. IsClosedOver self.passes k callers has.history) result.shards }
-        ensures left { let callers = outsiders.items ++ map (λ seat. seat.passes) seats.items in
-            AtEach (λ k has. IsLeftByOthers self.setup k callers has.history) result.shards }
-        ensures shards { let frame = frame_in (shard_frame S.frame_of) self in
-            AtEach (λ k has. MayGatherShard S.Trail self.setup frame k has) result.shards }
-        ensures free { AtEach (λ core w. IsTrue (is_free w.phase)) result.workers }
-        ensures workers { let rested = map (λ seat. seat.worker) seats.items in
-            map (λ w. Some w) result.workers
-            ≡ map (λ rest. option_map (λ r. resumed_worker r) rest) rested }
-        ensures chains { AreChainedAnew result.setup result.shards result.chains }
-        ensures stands { StandsWell S.Trail S.fits_under result }
+        ensures home { IsClosedHome S.Trail S.fits_under self seats.items outsiders.items result }
     {
         let (callers, rested) = leave_all(seats, outsiders, rested);
         let workers = wake_all(rested, workers);
@@ -215,30 +193,10 @@ impl<S: Fits<P> + Drop, P: Drop> FleetOf<KeptShard<S, P>> {
         seats: Vec<Seat<S, P>>,
         outsiders: Vec<Passes<S, P>>,
     ) -> Result<Weave<S, P>, Memory>
-        requires of_setup { room.setup ≡ self.setup }
-        requires of_passes { room.passes ≡ self.passes }
-        requires cores { length seats.items ≡ (shape_of self.setup).cores }
-        requires all { length outsiders.items + length seats.items ≡ self.passes }
-        requires seats { AtEach (λ n seat.
-            IsSeatOf S.frame_of S.fits_under self n seat.passes seat.worker) seats.items }
-        requires outsiders { AtEach (λ n own.
-            IsOutsider (shard_frame S.frame_of) self own) outsiders.items }
-        ensures setup { IfOk result (λ weave. weave.setup ≡ self.setup) }
-        ensures histories { let callers = outsiders.items ++ map (λ seat.
-            seat.passes) seats.items in
-            IfOk result (λ weave. AtEach
-            (λ k has. IsClosedOver self.passes k callers has.history) weave.shards) }
-        ensures left { let callers = outsiders.items ++ map (λ seat. seat.passes) seats.items in
-            IfOk result (λ weave. AtEach
-            (λ k has. IsLeftByOthers self.setup k callers has.history) weave.shards) }
-        ensures free { IfOk result (λ weave.
-            AtEach (λ core w. IsTrue (is_free w.phase)) weave.workers) }
-        ensures workers { let rested = map (λ seat. seat.worker) seats.items in
-            IfOk result (λ weave. map (λ w. Some w) weave.workers
-            ≡ map (λ rest. option_map (λ r. resumed_worker r) rest) rested) }
-        ensures chains { IfOk result (λ weave.
-            AreChainedAnew weave.setup weave.shards weave.chains) }
-        ensures stands { IfOk result (λ weave. StandsWell S.Trail S.fits_under weave) }
+        requires home { MayCloseHome S.frame_of S.fits_under self room
+            seats.items outsiders.items }
+        ensures home { IfOk result (λ weave.
+            IsClosedHome S.Trail S.fits_under self seats.items outsiders.items weave) }
     {
         let mut callers = outsiders;
         callers.reserve(seats.len())?;

@@ -2,10 +2,10 @@
 ghost use Rattle.std.specs.Prelude.{◌≡◌, None, IsTrue, IfSome};
 ghost use Rattle.mely_worker.specs.Conditions.{AppServes};
 ghost use Rattle.mely_worker.specs.Phase.{is_free};
-ghost use Rattle.mely_worker.specs.Worker.{IsSameWorker};
 ghost use Rattle.mely_fleet.specs.Frames.{shard_frame};
 ghost use Rattle.mely_fleet.specs.Fleets.{ArePasses, frame_in};
-ghost use Rattle.mely_fleet.specs.Work.{standpoint, SeesMore, SeesAllDrained, HasFinishedBut, MayWork, Works};
+ghost use Rattle.mely_fleet.specs.Work.{standpoint, SeesMore, SeesAllDrained, HasFinishedBut};
+ghost use Rattle.mely_fleet.specs.Working.{MayWorkOn, HasWorked};
 
 use crate::bell::Watch;
 use crate::fleet::FleetOf;
@@ -40,16 +40,12 @@ impl<S: Fits<P> + Drop, P: Drop> FleetOf<KeptShard<S, P>> {
         app: &A,
         gate: &G,
     ) -> Worked
-        requires passes { ArePasses (shard_frame S.frame_of) self.now passes.old }
-        requires may { MayWork S.Trail S.fits_under self.now passes.old worker.old }
+        requires may { MayWorkOn S.Trail S.fits_under self.now passes.old worker.old }
         requires served { let frame = frame_in (shard_frame S.frame_of) self.now in
             AppServes A.App self.now.setup frame app.now }
-        ensures passes { ArePasses (shard_frame S.frame_of) self.now passes.new }
-        ensures number { passes.new.number ≡ passes.old.number }
-        ensures may { MayWork S.Trail S.fits_under self.now passes.new worker.new }
-        ensures worker { IsSameWorker worker.old worker.new }
+        ensures worked { HasWorked S.Trail S.fits_under self.now
+            passes.old worker.old passes.new worker.new }
         ensures free { IsTrue (is_free worker.new.phase) }
-        ensures works { Works S.frame_of self.now passes.old worker.old passes.new worker.new }
         ensures quiet { let seen = standpoint (shard_frame S.frame_of) self.now passes.new in
             result ≡ Worked.Quiet → SeesAllDrained seen }
     {
@@ -75,13 +71,10 @@ impl<S: Fits<P> + Drop, P: Drop> FleetOf<KeptShard<S, P>> {
         passes: &mut Passes<S, P>,
         watch: &mut Watch,
     ) -> Option<Worked>
-        requires passes { ArePasses (shard_frame S.frame_of) self.now passes.old }
-        requires may { MayWork S.Trail S.fits_under self.now passes.old worker.now }
-        ensures passes { ArePasses (shard_frame S.frame_of) self.now passes.new }
-        ensures number { passes.new.number ≡ passes.old.number }
-        ensures may { MayWork S.Trail S.fits_under self.now passes.new worker.now }
+        requires may { MayWorkOn S.Trail S.fits_under self.now passes.old worker.now }
+        ensures worked { HasWorked S.Trail S.fits_under self.now
+            passes.old worker.now passes.new worker.now }
         ensures free { IfSome result (λ _. IsTrue (is_free worker.now.phase)) }
-        ensures works { Works S.frame_of self.now passes.old worker.now passes.new worker.now }
         ensures quiet { let seen = standpoint (shard_frame S.frame_of) self.now passes.new in
             IfSome result (λ worked. worked ≡ Worked.Quiet → SeesAllDrained seen) }
     {
@@ -118,15 +111,11 @@ impl<S: Fits<P> + Drop, P: Drop> FleetOf<KeptShard<S, P>> {
         app: &A,
         gate: &G,
     ) -> Made
-        requires passes { ArePasses (shard_frame S.frame_of) self.now passes.old }
-        requires may { MayWork S.Trail S.fits_under self.now passes.old worker.old }
+        requires may { MayWorkOn S.Trail S.fits_under self.now passes.old worker.old }
         requires served { let frame = frame_in (shard_frame S.frame_of) self.now in
             AppServes A.App self.now.setup frame app.now }
-        ensures passes { ArePasses (shard_frame S.frame_of) self.now passes.new }
-        ensures number { passes.new.number ≡ passes.old.number }
-        ensures may { MayWork S.Trail S.fits_under self.now passes.new worker.new }
-        ensures worker { IsSameWorker worker.old worker.new }
-        ensures works { Works S.frame_of self.now passes.old worker.old passes.new worker.new }
+        ensures { HasWorked S.Trail S.fits_under self.now
+            passes.old worker.old passes.new worker.new }
     {
         let mut side = Side {
             rt,

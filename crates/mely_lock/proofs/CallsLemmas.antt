@@ -11,8 +11,8 @@ use Rattle.mely_lock.specs.declared.claim.Claim.{Claim}
 use Rattle.mely_lock.specs.declared.seat_knowledge.SeatKnowledge.{SeatKnowledge}
 use Rattle.mely_lock.specs.Seen.{OthersSince, GrewByAtMostOne, GrewIf}
 use Rattle.mely_lock.specs.Views.{claim, view, nobody, first_claims, shares_of, HasClaim, head_number, head_front, head_frame}
-use Rattle.mely_lock.specs.Rule.{Locked}
-use Rattle.mely_lock.specs.Steps.{Seat, having_seen, kept_of, dealt_of, joined, waiting, holding, Tried, Noted, Left, Meets, Enters, Leaves}
+use Rattle.mely_lock.specs.Rule.{inside_word, notes_word, Locked}
+use Rattle.mely_lock.specs.Steps.{Seat, having_seen, kept_of, dealt_of, join_knowledge, seat_outside, seat_inside, Tried, Noted, Left, Meets, Enters, Leaves}
 use Rattle.mely_lock.proofs.KeepsLemmas.{head_claim, tries, notes, leaves, splits, joins, sits}
 
 module _ {N F : Type 0} where
@@ -49,19 +49,19 @@ same_slot : {W : Type 0} (hand : Hand W) (y z : Option W) → hand ≡ (0, y) �
 same_slot hand y z a b = ap (first_of y) (sym b ∙ a)
 
 module _ {W N F : Type 0} where
-  pub has_slot : (m : Seat W N F) (c : Claim N F) (y : Option W) → m ≡ holding c y → (x : Option W) × (m.1 ≡ (0, x) ∷ rest m.1)
+  pub has_slot : (m : Seat W N F) (c : Claim N F) (y : Option W) → m ≡ seat_inside c y → (x : Option W) × (m.1 ≡ (0, x) ∷ rest m.1)
   has_slot m c y e = (y, ap (λ (t : Seat W N F). t.1) e ∙ ap (λ (t : Seat W N F). (0, y) ∷ rest t.1) (sym e))
 
   -- another value is put into the slot in the hand
-  pub put_in : (m m' : Seat W N F) (c : Claim N F) (y z : Option W) → m ≡ holding c y → m' ≡ (m.0, (0, z) ∷ rest m.1) → m' ≡ holding c z
+  pub put_in : (m m' : Seat W N F) (c : Claim N F) (y z : Option W) → m ≡ seat_inside c y → m' ≡ (m.0, (0, z) ∷ rest m.1) → m' ≡ seat_inside c z
   put_in m m' c y z e f = f ∙ ap (λ (t : Seat W N F). let u : Seat W N F = (t.0, (0, z) ∷ rest t.1) in u) e
 
   -- a seat with one claim, as the step that it makes next has it
-  pub as_waiting : (m : Seat W N F) → length m.0.claims ≡ 1 → m.0.inside ≡ false → m.1 ≡ [] → (c : Claim N F) × (m ≡ waiting c) × (head_number m.0.claims ≡ c.number) × (head_front m.0.claims ≡ c.front) × (head_frame m.0.claims ≡ Some c.frame)
+  pub as_waiting : (m : Seat W N F) → length m.0.claims ≡ 1 → m.0.inside ≡ false → m.1 ≡ [] → (c : Claim N F) × (m ≡ seat_outside c) × (head_number m.0.claims ≡ c.number) × (head_front m.0.claims ≡ c.front) × (head_frame m.0.claims ≡ Some c.frame)
   as_waiting m one off empty = let t = single m.0.claims one in let P : List (Claim N F) × (Bool × Hand W) → Seat W N F = λ u. (view u.0 u.1.0, u.1.1) in
       (t.0, λ i. P (t.1 i, (off i, empty i)), ap head_number t.1, ap head_front t.1, ap head_frame t.1)
 
-  pub as_holding : (m : Seat W N F) (y : Option W) → length m.0.claims ≡ 1 → m.0.inside ≡ true → m.1 ≡ (0, y) ∷ [] → (c : Claim N F) × (m ≡ holding c y) × (head_number m.0.claims ≡ c.number) × (head_front m.0.claims ≡ c.front) × (head_frame m.0.claims ≡ Some c.frame)
+  pub as_holding : (m : Seat W N F) (y : Option W) → length m.0.claims ≡ 1 → m.0.inside ≡ true → m.1 ≡ (0, y) ∷ [] → (c : Claim N F) × (m ≡ seat_inside c y) × (head_number m.0.claims ≡ c.number) × (head_front m.0.claims ≡ c.front) × (head_frame m.0.claims ≡ Some c.frame)
   as_holding m y one on full = let t = single m.0.claims one in let P : List (Claim N F) × (Bool × Hand W) → Seat W N F = λ u. (view u.0 u.1.0, u.1.1) in
       (t.0, λ i. P (t.1 i, (on i, full i)), ap head_number t.1, ap head_front t.1, ap head_frame t.1)
 
@@ -70,42 +70,42 @@ module _ {W N F : Type 0} (history_of : W → List N) (pass_of : N → ℕ) (fra
   Rule = Locked history_of pass_of frame_of
 
   -- the try of a pass that is outside
-  pub tries_at : (frame : F) (passes slots id ticket : ℕ) (m : Seat W N F) (c : Claim N F) → slots ≡ 1 → m ≡ waiting c → ticket ≡ c.number + 1
-      → Allows (Rule frame passes) slots id m 0 (λ n. either (eqb n 0) ticket n) (Tried history_of pass_of frame_of m)
+  pub tries_at : (frame : F) (passes slots id ticket : ℕ) (m : Seat W N F) (c : Claim N F) → slots ≡ 1 → m ≡ seat_outside c → ticket ≡ c.number + 1
+      → Allows (Rule frame passes) slots id m inside_word (λ n. either (eqb n 0) ticket n) (Tried history_of pass_of frame_of m)
   tries_at frame passes slots id ticket m c one is same =
-      let P : ℕ × (Seat W N F × ℕ) → Type 0 = λ t. Allows (Rule frame passes) t.0 id t.1.0 0 (λ n. either (eqb n 0) t.1.1 n) (Tried history_of pass_of frame_of t.1.0) in
+      let P : ℕ × (Seat W N F × ℕ) → Type 0 = λ t. Allows (Rule frame passes) t.0 id t.1.0 inside_word (λ n. either (eqb n 0) t.1.1 n) (Tried history_of pass_of frame_of t.1.0) in
       subst P (λ i. (sym one i, (sym is i, sym same i))) (tries history_of pass_of frame_of frame passes id c)
 
-  pub notes_at : (frame : F) (passes slots id : ℕ) (m : Seat W N F) (c : Claim N F) (x : W) (note : N) → slots ≡ 1 → m ≡ holding c (Some x) → history_of x ≡ c.front ++ note ∷ [] → pass_of note ≡ c.number → length (history_of x) < 2 ^ 64
-      → Allows (Rule frame passes) slots id m 1 (λ n. (n + 1) % 2 ^ 64) (λ _. Noted history_of m)
+  pub notes_at : (frame : F) (passes slots id : ℕ) (m : Seat W N F) (c : Claim N F) (x : W) (note : N) → slots ≡ 1 → m ≡ seat_inside c (Some x) → history_of x ≡ c.front ++ note ∷ [] → pass_of note ≡ c.number → length (history_of x) < 2 ^ 64
+      → Allows (Rule frame passes) slots id m notes_word (λ n. (n + 1) % 2 ^ 64) (λ _. Noted history_of m)
   notes_at frame passes slots id m c x note one is grew own fits =
-      let P : ℕ × Seat W N F → Type 0 = λ t. Allows (Rule frame passes) t.0 id t.1 1 (λ n. (n + 1) % 2 ^ 64) (λ _. Noted history_of t.1) in
+      let P : ℕ × Seat W N F → Type 0 = λ t. Allows (Rule frame passes) t.0 id t.1 notes_word (λ n. (n + 1) % 2 ^ 64) (λ _. Noted history_of t.1) in
       subst P (λ i. (sym one i, sym is i)) (notes history_of pass_of frame_of frame passes id c x note grew own fits)
 
-  pub leaves_at : (frame : F) (passes slots id : ℕ) (m : Seat W N F) (c : Claim N F) (x : W) → slots ≡ 1 → m ≡ holding c (Some x) → history_of x ≡ c.front → frame_of x ≡ c.frame
-      → Allows (Rule frame passes) slots id m 0 (λ _. 0) (λ _. Left m)
+  pub leaves_at : (frame : F) (passes slots id : ℕ) (m : Seat W N F) (c : Claim N F) (x : W) → slots ≡ 1 → m ≡ seat_inside c (Some x) → history_of x ≡ c.front → frame_of x ≡ c.frame
+      → Allows (Rule frame passes) slots id m inside_word (λ _. 0) (λ _. Left m)
   leaves_at frame passes slots id m c x one is whole framed =
-      let P : ℕ × Seat W N F → Type 0 = λ t. Allows (Rule frame passes) t.0 id t.1 0 (λ _. 0) (λ _. Left t.1) in
+      let P : ℕ × Seat W N F → Type 0 = λ t. Allows (Rule frame passes) t.0 id t.1 inside_word (λ _. 0) (λ _. Left t.1) in
       subst P (λ i. (sym one i, sym is i)) (leaves history_of pass_of frame_of frame passes id c x whole framed)
 
   -- a try that found 0, and the value taken out of the slot
-  pub came_in : (m m' m'' : Seat W N F) (found : ℕ) (taken : Option W) (c : Claim N F) → m ≡ waiting c → found ≡ 0 → Tried history_of pass_of frame_of m found m' → m'.1 ≡ (0, taken) ∷ rest m'.1 → m'' ≡ (m'.0, (0, None) ∷ rest m'.1)
+  pub came_in : (m m' m'' : Seat W N F) (found : ℕ) (taken : Option W) (c : Claim N F) → m ≡ seat_outside c → found ≡ 0 → Tried history_of pass_of frame_of m found m' → m'.1 ≡ (0, taken) ∷ rest m'.1 → m'' ≡ (m'.0, (0, None) ∷ rest m'.1)
       → IfNone taken (m'' ≡ m) × IfSome taken (λ x. Enters history_of pass_of frame_of m x m'')
   came_in m m' m'' found taken c is zero tried read written =
       let P : Option W → Type 0 = λ o. IfNone o (m'' ≡ m) × IfSome o (λ x. Enters history_of pass_of frame_of m x m'') in
-      let got : (d : Claim N F) (e : m ≡ waiting d) → taken ≡ Some (tried.1 zero d e).0 = λ d e. let t = tried.1 zero d e in same_slot m'.1 (Some t.0) taken (ap (λ (u : Seat W N F). u.1) t.1) read in
+      let got : (d : Claim N F) (e : m ≡ seat_outside d) → taken ≡ Some (tried.1 zero d e).0 = λ d e. let t = tried.1 zero d e in same_slot m'.1 (Some t.0) taken (ap (λ (u : Seat W N F). u.1) t.1) read in
       let x : W = (tried.1 zero c is).0 in
       let all : Enters history_of pass_of frame_of m x m'' = λ d e. let t = tried.1 zero d e in let same : t.0 ≡ x = same_some t.0 x (sym (got d e) ∙ got c is) in
-      let Q : W → Type 0 = λ z. (m'' ≡ holding (having_seen d (history_of z)) None) × Meets history_of pass_of frame_of d z in
+      let Q : W → Type 0 = λ z. (m'' ≡ seat_inside (having_seen d (history_of z)) None) × Meets history_of pass_of frame_of d z in
       subst Q same (put_in m' m'' (having_seen d (history_of t.0)) (Some t.0) None t.1 written, t.2) in
       subst P (sym (got c is)) (tt, all)
 
   -- where the history did not grow, the pass has seen it as it is
-  pub as_seen : (c : Claim N F) (x : W) → history_of x ≡ c.front → ◌≡◌ {A = Seat W N F} (holding c (Some x)) (holding (having_seen c (history_of x)) (Some x))
-  as_seen c x e = λ i. holding (having_seen c (sym e i)) (Some x)
+  pub as_seen : (c : Claim N F) (x : W) → history_of x ≡ c.front → ◌≡◌ {A = Seat W N F} (seat_inside c (Some x)) (seat_inside (having_seen c (history_of x)) (Some x))
+  as_seen c x e = λ i. seat_inside (having_seen c (sym e i)) (Some x)
 
-  pub went_out : (m m' m'' : Seat W N F) (c : Claim N F) (x : W) → m ≡ holding c None → m' ≡ holding (having_seen c (history_of x)) (Some x) → Left m' m'' → Leaves history_of m x m''
-  went_out m m' m'' c x is now go = λ d e. let same : c ≡ d = ap (λ (u : Seat W N F). head_claim c u.0.claims) (sym is ∙ e) in subst (λ (k : Claim N F). m'' ≡ waiting (having_seen k (history_of x))) same (go (having_seen c (history_of x)) x now)
+  pub went_out : (m m' m'' : Seat W N F) (c : Claim N F) (x : W) → m ≡ seat_inside c None → m' ≡ seat_inside (having_seen c (history_of x)) (Some x) → Left m' m'' → Leaves history_of m x m''
+  went_out m m' m'' c x is now go = λ d e. let same : c ≡ d = ap (λ (u : Seat W N F). head_claim c u.0.claims) (sym is ∙ e) in subst (λ (k : Claim N F). m'' ≡ seat_outside (having_seen k (history_of x))) same (go (having_seen c (history_of x)) x now)
 
   -- what a pass is once it came in and found x
   pub record CameIn (m : Seat W N F) (n : ℕ) (f : F) (x : W) (m' : Seat W N F) : Type 0 where
@@ -157,7 +157,7 @@ module _ {W N F : Type 0} (history_of : W → List N) (pass_of : N → ℕ) (fra
       let e : eqb notes seen ≡ false = ne_eqb notes seen (λ q. omega arith) in ((λ _. more), λ t. let f : not (eqb notes seen) ≡ true = ap not e in absurd (cc))) grew
 
   pub may_put : (m : Seat W N F) (n seen notes : ℕ) (x : W) → length m.0.claims ≡ 1 → head_number m.0.claims ≡ n → length (head_front m.0.claims) ≡ seen → m.0.inside ≡ true → m.1 ≡ (0, None) ∷ [] → head_frame m.0.claims ≡ Some (frame_of x)
-      → notes ≡ length (history_of x) → GrewByAtMostOne pass_of n (head_front m.0.claims) (history_of x) → (c : Claim N F) × (m ≡ holding c None) × (frame_of x ≡ c.frame) × GrewIf pass_of (not (eqb notes seen)) c.number c.front (history_of x)
+      → notes ≡ length (history_of x) → GrewByAtMostOne pass_of n (head_front m.0.claims) (history_of x) → (c : Claim N F) × (m ≡ seat_inside c None) × (frame_of x ≡ c.frame) × GrewIf pass_of (not (eqb notes seen)) c.number c.front (history_of x)
   may_put m n seen notes x one num was on full fr now grew = let t = as_holding m None one on full in let g = grew_if n seen notes (head_front m.0.claims) x was now grew in
       let P : ℕ × List N → Type 0 = λ u. GrewIf pass_of (not (eqb notes seen)) u.0 u.1 (history_of x) in
       (t.0, t.1, same_some (frame_of x) t.0.frame (sym fr ∙ t.4), subst P (λ i. ((sym num ∙ t.2) i, t.3 i)) g)
@@ -171,14 +171,14 @@ module _ {W N F : Type 0} (history_of : W → List N) (pass_of : N → ℕ) (fra
       (splits history_of pass_of frame_of frame passes id (claim n [] f) (first_claims (n + 1) (p - (n + 1)) f))
 
   pub dealt : (m m' q : Seat W N F) (n p : ℕ) (f : F) → n < p → m ≡ (view (first_claims n (p - n) f) false, []) → m' ≡ (kept_of m.0, m.1) → q ≡ (dealt_of m.0, [])
-      → (m' ≡ (view (first_claims (n + 1) (p - (n + 1)) f) false, [])) × (q ≡ waiting (claim n [] f))
+      → (m' ≡ (view (first_claims (n + 1) (p - (n + 1)) f) false, [])) × (q ≡ seat_outside (claim n [] f))
   dealt m m' q n p f l is left given = let v = first_left m.0 n p f l (ap (λ (u : Seat W N F). u.0) is) in let P : SeatKnowledge N F × Hand W → Seat W N F = λ u. (kept_of u.0, u.1) in let Q : SeatKnowledge N F → Seat W N F = λ u. (dealt_of u, []) in
       (left ∙ (λ i. P (v i, (is i).1)), given ∙ ap Q v)
 
-  pub sits_at : (frame : F) (passes slots : ℕ) → table.Enters (Rule frame passes) slots 0 (λ _ v. v ≡ nobody)
+  pub sits_at : (frame : F) (passes slots : ℕ) → table.Enters (Rule frame passes) slots inside_word (λ _ v. v ≡ nobody)
   sits_at frame passes slots = sits history_of pass_of frame_of frame passes slots
 
-  pub joins_at : (frame : F) (passes id other : ℕ) (m q : Seat W N F) → m.0.inside ≡ false → q.0.inside ≡ false → Joins (Rule frame passes) id m.0 other q.0 (joined m.0 q.0) nobody
+  pub joins_at : (frame : F) (passes id other : ℕ) (m q : Seat W N F) → m.0.inside ≡ false → q.0.inside ≡ false → Joins (Rule frame passes) id m.0 other q.0 (join_knowledge m.0 q.0) nobody
   joins_at frame passes id other m q m_off q_off = joins history_of pass_of frame_of frame passes id m.0 other q.0 m_off q_off
 
 pub not_none : {W : Type 0} (xs : List (Option W)) (x : W) → get_elem? xs 0 ≡ some (Some x) → get_elem? xs 0 ≡ some None → ⊥

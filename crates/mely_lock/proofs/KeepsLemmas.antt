@@ -1,5 +1,5 @@
 -- Each kind of step keeps the rule, and its seat knows what it tells.
-use Rattle.std.proofs.Common.{◌≡◌, ℕ, zero, suc, eqb, ne_eqb, ◌+◌, ◌%◌, ◌^◌, ◌<◌, ◌≤◌, ◌≢◌, Bool, true, false, List, [], ◌∷◌, ◌++◌, length, get_or, set, sum_by, sym, refl, ap, ◌∙◌, subst, inl, inr, ⊎_elim, arith, length-set, length-append, get_or-set_other, get_or-set_same, Option, Some, None}
+use Rattle.std.proofs.Common.{◌≡◌, ℕ, zero, suc, eqb, ne_eqb, ◌+◌, ◌%◌, ◌^◌, ◌<◌, ◌≤◌, ◌≢◌, Bool, true, false, List, [], ◌∷◌, ◌++◌, length, get_or, set, replicate, sum_by, sym, refl, ap, ◌∙◌, subst, inl, inr, ⊎_elim, arith, length-set, length-append, get_or-set_other, get_or-set_same, Option, Some, None}
 use Rattle.std.specs.List.{AllByRecursion}
 use Rattle.std.proofs.lemmas.List.Sums.{sum_by_push, sum_by-cons, count_by-le-length}
 use mathlib.Core.Option as place
@@ -15,8 +15,8 @@ use Rattle.mely_lock.specs.declared.claim.Claim.{Claim}
 use Rattle.mely_lock.specs.declared.seat_knowledge.SeatKnowledge.{SeatKnowledge}
 use Rattle.mely_lock.specs.Seen.{notes_of, OthersSince}
 use Rattle.mely_lock.specs.Views.{view, outside, within, nobody, first_claims, first_view, shares_of}
-use Rattle.mely_lock.specs.Rule.{EachAt, EachClaim, IsOpen, IsShut, IsHome, EachOnce, Locked}
-use Rattle.mely_lock.specs.Steps.{Seat, having_seen, waiting, holding, Tried, Noted, Left, Closes, joined}
+use Rattle.mely_lock.specs.Rule.{inside_word, notes_word, lock_words, EachAt, EachClaim, IsOpen, IsShut, IsHome, EachOnce, Locked}
+use Rattle.mely_lock.specs.Steps.{Seat, having_seen, seat_outside, seat_inside, Tried, Noted, Left, Closes, join_knowledge}
 use Rattle.mely_lock.proofs.ListsLemmas.{set_there, only_one, Each-append, each_set, each_push, sum-set, sum_same, sum_one, sum_two, sum_but_one}
 use Rattle.mely_lock.proofs.ClaimsLemmas.{shares_of-append, share_of_same, share_of_other, length-first_claims, shares_of-first_claims}
 use Rattle.mely_lock.proofs.SeenLemmas.{none_more, since_itself, since_more}
@@ -40,15 +40,19 @@ abbrev value_of : {W : Type 0} → W → List (ℕ × Option W) → W
 value_of d [] = d
 value_of {W} d (h ∷ hs) = elim h.1 as (λ _. W) [ Some x ↦ x | None ↦ d ]
 
+-- the words of a new lock
+abbrev pub new_words : List ℕ
+new_words = replicate lock_words 0
+
 -- where the slots of a table are: each at home with its value, or out
 abbrev Homes : Type 0 → Type 0
 Homes W = List (place.Option (Option W))
 
 module _ {W N F : Type 0} where
-  pub same_waiting : (c d : Claim N F) → ◌≡◌ {A = Seat W N F} (waiting c) (waiting d) → c ≡ d
+  pub same_waiting : (c d : Claim N F) → ◌≡◌ {A = Seat W N F} (seat_outside c) (seat_outside d) → c ≡ d
   same_waiting c d e = ap (λ (m : Seat W N F). head_claim c m.0.claims) e
 
-  same_holding : (c d : Claim N F) (x y : W) → ◌≡◌ {A = Seat W N F} (holding c (Some x)) (holding d (Some y)) → (c ≡ d) × (x ≡ y)
+  same_holding : (c d : Claim N F) (x y : W) → ◌≡◌ {A = Seat W N F} (seat_inside c (Some x)) (seat_inside d (Some y)) → (c ≡ d) × (x ≡ y)
   same_holding c d x y e = (ap (λ (m : Seat W N F). head_claim c m.0.claims) e, ap (λ (m : Seat W N F). value_of x m.1) e)
 
 module _ {W N F : Type 0} (history_of : W → List N) (pass_of : N → ℕ) (frame_of : W → F) (frame : F) (passes : ℕ) where
@@ -59,7 +63,7 @@ module _ {W N F : Type 0} (history_of : W → List N) (pass_of : N → ℕ) (fra
   Rule = Locked history_of pass_of frame_of frame passes
 
   -- where nobody is inside by the words, nobody is
-  open_if_free : (s : Lock) (r : Rule s) → get_or s.words 0 0 ≡ 0 → IsOpen s
+  open_if_free : (s : Lock) (r : Rule s) → get_or s.words inside_word 0 ≡ 0 → IsOpen s
   open_if_free s r free = ⊎_elim (λ (o : IsOpen s). o) (λ (h : IsShut s). let t = h.taken in absurd (omega arith)) r.door
 
   -- a seat that is inside is the one that the door knows
@@ -98,12 +102,12 @@ module _ {W N F : Type 0} (history_of : W → List N) (pass_of : N → ℕ) (fra
 
   -- a try that finds nobody inside
   comes_in : (id : ℕ) (c : Claim N F) (s : Lock) (r : Rule s) (o : IsOpen s) (x : W) → IsHome x s → get_elem? s.views id ≡ some (outside c)
-      → Rule (stepped s 0 (c.number + 1) id [] (within (having_seen c (history_of x))) (takes 0 (Some x)))
+      → Rule (stepped s inside_word (c.number + 1) id [] (within (having_seen c (history_of x))) (takes 0 (Some x)))
   comes_in id c s r o x home at = let w : SeatKnowledge N F = within (having_seen c (history_of x)) in let whole : history_of x ≡ r.history = r.tells.home o x home in let wide = r.words in
-      let taken : get_or (set s.words 0 (c.number + 1)) 0 0 ≡ c.number + 1 = get_or-set_same s.words 0 (c.number + 1) 0 (omega arith) in
-      let not_open : IsOpen (stepped s 0 (c.number + 1) id [] w (takes 0 (Some x))) → ⊥ = λ o'. let free = o'.free in absurd (omega arith) in record {
+      let taken : get_or (set s.words inside_word (c.number + 1)) inside_word 0 ≡ c.number + 1 = get_or-set_same s.words inside_word (c.number + 1) 0 (omega arith) in
+      let not_open : IsOpen (stepped s inside_word (c.number + 1) id [] w (takes 0 (Some x))) → ⊥ = λ o'. let free = o'.free in absurd (omega arith) in record {
         history = r.history;
-        words = length-set s.words 0 (c.number + 1) ∙ wide;
+        words = length-set s.words inside_word (c.number + 1) ∙ wide;
         door = inr record {
           seat = id;
           holder = having_seen c (history_of x);
@@ -113,7 +117,7 @@ module _ {W N F : Type 0} (history_of : W → List N) (pass_of : N → ℕ) (fra
         };
         away = λ o'. absurd (not_open o');
         tells = record {
-          counted = get_or-set_other s.words 0 1 (c.number + 1) 0 (λ e. omega arith) ∙ r.tells.counted;
+          counted = get_or-set_other s.words inside_word notes_word (c.number + 1) 0 (λ e. omega arith) ∙ r.tells.counted;
           home = λ o' _ _. absurd (not_open o');
           inside = each_set (λ _ v. v.inside ≡ true → AllByRecursion (λ (d : Claim N F). d.front ≡ r.history) v.claims) s.views id w (λ _. (whole, tt)) (λ k v _ there on. absurd (not_both v.inside (o.all_outside k v there) on));
         };
@@ -122,30 +126,30 @@ module _ {W N F : Type 0} (history_of : W → List N) (pass_of : N → ℕ) (fra
       }
 
   -- a try that is refused
-  unmoved : (id : ℕ) (c : Claim N F) (s : Lock) (r : Rule s) → get_elem? s.views id ≡ some (outside c) → Rule (stepped s 0 (get_or s.words 0 0) id [] (outside c) keeps)
+  unmoved : (id : ℕ) (c : Claim N F) (s : Lock) (r : Rule s) → get_elem? s.views id ≡ some (outside c) → Rule (stepped s inside_word (get_or s.words inside_word 0) id [] (outside c) keeps)
   unmoved id c s r at = let P : List ℕ × List (SeatKnowledge N F) → Type 0 = λ t. Rule record { words = t.0; homes = s.homes; views = t.1 } in
-      subst P (λ i. (sym (set-get_or s.words 0 0) i, sym (set_again s.views id (outside c) at) i)) r
+      subst P (λ i. (sym (set-get_or s.words inside_word 0) i, sym (set_again s.views id (outside c) at) i)) r
 
-  pub tries : (id : ℕ) (c : Claim N F) → Allows Rule 1 id (waiting c) 0 (λ n. either (eqb n 0) (c.number + 1) n) (Tried history_of pass_of frame_of (waiting c))
-  tries id c s r deep at fits = let n : ℕ = get_or s.words 0 0 in ⊎_elim
+  pub tries : (id : ℕ) (c : Claim N F) → Allows Rule 1 id (seat_outside c) inside_word (λ n. either (eqb n 0) (c.number + 1) n) (Tried history_of pass_of frame_of (seat_outside c))
+  tries id c s r deep at fits = let n : ℕ = get_or s.words inside_word 0 in ⊎_elim
       (λ (o : IsOpen s). let home = r.away o in let x : W = home.0 in let whole : history_of x ≡ r.history = r.tells.home o x home.1 in
       let now : either (eqb n 0) (c.number + 1) n ≡ c.number + 1 = ap (λ (z : ℕ). either (eqb z 0) (c.number + 1) z) o.free in (
         within (having_seen c (history_of x)),
         takes 0 (Some x),
         ap (λ hs. get_elem? hs 0) home.1,
-        subst (λ (z : ℕ). Rule (stepped s 0 z id [] (within (having_seen c (history_of x))) (takes 0 (Some x)))) (sym now) (comes_in id c s r o x home.1 at),
+        subst (λ (z : ℕ). Rule (stepped s inside_word z id [] (within (having_seen c (history_of x))) (takes 0 (Some x)))) (sym now) (comes_in id c s r o x home.1 at),
         (
           (λ ne. absurd (ne o.free)),
           λ _ d e. let same : c ≡ d = same_waiting {W = W} c d e in (
             x,
-            ap (λ (k : Claim N F). holding (having_seen k (history_of x)) (Some x)) same,
+            ap (λ (k : Claim N F). seat_inside (having_seen k (history_of x)) (Some x)) same,
             let P : Claim N F → Type 0 = λ k. OthersSince pass_of k.number k.front (history_of x) × (frame_of x ≡ k.frame) in
                 subst P same (subst (λ (l : List N). OthersSince pass_of c.number c.front l) (sym whole) (r.numbers.fronts id (outside c) at).0, r.frames.home x home.1 ∙ sym (r.frames.told id (outside c) at).0),
           ),
         ),
       ))
       (λ (h : IsShut s). let taken = h.taken in let ne : n ≢ 0 = λ e. omega arith in let now : either (eqb n 0) (c.number + 1) n ≡ n = ap (λ b. either b (c.number + 1) n) (ne_eqb n 0 ne) in
-      (outside c, keeps, tt, subst (λ (z : ℕ). Rule (stepped s 0 z id [] (outside c) keeps)) (sym now) (unmoved id c s r at), ((λ _. refl), λ e. absurd (ne e)))) r.door
+      (outside c, keeps, tt, subst (λ (z : ℕ). Rule (stepped s inside_word z id [] (outside c) keeps)) (sym now) (unmoved id c s r at), ((λ _. refl), λ e. absurd (ne e)))) r.door
 
   -- a note of a number that these claims lack
   fronts_more : (history : List N) (note : N) (cs : List (Claim N F)) → shares_of (pass_of note) cs ≡ 0 → AllByRecursion (λ d. OthersSince pass_of d.number d.front history) cs → AllByRecursion (λ d. OthersSince pass_of d.number d.front (history ++ note ∷ [])) cs
@@ -155,20 +159,20 @@ module _ {W N F : Type 0} (history_of : W → List N) (pass_of : N → ℕ) (fra
       (λ ne. let other = share_of_other (pass_of note) d ds ne in (since_more pass_of d.number d.front history note (λ q. ne (sym q)) k.0, fronts_more history note ds (omega arith) k.1))
 
   pub notes : (id : ℕ) (c : Claim N F) (x : W) (note : N) → history_of x ≡ c.front ++ note ∷ [] → pass_of note ≡ c.number → length (history_of x) < 2 ^ 64
-      → Allows Rule 1 id (holding c (Some x)) 1 (λ n. (n + 1) % 2 ^ 64) (λ _. Noted history_of (holding c (Some x)))
-  notes id c x note grew own fits s r deep at _ = let w : SeatKnowledge N F = within (having_seen c (history_of x)) in let h = shut_by id c s r at in let once = held_once id c true s r at in let wide = r.words in let n : ℕ = get_or s.words 1 0 in
+      → Allows Rule 1 id (seat_inside c (Some x)) notes_word (λ n. (n + 1) % 2 ^ 64) (λ _. Noted history_of (seat_inside c (Some x)))
+  notes id c x note grew own fits s r deep at _ = let w : SeatKnowledge N F = within (having_seen c (history_of x)) in let h = shut_by id c s r at in let once = held_once id c true s r at in let wide = r.words in let n : ℕ = get_or s.words notes_word 0 in
       let old : c.front ≡ r.history = (r.tells.inside id (within c) at refl).0 in
       let now : history_of x ≡ r.history ++ note ∷ [] = grew ∙ ap (λ (l : List N). l ++ note ∷ []) old in
       let more : length (history_of x) ≡ length r.history + 1 = ap length now ∙ length-append r.history (note ∷ []) in let long = r.tells.counted in
       let next : (n + 1) % 2 ^ 64 ≡ length (history_of x) = omega arith in
-      let taken : get_or (set s.words 1 ((n + 1) % 2 ^ 64)) 0 0 ≡ c.number + 1 = get_or-set_other s.words 1 0 ((n + 1) % 2 ^ 64) 0 (λ q. omega arith) ∙ (h.0.taken ∙ ap (λ (k : Claim N F). k.number + 1) h.1) in
-      let not_open : IsOpen (stepped s 1 ((n + 1) % 2 ^ 64) id ((0, Some x) ∷ []) w keeps) → ⊥ = λ o'. let free = o'.free in absurd (omega arith) in (
+      let taken : get_or (set s.words notes_word ((n + 1) % 2 ^ 64)) inside_word 0 ≡ c.number + 1 = get_or-set_other s.words notes_word inside_word ((n + 1) % 2 ^ 64) 0 (λ q. omega arith) ∙ (h.0.taken ∙ ap (λ (k : Claim N F). k.number + 1) h.1) in
+      let not_open : IsOpen (stepped s notes_word ((n + 1) % 2 ^ 64) id ((0, Some x) ∷ []) w keeps) → ⊥ = λ o'. let free = o'.free in absurd (omega arith) in (
         w,
         keeps,
         tt,
         record {
           history = history_of x;
-          words = length-set s.words 1 ((n + 1) % 2 ^ 64) ∙ wide;
+          words = length-set s.words notes_word ((n + 1) % 2 ^ 64) ∙ wide;
           door = inr record {
             seat = id;
             holder = having_seen c (history_of x);
@@ -178,7 +182,7 @@ module _ {W N F : Type 0} (history_of : W → List N) (pass_of : N → ℕ) (fra
           };
           away = λ o'. absurd (not_open o');
           tells = record {
-            counted = get_or-set_same s.words 1 ((n + 1) % 2 ^ 64) 0 (omega arith) ∙ next;
+            counted = get_or-set_same s.words notes_word ((n + 1) % 2 ^ 64) 0 (omega arith) ∙ next;
             home = λ o' _ _. absurd (not_open o');
             inside = each_set (λ _ v. v.inside ≡ true → AllByRecursion (λ (d : Claim N F). d.front ≡ history_of x) v.claims) s.views id w (λ _. (refl, tt)) (λ k v ne there on. absurd (ne (h.0.alone k v there on ∙ sym h.2)));
           };
@@ -187,14 +191,14 @@ module _ {W N F : Type 0} (history_of : W → List N) (pass_of : N → ℕ) (fra
               (λ q above. ap (notes_of pass_of q) now ∙ none_more pass_of q r.history note (λ e. let below = once.0 in omega arith) (r.numbers.strangers q above));
           frames = record { told = frames_stay id c true true (history_of x) s.views at r.frames.told; home = r.frames.home };
         },
-        λ d y same. let both = same_holding c d x y same in let P : Claim N F → W → Seat W N F = λ k z. holding (having_seen k (history_of z)) (Some z) in λ i. P (both.0 i) (both.1 i),
+        λ d y same. let both = same_holding c d x y same in let P : Claim N F → W → Seat W N F = λ k z. seat_inside (having_seen k (history_of z)) (Some z) in λ i. P (both.0 i) (both.1 i),
       )
 
   same_home : (homes : Homes W) (x y : W) → length homes ≡ 1 → set homes 0 (some (Some x)) ≡ some (Some y) ∷ [] → x ≡ y
   same_home homes x y deep q = let e : some (Some x) ≡ some (Some y) = ap (λ (l : Homes W). get_or l 0 none) (sym (only_one homes (some (Some x)) deep) ∙ q) in cc
 
   pub leaves : (id : ℕ) (c : Claim N F) (x : W) → history_of x ≡ c.front → frame_of x ≡ c.frame
-      → Allows Rule 1 id (holding c (Some x)) 0 (λ _. 0) (λ _. Left (holding c (Some x)))
+      → Allows Rule 1 id (seat_inside c (Some x)) inside_word (λ _. 0) (λ _. Left (seat_inside c (Some x)))
   leaves id c x whole framed s r deep at _ = let w : SeatKnowledge N F = outside c in let h = shut_by id c s r at in let wide = r.words in
       let old : c.front ≡ r.history = (r.tells.inside id (within c) at refl).0 in let told : c.frame ≡ frame = (r.frames.told id (within c) at).0 in (
         w,
@@ -202,21 +206,21 @@ module _ {W N F : Type 0} (history_of : W → List N) (pass_of : N → ℕ) (fra
         tt,
         record {
           history = r.history;
-          words = length-set s.words 0 0 ∙ wide;
+          words = length-set s.words inside_word 0 ∙ wide;
           door = inl record {
-            free = get_or-set_same s.words 0 0 0 (omega arith);
+            free = get_or-set_same s.words inside_word 0 0 (omega arith);
             all_outside = each_set (λ _ v. v.inside ≡ false) s.views id w refl (λ k v ne there. off_unless v.inside (λ on. ne (h.0.alone k v there on ∙ sym h.2)));
           };
           away = λ _. (x, only_one s.homes (some (Some x)) deep);
           tells = record {
-            counted = get_or-set_other s.words 0 1 0 0 (λ e. omega arith) ∙ r.tells.counted;
+            counted = get_or-set_other s.words inside_word notes_word 0 0 (λ e. omega arith) ∙ r.tells.counted;
             home = λ _ y there. ap history_of (sym (same_home s.homes x y deep there)) ∙ (whole ∙ old);
             inside = each_set (λ _ v. v.inside ≡ true → AllByRecursion (λ (d : Claim N F). d.front ≡ r.history) v.claims) s.views id w (λ on. absurd (not_both false refl on)) (λ k v _. r.tells.inside k v);
           };
           numbers = each_once id c true false r.history r.history c.front s.views at r.numbers (r.numbers.fronts id (within c) at).0 (λ k v _. r.numbers.fronts k v) r.numbers.strangers;
           frames = record { told = frames_stay id c true false c.front s.views at r.frames.told; home = λ y there. ap frame_of (sym (same_home s.homes x y deep there)) ∙ (framed ∙ told) };
         },
-        λ d y same. ap (λ (k : Claim N F). waiting k) (same_holding c d x y same).0,
+        λ d y same. ap (λ (k : Claim N F). seat_outside k) (same_holding c d x y same).0,
       )
 
   -- claims may come to other seats, where no seat inside is touched: what keeps each claim and every sum over them keeps the rule
@@ -255,8 +259,8 @@ module _ {W N F : Type 0} (history_of : W → List N) (pass_of : N → ℕ) (fra
       (each_push (λ k u. u.inside ≡ true → get_elem? s.views k ≡ some u) left (outside c) (λ _ on. absurd (not_both false refl on)) (each_set (λ k u. u.inside ≡ true → get_elem? s.views k ≡ some u) s.views id l (λ on. absurd (not_both false refl on)) (λ k u _ there _. there)))
       (λ k d there. at_longer left (outside c ∷ []) k (within d) (set_else s.views id k l (apart id k v d s.views at refl there) ∙ there))
 
-  pub joins : (id : ℕ) (v : SeatKnowledge N F) (other : ℕ) (w : SeatKnowledge N F) → v.inside ≡ false → w.inside ≡ false → Joins Rule id v other w (joined v w) nobody
-  joins id v other w v_out w_out s r at ne there = let b : SeatKnowledge N F = joined v w in let left : List (SeatKnowledge N F) = set s.views id b in let was : get_elem? s.views other ≡ some w = sym (set_else s.views id other b ne) ∙ there in
+  pub joins : (id : ℕ) (v : SeatKnowledge N F) (other : ℕ) (w : SeatKnowledge N F) → v.inside ≡ false → w.inside ≡ false → Joins Rule id v other w (join_knowledge v w) nobody
+  joins id v other w v_out w_out s r at ne there = let b : SeatKnowledge N F = join_knowledge v w in let left : List (SeatKnowledge N F) = set s.views id b in let was : get_elem? s.views other ≡ some w = sym (set_else s.views id other b ne) ∙ there in
       regrouped s (set left other nobody) r
       (λ P all. each_set (λ _ u. AllByRecursion P u.claims) left other nobody tt (λ k u _. each_set (λ _ z. AllByRecursion P z.claims) s.views id b (Each-append P v.claims w.claims (all id v at) (all other w was)) (λ j z _. all j z) k u))
       (λ g add. let moved = sum-set (λ (u : SeatKnowledge N F). g u.claims) s.views id v b at in let spent = sum-set (λ (u : SeatKnowledge N F). g u.claims) left other w nobody there in let both = add v.claims w.claims in let none_of : g [] ≡ g [] + g [] = add [] [] in omega arith)
@@ -264,7 +268,7 @@ module _ {W N F : Type 0} (history_of : W → List N) (pass_of : N → ℕ) (fra
       (λ k u _. each_set (λ j z. z.inside ≡ true → get_elem? s.views j ≡ some z) s.views id b (λ on. absurd (not_both v.inside v_out on)) (λ j z _ here _. here) k u))
       (λ k d here. set_else left other k nobody (apart other k w d s.views was w_out here) ∙ (set_else s.views id k b (apart id k v d s.views at v_out here) ∙ here))
 
-  pub sits : (slots : ℕ) → Enters Rule slots 0 (λ _ v. v ≡ nobody)
+  pub sits : (slots : ℕ) → Enters Rule slots inside_word (λ _ v. v ≡ nobody)
   sits slots s r deep at = (
     nobody,
     regrouped s (s.views ++ nobody ∷ []) r
@@ -275,7 +279,7 @@ module _ {W N F : Type 0} (history_of : W → List N) (pass_of : N → ℕ) (fra
     refl,
   )
 
-  pub opens : (x : W) → history_of x ≡ [] → frame_of x ≡ frame → Rule (opening (0 ∷ 0 ∷ []) (Some x ∷ []) (first_view passes frame))
+  pub opens : (x : W) → history_of x ≡ [] → frame_of x ≡ frame → Rule (opening new_words (Some x ∷ []) (first_view passes frame))
   opens x empty framed = let v : SeatKnowledge N F = first_view passes frame in
       let one : (g : List (Claim N F) → ℕ) → sum_by (λ (u : SeatKnowledge N F). g u.claims) (v ∷ []) ≡ g v.claims = λ g. let all = sum_by-cons (λ (u : SeatKnowledge N F). g u.claims) v [] in omega arith in
       let only : (P : SeatKnowledge N F → Type 0) → P v → EachAt (λ _ u. P u) (v ∷ []) = λ P p. each_push (λ _ u. P u) [] v (λ _. p) (λ k u e. absurd (some-ne-none u (sym e))) in

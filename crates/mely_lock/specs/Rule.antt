@@ -1,5 +1,5 @@
--- The rule of a lock: what holds of its two words, its slot and what its seats know, between any two steps.
--- Word 0 is 0 while nobody is inside, and otherwise one more than the number of the pass inside. Word 1 is the length of the history. The slot has the value.
+-- The rule of a lock: what holds of its words, its slot and what its seats know, between any two steps.
+-- One word is 0 while nobody is inside, and otherwise one more than the number of the pass inside. The next is the length of the history. Those before them are there only so that no other lock's words lie beside, and the rule says nothing of them. The slot has the value.
 use Rattle.std.specs.Prelude.{◌≡◌, ◌⊎◌, ℕ, ◌+◌, ◌<◌, ◌≤◌, true, false, List, [], ◌∷◌, length, slice_index, Option, Some}
 use Rattle.std.specs.List.{AllByRecursion}
 use mathlib.Core.Option.{some}
@@ -9,6 +9,16 @@ use Rattle.mely_lock.specs.declared.claim.Claim.{Claim}
 use Rattle.mely_lock.specs.declared.seat_knowledge.SeatKnowledge.{SeatKnowledge}
 use Rattle.mely_lock.specs.Seen.{notes_of, OthersSince}
 use Rattle.mely_lock.specs.Views.{within, times_held, claims_held}
+
+-- the place of the word that says who is inside, that of the word with the length of the history, and how many words there are
+abbrev pub inside_word : ℕ
+inside_word = 8
+
+abbrev pub notes_word : ℕ
+notes_word = 9
+
+abbrev pub lock_words : ℕ
+lock_words = 10
 
 -- P holds of each element and its place
 abbrev pub EachAt : {A : Type 0} → (ℕ → A → Type 0) → List A → Type 0
@@ -21,14 +31,14 @@ EachClaim P views = EachAt (λ _ v. AllByRecursion P v.claims) views
 module _ {W N F : Type 0} where
   -- nobody is inside
   pub record IsOpen (s : State (Option W) (SeatKnowledge N F)) : Type 0 where
-    pub free : slice_index s.words 0 ≡ 0
+    pub free : slice_index s.words inside_word ≡ 0
     pub all_outside : EachAt (λ _ v. v.inside ≡ false) s.views
 
   -- one seat is inside, which has one claim
   pub record IsShut (s : State (Option W) (SeatKnowledge N F)) : Type 0 where
     pub seat : ℕ
     pub holder : Claim N F
-    pub taken : slice_index s.words 0 ≡ holder.number + 1
+    pub taken : slice_index s.words inside_word ≡ holder.number + 1
     pub there : get_elem? s.views seat ≡ some (within holder)
     pub alone : EachAt (λ k v. v.inside ≡ true → k ≡ seat) s.views
 
@@ -36,7 +46,7 @@ module _ {W N F : Type 0} where
   abbrev pub IsHome : W → State (Option W) (SeatKnowledge N F) → Type 0
   IsHome x s = s.homes ≡ some (Some x) ∷ []
 
-  -- the first part: word 0 names who is inside
+  -- the first part: the one word names who is inside
   abbrev pub DoorTells : State (Option W) (SeatKnowledge N F) → Type 0
   DoorTells s = IsOpen s ⊎ IsShut s
 
@@ -44,9 +54,9 @@ module _ {W N F : Type 0} where
   abbrev pub AwayWhileInside : State (Option W) (SeatKnowledge N F) → Type 0
   AwayWhileInside s = IsOpen s → (x : W) × IsHome x s
 
-  -- the third part: word 1 has the length of the history, which is that of the value while nobody is inside, and which a seat inside has seen whole
+  -- the third part: the other word has the length of the history, which is that of the value while nobody is inside, and which a seat inside has seen whole
   pub record TellsHistory (history_of : W → List N) (history : List N) (s : State (Option W) (SeatKnowledge N F)) : Type 0 where
-    pub counted : slice_index s.words 1 ≡ length history
+    pub counted : slice_index s.words notes_word ≡ length history
     pub home : IsOpen s → (x : W) → IsHome x s → history_of x ≡ history
     pub inside : EachAt (λ _ v. v.inside ≡ true
         → AllByRecursion (λ c. c.front ≡ history) v.claims) s.views
@@ -67,7 +77,7 @@ pub record EachOnce {N F : Type 0} (pass_of : N → ℕ) (passes : ℕ) (history
 -- the rule of a lock with so many passes, round a value that had this frame
 pub record Locked {W N F : Type 0} (history_of : W → List N) (pass_of : N → ℕ) (frame_of : W → F) (frame : F) (passes : ℕ) (s : State (Option W) (SeatKnowledge N F)) : Type 0 where
   pub history : List N
-  pub words : length s.words ≡ 2
+  pub words : length s.words ≡ lock_words
   pub door : DoorTells s
   pub away : AwayWhileInside s
   pub tells : TellsHistory history_of history s

@@ -2,18 +2,19 @@
 ghost use Rattle.std.specs.Prelude.{◌≡◌, ◌==◌, ℕ, ◌<◌, false, length, count_by};
 ghost use mathlib.Core.Option.{some};
 ghost use lib.ListN.{get_elem?};
+ghost use Rattle.mely_lock.specs.Rule.{inside_word};
 ghost use Rattle.mely_lock.specs.Steps.{Closes};
 ghost use Rattle.mely_lock.specs.Views.{HasClaim, shares_of};
 ghost use Rattle.mely_lock.specs.Words.{front, IsOutside};
 
-use crate::lock_rule::{LockTable, PassSeat};
+use crate::lock_rule::{INSIDE, LockTable, PassSeat};
 use crate::pass::Pass;
 use crate::steps::{JoinPass, NewSeat};
 use mely_event::Kept;
 
 /// A seat that is outside, with the claims of all these passes.
 pub(crate) fn gather<V: Kept>(room: &LockTable<V>, passes: Vec<Pass<V>>) -> PassSeat<V>
-    requires size { 0 < room.now.shared.table_id.words }
+    requires size { inside_word < room.now.shared.table_id.words }
     requires each { (k : ℕ) (p : _) → get_elem? passes.items k ≡ some p
         → (p.place.table_id ≡ room.now.shared.table_id) × IsOutside p }
     ensures table { result.table_id ≡ room.now.shared.table_id }
@@ -25,7 +26,7 @@ pub(crate) fn gather<V: Kept>(room: &LockTable<V>, passes: Vec<Pass<V>>) -> Pass
         → HasClaim result.me.0.claims p.number (front p) }
 {
     let mut passes = passes;
-    let (_, mut seat) = room.shared.load_new_seat::<NewSeat>(0);
+    let (_, mut seat) = room.shared.load_new_seat::<NewSeat>(INSIDE);
     while let Some(pass) = passes.pop() {
         let Pass {
             number: _,

@@ -24,7 +24,24 @@ impl<V: Kept> TableRule<Option<V>, SeatKnowledge<V::Note, V::Frame>, LockKey<V>>
 /// The seat of a pass.
 pub type PassSeat<V> = Seat<Option<V>, SeatKnowledge<<V as Kept>::Note, <V as Kept>::Frame>>;
 
-/// The two words and the slot of a lock.
+/// How many words of 64 bits lie unused before those of a lock, and behind them and its slot: those of a line of 64 bytes.
+///
+/// A processor takes memory from another by such lines. Where the words or slots of two locks lie on one, a step on one lock
+/// takes the line from who is inside the other, though the locks share nothing: this is called false sharing. As an allocator
+/// mostly gives one place behind another, so much room on both sides keeps other locks off the line, wherever it begins. It is
+/// under no part of the rule, and costs time alone where an allocator does otherwise.
+pub(crate) const SPARE: usize = 8;
+
+/// The word that says who is inside: 0 for nobody, and otherwise one more than the number of the pass.
+pub(crate) const INSIDE: usize = 8;
+
+/// The word that has the length of the history.
+pub(crate) const NOTES: usize = 9;
+
+/// How many words a lock has, with the [`SPARE`] ones before `INSIDE`, which nobody touches.
+pub(crate) const WORDS: usize = 10;
+
+/// The words and the slot of a lock.
 pub type LockTable<V> = Table<
     Option<V>,
     SeatKnowledge<<V as Kept>::Note, <V as Kept>::Frame>,

@@ -8,7 +8,7 @@ use atomic_table::{Join, Play, Split};
 use mely_event::Kept;
 use std::marker::PhantomData;
 
-/// A compare-exchange of word 0 from 0 to the pass's number and one, made by a pass that is outside.
+/// A compare-exchange of the word `INSIDE` from 0 to the pass's number and one, made by a pass that is outside.
 ///
 /// Where it found another number than 0 somebody is inside, and nothing changes. Where it found 0 nobody was, so the value was at
 /// home: the pass has its slot, and has seen its whole history.
@@ -22,9 +22,9 @@ impl<V: Kept> Play<Option<V>, SeatKnowledge<V::Note, V::Frame>> for TryEnter<V> 
     ghost then = { λ _. Tried V.history_of V.pass_of V.frame_of };
 }
 
-/// One more in word 1, made by the pass inside once its value has one note more and is back in the slot.
+/// One more in the word `NOTES`, made by the pass inside once its value has one note more and is back in the slot.
 ///
-/// While a pass is inside no other changes word 1, so it has the length of the history again.
+/// While a pass is inside no other changes `NOTES`, so it has the length of the history again.
 pub(crate) struct AddNote<V> {
     kept: PhantomData<V>,
 }
@@ -35,7 +35,7 @@ impl<V: Kept> Play<Option<V>, SeatKnowledge<V::Note, V::Frame>> for AddNote<V> {
     ghost then = { λ _ m _. Noted V.history_of m };
 }
 
-/// A store of 0 in word 0, made by the pass inside, with the value in the slot.
+/// A store of 0 in the word `INSIDE`, made by the pass inside, with the value in the slot.
 ///
 /// The value goes home with the history that the pass has seen, and whoever comes in next finds it so.
 pub(crate) struct Leave;
@@ -73,10 +73,10 @@ impl<N, F> Split<SeatKnowledge<N, F>> for SplitPass {
 pub(crate) struct JoinPass;
 
 impl<N, F> Join<SeatKnowledge<N, F>> for JoinPass {
-    ghost use Rattle.mely_lock.specs.Steps.{joined};
+    ghost use Rattle.mely_lock.specs.Steps.{join_knowledge};
     ghost use Rattle.mely_lock.specs.Views.{nobody};
 
-    ghost both = { joined };
+    ghost both = { join_knowledge };
 
     ghost spent = { nobody };
 }

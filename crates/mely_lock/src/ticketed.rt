@@ -1,11 +1,12 @@
 //! The lock itself.
 ghost use Rattle.std.specs.Prelude.{◌≡◌};
+ghost use Rattle.mely_lock.specs.Rule.{lock_words};
 
 use crate::closing::{gather, take_back};
 use crate::dealing::deal;
 use crate::held::Held;
 use crate::lock_key::LockKey;
-use crate::lock_rule::{LockTable, PassSeat};
+use crate::lock_rule::{LockTable, PassSeat, SPARE, WORDS};
 use crate::pass::Pass;
 use atomic_table::Table;
 use mely_event::{Kept, Memory};
@@ -25,7 +26,9 @@ pub struct Ticketed<V: Kept> {
     /// How many passes sleep, or look once more before they do. It is under no part of the rule: it only saves the call that
     /// wakes a sleeper where there is none.
     pub(crate) sleepers: AtomicU32,
-    ghost sized: { (room.shared.table_id.words ≡ 2) × (room.shared.table_id.slots ≡ 1) },
+    /// Empty for good: all it is for is its room, which lies behind the words and the slot, as [`SPARE`] says.
+    pub(crate) apart: Vec<u64>,
+    ghost sized: { (room.shared.table_id.words ≡ lock_words) × (room.shared.table_id.slots ≡ 1) },
     ghost counted: { room.shared.key.passes ≡ passes },
 }
 
@@ -58,12 +61,15 @@ impl<V: Kept + Drop> Ticketed<V> {
         slots.push(Some(value))?;
         let (room, mut rest): (LockTable<V>, PassSeat<V>) = match Table::new(
             alloc,
-            &[0, 0],
+            &[0; WORDS],
             slots,
             &about,
         ) {
             Ok(made) => made,
             Err(_) => return Err(Memory),
+        };
+        let Ok(apart) = Vec::with_capacity(alloc, SPARE) else {
+            return Err(Memory);
         };
         let dealt = deal(alloc, &room, &mut rest, passes)?;
         let sleepers = AtomicU32::new(0);
@@ -72,6 +78,7 @@ impl<V: Kept + Drop> Ticketed<V> {
                 room,
                 passes,
                 sleepers,
+                apart,
             },
             dealt,
         ))
@@ -127,6 +134,7 @@ impl<V: Kept> Ticketed<V> {
             room,
             passes: _,
             sleepers: _,
+            apart: _,
         } = self;
         let seat = gather(&room, passes);
         take_back(room, seat)

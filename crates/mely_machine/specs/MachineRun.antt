@@ -10,7 +10,7 @@ use Rattle.mely_worker.specs.declared.delivery.Delivery.TheVariants.{Nothing, Pu
 use Rattle.mely_machine.specs.Rules.{Rules}
 use Rattle.mely_machine.specs.Listing.{Listed}
 use Rattle.mely_machine.specs.Machine.{Acts, Doing, Free, Popped, Picked, Landing, Pushing, Turning, Machine, pushes}
-use Rattle.mely_machine.specs.MachineStep.{history_for, noted, reports, delivery_by, step}
+use Rattle.mely_machine.specs.MachineStep.{history_for, after_entry, reports, delivery_by, step}
 
 -- a schedule spelled out: the core of each step that it names, as a list of cores and how many steps of each
 abbrev pub spelled_out : List (ℕ × ℕ) → List ℕ
@@ -54,7 +54,7 @@ module _ {X : Type 0} (rules : Rules) where
   -- a registration from outside, by the pass of the number after the cores', with what follows it; it counts as a step
   unfoldable pub post : Colour → Event → Machine X → Machine X
   post c event m =
-      let registered = noted rules (Reg c event rules.shape.cores) m in
+      let registered = after_entry rules (Reg c event rules.shape.cores) m in
       let after = delivers (delivery_by rules (history_for rules m c)
       (history_for rules registered c) c) registered in
       record after { made = after.made + 1 }

@@ -43,8 +43,8 @@ module _ (rules : Rules) where
   history_for m c = history_at m (shard_by rules c)
 
   -- an entry enters the history of its colour
-  abbrev pub noted : {X : Type 0} → Entry → Machine X → Machine X
-  noted entry m = enters (shard_by rules (colour_of entry)) entry m
+  abbrev pub after_entry : {X : Type 0} → Entry → Machine X → Machine X
+  after_entry entry m = enters (shard_by rules (colour_of entry)) entry m
 
   -- a report on a colour reaches the list of a core
   abbrev pub reports : {X : Type 0} → ℕ → Colour → ℕ → ℕ → Machine X → Machine X
@@ -78,18 +78,19 @@ module _ (rules : Rules) where
     abbrev pub step_take : Machine X → Colour → List Event → Machine X
     step_take m c queued =
         let count = min rules.shape.batch (length queued) in
-        turns_to core (Turning c count (take count queued) Nothing []) (noted (Take c core count) m)
+        turns_to core (Turning c count (take count queued) Nothing [])
+        (after_entry (Take c core count) m)
 
     -- Picked: the colour is stolen from its owner, and its mark is to land
     abbrev pub step_steal : Machine X → Colour → Machine X
     step_steal m c =
-        let after = noted (Steal c (owner_by rules (history_for m c) c) core) m in
+        let after = after_entry (Steal c (owner_by rules (history_for m c) c) core) m in
         turns_to core (Landing (mark_by rules (history_for after c) c)) after
 
     -- Turning, with nothing left: the turn ends
     abbrev pub step_finish : Machine X → Colour → ℕ → Machine X
     step_finish m c count =
-        let after = noted (Fin c core count) m in
+        let after = after_entry (Fin c core count) m in
         turns_to core (doing_after core (history_for after c) c
         (queued_of (history_for after c) c)) after
 
@@ -97,7 +98,7 @@ module _ (rules : Rules) where
     abbrev pub step_register : Machine X → Colour → ℕ → List Event → Colour × Event
         → List (Colour × Event) → Machine X
     step_register m c count left put puts =
-        let after = noted (Reg put.0 put.1 core) m in
+        let after = after_entry (Reg put.0 put.1 core) m in
         turns_to core (Turning c count left
         (delivery_by (history_for m put.0) (history_for after put.0) put.0) puts) after
 

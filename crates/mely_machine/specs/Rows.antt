@@ -40,16 +40,16 @@ abbrev pub sends : Acts (Unit {0})
 sends x c e = record { puts = puts_of e.handler e.arg; becomes = x }
 
 -- a machine after posts
-abbrev pub posted : Rules → List (Colour × Event) → Machine (Unit {0})
-posted rules posts = fold (λ m p. post rules p.0 p.1 m) (first_machine rules tt) posts
+abbrev pub after_posts : Rules → List (Colour × Event) → Machine (Unit {0})
+after_posts rules posts = fold (λ m p. post rules p.0 p.1 m) (first_machine rules tt) posts
 
 -- a machine after posts and a schedule
 abbrev pub after : Rules → List (Colour × Event) → List (ℕ × ℕ) → Machine (Unit {0})
-after rules posts schedule = steps rules sends (spelled_out schedule) (posted rules posts)
+after rules posts schedule = steps rules sends (spelled_out schedule) (after_posts rules posts)
 
 -- the histories after so many rounds and one more, and whether nothing was left before that one and after it
-abbrev pub drained : Rules → ℕ → Machine (Unit {0}) → List (List Entry) × Bool × Bool
-drained rules n m = (
+abbrev pub drain_row : Rules → ℕ → Machine (Unit {0}) → List (List Entry) × Bool × Bool
+drain_row rules n m = (
   (rounds rules sends (n + 1) m).histories,
   is_quiet (rounds rules sends n m),
   is_quiet (rounds rules sends (n + 1) m),
@@ -61,8 +61,9 @@ late = after (small 2 1 15 0) ((col 0, event 1 1) ∷ (col 1, event 0 0) ∷ [])
     ((0, 4) ∷ (1, 5) ∷ (0, 4) ∷ [])
 
 -- a registration between a finish and the push of the mark
-abbrev pub between : Machine (Unit {0})
-between = after (small 2 1 15 0) ((col 1, event 0 0) ∷ (col 1, event 0 0) ∷ (col 0, event 1 1) ∷ [])
+abbrev pub before_push : Machine (Unit {0})
+before_push = after (small 2 1 15 0)
+    ((col 1, event 0 0) ∷ (col 1, event 0 0) ∷ (col 0, event 1 1) ∷ [])
     ((1, 4) ∷ (0, 4) ∷ (0, 1) ∷ (1, 1) ∷ [])
 
 -- ten events of a colour
@@ -102,16 +103,16 @@ pub record WorkedRows : Type 0 where
       ∷ Reg (col 1) (event 0 0) 0 ∷ Take (col 1) 1 1 ∷ Fin (col 1) 1 1 ∷ Fin (col 0) 0 1 ∷ []) ∷ []
   pub late_mark : late.lists ≡ [] ∷ (record { mark = mark 1 1 10; since = 10 } ∷ []) ∷ []
   -- the mark that is pushed says less than the colour is worth
-  pub unheard : between.lists ≡ [] ∷ (record { mark = mark 1 1 10; since = 12 } ∷ []) ∷ []
+  pub unheard : before_push.lists ≡ [] ∷ (record { mark = mark 1 1 10; since = 12 } ∷ []) ∷ []
   -- on one core, batches of ten events and of one: the colours take turns
-  pub batch_of_ten : drained (small 1 10 15 0) 25 (posted (small 1 10 15 0) (ten 0 ++ ten 2))
+  pub batch_of_ten : drain_row (small 1 10 15 0) 25 (after_posts (small 1 10 15 0) (ten 0 ++ ten 2))
       ≡ (
         (map (λ p. Reg p.0 p.1 1) (ten 0 ++ ten 2) ++ Take (col 0) 0 10 ∷ Fin (col 0) 0 10
             ∷ Take (col 2) 0 10 ∷ Fin (col 2) 0 10 ∷ []) ∷ [],
         false,
         true,
       )
-  pub batch_of_one : drained (small 1 1 15 0) 97 (posted (small 1 1 15 0) (ten 0 ++ ten 2))
+  pub batch_of_one : drain_row (small 1 1 15 0) 97 (after_posts (small 1 1 15 0) (ten 0 ++ ten 2))
       ≡ (
         (map (λ p. Reg p.0 p.1 1) (ten 0 ++ ten 2) ++ flat_map (λ c.
             Take (col c) 0 1 ∷ Fin (col c) 0 1 ∷ []) (flat_map (λ (n : ℕ).
@@ -120,7 +121,7 @@ pub record WorkedRows : Type 0 where
         true,
       )
   -- a pinned colour stays on its core, and a thief takes the other
-  pub pinned_stays : drained (small 2 1 5 1) 3
+  pub pinned_stays : drain_row (small 2 1 5 1) 3
       (after (small 2 1 5 1) ((col 0, event 0 0) ∷ (col 2, event 0 0) ∷ []) ((1, 4) ∷ []))
       ≡ (
         (Reg (col 0) (event 0 0) 2 ∷ Reg (col 2) (event 0 0) 2 ∷ Steal (col 2) 0 1 ∷ Take (col 0) 0

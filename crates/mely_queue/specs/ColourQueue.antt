@@ -14,15 +14,16 @@ abbrev pub registered_in : {P : Type 0} → ColourQueueState P → ℕ
 registered_in q = q.started + length q.events
 
 -- one more event at the back
-abbrev pub pushed : {P : Type 0} → ColourQueueState P → Event → Option P → ℕ → ColourQueueState P
-pushed q event load weight = record q {
+abbrev pub after_push : {P : Type 0} → ColourQueueState P → Event → Option P → ℕ
+    → ColourQueueState P
+after_push q event load weight = record q {
   events = q.events ++ (event, load) ∷ [];
   weights = q.weights ++ weight ∷ [];
 }
 
 -- the first ones were started
-abbrev pub taken : {P : Type 0} → ColourQueueState P → ℕ → ColourQueueState P
-taken q count = record q {
+abbrev pub after_take : {P : Type 0} → ColourQueueState P → ℕ → ColourQueueState P
+after_take q count = record q {
   events = drop count q.events;
   weights = drop count q.weights;
   started = q.started + count;

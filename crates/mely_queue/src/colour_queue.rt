@@ -69,7 +69,7 @@ impl<P> Model for ColourQueue<P> {
 }
 
 impl<P> ColourQueue<P> {
-    ghost use Rattle.mely_queue.specs.ColourQueue.{ColourQueueState, registered_in, pushed, taken, finished_by};
+    ghost use Rattle.mely_queue.specs.ColourQueue.{ColourQueueState, registered_in, after_push, after_take, finished_by};
 
     /// A queue on which nothing waits and nothing was registered. It takes no memory.
     pub fn new(alloc: Global) -> ColourQueue<P>
@@ -97,7 +97,7 @@ impl<P> ColourQueue<P> {
         weight: u32,
     ) -> Result<(), Unregistered<P>>
         requires { registered_in self.old < 2 ^ 64 - 1 }
-        ensures ok { OnOk result (self.new ≡ pushed self.old event load weight) }
+        ensures ok { OnOk result (self.new ≡ after_push self.old event load weight) }
         ensures err { OnErr result (self.new ≡ self.old) }
         ensures back { IfErr result (λ refused. (refused.event ≡ event) × (refused.load ≡ load)) }
     {
@@ -160,7 +160,7 @@ impl<P> ColourQueue<P> {
         requires { 1 ≤ batch }
         ensures first { IfOk result (λ events. events.items ≡ take batch self.old.events) }
         ensures rest { OnOk result (self.new
-            ≡ taken self.old (min batch (length self.old.events))) }
+            ≡ after_take self.old (min batch (length self.old.events))) }
         ensures err { OnErr result (self.new ≡ self.old) }
     {
         let count = self.count_in(batch);
@@ -187,7 +187,7 @@ impl<P> ColourQueue<P> {
         requires empty { first.old.items ≡ [] }
         ensures first { OnOk result (first.new.items ≡ take batch self.old.events) }
         ensures rest { OnOk result (self.new
-            ≡ taken self.old (min batch (length self.old.events))) }
+            ≡ after_take self.old (min batch (length self.old.events))) }
         ensures err { OnErr result (self.new ≡ self.old) }
         ensures none { OnErr result (first.new.items ≡ []) }
     {
@@ -210,7 +210,7 @@ impl<P> ColourQueue<P> {
         requires there { count ≤ length self.old.events }
         requires room { vec_len first.old + count ≤ vec_capacity first.old }
         ensures first { first.new.items ≡ first.old.items ++ take count self.old.events }
-        ensures rest { self.new ≡ taken self.old count }
+        ensures rest { self.new ≡ after_take self.old count }
     {
         move_front(&mut self.events, first, count);
         self.time_left -= drop_front(&mut self.weights, count);

@@ -19,21 +19,21 @@ abbrev pub Piece : Type 0 → Type 0 → Type 0
 Piece S P = Colour × (S ⊎ (Event × Option P))
 
 -- a state, on its colour
-abbrev pub kept : {S P : Type 0} → Colour → S → Piece S P
-kept c state = (c, inl state)
+abbrev pub state_piece : {S P : Type 0} → Colour → S → Piece S P
+state_piece c state = (c, inl state)
 
 -- an event that waits, on its colour
-abbrev pub coming : {S P : Type 0} → Colour → Event → Option P → Piece S P
-coming c event load = (c, inr (event, load))
+abbrev pub event_piece : {S P : Type 0} → Colour → Event → Option P → Piece S P
+event_piece c event load = (c, inr (event, load))
 
 -- what a lane has: its state where that is at home, and the events that wait
 abbrev pub of_state : {S P : Type 0} → Colour → Option S → List (Piece S P)
 of_state c None = []
-of_state c (Some state) = kept c state ∷ []
+of_state c (Some state) = state_piece c state ∷ []
 
 -- what a lane has
 abbrev pub of_lane : {S P : Type 0} → Colour → ColourState S P → List (Piece S P)
-of_lane c lane = of_state c lane.state ++ map (λ e. coming c e.0 e.1) lane.events
+of_lane c lane = of_state c lane.state ++ map (λ e. event_piece c e.0 e.1) lane.events
 
 -- what lanes have, of which the first is the one at this place of the shard
 abbrev pub of_lanes : {S P : Type 0} → Setup → ℕ → ℕ → List (ColourState S P) → List (Piece S P)
@@ -47,7 +47,7 @@ of_shard has = of_lanes has.setup has.shard 0 has.lanes
 
 -- what a turning worker has: the state of its turn, the events that are left, and what is left to register
 abbrev pub of_put : {S P : Type 0} → Colour × Event × Option P → Piece S P
-of_put put = coming put.0 put.1 put.2
+of_put put = event_piece put.0 put.1 put.2
 
 -- what a phase has: that of a turn, and nothing else has anything
 abbrev pub of_phase : {S P : Type 0} → Phase S P → List (Piece S P)
@@ -57,8 +57,8 @@ of_phase (at.Picked mark victim) = []
 of_phase (at.Landing mark) = []
 of_phase (at.Pushing to mark) = []
 of_phase (at.Turning turn hand puts) =
-    kept turn.colour turn.state
-    ∷ (map (λ e. coming turn.colour e.0 e.1) turn.events ++ map of_put puts)
+    state_piece turn.colour turn.state
+    ∷ (map (λ e. event_piece turn.colour e.0 e.1) turn.events ++ map of_put puts)
 
 -- what a worker has
 abbrev pub of_worker : {S P : Type 0} → WorkerState S P → List (Piece S P)
@@ -71,21 +71,22 @@ pieces weave = flat_map of_shard weave.shards ++ flat_map of_worker weave.worker
 -- the given states, each on its colour, of which the first has this number
 abbrev pub kept_from : {S P : Type 0} → ℕ → List S → List (Piece S P)
 kept_from n [] = []
-kept_from n (state ∷ states) = kept (record { 0 = n }) state ∷ kept_from (n + 1) states
+kept_from n (state ∷ states) = state_piece (record { 0 = n }) state ∷ kept_from (n + 1) states
 
 -- An app is told by a function: where what it has agrees with what it is by the function, a handler registers what the function says, and what the app has then agrees again, unless the handler left its state spoilt, as by want of memory. Nothing of it depends on where a piece is, or on the room of a state, and a spoilt state stays so.
 pub record IsTold {S P F R X : Type 0} (t : TrailWords S F) (fits : F → Colour → Event → Option P → Type 0) (y : AppWords R P S F) (app : R) (frame : F) (act : Acts X) (Agrees : X → List (Piece S P) → Type 0) (spoilt : S → Bool) : Type 0 where
   pub moved : (x : X) (some others : List (Piece S P)) → IsPermutation some others
       → Agrees x some → Agrees x others
   pub roomier : (x : X) (c : Colour) (state roomy : S) (rest : List (Piece S P))
-      → t.alike state roomy → Agrees x (kept c state ∷ rest) → Agrees x (kept c roomy ∷ rest)
+      → t.alike state roomy → Agrees x (state_piece c state ∷ rest)
+      → Agrees x (state_piece c roomy ∷ rest)
   pub runs : (x : X) (c : Colour) (event : Event) (load : Option P) (state after : S)
       (puts : List (Colour × Event × Option P)) (rest : List (Piece S P)) → t.colour_of state ≡ c
       → t.frame_of state ≡ frame → fits frame c event load
-      → Agrees x (kept c state ∷ coming c event load ∷ rest)
+      → Agrees x (state_piece c state ∷ event_piece c event load ∷ rest)
       → y.runs app state event load after puts → spoilt after ≡ false
       → (without_loads puts ≡ (act x c event).puts)
-      × Agrees (act x c event).becomes (kept c after ∷ (map of_put puts ++ rest))
+      × Agrees (act x c event).becomes (state_piece c after ∷ (map of_put puts ++ rest))
   pub spoilt_roomier : (state roomy : S) → t.alike state roomy
       → spoilt state ≡ true → spoilt roomy ≡ true
   pub spoilt_after : (state after : S) (event : Event) (load : Option P) (puts : List (Colour

@@ -7,7 +7,7 @@ ghost use Rattle.mely_history.specs.declared.entry.Entry.{Entry};
 ghost use Rattle.mely_machine.specs.Rules.{rules_of};
 ghost use Rattle.mely_machine.specs.Machine.{Acts};
 ghost use Rattle.mely_machine.specs.MachineRun.{RunsTo};
-ghost use Rattle.mely_run.specs.Pieces.{Piece, coming, kept_from, IsTold};
+ghost use Rattle.mely_run.specs.Pieces.{Piece, event_piece, kept_from, IsTold};
 ghost use Rattle.mely_run.specs.WholeRuns.{IsWholeRun};
 
 use mely_event::{Fits, Trail};
@@ -46,7 +46,7 @@ pub fn a_run_is_the_machines<S: Fits<P>, P, R: Told<State = S, Load = P>>()
         (schedule : List (ℕ × ℕ)) (histories : List (List Entry)) (left : List S) (x : R.Is)
         → IsWholeRun S.Trail S.fits_under R.App app setup states c event load
         schedule histories left
-        → R.agrees app x (coming c event load ∷ kept_from 0 states)
+        → R.agrees app x (event_piece c event load ∷ kept_from 0 states)
         → All (λ state. R.spoilt app state ≡ false) left
         → RunsTo (rules_of setup) (R.acts app) x (c, event) schedule histories }
 {}

@@ -20,7 +20,7 @@ use Rattle.mely_history.specs.Legal.{MayRegister}
 use Rattle.mely_history.specs.declared.registered.Registered.TheVariants.{Woke, Told, Running}
 use Rattle.std.specs.Prelude.{is_none, if◌then◌else◌}
 use Rattle.std.proofs.lemmas.List.{nil_from_length}
-use Rattle.mely_queue.specs.ColourQueue.{pushed, registered_in}
+use Rattle.mely_queue.specs.ColourQueue.{after_push, registered_in}
 use Rattle.mely_shard.specs.declared.colour_slot.ColourSlot.{ColourSlot}
 use Rattle.mely_shard.specs.Shard.{RegisteredAs}
 use Rattle.mely_history.specs.ColourAccount.{ColourAccount, account_of, next_account}
@@ -71,11 +71,11 @@ module _ {S P F : Type 0} {t : TrailWords S F} {fits : F → Colour → Event �
   -- a registration keeps what the fields keep
   pub kept_registered : (c : Colour) (event : Event) (load : Option P) (by capacity' : ℕ) (cell : ColourSlot S P) → c.0 < colours_of setup → c.0 % (shape_of setup).shards ≡ shard
       → cell ≡ get_or cells (c.0 / (shape_of setup).shards) cell → MayRegister setup c event → fits (t.frame_of cell.given.value) c event load → length history + 1 + running ≤ capacity' → capacity' ≤ MOST_ENTRIES
-      → IsKeptShard t fits setup shard (history ++ Reg c event by ∷ []) (set cells (c.0 / (shape_of setup).shards) (record cell { queue = pushed cell.queue event load (weight setup event) })) running capacity'
+      → IsKeptShard t fits setup shard (history ++ Reg c event by ∷ []) (set cells (c.0 / (shape_of setup).shards) (record cell { queue = after_push cell.queue event load (weight setup event) })) running capacity'
   kept_registered c event load by capacity' cell there here is may fit room limited =
       let i = c.0 / (shape_of setup).shards in
       let place : i < length cells = kept.whole c.0 there here in
-      let after = record cell { queue = pushed cell.queue event load (weight setup event) } in
+      let after = record cell { queue = after_push cell.queue event load (weight setup event) } in
       let at : colour_at setup shard i ≡ c = colour_at-place setup shard c here in
       let old : CellStands t fits setup c (account_of setup history c) cell = subst (λ b. CellStands t fits setup c (account_of setup history c) b) (sym is) (cell_stands c cell there here) in
       kept_after (Reg c event by) i after running capacity' kept place (sym (ap (λ k. k.0) at)) may
@@ -104,7 +104,7 @@ module _ {S P F : Type 0} {t : TrailWords S F} {fits : F → Colour → Event �
 
   -- what a registration is told
   pub told_registered : (c : Colour) (event : Event) (load : Option P) (by : ℕ) (cell : ColourSlot S P) → CellStands t fits setup c (account_of setup history c) cell → fits (t.frame_of cell.given.value) c event load
-      → RegisteredAs setup history (history ++ Reg c event by ∷ []) c (reply_of (record cell { queue = pushed cell.queue event load (weight setup event) }) (nat_lt 0 (length cell.queue.events)))
+      → RegisteredAs setup history (history ++ Reg c event by ∷ []) c (reply_of (record cell { queue = after_push cell.queue event load (weight setup event) }) (nat_lt 0 (length cell.queue.events)))
   told_registered c event load by cell old fit =
       let after = history ++ Reg c event by ∷ [] in
       let next = account-own setup history (Reg c event by) c refl in

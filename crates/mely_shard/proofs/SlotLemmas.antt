@@ -15,7 +15,7 @@ use Rattle.mely_history.specs.declared.entry.Entry.TheVariants.{Reg}
 use Rattle.mely_history.specs.History.{weight}
 use Rattle.mely_history.specs.Legal.{IsAllowed}
 use Rattle.mely_history.proofs.LegalLemmas.{legal-append}
-use Rattle.mely_queue.specs.ColourQueue.{pushed}
+use Rattle.mely_queue.specs.ColourQueue.{after_push}
 use Rattle.mely_shard.specs.declared.colour_slot.ColourSlot.{ColourSlot}
 use Rattle.mely_history.specs.ColourAccount.{ColourAccount, account_of, next_account}
 use Rattle.mely_history.specs.Entries.{colour_of}
@@ -98,7 +98,7 @@ module _ {S P F : Type 0} {t : TrailWords S F} {fits : F → Colour → Event �
   -- a cell after a registration
   pub stands_registered : (c : Colour) (s : ColourAccount) (cell : ColourSlot S P) (event : Event) (load : Option P) (by : ℕ)
       → CellStands t fits setup c s cell → fits (t.frame_of cell.given.value) c event load
-      → CellStands t fits setup c (next_account s (Reg c event by)) (record cell { queue = pushed cell.queue event load (weight setup event) })
+      → CellStands t fits setup c (next_account s (Reg c event by)) (record cell { queue = after_push cell.queue event load (weight setup event) })
   stands_registered c s cell event load by stands fit = record {
     events = map-append (λ e. e.0) cell.queue.events ((event, load) ∷ []) ∙ ap (λ es. es ++ event ∷ []) stands.events ∙ sym (drop-append-le s.begun s.registered (event ∷ []) stands.begun);
     weights = ap (λ ws. ws ++ weight setup event ∷ []) stands.weights ∙ sym (map-append (weight setup) (drop s.begun s.registered) (event ∷ [])) ∙ ap (map (weight setup)) (sym (drop-append-le s.begun s.registered (event ∷ []) stands.begun));

@@ -28,7 +28,7 @@ use Rattle.std.specs.Prelude.{IsSomeAnd, min}
 use Rattle.std.proofs.Common.{◌==◌, get_or-set_same, get_or-set_other}
 use Rattle.std.specs.Prelude.{is_none, if◌then◌else◌}
 use Rattle.std.proofs.lemmas.List.{nil_from_length}
-use Rattle.mely_queue.specs.ColourQueue.{taken, registered_in}
+use Rattle.mely_queue.specs.ColourQueue.{after_take, registered_in}
 use Rattle.mely_shard.specs.declared.colour_slot.ColourSlot.{ColourSlot}
 use Rattle.mely_shard.specs.Shard.{ColourState, NoTakeAs, IsLaneAlike, IsRoomier, AreAlike}
 use Rattle.mely_history.specs.ColourAccount.{ColourAccount, account_of, next_account}
@@ -104,7 +104,7 @@ module _ {S P F : Type 0} {t : TrailWords S F} {fits : F → Colour → Event �
   -- a take keeps what the fields keep
   pub kept_taken : (c : Colour) (core capacity' : ℕ) (cell after : ColourSlot S P) → c.0 < colours_of setup → c.0 % (shape_of setup).shards ≡ shard → cell ≡ get_or cells (c.0 / (shape_of setup).shards) cell
       → Refuses c core cell.given.value cell.home None → (n : ℕ) → n ≡ min (shape_of setup).batch (length cell.queue.events) → 1 ≤ (shape_of setup).batch
-      → after ≡ record cell { queue = taken cell.queue n; home = None; core = core; count = n } → length history + 2 + running ≤ capacity' → capacity' ≤ MOST_ENTRIES
+      → after ≡ record cell { queue = after_take cell.queue n; home = None; core = core; count = n } → length history + 2 + running ≤ capacity' → capacity' ≤ MOST_ENTRIES
       → MayTake setup history c core n × IsKeptShard t fits setup shard (history ++ Take c core n ∷ []) (set cells (c.0 / (shape_of setup).shards) after) (running + 1) capacity'
   kept_taken c core capacity' cell after there here is ready n n_is batch after_is room limited =
       let i = c.0 / (shape_of setup).shards in
@@ -116,7 +116,7 @@ module _ {S P F : Type 0} {t : TrailWords S F} {fits : F → Colour → Event �
       let some : 1 ≤ n = omega (arith, n_is, many, ready.1.waiting, batch) in
       let few : n ≤ length cell.queue.events = omega (arith, n_is) in
       let may : MayTake setup history c core n = record { by_owner = ready.0; ready = ready.1; whole_batch = n_is ∙ ap (min (shape_of setup).batch) many } in
-      let next : ColourSlot S P = record cell { queue = taken cell.queue n; home = None; core = core; count = n } in
+      let next : ColourSlot S P = record cell { queue = after_take cell.queue n; home = None; core = core; count = n } in
       let stands : CellStands t fits setup c (next_account (account_of setup history c) (Take c core n)) next = record {
         events = sym (drop-map (λ (e : Event × Option P). e.0) n cell.queue.events) ∙ ap (drop n) old.events ∙ drop-drop n (begun_of history c) (registered_of history c);
         weights = ap (drop n) old.weights ∙ drop-map (weight setup) n (queued_of history c) ∙ ap (map (weight setup)) (drop-drop n (begun_of history c) (registered_of history c));

@@ -11,7 +11,8 @@ use Rattle.mely_history.specs.declared.after.After.TheVariants.{More, Idle}
 use Rattle.mely_history.specs.declared.no_steal.NoSteal.{NoSteal}
 use Rattle.mely_history.specs.declared.no_steal.NoSteal.TheVariants as steals
 use Rattle.mely_history.specs.declared.no_steal.NoSteal.TheVariants.{Own, Cheap}
-use Rattle.mely_queue.specs.ColourQueue.{registered_in, taken}
+use Rattle.mely_history.specs.declared.stolen.Stolen.{Stolen}
+use Rattle.mely_queue.specs.ColourQueue.{registered_in, after_take}
 use Rattle.mely_queue.specs.Turn.{TurnState}
 use Rattle.mely_shard.specs.declared.colour_slot.ColourSlot.{ColourSlot}
 use Rattle.mely_shard.specs.Shard.{IsRoomier}
@@ -53,7 +54,7 @@ pub record CellTakes {S P F : Type 0} (t : TrailWords S F) (old new : ColourSlot
         take batch old.queue.events;
   }
   pub left : new ≡ record old {
-    queue = taken old.queue (min batch (length old.queue.events));
+    queue = after_take old.queue (min batch (length old.queue.events));
     home = None;
     core = core;
     count = min batch (length old.queue.events);
@@ -76,6 +77,14 @@ no_steal_of cell to cost =
     if nat_lt cost (sum cell.queue.weights) then None
     else Some (Cheap (sum cell.queue.weights))
     else Some (steals.Empty (registered_in cell.queue))
+
+-- what is told of a steal: the owner so far, how many events were started, and the time left
+abbrev pub stolen_of : {S P : Type 0} → ColourSlot S P → Stolen
+stolen_of cell = record {
+  from = cell.owner;
+  started = cell.queue.started;
+  worth = sum cell.queue.weights;
+}
 
 -- the state is at home, and nothing waits
 abbrev pub cell_is_drained : {S P : Type 0} → ColourSlot S P → Bool

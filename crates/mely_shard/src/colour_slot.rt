@@ -6,10 +6,10 @@ ghost use Rattle.mely_shard.specs.Invariant.{IsFirstCell, AreFirstCells, AreAtHo
 ghost use Rattle.mely_shard.specs.Shard.{colour_at};
 ghost use Rattle.mely_shard.specs.Replies.{cell_is_drained};
 ghost use Rattle.std.specs.List.{list_all};
-ghost use Rattle.mely_queue.specs.ColourQueue.{registered_in, pushed};
+ghost use Rattle.mely_queue.specs.ColourQueue.{registered_in, after_push};
 
 use mely_event::{Colour, Event, Fits, Memory, Trail, Unregistered};
-use mely_history::{After, NoSteal, NoTake, Registered, Setup};
+use mely_history::{After, NoSteal, NoTake, Registered, Setup, Stolen};
 use mely_queue::{ColourQueue, Turn};
 use std::alloc::Global;
 use std::mem;
@@ -27,7 +27,8 @@ pub(crate) struct ColourSlot<S, P> {
 }
 
 impl<S, P> ColourSlot<S, P> {
-    ghost use Rattle.mely_shard.specs.Replies.{reply_of, no_take_of, after_of, no_steal_of, ready_of};
+    ghost use Rattle.mely_shard.specs.Replies.{reply_of, no_take_of, after_of, no_steal_of};
+    ghost use Rattle.mely_shard.specs.Replies.{ready_of, stolen_of};
     ghost use Rattle.mely_queue.specs.ColourQueue.{finished_by};
 
     /// Adds an event at the back, and answers what a registration found.
@@ -40,7 +41,7 @@ impl<S, P> ColourSlot<S, P> {
     ) -> Result<Registered, Unregistered<P>>
         requires { registered_in self.old.queue < 2 ^ 64 - 1 }
         ensures ok { OnOk result (self.new
-            ≡ record self.old { queue = pushed self.old.queue event load weight }) }
+            ≡ record self.old { queue = after_push self.old.queue event load weight }) }
         ensures reply { IfOk result (λ reply. reply
             ≡ reply_of self.new (nat_lt 0 (length self.old.queue.events))) }
         ensures err { OnErr result (self.new ≡ self.old) }
@@ -153,6 +154,20 @@ impl<S, P> ColourSlot<S, P> {
             }
         } else {
             After::Idle
+        }
+    }
+
+    /// Changes the owner, and answers what is told of a steal.
+    pub(crate) fn steal(&mut self, to: u16) -> Stolen
+        ensures cell { self.new ≡ record self.old { owner = to } }
+        ensures reply { result ≡ stolen_of self.old }
+    {
+        let from = self.owner;
+        self.owner = to;
+        Stolen {
+            from,
+            started: self.queue.started(),
+            worth: self.queue.time_left(),
         }
     }
 }

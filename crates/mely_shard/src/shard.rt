@@ -30,17 +30,25 @@ use std::snapshot::Snapshot;
 pub struct Shard<S: Fits<P>, P> {
     setup: Setup,
     shard: u16,
-    history: Vec<Entry>,
     cells: Vec<ColourSlot<S, P>>,
-    running: usize,
     alloc: Global,
-
-    /// The vector of the turn that was finished last, empty, whose room the next turn uses.
-    emptied: Vec<(Event, Option<P>)>,
 
     /// Empty lists with room for what [`into_parts`](Shard::into_parts) hands out.
     states: Vec<S>,
     queues: Vec<Vec<(Event, Option<P>)>>,
+
+    /// Never read. The fields above stay as [`new`](Shard::new) made them, those below change at
+    /// each call: with both on one line of memory, a core's call would take the fixed ones from the
+    /// other cores (false sharing).
+    apart: [u64; 8],
+    history: Vec<Entry>,
+    running: usize,
+
+    /// The vector of the turn that was finished last, empty, whose room the next turn uses.
+    emptied: Vec<(Event, Option<P>)>,
+
+    /// Never read. With it no other core's data stands on the line of the fields that change.
+    behind: [u64; 8],
 }
 
 impl<S: Fits<P>, P> Model for Shard<S, P> {
@@ -107,13 +115,15 @@ impl<S: Fits<P>, P> Shard<S, P> {
         Ok(Shard {
             setup: *setup,
             shard,
-            history: Vec::new(alloc),
             cells,
-            running: 0,
             alloc,
-            emptied: Vec::new(alloc),
             states,
             queues,
+            apart: [0; 8],
+            history: Vec::new(alloc),
+            running: 0,
+            emptied: Vec::new(alloc),
+            behind: [0; 8],
         })
     }
 
@@ -339,17 +349,11 @@ impl<S: Fits<P>, P> Shard<S, P> {
         let Ok(()) = make_room(&mut self.history, self.running + 1) else {
             return Err(NoSteal::Memory);
         };
-        let from = cell.owner;
-        cell.owner = to;
-        let started = cell.queue.started();
-        let worth = cell.queue.time_left();
+        let stolen = cell.steal(to);
+        let from = stolen.from;
         self.history
             .push_reserved(Entry::Steal { colour, from, to });
-        Ok(Stolen {
-            from,
-            started,
-            worth,
-        })
+        Ok(stolen)
     }
 
     /// The law of this type, for contracts alone: whatever calls were made on a shard, refused or

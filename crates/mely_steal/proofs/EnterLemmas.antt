@@ -3,17 +3,17 @@ use Rattle.std.proofs.Common.{◌≡◌, ◌<◌, ◌==◌, ◌+◌, ◌||◌, �
 use Rattle.std.proofs.lemmas.Bool.{cases_Bool, cases_eq, both_ways, eqb-true, eq-eqb, ne_eqb, le-ltb, lt-ltb, cond-true, cond-false, cond_both, or_left, or_right, or_cases, not_from_true, not_from_false}
 use Rattle.std.proofs.lemmas.List.Elements.{filter-append}
 use Rattle.std.proofs.lemmas.Option.{none-some, same_Some}
-use Rattle.mely_steal.specs.Links.{is_in, dropped}
-use Rattle.mely_steal.specs.Entering.{Ranked, of_class, gone, has_entry, ranked, placed, by_number, merged, IsLeast, IsAscending, AreClassed, AreBelow, IsMerged}
+use Rattle.mely_steal.specs.Links.{is_in, without_place}
+use Rattle.mely_steal.specs.Entering.{Ranked, of_class, gone, has_entry, ranks_of, insert_by_number, by_number, merge_classes, IsLeast, IsAscending, AreClassed, AreBelow, IsMerged}
 
 -- an entry with the least number goes first
-placed-least : (n : ℕ → ℕ) (x : Ranked) (xs : List Ranked) → IsLeast n x xs → placed n x xs ≡ x ∷ xs
+placed-least : (n : ℕ → ℕ) (x : Ranked) (xs : List Ranked) → IsLeast n x xs → insert_by_number n x xs ≡ x ∷ xs
 placed-least n x [] least = refl
-placed-least n x (y ∷ ys) least = cond-true (ltb (n x.colour) (n y.colour)) (x ∷ y ∷ ys) (y ∷ placed n x ys) (lt-ltb (n x.colour) (n y.colour) least.0)
+placed-least n x (y ∷ ys) least = cond-true (ltb (n x.colour) (n y.colour)) (x ∷ y ∷ ys) (y ∷ insert_by_number n x ys) (lt-ltb (n x.colour) (n y.colour) least.0)
 
-least-placed : (n : ℕ → ℕ) (x y : Ranked) (ys : List Ranked) → n x.colour < n y.colour → IsLeast n x ys → IsLeast n x (placed n y ys)
+least-placed : (n : ℕ → ℕ) (x y : Ranked) (ys : List Ranked) → n x.colour < n y.colour → IsLeast n x ys → IsLeast n x (insert_by_number n y ys)
 least-placed n x y [] lt least = (lt, tt)
-least-placed n x y (z ∷ zs) lt least = cond_both (ltb (n y.colour) (n z.colour)) (y ∷ z ∷ zs) (z ∷ placed n y zs) (IsLeast n x)
+least-placed n x y (z ∷ zs) lt least = cond_both (ltb (n y.colour) (n z.colour)) (y ∷ z ∷ zs) (z ∷ insert_by_number n y zs) (IsLeast n x)
     (λ t. (lt, least))
     (λ f. (least.0, least-placed n x y zs lt least.1))
 
@@ -25,8 +25,8 @@ least-by_number n x (y ∷ ys) least = least-placed n x y (by_number n ys) least
 through : (n : ℕ → ℕ) (x : Ranked) (xs ys : List Ranked) → IsLeast n x xs → IsLeast n x ys → by_number n (xs ++ x ∷ ys) ≡ x ∷ by_number n (xs ++ ys)
 through n x [] ys before behind = placed-least n x (by_number n ys) (least-by_number n x ys behind)
 through n x (z ∷ zs) ys before behind =
-    ap (placed n z) (through n x zs ys before.1 behind)
-    ∙ cond-false (ltb (n z.colour) (n x.colour)) (z ∷ x ∷ by_number n (zs ++ ys)) (x ∷ placed n z (by_number n (zs ++ ys))) (le-ltb (n z.colour) (n x.colour) (let lt : n x.colour < n z.colour = before.0 in omega arith))
+    ap (insert_by_number n z) (through n x zs ys before.1 behind)
+    ∙ cond-false (ltb (n z.colour) (n x.colour)) (z ∷ x ∷ by_number n (zs ++ ys)) (x ∷ insert_by_number n z (by_number n (zs ++ ys))) (le-ltb (n z.colour) (n x.colour) (let lt : n x.colour < n z.colour = before.0 in omega arith))
 
 least-filter : (n : ℕ → ℕ) (p : Ranked → Bool) (x : Ranked) (xs : List Ranked) → IsLeast n x xs → IsLeast n x (filter p xs)
 least-filter n p x [] least = tt
@@ -73,10 +73,10 @@ by-classes n (x ∷ g) up classed =
       ]
     ]
 
-pub merged-is : (n : ℕ → ℕ) (g : List Ranked) (one two three : List ℕ) → IsMerged n g one two three → merged n one two three ≡ g
+pub merged-is : (n : ℕ → ℕ) (g : List Ranked) (one two three : List ℕ) → IsMerged n g one two three → merge_classes n one two three ≡ g
 merged-is n g one two three m =
-    ap (λ xs. by_number n (xs ++ (ranked 2 two ++ ranked 3 three))) (sym m.ones)
-    ∙ (ap (λ ys. by_number n (of_class 1 g ++ (ys ++ ranked 3 three))) (sym m.twos)
+    ap (λ xs. by_number n (xs ++ (ranks_of 2 two ++ ranks_of 3 three))) (sym m.ones)
+    ∙ (ap (λ ys. by_number n (of_class 1 g ++ (ys ++ ranks_of 3 three))) (sym m.twos)
     ∙ (ap (λ zs. by_number n (of_class 1 g ++ (of_class 2 g ++ zs))) (sym m.threes)
     ∙ by-classes n g m.ascending m.classed))
 
@@ -152,21 +152,21 @@ eqb-swap x y = elim (cases_eq x y) [
 ]
 
 -- the entries of one class
-pub gone-ranked : (c k : ℕ) (xs : List ℕ) → gone c (ranked k xs) ≡ ranked k (dropped c xs)
+pub gone-ranked : (c k : ℕ) (xs : List ℕ) → gone c (ranks_of k xs) ≡ ranks_of k (without_place c xs)
 gone-ranked c k [] = refl
 gone-ranked c k (x ∷ xs) = elim (cases_eq c x) [
   | inl e ↦
-      cond-false (not (eqb x c)) (record { colour = x; class = k } ∷ gone c (ranked k xs)) (gone c (ranked k xs)) (not_from_true (eqb x c) (eq-eqb x c (sym e)))
-      ∙ (gone-ranked c k xs ∙ sym (ap (ranked k) (cond-false (not (eqb c x)) (x ∷ dropped c xs) (dropped c xs) (not_from_true (eqb c x) (eq-eqb c x e)))))
+      cond-false (not (eqb x c)) (record { colour = x; class = k } ∷ gone c (ranks_of k xs)) (gone c (ranks_of k xs)) (not_from_true (eqb x c) (eq-eqb x c (sym e)))
+      ∙ (gone-ranked c k xs ∙ sym (ap (ranks_of k) (cond-false (not (eqb c x)) (x ∷ without_place c xs) (without_place c xs) (not_from_true (eqb c x) (eq-eqb c x e)))))
   | inr ne ↦
-      cond-true (not (eqb x c)) (record { colour = x; class = k } ∷ gone c (ranked k xs)) (gone c (ranked k xs)) (not_from_false (eqb x c) (ne_eqb x c (λ e. ne (sym e))))
+      cond-true (not (eqb x c)) (record { colour = x; class = k } ∷ gone c (ranks_of k xs)) (gone c (ranks_of k xs)) (not_from_false (eqb x c) (ne_eqb x c (λ e. ne (sym e))))
       ∙ (ap (λ ys. record { colour = x; class = k } ∷ ys) (gone-ranked c k xs)
-      ∙ sym (ap (ranked k) (cond-true (not (eqb c x)) (x ∷ dropped c xs) (dropped c xs) (not_from_false (eqb c x) (ne_eqb c x ne)))))
+      ∙ sym (ap (ranks_of k) (cond-true (not (eqb c x)) (x ∷ without_place c xs) (without_place c xs) (not_from_false (eqb c x) (ne_eqb c x ne)))))
 ]
 
-pub has-ranked : (c k : ℕ) (xs : List ℕ) → has_entry c (ranked k xs) ≡ is_in xs c
+pub has-ranked : (c k : ℕ) (xs : List ℕ) → has_entry c (ranks_of k xs) ≡ is_in xs c
 has-ranked c k [] = refl
-has-ranked c k (x ∷ xs) = ap (λ b. b || has_entry c (ranked k xs)) (eqb-swap x c) ∙ ap (λ b. eqb c x || b) (has-ranked c k xs)
+has-ranked c k (x ∷ xs) = ap (λ b. b || has_entry c (ranks_of k xs)) (eqb-swap x c) ∙ ap (λ b. eqb c x || b) (has-ranked c k xs)
 
 -- where a colour has an entry, it has one in some class
 pub has-class : (c k : ℕ) (g : List Ranked) → has_entry c (of_class k g) ≡ true → has_entry c g ≡ true

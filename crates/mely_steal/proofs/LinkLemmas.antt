@@ -3,7 +3,7 @@ use Rattle.std.proofs.Common.{◌≡◌, ◌<◌, ◌≤◌, ◌+◌, ◌||◌, 
 use Rattle.std.specs.List.{IsDistinct, AllByRecursion}
 use Rattle.std.proofs.lemmas.Bool.{true≢false, cases_Bool, cases_eq, both_ways, eqb-true, eqb-false, eq-eqb, ne_eqb, or_left, or_right, or_cases, or_parts, or_from}
 use Rattle.std.proofs.lemmas.Map.Steps.{length-le_from_distinct_below}
-use Rattle.mely_steal.specs.Links.{followed, is_in, dropped, AreDistinct, last_from, AreJoinedFrom, AreJoined}
+use Rattle.mely_steal.specs.Links.{places_from, is_in, without_place, AreDistinct, last_from, AreJoinedFrom, AreJoined}
 
 -- the first place is in the list, and so is what is in the rest
 pub in-here : (x : ℕ) (xs : List ℕ) → is_in (x ∷ xs) x ≡ true
@@ -39,11 +39,11 @@ frame a b c d [] same j = tt
 frame a b c d (x ∷ xs) same j = frame-from a b c d x xs (same x (in-here x xs)).0 (λ z h. same z (in-later z x xs h)) j
 
 -- a list whose neighbours are joined is the one that is followed
-pub follow-from : (a b : ℕ → ℕ) (x : ℕ) (xs : List ℕ) → AreJoinedFrom a b x xs → followed a (length xs) (a x) ≡ xs
+pub follow-from : (a b : ℕ → ℕ) (x : ℕ) (xs : List ℕ) → AreJoinedFrom a b x xs → places_from a (length xs) (a x) ≡ xs
 follow-from a b x [] j = refl
-follow-from a b x (y ∷ ys) j = ap (λ z. z ∷ followed a (length ys) (a z)) j.0 ∙ ap (λ zs. y ∷ zs) (follow-from a b y ys j.2)
+follow-from a b x (y ∷ ys) j = ap (λ z. z ∷ places_from a (length ys) (a z)) j.0 ∙ ap (λ zs. y ∷ zs) (follow-from a b y ys j.2)
 
-pub length-followed : (a : ℕ → ℕ) (n x : ℕ) → length (followed a n x) ≡ n
+pub length-followed : (a : ℕ → ℕ) (n x : ℕ) → length (places_from a n x) ≡ n
 length-followed a zero x = refl
 length-followed a (suc n) x = ap suc (length-followed a n (a x))
 
@@ -91,49 +91,49 @@ distinct-append (x ∷ xs) c apart off =
     (in-append x xs c ∙ or_from (is_in xs x) (eqb x c) apart.0 other, distinct-append xs c apart.1 parts.1)
 
 -- what is in a list without a place
-pub in-dropped : (c x : ℕ) (xs : List ℕ) → (c ≡ x → ⊥) → is_in (dropped c xs) x ≡ is_in xs x
+pub in-dropped : (c x : ℕ) (xs : List ℕ) → (c ≡ x → ⊥) → is_in (without_place c xs) x ≡ is_in xs x
 in-dropped c x [] ne = refl
 in-dropped c x (y ∷ ys) ne = elim (cases_Bool (eqb c y)) [
   | inl t ↦
-      ap (λ b. is_in (cond (not b) (y ∷ dropped c ys) (dropped c ys)) x) t
+      ap (λ b. is_in (cond (not b) (y ∷ without_place c ys) (without_place c ys)) x) t
       ∙ (in-dropped c x ys ne ∙ sym (in-other x y ys (λ e. ne (eqb-true c y t ∙ sym e))))
   | inr f ↦
-      ap (λ b. is_in (cond (not b) (y ∷ dropped c ys) (dropped c ys)) x) f
+      ap (λ b. is_in (cond (not b) (y ∷ without_place c ys) (without_place c ys)) x) f
       ∙ ap (λ b. eqb x y || b) (in-dropped c x ys ne)
 ]
 
-pub gone-dropped : (c : ℕ) (xs : List ℕ) → is_in (dropped c xs) c ≡ false
+pub gone-dropped : (c : ℕ) (xs : List ℕ) → is_in (without_place c xs) c ≡ false
 gone-dropped c [] = refl
 gone-dropped c (y ∷ ys) = elim (cases_Bool (eqb c y)) [
-  | inl t ↦ ap (λ b. is_in (cond (not b) (y ∷ dropped c ys) (dropped c ys)) c) t ∙ gone-dropped c ys
-  | inr f ↦ ap (λ b. is_in (cond (not b) (y ∷ dropped c ys) (dropped c ys)) c) f ∙ or_from (eqb c y) (is_in (dropped c ys) c) f (gone-dropped c ys)
+  | inl t ↦ ap (λ b. is_in (cond (not b) (y ∷ without_place c ys) (without_place c ys)) c) t ∙ gone-dropped c ys
+  | inr f ↦ ap (λ b. is_in (cond (not b) (y ∷ without_place c ys) (without_place c ys)) c) f ∙ or_from (eqb c y) (is_in (without_place c ys) c) f (gone-dropped c ys)
 ]
 
-pub dropped-none : (c : ℕ) (xs : List ℕ) → is_in xs c ≡ false → dropped c xs ≡ xs
+pub dropped-none : (c : ℕ) (xs : List ℕ) → is_in xs c ≡ false → without_place c xs ≡ xs
 dropped-none c [] off = refl
 dropped-none c (y ∷ ys) off =
     let parts = or_parts (eqb c y) (is_in ys c) off in
-    ap (λ b. cond (not b) (y ∷ dropped c ys) (dropped c ys)) parts.0 ∙ ap (λ zs. y ∷ zs) (dropped-none c ys parts.1)
+    ap (λ b. cond (not b) (y ∷ without_place c ys) (without_place c ys)) parts.0 ∙ ap (λ zs. y ∷ zs) (dropped-none c ys parts.1)
 
 -- the first place dropped, and another
-pub dropped-first : (c : ℕ) (xs : List ℕ) → is_in xs c ≡ false → dropped c (c ∷ xs) ≡ xs
-dropped-first c xs off = ap (λ b. cond (not b) (c ∷ dropped c xs) (dropped c xs)) (eq-eqb c c refl) ∙ dropped-none c xs off
+pub dropped-first : (c : ℕ) (xs : List ℕ) → is_in xs c ≡ false → without_place c (c ∷ xs) ≡ xs
+dropped-first c xs off = ap (λ b. cond (not b) (c ∷ without_place c xs) (without_place c xs)) (eq-eqb c c refl) ∙ dropped-none c xs off
 
-pub dropped-later : (c y : ℕ) (xs : List ℕ) → (c ≡ y → ⊥) → dropped c (y ∷ xs) ≡ y ∷ dropped c xs
-dropped-later c y xs ne = ap (λ b. cond (not b) (y ∷ dropped c xs) (dropped c xs)) (ne_eqb c y ne)
+pub dropped-later : (c y : ℕ) (xs : List ℕ) → (c ≡ y → ⊥) → without_place c (y ∷ xs) ≡ y ∷ without_place c xs
+dropped-later c y xs ne = ap (λ b. cond (not b) (y ∷ without_place c xs) (without_place c xs)) (ne_eqb c y ne)
 
-pub distinct-dropped : (c : ℕ) (xs : List ℕ) → AreDistinct xs → AreDistinct (dropped c xs)
+pub distinct-dropped : (c : ℕ) (xs : List ℕ) → AreDistinct xs → AreDistinct (without_place c xs)
 distinct-dropped c [] apart = tt
 distinct-dropped c (y ∷ ys) apart = elim (cases_eq c y) [
-  | inl e ↦ subst AreDistinct (sym (ap (λ z. dropped z (y ∷ ys)) e ∙ (dropped-first y ys apart.0 ∙ sym (dropped-none c ys (ap (is_in ys) e ∙ apart.0))))) (distinct-dropped c ys apart.1)
+  | inl e ↦ subst AreDistinct (sym (ap (λ z. without_place z (y ∷ ys)) e ∙ (dropped-first y ys apart.0 ∙ sym (dropped-none c ys (ap (is_in ys) e ∙ apart.0))))) (distinct-dropped c ys apart.1)
   | inr ne ↦ subst AreDistinct (sym (dropped-later c y ys ne)) (in-dropped c y ys ne ∙ apart.0, distinct-dropped c ys apart.1)
 ]
 
-pub length-dropped : (c : ℕ) (xs : List ℕ) → AreDistinct xs → is_in xs c ≡ true → length (dropped c xs) + 1 ≡ length xs
+pub length-dropped : (c : ℕ) (xs : List ℕ) → AreDistinct xs → is_in xs c ≡ true → length (without_place c xs) + 1 ≡ length xs
 length-dropped c [] apart h = absurd (true≢false (sym h))
 length-dropped c (y ∷ ys) apart h = elim (cases_eq c y) [
   | inl e ↦
-      let less : dropped c (y ∷ ys) ≡ ys = ap (λ z. dropped z (y ∷ ys)) e ∙ dropped-first y ys apart.0 in
+      let less : without_place c (y ∷ ys) ≡ ys = ap (λ z. without_place z (y ∷ ys)) e ∙ dropped-first y ys apart.0 in
       rw less (omega arith)
   | inr ne ↦
       let more = dropped-later c y ys ne in
@@ -157,7 +157,7 @@ unlink-here a b p q c x (n ∷ zs) j apart was front far back near =
 
 -- a place is taken out from behind the first
 pub unlink-from : (a b p q : ℕ → ℕ) (c x : ℕ) (xs : List ℕ) → AreJoinedFrom a b x xs → AreDistinct (x ∷ xs) → is_in xs c ≡ true → p (b c) ≡ a c
-    → ((y : ℕ) → (b c ≡ y → ⊥) → p y ≡ a y) → ((last_from x xs ≡ c → ⊥) → q (a c) ≡ b c) → ((y : ℕ) → ((last_from x xs ≡ c) ⊎ (a c ≡ y → ⊥)) → q y ≡ b y) → AreJoinedFrom p q x (dropped c xs)
+    → ((y : ℕ) → (b c ≡ y → ⊥) → p y ≡ a y) → ((last_from x xs ≡ c → ⊥) → q (a c) ≡ b c) → ((y : ℕ) → ((last_from x xs ≡ c) ⊎ (a c ≡ y → ⊥)) → q y ≡ b y) → AreJoinedFrom p q x (without_place c xs)
 unlink-from a b p q c x [] j apart h front far back near = absurd (true≢false (sym h))
 unlink-from a b p q c x (y ∷ ys) j apart h front far back near = elim (cases_eq c y) [
   | inl e ↦
@@ -165,7 +165,7 @@ unlink-from a b p q c x (y ∷ ys) j apart h front far back near = elim (cases_e
       let Apart : ℕ → Type 0 = λ z. AreDistinct (x ∷ z ∷ ys) in
       let Back : ℕ → Type 0 = λ z. (last_from z ys ≡ c → ⊥) → q (a c) ≡ b c in
       let Near : ℕ → Type 0 = λ z. (y : ℕ) → ((last_from z ys ≡ c) ⊎ (a c ≡ y → ⊥)) → q y ≡ b y in
-      let less : dropped c (y ∷ ys) ≡ ys = ap (λ z. dropped z (y ∷ ys)) e ∙ dropped-first y ys apart.1.0 in
+      let less : without_place c (y ∷ ys) ≡ ys = ap (λ z. without_place z (y ∷ ys)) e ∙ dropped-first y ys apart.1.0 in
       let Joined : List ℕ → Type 0 = λ zs. AreJoinedFrom p q x zs in
       subst Joined (sym less)
       (unlink-here a b p q c x ys (subst From (sym e) j.2) (subst Apart (sym e) apart) (ap b e ∙ j.1) front far (subst Back (sym e) back) (subst Near (sym e) near))
@@ -188,30 +188,30 @@ unlink-first a b p q c (n ∷ zs) j apart far near =
     frame-from a b p q n zs (far n) (λ z h. (far z, near z (inr (λ e. not-in n z zs apart.0 h (sym j.0 ∙ e))))) j.2
 
 -- the last place without one that is the last, and without another
-pub last-dropped_last : (a b : ℕ → ℕ) (c x : ℕ) (xs : List ℕ) → AreJoinedFrom a b x xs → AreDistinct (x ∷ xs) → is_in xs c ≡ true → last_from x xs ≡ c → last_from x (dropped c xs) ≡ b c
+pub last-dropped_last : (a b : ℕ → ℕ) (c x : ℕ) (xs : List ℕ) → AreJoinedFrom a b x xs → AreDistinct (x ∷ xs) → is_in xs c ≡ true → last_from x xs ≡ c → last_from x (without_place c xs) ≡ b c
 last-dropped_last a b c x [] j apart h last = absurd (true≢false (sym h))
 last-dropped_last a b c x (y ∷ []) j apart h last =
     let e : c ≡ y = sym last in
-    ap (λ z. last_from x (dropped z (y ∷ []))) e ∙ (ap (last_from x) (dropped-first y [] refl) ∙ sym (ap b e ∙ j.1))
+    ap (λ z. last_from x (without_place z (y ∷ []))) e ∙ (ap (last_from x) (dropped-first y [] refl) ∙ sym (ap b e ∙ j.1))
 last-dropped_last a b c x (y ∷ z ∷ zs) j apart h last =
     let ne : c ≡ y → ⊥ = λ e. not-in y (last_from z zs) (z ∷ zs) apart.1.0 (last-in z zs) (sym e ∙ sym last) in
     ap (last_from x) (dropped-later c y (z ∷ zs) ne)
     ∙ last-dropped_last a b c y (z ∷ zs) j.2 apart.1 (sym (in-other c y (z ∷ zs) ne) ∙ h) last
 
-pub last-dropped_other : (c x : ℕ) (xs : List ℕ) → AreDistinct xs → (last_from x xs ≡ c → ⊥) → last_from x (dropped c xs) ≡ last_from x xs
+pub last-dropped_other : (c x : ℕ) (xs : List ℕ) → AreDistinct xs → (last_from x xs ≡ c → ⊥) → last_from x (without_place c xs) ≡ last_from x xs
 last-dropped_other c x [] apart ne = refl
 last-dropped_other c x (y ∷ []) apart ne = ap (last_from x) (dropped-later c y [] (λ e. ne (sym e)))
 last-dropped_other c x (y ∷ z ∷ zs) apart ne = elim (cases_eq c y) [
-  | inl e ↦ ap (last_from x) (ap (λ w. dropped w (y ∷ z ∷ zs)) e ∙ dropped-first y (z ∷ zs) apart.0)
+  | inl e ↦ ap (last_from x) (ap (λ w. without_place w (y ∷ z ∷ zs)) e ∙ dropped-first y (z ∷ zs) apart.0)
   | inr other ↦ ap (last_from x) (dropped-later c y (z ∷ zs) other) ∙ last-dropped_other c y (z ∷ zs) apart.1 ne
 ]
 
 -- places that follow one another where the links of the list stay
-pub follow-frame : (a c : ℕ → ℕ) (n x : ℕ) → ((y : ℕ) → is_in (followed a n x) y ≡ true → c y ≡ a y) → followed c n x ≡ followed a n x
+pub follow-frame : (a c : ℕ → ℕ) (n x : ℕ) → ((y : ℕ) → is_in (places_from a n x) y ≡ true → c y ≡ a y) → places_from c n x ≡ places_from a n x
 follow-frame a c zero x same = refl
 follow-frame a c (suc n) x same =
-    ap (λ z. x ∷ followed c n z) (same x (in-here x (followed a n (a x))))
-    ∙ ap (λ zs. x ∷ zs) (follow-frame a c n (a x) (λ y h. same y (in-later y x (followed a n (a x)) h)))
+    ap (λ z. x ∷ places_from c n z) (same x (in-here x (places_from a n (a x))))
+    ∙ ap (λ zs. x ∷ zs) (follow-frame a c n (a x) (λ y h. same y (in-later y x (places_from a n (a x)) h)))
 
 -- a list of places that are below a number, each once, isn't longer
 each-differs : (x : ℕ) (xs : List ℕ) → is_in xs x ≡ false → AllByRecursion (λ y. eqb x y ≡ false) xs
@@ -235,12 +235,12 @@ pub walked-more : (a : ℕ → ℕ) (i x : ℕ) → a (walked a i x) ≡ walked 
 walked-more a zero x = refl
 walked-more a (suc i) x = walked-more a i (a x)
 
-pub walked-at : (a : ℕ → ℕ) (n i x : ℕ) → i < n → slice_get (followed a n x) i ≡ Some (walked a i x)
+pub walked-at : (a : ℕ → ℕ) (n i x : ℕ) → i < n → slice_get (places_from a n x) i ≡ Some (walked a i x)
 walked-at a zero i x lt = absurd (omega arith)
 walked-at a (suc n) zero x lt = refl
 walked-at a (suc n) (suc i) x lt = walked-at a n i (a x) (omega arith)
 
-pub walked-in : (a : ℕ → ℕ) (n i x : ℕ) → i < n → is_in (followed a n x) (walked a i x) ≡ true
+pub walked-in : (a : ℕ → ℕ) (n i x : ℕ) → i < n → is_in (places_from a n x) (walked a i x) ≡ true
 walked-in a zero i x lt = absurd (omega arith)
-walked-in a (suc n) zero x lt = in-here x (followed a n (a x))
-walked-in a (suc n) (suc i) x lt = in-later (walked a i (a x)) x (followed a n (a x)) (walked-in a n i (a x) (omega arith))
+walked-in a (suc n) zero x lt = in-here x (places_from a n (a x))
+walked-in a (suc n) (suc i) x lt = in-later (walked a i (a x)) x (places_from a n (a x)) (walked-in a n i (a x) (omega arith))

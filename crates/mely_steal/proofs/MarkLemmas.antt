@@ -6,7 +6,7 @@ use Rattle.std.proofs.lemmas.Option.{none-some, same_Some}
 use Rattle.std.proofs.lemmas.List.Elements.{All-push, All-filter, All-map, All-weaker}
 use Rattle.mely_event.specs.declared.colour.Colour.{Colour}
 use Rattle.mely_event.specs.declared.mark.Mark.{Mark}
-use Rattle.mely_steal.specs.Marks.{is_of, mark_of, without, replaced, IsOneEach, AreApart}
+use Rattle.mely_steal.specs.Marks.{is_of, mark_of, without, after_replacement, IsOneEach, AreApart}
 
 -- where the first mark isn't of the colour, and none behind it is
 pub none-parts : (c : Colour) (x : Mark) (xs : List Mark) → mark_of c (x ∷ xs) ≡ None → (is_of c x ≡ false) × (mark_of c xs ≡ None)
@@ -75,38 +75,38 @@ pub replaced-colour : (new x : Mark) → (cond (is_of new.colour x) new x).colou
 replaced-colour new x = cond_both (is_of new.colour x) new x (λ m. m.colour.0 ≡ x.colour.0) (λ t. sym (eqb-true x.colour.0 new.colour.0 t)) (λ f. refl)
 
 -- a colour that has no mark has none after a replacement
-none-replaced : (new : Mark) (c : Colour) (xs : List Mark) → mark_of c xs ≡ None → mark_of c (replaced new xs) ≡ None
+none-replaced : (new : Mark) (c : Colour) (xs : List Mark) → mark_of c xs ≡ None → mark_of c (after_replacement new xs) ≡ None
 none-replaced new c [] h = refl
 none-replaced new c (x ∷ xs) h =
     let parts = none-parts c x xs h in
     let here : is_of c (cond (is_of new.colour x) new x) ≡ false = ap (λ n. eqb n c.0) (replaced-colour new x) ∙ parts.0 in
-    ap (λ b. cond b (Some (cond (is_of new.colour x) new x)) (mark_of c (replaced new xs))) here ∙ none-replaced new c xs parts.1
+    ap (λ b. cond b (Some (cond (is_of new.colour x) new x)) (mark_of c (after_replacement new xs))) here ∙ none-replaced new c xs parts.1
 
 -- what a list has of another colour than that of the replaced mark
-pub mark_of-replaced_other : (new : Mark) (c : Colour) (xs : List Mark) → (c.0 ≡ new.colour.0 → ⊥) → mark_of c (replaced new xs) ≡ mark_of c xs
+pub mark_of-replaced_other : (new : Mark) (c : Colour) (xs : List Mark) → (c.0 ≡ new.colour.0 → ⊥) → mark_of c (after_replacement new xs) ≡ mark_of c xs
 mark_of-replaced_other new c [] ne = refl
 mark_of-replaced_other new c (x ∷ xs) ne = elim (cases_Bool (is_of new.colour x)) [
   | inl t ↦
       let off : is_of c x ≡ false = ne_eqb x.colour.0 c.0 (λ e. ne (sym e ∙ eqb-true x.colour.0 new.colour.0 t)) in
       let out : is_of c new ≡ false = ne_eqb new.colour.0 c.0 (λ e. ne (sym e)) in
-      ap (λ b. mark_of c (cond b new x ∷ replaced new xs)) t
-      ∙ (ap (λ b. cond b (Some new) (mark_of c (replaced new xs))) out
+      ap (λ b. mark_of c (cond b new x ∷ after_replacement new xs)) t
+      ∙ (ap (λ b. cond b (Some new) (mark_of c (after_replacement new xs))) out
       ∙ (mark_of-replaced_other new c xs ne
       ∙ sym (ap (λ b. cond b (Some x) (mark_of c xs)) off)))
-  | inr f ↦ ap (λ b. mark_of c (cond b new x ∷ replaced new xs)) f ∙ ap (λ o. cond (is_of c x) (Some x) o) (mark_of-replaced_other new c xs ne)
+  | inr f ↦ ap (λ b. mark_of c (cond b new x ∷ after_replacement new xs)) f ∙ ap (λ o. cond (is_of c x) (Some x) o) (mark_of-replaced_other new c xs ne)
 ]
 
 -- what it has of that colour, where a mark of the colour was there
-pub mark_of-replaced_same : (new old : Mark) (c : Colour) (xs : List Mark) → c.0 ≡ new.colour.0 → mark_of c xs ≡ Some old → mark_of c (replaced new xs) ≡ Some new
+pub mark_of-replaced_same : (new old : Mark) (c : Colour) (xs : List Mark) → c.0 ≡ new.colour.0 → mark_of c xs ≡ Some old → mark_of c (after_replacement new xs) ≡ Some new
 mark_of-replaced_same new old c [] e h = absurd (none-some old h)
 mark_of-replaced_same new old c (x ∷ xs) e h = elim (cases_Bool (is_of new.colour x)) [
   | inl t ↦
-      ap (λ b. mark_of c (cond b new x ∷ replaced new xs)) t
-      ∙ ap (λ b. cond b (Some new) (mark_of c (replaced new xs))) (eq-eqb new.colour.0 c.0 (sym e))
+      ap (λ b. mark_of c (cond b new x ∷ after_replacement new xs)) t
+      ∙ ap (λ b. cond b (Some new) (mark_of c (after_replacement new xs))) (eq-eqb new.colour.0 c.0 (sym e))
   | inr f ↦
       let off : is_of c x ≡ false = ap (λ n. eqb x.colour.0 n) e ∙ f in
-      ap (λ b. mark_of c (cond b new x ∷ replaced new xs)) f
-      ∙ (ap (λ b. cond b (Some x) (mark_of c (replaced new xs))) off
+      ap (λ b. mark_of c (cond b new x ∷ after_replacement new xs)) f
+      ∙ (ap (λ b. cond b (Some x) (mark_of c (after_replacement new xs))) off
       ∙ mark_of-replaced_same new old c xs e (sym (ap (λ b. cond b (Some x) (mark_of c xs)) off) ∙ h))
 ]
 
@@ -128,7 +128,7 @@ IsOneEach-without c (x ∷ xs) one = cond_both (not (is_of c x)) (x ∷ without 
     (λ f. IsOneEach-without c xs one.1)
 
 -- and after a replacement
-IsOneEach-replaced : (new : Mark) (xs : List Mark) → IsOneEach xs → IsOneEach (replaced new xs)
+IsOneEach-replaced : (new : Mark) (xs : List Mark) → IsOneEach xs → IsOneEach (after_replacement new xs)
 IsOneEach-replaced new [] one = tt
 IsOneEach-replaced new (x ∷ xs) one =
     let r : Mark = cond (is_of new.colour x) new x in
@@ -141,7 +141,7 @@ AreApart-push xs n m kept lt none = record { below = All-push (λ x. x.colour.0 
 pub AreApart-without : (c : Colour) (xs : List Mark) (n : ℕ) → AreApart (record { marks = xs; colours = n }) → AreApart (record { marks = without c xs; colours = n })
 AreApart-without c xs n kept = record { below = All-filter (λ m. not (is_of c m)) (λ x. x.colour.0 < n) xs kept.below; apart = IsOneEach-without c xs kept.apart }
 
-pub AreApart-replaced : (new : Mark) (xs : List Mark) (n : ℕ) → AreApart (record { marks = xs; colours = n }) → AreApart (record { marks = replaced new xs; colours = n })
+pub AreApart-replaced : (new : Mark) (xs : List Mark) (n : ℕ) → AreApart (record { marks = xs; colours = n }) → AreApart (record { marks = after_replacement new xs; colours = n })
 AreApart-replaced new xs n kept =
     let P : Mark → Type 0 = λ m. m.colour.0 < n in
     record {

@@ -5,8 +5,8 @@ use Rattle.std.proofs.lemmas.Bool.{cases_eq, both_ways, eqb-true, eq-eqb, ne_eqb
 use Rattle.std.proofs.lemmas.List.{map-append}
 use Rattle.mely_steal.specs.declared.links.Link.{Link}
 use Rattle.mely_steal.specs.declared.links.Ends.{Ends}
-use Rattle.mely_steal.specs.Links.{list_at, listed, is_in, dropped, IsStrung, MovesOnly, SparesOthers}
-use Rattle.mely_steal.specs.Entering.{Ranked, of_class, gone, has_entry, class_in, ranked, number_at, no_ends, ends_at, entries_of, IsAscending, AreClassed, AreBelow, IsMerged, StandInOrder}
+use Rattle.mely_steal.specs.Links.{list_at, places_of, is_in, without_place, IsStrung, MovesOnly, SparesOthers}
+use Rattle.mely_steal.specs.Entering.{Ranked, of_class, gone, has_entry, class_in, ranks_of, number_at, no_ends, ends_at, entries_of, IsAscending, AreClassed, AreBelow, IsMerged, StandInOrder}
 use Rattle.mely_steal.proofs.LinkLemmas.{dropped-none}
 use Rattle.mely_steal.proofs.EnterLemmas.{class-here, class-later, merged-is, class-push, ascending-push, classed-push, below-push, ascending-filter, classed-filter, below-filter, filter-swap, gone-ranked, has-ranked, has-class, find-class, find-none}
 
@@ -38,13 +38,13 @@ at-class P k is one two three = elim is [
 
 -- the list of a class
 abbrev pub list_of : List Link → List Ends → ℕ → List ℕ
-list_of links ends class = listed links (ends_at ends (class - 1))
+list_of links ends class = places_of links (ends_at ends (class - 1))
 
 pub strung-class : (L : List Link) (ends : List Ends) (N : List ℕ) (next k : ℕ) → StandInOrder L ends N next → IsClass k → IsStrung k L (ends_at ends (k - 1))
 strung-class L ends N next k s is = at-class (λ j. IsStrung j L (ends_at ends (j - 1))) k is s.one s.two s.three
 
-pub entries-class : (L : List Link) (ends : List Ends) (N : List ℕ) (next k : ℕ) → StandInOrder L ends N next → IsClass k → of_class k (entries_of L ends N) ≡ ranked k (list_of L ends k)
-entries-class L ends N next k s is = at-class (λ j. of_class j (entries_of L ends N) ≡ ranked j (list_of L ends j)) k is s.merge.ones s.merge.twos s.merge.threes
+pub entries-class : (L : List Link) (ends : List Ends) (N : List ℕ) (next k : ℕ) → StandInOrder L ends N next → IsClass k → of_class k (entries_of L ends N) ≡ ranks_of k (list_of L ends k)
+entries-class L ends N next k s is = at-class (λ j. of_class j (entries_of L ends N) ≡ ranks_of j (list_of L ends j)) k is s.merge.ones s.merge.twos s.merge.threes
 
 -- a colour's place in the table says which class its entry is of
 class-by : (L : List Link) (ends : List Ends) (N : List ℕ) (next x : ℕ) → StandInOrder L ends N next → x < length L → (o : Option Ranked) → find (λ e. e.colour == x) (entries_of L ends N) ≡ o → option_map_or (λ e. e.class) o 0 ≡ list_at L x
@@ -77,7 +77,7 @@ has-none x g classed is = none-by x g classed (find (λ e. e.colour == x) g) ref
 
 -- entries stand in order where they do so under what they are
 pub stands-as : (M : List Link) (ends : List Ends) (N : List ℕ) (next : ℕ) (g : List Ranked) → length ends ≡ 3 → length M ≤ 65536 → length N ≡ length M → ((x : ℕ) → list_at M x ≤ 3)
-    → ((k : ℕ) → IsClass k → IsStrung k M (ends_at ends (k - 1))) → ((k : ℕ) → IsClass k → of_class k g ≡ ranked k (list_of M ends k))
+    → ((k : ℕ) → IsClass k → IsStrung k M (ends_at ends (k - 1))) → ((k : ℕ) → IsClass k → of_class k g ≡ ranks_of k (list_of M ends k))
     → IsAscending (number_at N) g → AreClassed g → AreBelow (number_at N) next g → (entries_of M ends N ≡ g) × StandInOrder M ends N next
 stands-as M ends N next g many small numbered most strung classes up classed below =
     let merge : IsMerged (number_at N) g (list_of M ends 1) (list_of M ends 2) (list_of M ends 3) = record {
@@ -105,7 +105,7 @@ stands-as M ends N next g many small numbered most strung classes up classed bel
 
 -- what becomes of each list where one of them changes
 lists-after : (L M : List Link) (ends : List Ends) (N : List ℕ) (next k j : ℕ) (now : Ends) → StandInOrder L ends N next → IsClass k → IsClass j → IsStrung k M now → SparesOthers k L M
-    → ((j ≡ k) × (list_of M (set ends (k - 1) now) j ≡ listed M now) × IsStrung j M (ends_at (set ends (k - 1) now) (j - 1)))
+    → ((j ≡ k) × (list_of M (set ends (k - 1) now) j ≡ places_of M now) × IsStrung j M (ends_at (set ends (k - 1) now) (j - 1)))
     ⊎ ((j ≡ k → ⊥) × (list_of M (set ends (k - 1) now) j ≡ list_of L ends j) × IsStrung j M (ends_at (set ends (k - 1) now) (j - 1)))
 lists-after L M ends N next k j now s isk isj strung spares =
     let rk = class-range k isk in
@@ -117,18 +117,18 @@ lists-after L M ends N next k j now s isk isj strung spares =
           let at : ends_at (set ends (k - 1) now) (j - 1) ≡ now = ap (λ z. ends_at (set ends (k - 1) now) (z - 1)) e ∙ get_or-set_same ends (k - 1) now no_ends within in
           let Strung : Ends → Type 0 = λ z. IsStrung j M z in
           let Numbered : ℕ → Type 0 = λ z. IsStrung z M now in
-          inl (e, ap (listed M) at, subst Strung (sym at) (subst Numbered (sym e) strung))
+          inl (e, ap (places_of M) at, subst Strung (sym at) (subst Numbered (sym e) strung))
       | inr ne ↦
           let other : j - 1 ≡ k - 1 → ⊥ = λ e. ne (omega arith) in
           let at : ends_at (set ends (k - 1) now) (j - 1) ≡ ends_at ends (j - 1) = get_or-set_other ends (k - 1) (j - 1) now no_ends other in
           let stays = spares j (ends_at ends (j - 1)) rj.0 ne (strung-class L ends N next j s isj) in
           let Strung : Ends → Type 0 = λ z. IsStrung j M z in
-          inr (ne, ap (listed M) at ∙ stays.0, subst Strung (sym at) stays.1)
+          inr (ne, ap (places_of M) at ∙ stays.0, subst Strung (sym at) stays.1)
     ]
 
 -- where a colour entered a class
 pub enter-stands : (L M : List Link) (ends : List Ends) (N : List ℕ) (next k c : ℕ) (now : Ends) → StandInOrder L ends N next → IsClass k → c < length L → list_at L c ≡ 0
-    → listed M now ≡ list_of L ends k ++ c ∷ [] → IsStrung k M now → SparesOthers k L M → MovesOnly c k L M
+    → places_of M now ≡ list_of L ends k ++ c ∷ [] → IsStrung k M now → SparesOthers k L M → MovesOnly c k L M
     → (entries_of M (set ends (k - 1) now) (set N c next) ≡ entries_of L ends N ++ record { colour = c; class = k } ∷ []) × StandInOrder M (set ends (k - 1) now) (set N c next) (next + 1)
 enter-stands L M ends N next k c now s isk lt free is strung spares moves =
     let g : List Ranked = entries_of L ends N in
@@ -156,14 +156,14 @@ enter-stands L M ends N next k c now s isk lt free is strung spares moves =
       | inl a ↦
           class-push j g r
           ∙ (ap (λ ys. ys ++ of_class j (r ∷ [])) (entries-class L ends N next j s isj)
-          ∙ (ap (λ ys. ranked j (list_of L ends j) ++ ys) (class-here j r [] (sym a.0) ∙ ap (λ z. record { colour = c; class = z } ∷ []) (sym a.0))
+          ∙ (ap (λ ys. ranks_of j (list_of L ends j) ++ ys) (class-here j r [] (sym a.0) ∙ ap (λ z. record { colour = c; class = z } ∷ []) (sym a.0))
           ∙ (sym (map-append (λ x. record { colour = x; class = j }) (list_of L ends j) (c ∷ []))
-          ∙ ap (ranked j) (ap (λ z. list_of L ends z ++ c ∷ []) a.0 ∙ (sym is ∙ sym a.1)))))
+          ∙ ap (ranks_of j) (ap (λ z. list_of L ends z ++ c ∷ []) a.0 ∙ (sym is ∙ sym a.1)))))
       | inr b ↦
           class-push j g r
           ∙ (ap (λ ys. of_class j g ++ ys) (class-later j r [] (λ e. b.0 (sym e)))
           ∙ (append-nil (of_class j g)
-          ∙ (entries-class L ends N next j s isj ∙ ap (ranked j) (sym b.1))))
+          ∙ (entries-class L ends N next j s isj ∙ ap (ranks_of j) (sym b.1))))
     ])
     (ascending-push n m g r s.merge.ascending same (subst Below (sym here) s.below))
     (classed-push g r s.merge.classed isk)
@@ -171,7 +171,7 @@ enter-stands L M ends N next k c now s isk lt free is strung spares moves =
 
 -- where a colour left its class
 pub leave-stands : (L M : List Link) (ends : List Ends) (N : List ℕ) (next k c : ℕ) (now : Ends) → StandInOrder L ends N next → IsClass k → c < length L → list_at L c ≡ k
-    → listed M now ≡ dropped c (list_of L ends k) → IsStrung k M now → SparesOthers k L M → MovesOnly c 0 L M
+    → places_of M now ≡ without_place c (list_of L ends k) → IsStrung k M now → SparesOthers k L M → MovesOnly c 0 L M
     → (entries_of M (set ends (k - 1) now) N ≡ gone c (entries_of L ends N)) × StandInOrder M (set ends (k - 1) now) N next
 leave-stands L M ends N next k c now s isk lt at is strung spares moves =
     let g : List Ranked = entries_of L ends N in
@@ -188,13 +188,13 @@ leave-stands L M ends N next k c now s isk lt at is strung spares moves =
     ])
     (λ j isj. elim (lists-after L M ends N next k j now s isk isj strung spares) [ inl a ↦ a.2 | inr b ↦ b.2 ])
     (λ j isj.
-    let rest : of_class j (gone c g) ≡ ranked j (dropped c (list_of L ends j)) =
+    let rest : of_class j (gone c g) ≡ ranks_of j (without_place c (list_of L ends j)) =
     filter-swap (λ e. e.class == j) p g ∙ (ap (gone c) (entries-class L ends N next j s isj) ∙ gone-ranked c j (list_of L ends j)) in
     elim (lists-after L M ends N next k j now s isk isj strung spares) [
-      | inl a ↦ rest ∙ ap (ranked j) (ap (λ z. dropped c (list_of L ends z)) a.0 ∙ (sym is ∙ sym a.1))
+      | inl a ↦ rest ∙ ap (ranks_of j) (ap (λ z. without_place c (list_of L ends z)) a.0 ∙ (sym is ∙ sym a.1))
       | inr b ↦
           let off : is_in (list_of L ends j) c ≡ false = (strung-class L ends N next j s isj).exact c lt ∙ ne_eqb (list_at L c) j (λ e. b.0 (sym e ∙ at)) in
-          rest ∙ ap (ranked j) (dropped-none c (list_of L ends j) off ∙ sym b.1)
+          rest ∙ ap (ranks_of j) (dropped-none c (list_of L ends j) off ∙ sym b.1)
     ])
     (ascending-filter n p g s.merge.ascending)
     (classed-filter p g s.merge.classed)

@@ -4,8 +4,8 @@ use Rattle.std.proofs.lemmas.Bool.{true≢false, cases_eq, both_ways, eqb-true, 
 use Rattle.std.proofs.lemmas.List.{length_push, length-map}
 use Rattle.mely_steal.specs.declared.links.Link.{Link}
 use Rattle.mely_steal.specs.declared.links.Ends.{Ends}
-use Rattle.mely_steal.specs.Links.{after_at, listed, followed}
-use Rattle.mely_steal.specs.Entering.{Ranked, of_class, has_entry, ranked, number_at, no_ends, ends_at, entries_of, IsLeast, IsAscending, AreClassed, AreBelow, StandInOrder, HasNumbers, IsOlder}
+use Rattle.mely_steal.specs.Links.{after_at, places_of, places_from}
+use Rattle.mely_steal.specs.Entering.{Ranked, of_class, has_entry, ranks_of, number_at, no_ends, ends_at, entries_of, IsLeast, IsAscending, AreClassed, AreBelow, StandInOrder, HasNumbers, IsOlder}
 use Rattle.mely_steal.proofs.LinkLemmas.{length-followed}
 use Rattle.mely_steal.proofs.TableLemmas.{length-strung}
 use Rattle.mely_steal.proofs.EnterLemmas.{class-here, class-later, has-class}
@@ -32,7 +32,7 @@ pub record Renumbering (L : List Link) (left : List Ends) (old now : List ℕ) (
   pub from : AreFrom (number_at now) i behind
   pub up : IsAscending (number_at now) behind
   pub within : (x : ℕ) → has_entry x behind ≡ true → x < length L
-  pub classes : (k : ℕ) → IsClass k → of_class k behind ≡ ranked k (list_of L left k)
+  pub classes : (k : ℕ) → IsClass k → of_class k behind ≡ ranks_of k (list_of L left k)
 
 -- rising numbers are from any number that is below them
 counted-least : (n : ℕ → ℕ) (x : Ranked) (i : ℕ) (g : List Ranked) → n x.colour < i → AreCounted n i g → IsLeast n x g
@@ -112,17 +112,17 @@ classed-behind [] g classed = classed
 classed-behind (x ∷ b) g classed = classed-behind b g classed.1
 
 -- the first of a class's entries is the first of its list
-first-ranked : (a : ℕ → ℕ) (n f k : ℕ) (x : Ranked) (ys : List Ranked) → x ∷ ys ≡ ranked k (followed a n f) → (n ≢ 0) × (f ≡ x.colour)
+first-ranked : (a : ℕ → ℕ) (n f k : ℕ) (x : Ranked) (ys : List Ranked) → x ∷ ys ≡ ranks_of k (places_from a n f) → (n ≢ 0) × (f ≡ x.colour)
 first-ranked a zero f k x ys is = absurd (cc)
 first-ranked a (suc n) f k x ys is = (λ e. absurd (cc), cc)
 
-rest-ranked : (a : ℕ → ℕ) (n f k : ℕ) (x : Ranked) (ys : List Ranked) → x ∷ ys ≡ ranked k (followed a n f) → ys ≡ ranked k (followed a (n - 1) (a f))
+rest-ranked : (a : ℕ → ℕ) (n f k : ℕ) (x : Ranked) (ys : List Ranked) → x ∷ ys ≡ ranks_of k (places_from a n f) → ys ≡ ranks_of k (places_from a (n - 1) (a f))
 rest-ranked a zero f k x ys is = absurd (cc)
-rest-ranked a (suc n) f k x ys is = let tail : ys ≡ ranked k (followed a n (a f)) = cc in let less : suc n - 1 ≡ n = omega arith in rw less tail
+rest-ranked a (suc n) f k x ys is = let tail : ys ≡ ranks_of k (places_from a n (a f)) = cc in let less : suc n - 1 ≡ n = omega arith in rw less tail
 
-head-ranked : (a : ℕ → ℕ) (n f k : ℕ) → n ≢ 0 → has_entry f (ranked k (followed a n f)) ≡ true
+head-ranked : (a : ℕ → ℕ) (n f k : ℕ) → n ≢ 0 → has_entry f (ranks_of k (places_from a n f)) ≡ true
 head-ranked a zero f k ne = absurd (ne refl)
-head-ranked a (suc n) f k ne = or_left (eqb f f) (has_entry f (ranked k (followed a n (a f)))) (eq-eqb f f refl)
+head-ranked a (suc n) f k ne = or_left (eqb f f) (has_entry f (ranks_of k (places_from a n (a f)))) (eq-eqb f f refl)
 
 -- the entry whose colour is first in its list
 least-has : (n : ℕ → ℕ) (x : Ranked) (c : ℕ) (g : List Ranked) → IsLeast n x g → has_entry c g ≡ true → n x.colour < n c
@@ -159,19 +159,19 @@ renumbering-start L ends N next s = record {
   from = from-zero (number_at N) (entries_of L ends N);
   up = s.merge.ascending;
   within = λ x h. entry-within L ends N next x s h;
-  classes = λ k is. at-class (λ j. of_class j (entries_of L ends N) ≡ ranked j (list_of L (ends_at ends 0 ∷ ends_at ends 1 ∷ ends_at ends 2 ∷ []) j)) k is s.merge.ones s.merge.twos s.merge.threes;
+  classes = λ k is. at-class (λ j. of_class j (entries_of L ends N) ≡ ranks_of j (list_of L (ends_at ends 0 ∷ ends_at ends 1 ∷ ends_at ends 2 ∷ []) j)) k is s.merge.ones s.merge.twos s.merge.threes;
 }
 
 -- the class whose list is at this place
 place-class : (o : ℕ) → o < 3 → IsClass (o + 1) × (o + 1 - 1 ≡ o)
 place-class o lt = (elim (class-cases (o + 1) (omega arith)) [ inl none ↦ absurd (omega arith) | inr is ↦ is ], omega arith)
 
-classes-at : (L : List Link) (left : List Ends) (b : List Ranked) → ((k : ℕ) → IsClass k → of_class k b ≡ ranked k (list_of L left k)) → (o : ℕ) → o < 3
-    → of_class (o + 1) b ≡ ranked (o + 1) (followed (after_at L) (ends_at left o).len (ends_at left o).first)
-classes-at L left b classes o lt = let is = place-class o lt in classes (o + 1) is.0 ∙ ap (λ z. ranked (o + 1) (listed L (ends_at left z))) is.1
+classes-at : (L : List Link) (left : List Ends) (b : List Ranked) → ((k : ℕ) → IsClass k → of_class k b ≡ ranks_of k (list_of L left k)) → (o : ℕ) → o < 3
+    → of_class (o + 1) b ≡ ranks_of (o + 1) (places_from (after_at L) (ends_at left o).len (ends_at left o).first)
+classes-at L left b classes o lt = let is = place-class o lt in classes (o + 1) is.0 ∙ ap (λ z. ranks_of (o + 1) (places_of L (ends_at left z))) is.1
 
 -- a list that isn't empty begins with the colour of an entry
-first-has : (L : List Link) (left : List Ends) (b : List Ranked) → ((k : ℕ) → IsClass k → of_class k b ≡ ranked k (list_of L left k)) → (o : ℕ) → o < 3 → (ends_at left o).len ≢ 0
+first-has : (L : List Link) (left : List Ends) (b : List Ranked) → ((k : ℕ) → IsClass k → of_class k b ≡ ranks_of k (list_of L left k)) → (o : ℕ) → o < 3 → (ends_at left o).len ≢ 0
     → has_entry (ends_at left o).first (of_class (o + 1) b) ≡ true
 first-has L left b classes o lt ne =
     ap (has_entry (ends_at left o).first) (classes-at L left b classes o lt)
@@ -182,14 +182,14 @@ first-within L left old now g i o r lt ne =
     r.within (ends_at left o).first (has-class (ends_at left o).first (o + 1) r.behind (first-has L left r.behind r.classes o lt ne))
 
 -- the entry that is next has the colour that is the first of the list with the smallest number
-next-is : (L : List Link) (left : List Ends) (n : ℕ → ℕ) (x : Ranked) (rest : List Ranked) → ((k : ℕ) → IsClass k → of_class k (x ∷ rest) ≡ ranked k (list_of L left k)) → IsLeast n x rest → IsClass x.class
+next-is : (L : List Link) (left : List Ends) (n : ℕ → ℕ) (x : Ranked) (rest : List Ranked) → ((k : ℕ) → IsClass k → of_class k (x ∷ rest) ≡ ranks_of k (list_of L left k)) → IsLeast n x rest → IsClass x.class
     → (o : ℕ) → o < 3 → (ends_at left o).len ≢ 0 → ((j : ℕ) → j < 3 → (ends_at left j).len ≢ 0 → n (ends_at left o).first ≤ n (ends_at left j).first) → (x.class ≡ o + 1) × (x.colour ≡ (ends_at left o).first)
 next-is L left n x rest classes least isx o lt ne oldest =
     let range = class-range x.class isx in
     let j : ℕ = x.class - 1 in
     let within : j < 3 = omega arith in
     let back : j + 1 ≡ x.class = omega arith in
-    let mine : x ∷ of_class x.class rest ≡ ranked x.class (followed (after_at L) (ends_at left j).len (ends_at left j).first) = sym (class-here x.class x rest refl) ∙ classes x.class isx in
+    let mine : x ∷ of_class x.class rest ≡ ranks_of x.class (places_from (after_at L) (ends_at left j).len (ends_at left j).first) = sym (class-here x.class x rest refl) ∙ classes x.class isx in
     let first = first-ranked (after_at L) (ends_at left j).len (ends_at left j).first x.class x (of_class x.class rest) mine in
     let le : n (ends_at left o).first ≤ n x.colour = subst (λ (z : ℕ). n (ends_at left o).first ≤ n z) first.1 (oldest j within first.0) in
     elim (cases_eq x.class (o + 1)) [
@@ -218,8 +218,8 @@ step-at L left old now g i o r x rest is up classed long lt ne oldest =
     let ups : IsAscending n (x ∷ rest) = subst Up is r.up in
     let From : List Ranked → Type 0 = λ ys. AreFrom n i ys in
     let froms : AreFrom n i (x ∷ rest) = subst From is r.from in
-    let Classes : List Ranked → Type 0 = λ ys. (k : ℕ) → IsClass k → of_class k ys ≡ ranked k (list_of L left k) in
-    let classes : (k : ℕ) → IsClass k → of_class k (x ∷ rest) ≡ ranked k (list_of L left k) = subst Classes is r.classes in
+    let Classes : List Ranked → Type 0 = λ ys. (k : ℕ) → IsClass k → of_class k ys ≡ ranks_of k (list_of L left k) in
+    let classes : (k : ℕ) → IsClass k → of_class k (x ∷ rest) ≡ ranks_of k (list_of L left k) = subst Classes is r.classes in
     let Within : List Ranked → Type 0 = λ ys. (y : ℕ) → has_entry y ys ≡ true → y < length L in
     let within : (y : ℕ) → has_entry y (x ∷ rest) ≡ true → y < length L = subst Within is r.within in
     let Old : List Ranked → Type 0 = λ ys. IsAscending (number_at old) ys in
@@ -232,7 +232,7 @@ step-at L left old now g i o r x rest is up classed long lt ne oldest =
     get_or-set_other now e.first y i 0 (λ same. both_ways (has_entry x.colour b) off (ap (λ z. has_entry z b) (next.1 ∙ sym same) ∙ h)) in
     let place = place-class o lt in
     let many = r.many in
-    let mine : x ∷ of_class (o + 1) rest ≡ ranked (o + 1) (followed (after_at L) e.len e.first) = sym (class-here (o + 1) x rest next.0) ∙ classes-at L left (x ∷ rest) classes o lt in
+    let mine : x ∷ of_class (o + 1) rest ≡ ranks_of (o + 1) (places_from (after_at L) e.len e.first) = sym (class-here (o + 1) x rest next.0) ∙ classes-at L left (x ∷ rest) classes o lt in
     let count = r.count in
     record {
       many = length-set left o after ∙ r.many;
@@ -249,13 +249,13 @@ step-at L left old now g i o r x rest is up classed long lt ne oldest =
             let at : ends_at later (k - 1) ≡ after = ap (λ z. ends_at later (z - 1)) same ∙ (ap (ends_at later) place.1 ∙ get_or-set_same left o after no_ends (omega arith)) in
             ap (λ z. of_class z rest) same
             ∙ (rest-ranked (after_at L) e.len e.first (o + 1) x (of_class (o + 1) rest) mine
-            ∙ (sym (ap (λ z. ranked z (listed L after)) same) ∙ sym (ap (λ z. ranked k (listed L z)) at)))
+            ∙ (sym (ap (λ z. ranks_of z (places_of L after)) same) ∙ sym (ap (λ z. ranks_of k (places_of L z)) at)))
         | inr other ↦
             let range = class-range k isk in
             let ne' : k - 1 ≡ o → ⊥ = λ same. other (omega arith) in
             let at : ends_at later (k - 1) ≡ ends_at left (k - 1) = get_or-set_other left o (k - 1) after no_ends ne' in
             sym (class-later k x rest (λ same. other (sym same ∙ next.0)))
-            ∙ (classes k isk ∙ sym (ap (λ z. ranked k (listed L z)) at))
+            ∙ (classes k isk ∙ sym (ap (λ z. ranks_of k (places_of L z)) at))
       ];
     }
 
@@ -273,12 +273,12 @@ pub renumbering-step : (L : List Link) (left : List Ends) (old now : List ℕ) (
 renumbering-step L left old now g i o r = step-by L left old now g i o r r.behind refl
 
 -- where all lists are empty, every entry is numbered
-none-left : (L : List Link) (left : List Ends) (b : List Ranked) → ((k : ℕ) → IsClass k → of_class k b ≡ ranked k (list_of L left k)) → AreClassed b → ((j : ℕ) → j < 3 → (ends_at left j).len ≡ 0) → b ≡ []
+none-left : (L : List Link) (left : List Ends) (b : List Ranked) → ((k : ℕ) → IsClass k → of_class k b ≡ ranks_of k (list_of L left k)) → AreClassed b → ((j : ℕ) → j < 3 → (ends_at left j).len ≡ 0) → b ≡ []
 none-left L left [] classes classed empty = refl
 none-left L left (x ∷ rest) classes classed empty =
     let range = class-range x.class classed.0 in
     let j : ℕ = x.class - 1 in
-    let mine : x ∷ of_class x.class rest ≡ ranked x.class (followed (after_at L) (ends_at left j).len (ends_at left j).first) = sym (class-here x.class x rest refl) ∙ classes x.class classed.0 in
+    let mine : x ∷ of_class x.class rest ≡ ranks_of x.class (places_from (after_at L) (ends_at left j).len (ends_at left j).first) = sym (class-here x.class x rest refl) ∙ classes x.class classed.0 in
     absurd ((first-ranked (after_at L) (ends_at left j).len (ends_at left j).first x.class x (of_class x.class rest) mine).0 (empty j (omega arith)))
 
 pub renumbering-end : (L : List Link) (ends left : List Ends) (N now : List ℕ) (next i : ℕ) → StandInOrder L ends N next → Renumbering L left N now (entries_of L ends N) i → length now ≡ length L → ((j : ℕ) → j < 3 → (ends_at left j).len ≡ 0)

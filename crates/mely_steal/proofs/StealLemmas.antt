@@ -7,8 +7,8 @@ use Rattle.std.proofs.lemmas.List.Elements.{All-nil, All-cons, All-head, All-tai
 use Rattle.mely_event.specs.declared.colour.Colour.{Colour}
 use Rattle.mely_event.specs.declared.mark.Mark.{Mark}
 use Rattle.mely_steal.specs.Classes.{class_of}
-use Rattle.mely_steal.specs.Marks.{is_of, mark_of, without, replaced, IsOneEach}
-use Rattle.mely_steal.specs.StealQueue.{AreWorthy, is_worthy, entered, changed, keeps_class, first_of, pick_of}
+use Rattle.mely_steal.specs.Marks.{is_of, mark_of, without, after_replacement, IsOneEach}
+use Rattle.mely_steal.specs.StealQueue.{AreWorthy, is_worthy, after_entry, after_mark_change, keeps_class, first_of, pick_of}
 use Rattle.mely_steal.proofs.MarkLemmas.{mark_of-same, mark_of-colour, without-none, replaced-colour, mark_of-append, mark_of-without_same, mark_of-without_other, mark_of-replaced_same, mark_of-replaced_other, AreApart-push, AreApart-without, AreApart-replaced}
 
 -- a class over 0 is worth a steal
@@ -116,7 +116,7 @@ AreWorthy-without c xs n cost pinned kept =
     let less = AreApart-without c xs n (record { below = kept.below; apart = kept.apart }) in
     record { below = less.below; apart = less.apart; worthy = All-filter (λ m. not (is_of c m)) (λ x. cost < x.worth) xs kept.worthy; loose = All-filter (λ m. not (is_of c m)) (λ x. pinned ≤ x.colour.0) xs kept.loose }
 
-AreWorthy-replaced : (new : Mark) (xs : List Mark) (n cost pinned : ℕ) → AreWorthy (record { marks = xs; colours = n; cost = cost; pinned = pinned }) → cost < new.worth → AreWorthy (record { marks = replaced new xs; colours = n; cost = cost; pinned = pinned })
+AreWorthy-replaced : (new : Mark) (xs : List Mark) (n cost pinned : ℕ) → AreWorthy (record { marks = xs; colours = n; cost = cost; pinned = pinned }) → cost < new.worth → AreWorthy (record { marks = after_replacement new xs; colours = n; cost = cost; pinned = pinned })
 AreWorthy-replaced new xs n cost pinned kept worth =
     let put = AreApart-replaced new xs n (record { below = kept.below; apart = kept.apart }) in
     let P : Mark → Type 0 = λ m. cost < m.worth in
@@ -164,7 +164,7 @@ pub without-pinned : (pinned : ℕ) (c : Colour) (xs : List Mark) → All (λ m.
 without-pinned pinned c xs all lt = without-none c xs (absent-pinned pinned c xs all lt)
 
 -- after a mark entered its class: what the list has of its colour, and of another
-pub mark_of-entered_same : (cost pinned : ℕ) (new : Mark) (c : Colour) (xs : List Mark) → c.0 ≡ new.colour.0 → mark_of c xs ≡ None → mark_of c (entered cost pinned new xs) ≡ cond (is_worthy cost pinned new) (Some new) None
+pub mark_of-entered_same : (cost pinned : ℕ) (new : Mark) (c : Colour) (xs : List Mark) → c.0 ≡ new.colour.0 → mark_of c xs ≡ None → mark_of c (after_entry cost pinned new xs) ≡ cond (is_worthy cost pinned new) (Some new) None
 mark_of-entered_same cost pinned new c xs e h = elim (cases_Bool (is_worthy cost pinned new)) [
   | inl t ↦
       ap (mark_of c) (cond-true (is_worthy cost pinned new) (xs ++ new ∷ []) xs t)
@@ -185,25 +185,25 @@ mark_of-push_other new c xs ne =
     ∙ (ap (λ o. option_or (mark_of c xs) o) (cond-false (is_of c new) (Some new) None (ne_eqb new.colour.0 c.0 (λ e. ne (sym e))))
     ∙ option_or-nothing (mark_of c xs))
 
-pub mark_of-entered_other : (cost pinned : ℕ) (new : Mark) (c : Colour) (xs : List Mark) → (c.0 ≡ new.colour.0 → ⊥) → mark_of c (entered cost pinned new xs) ≡ mark_of c xs
+pub mark_of-entered_other : (cost pinned : ℕ) (new : Mark) (c : Colour) (xs : List Mark) → (c.0 ≡ new.colour.0 → ⊥) → mark_of c (after_entry cost pinned new xs) ≡ mark_of c xs
 mark_of-entered_other cost pinned new c xs ne = cond_both (is_worthy cost pinned new) (xs ++ new ∷ []) xs (λ ys. mark_of c ys ≡ mark_of c xs) (λ t. mark_of-push_other new c xs ne) (λ f. refl)
 
 -- after the mark of a colour became another: what the list has of its colour, and of another
-pub mark_of-changed_same : (cost pinned : ℕ) (new : Mark) (c : Colour) (xs : List Mark) → c.0 ≡ new.colour.0 → All (λ m. cost < m.worth) xs → All (λ m. pinned ≤ m.colour.0) xs → mark_of c (changed cost pinned new xs) ≡ cond (is_worthy cost pinned new) (Some new) None
+pub mark_of-changed_same : (cost pinned : ℕ) (new : Mark) (c : Colour) (xs : List Mark) → c.0 ≡ new.colour.0 → All (λ m. cost < m.worth) xs → All (λ m. pinned ≤ m.colour.0) xs → mark_of c (after_mark_change cost pinned new xs) ≡ cond (is_worthy cost pinned new) (Some new) None
 mark_of-changed_same cost pinned new c xs e all loose = elim (cases_Bool (keeps_class cost new xs)) [
   | inl t ↦
       let there = keeps_class-old cost new (mark_of new.colour xs) t in
       let old : mark_of c xs ≡ Some there.0 = mark_of-same c new.colour xs e ∙ there.1 in
-      ap (mark_of c) (cond-true (keeps_class cost new xs) (replaced new xs) (entered cost pinned new (without new.colour xs)) t)
+      ap (mark_of c) (cond-true (keeps_class cost new xs) (after_replacement new xs) (after_entry cost pinned new (without new.colour xs)) t)
       ∙ (mark_of-replaced_same new there.0 c xs e old
       ∙ sym (cond-true (is_worthy cost pinned new) (Some new) None (worthy-from cost pinned new (keeps_class-loose cost pinned new xs loose t) (keeps_class-worthy cost new xs all t))))
   | inr f ↦
-      ap (mark_of c) (cond-false (keeps_class cost new xs) (replaced new xs) (entered cost pinned new (without new.colour xs)) f)
+      ap (mark_of c) (cond-false (keeps_class cost new xs) (after_replacement new xs) (after_entry cost pinned new (without new.colour xs)) f)
       ∙ mark_of-entered_same cost pinned new c (without new.colour xs) e (mark_of-without_same c new.colour xs e)
 ]
 
-pub mark_of-changed_other : (cost pinned : ℕ) (new : Mark) (c : Colour) (xs : List Mark) → (c.0 ≡ new.colour.0 → ⊥) → mark_of c (changed cost pinned new xs) ≡ mark_of c xs
-mark_of-changed_other cost pinned new c xs ne = cond_both (keeps_class cost new xs) (replaced new xs) (entered cost pinned new (without new.colour xs)) (λ ys. mark_of c ys ≡ mark_of c xs)
+pub mark_of-changed_other : (cost pinned : ℕ) (new : Mark) (c : Colour) (xs : List Mark) → (c.0 ≡ new.colour.0 → ⊥) → mark_of c (after_mark_change cost pinned new xs) ≡ mark_of c xs
+mark_of-changed_other cost pinned new c xs ne = cond_both (keeps_class cost new xs) (after_replacement new xs) (after_entry cost pinned new (without new.colour xs)) (λ ys. mark_of c ys ≡ mark_of c xs)
     (λ t. mark_of-replaced_other new c xs ne)
     (λ f. mark_of-entered_other cost pinned new c (without new.colour xs) ne ∙ mark_of-without_other c new.colour xs ne)
 
@@ -219,15 +219,15 @@ each_is_mark_of (x ∷ xs) one =
     All-cons P x xs (cond-true (is_of x.colour x) (Some x) (mark_of x.colour xs) (eq-eqb x.colour.0 x.colour.0 refl)) (All-weaker Q P later xs (each_is_mark_of xs one.1))
 
 -- after a mark entered its class, and after the mark of a colour became another
-pub AreWorthy-entered : (m : Mark) (xs : List Mark) (n cost pinned : ℕ) → AreWorthy (record { marks = xs; colours = n; cost = cost; pinned = pinned }) → m.colour.0 < n → mark_of m.colour xs ≡ None → AreWorthy (record { marks = entered cost pinned m xs; colours = n; cost = cost; pinned = pinned })
+pub AreWorthy-entered : (m : Mark) (xs : List Mark) (n cost pinned : ℕ) → AreWorthy (record { marks = xs; colours = n; cost = cost; pinned = pinned }) → m.colour.0 < n → mark_of m.colour xs ≡ None → AreWorthy (record { marks = after_entry cost pinned m xs; colours = n; cost = cost; pinned = pinned })
 AreWorthy-entered m xs n cost pinned kept lt none =
     let Kept : List Mark → Type 0 = λ ys. AreWorthy (record { marks = ys; colours = n; cost = cost; pinned = pinned }) in
     cond_both (is_worthy cost pinned m) (xs ++ m ∷ []) xs Kept (λ t. let parts = worthy-parts cost pinned m t in AreWorthy-push xs n cost pinned m kept lt none parts.0 parts.1) (λ f. kept)
 
-pub AreWorthy-changed : (m : Mark) (xs : List Mark) (n cost pinned : ℕ) → AreWorthy (record { marks = xs; colours = n; cost = cost; pinned = pinned }) → m.colour.0 < n → AreWorthy (record { marks = changed cost pinned m xs; colours = n; cost = cost; pinned = pinned })
+pub AreWorthy-changed : (m : Mark) (xs : List Mark) (n cost pinned : ℕ) → AreWorthy (record { marks = xs; colours = n; cost = cost; pinned = pinned }) → m.colour.0 < n → AreWorthy (record { marks = after_mark_change cost pinned m xs; colours = n; cost = cost; pinned = pinned })
 AreWorthy-changed m xs n cost pinned kept lt =
     let Kept : List Mark → Type 0 = λ ys. AreWorthy (record { marks = ys; colours = n; cost = cost; pinned = pinned }) in
-    cond_both (keeps_class cost m xs) (replaced m xs) (entered cost pinned m (without m.colour xs)) Kept
+    cond_both (keeps_class cost m xs) (after_replacement m xs) (after_entry cost pinned m (without m.colour xs)) Kept
     (λ t. AreWorthy-replaced m xs n cost pinned kept (keeps_class-worthy cost m xs kept.worthy t))
     (λ f. AreWorthy-entered m (without m.colour xs) n cost pinned (AreWorthy-without m.colour xs n cost pinned kept) lt (mark_of-without_same m.colour m.colour xs refl))
 
@@ -242,10 +242,10 @@ pick_of-IfSome cost P xs None all is = tt
 pick_of-IfSome cost P xs (Some m) all is = pick_of-All cost P xs m all (sym is)
 
 -- what changes of a pinned colour
-pub changed-pinned : (cost pinned : ℕ) (m : Mark) (xs : List Mark) → All (λ x. pinned ≤ x.colour.0) xs → m.colour.0 < pinned → changed cost pinned m xs ≡ xs
+pub changed-pinned : (cost pinned : ℕ) (m : Mark) (xs : List Mark) → All (λ x. pinned ≤ x.colour.0) xs → m.colour.0 < pinned → after_mark_change cost pinned m xs ≡ xs
 changed-pinned cost pinned m xs all lt =
     let none = absent-pinned pinned m.colour xs all lt in
     let idle : is_worthy cost pinned m ≡ false = and_left (leb pinned m.colour.0) (ltb cost m.worth) (lt-leb pinned m.colour.0 lt) in
-    ap (λ o. cond (option_map_or (λ (old : Mark). class_of old.worth cost == class_of m.worth cost) o false) (replaced m xs) (entered cost pinned m (without m.colour xs))) none
-    ∙ (ap (entered cost pinned m) (without-none m.colour xs none)
+    ap (λ o. cond (option_map_or (λ (old : Mark). class_of old.worth cost == class_of m.worth cost) o false) (after_replacement m xs) (after_entry cost pinned m (without m.colour xs))) none
+    ∙ (ap (after_entry cost pinned m) (without-none m.colour xs none)
     ∙ cond-false (is_worthy cost pinned m) (xs ++ m ∷ []) xs idle)

@@ -6,8 +6,8 @@ use Rattle.std.proofs.lemmas.List.{map-append}
 use Rattle.mely_event.specs.declared.colour.Colour.{Colour}
 use Rattle.mely_event.specs.declared.mark.Mark.{Mark}
 use Rattle.mely_steal.specs.Classes.{class_of}
-use Rattle.mely_steal.specs.Marks.{mark_of, without, replaced}
-use Rattle.mely_steal.specs.StealQueue.{AreWorthy, is_worthy, entered, changed, keeps_class}
+use Rattle.mely_steal.specs.Marks.{mark_of, without, after_replacement}
+use Rattle.mely_steal.specs.StealQueue.{AreWorthy, is_worthy, after_entry, after_mark_change, keeps_class}
 use Rattle.mely_steal.specs.Entering.{Ranked, gone, has_entry, class_in, joined_by, moved_to}
 use Rattle.mely_steal.specs.StealTable.{Told, AreStealable, mark_in, SetsMark, marks_of, AreOfClass}
 use Rattle.mely_steal.proofs.MarkLemmas.{without-none}
@@ -24,13 +24,13 @@ stealing-some cost pinned m w = (cond-true (is_worthy cost pinned m) (class_of m
 
 -- a colour that has no mark yet enters
 pub enter-stealable : (t u : Told) (g : List Ranked) (n cost pinned : ℕ) (m : Mark) → AreStealable (record { told = t; entries = g; colours = n; cost = cost; pinned = pinned }) → SetsMark m t u → m.colour.0 < n → has_entry m.colour.0 g ≡ false → mark_of m.colour (marks_of t g) ≡ None
-    → (marks_of u (joined_by (stealing_class cost pinned m) m.colour.0 g) ≡ entered cost pinned m (marks_of t g))
+    → (marks_of u (joined_by (stealing_class cost pinned m) m.colour.0 g) ≡ after_entry cost pinned m (marks_of t g))
     × AreStealable (record { told = u; entries = joined_by (stealing_class cost pinned m) m.colour.0 g; colours = n; cost = cost; pinned = pinned })
 enter-stealable t u g n cost pinned m s sets lt off none =
     let k = stealing_class cost pinned m in
     let c = m.colour.0 in
     let Kept : List Mark → Type 0 = λ xs. AreWorthy (record { marks = xs; colours = n; cost = cost; pinned = pinned }) in
-    let after : Kept (entered cost pinned m (marks_of t g)) = AreWorthy-entered m (marks_of t g) n cost pinned s.worthy lt none in
+    let after : Kept (after_entry cost pinned m (marks_of t g)) = AreWorthy-entered m (marks_of t g) n cost pinned s.worthy lt none in
     let stays : marks_of u g ≡ marks_of t g = marks-absent t u m g sets off in
     elim (cases_Bool (is_worthy cost pinned m)) [
       | inl w ↦
@@ -38,7 +38,7 @@ enter-stealable t u g n cost pinned m s sets lt off none =
           let r : Ranked = record { colour = c; class = k } in
           let ne : eqb k 0 ≡ false = ne_eqb k 0 (λ e. let low : 0 < class_of m.worth cost = some.1 in let at : k ≡ class_of m.worth cost = some.0 in absurd (omega arith)) in
           let more : joined_by k c g ≡ g ++ r ∷ [] = cond-false (eqb k 0) g (g ++ r ∷ []) ne in
-          let marks : marks_of u (joined_by k c g) ≡ entered cost pinned m (marks_of t g) =
+          let marks : marks_of u (joined_by k c g) ≡ after_entry cost pinned m (marks_of t g) =
           ap (marks_of u) more ∙ (map-append (λ (e : Ranked). mark_in u e.colour) g (r ∷ [])
           ∙ (ap (λ ys. ys ++ mark_in u c ∷ []) stays ∙ (ap (λ x. marks_of t g ++ x ∷ []) sets.here
           ∙ sym (cond-true (is_worthy cost pinned m) (marks_of t g ++ m ∷ []) (marks_of t g) w)))) in
@@ -52,7 +52,7 @@ enter-stealable t u g n cost pinned m s sets lt off none =
       | inr f ↦
           let zero' : k ≡ 0 = cond-false (is_worthy cost pinned m) (class_of m.worth cost) 0 f in
           let same : joined_by k c g ≡ g = cond-true (eqb k 0) g (g ++ record { colour = c; class = k } ∷ []) (eq-eqb k 0 zero') in
-          let marks : marks_of u (joined_by k c g) ≡ entered cost pinned m (marks_of t g) =
+          let marks : marks_of u (joined_by k c g) ≡ after_entry cost pinned m (marks_of t g) =
           ap (marks_of u) same ∙ (stays ∙ sym (cond-false (is_worthy cost pinned m) (marks_of t g ++ m ∷ []) (marks_of t g) f)) in
           let Classed : List Ranked → Type 0 = λ h. AreOfClass cost u h in
           (marks, record { worthy = subst Kept (sym marks) after; classed = subst Classed (sym same) (classed-absent cost t u m g sets off s.classed) })
@@ -99,22 +99,22 @@ stays-keeps t g n cost pinned m s is (Some old) at =
 
 -- the mark of a colour changes
 pub change-stealable : (t u : Told) (g : List Ranked) (n cost pinned : ℕ) (m : Mark) → AreStealable (record { told = t; entries = g; colours = n; cost = cost; pinned = pinned }) → SetsMark m t u → m.colour.0 < n
-    → (marks_of u (moved_to (stealing_class cost pinned m) m.colour.0 g) ≡ changed cost pinned m (marks_of t g))
+    → (marks_of u (moved_to (stealing_class cost pinned m) m.colour.0 g) ≡ after_mark_change cost pinned m (marks_of t g))
     × AreStealable (record { told = u; entries = moved_to (stealing_class cost pinned m) m.colour.0 g; colours = n; cost = cost; pinned = pinned })
 change-stealable t u g n cost pinned m s sets lt =
     let k = stealing_class cost pinned m in
     let c = m.colour.0 in
     let xs = marks_of t g in
     let Kept : List Mark → Type 0 = λ ys. AreWorthy (record { marks = ys; colours = n; cost = cost; pinned = pinned }) in
-    let after : Kept (changed cost pinned m xs) = AreWorthy-changed m xs n cost pinned s.worthy lt in
+    let after : Kept (after_mark_change cost pinned m xs) = AreWorthy-changed m xs n cost pinned s.worthy lt in
     let Classed : List Ranked → Type 0 = λ h. AreOfClass cost u h in
     elim (cases_eq (class_in c g) k) [
       | inl is ↦
           let same : moved_to k c g ≡ g = cond-true (eqb (class_in c g) k) g (joined_by k c (gone c g)) (eq-eqb (class_in c g) k is) in
           elim (stays-keeps t g n cost pinned m s is (mark_of m.colour xs) refl) [
             | inl keeps ↦
-                let marks : marks_of u (moved_to k c g) ≡ changed cost pinned m xs =
-                ap (marks_of u) same ∙ (marks-replaced t u m g sets ∙ sym (cond-true (keeps_class cost m xs) (replaced m xs) (entered cost pinned m (without m.colour xs)) keeps)) in
+                let marks : marks_of u (moved_to k c g) ≡ after_mark_change cost pinned m xs =
+                ap (marks_of u) same ∙ (marks-replaced t u m g sets ∙ sym (cond-true (keeps_class cost m xs) (after_replacement m xs) (after_entry cost pinned m (without m.colour xs)) keeps)) in
                 let old = keeps_class-old cost m (mark_of m.colour xs) keeps in
                 let at : mark_in t c ≡ old.0 = mark-at t m.colour g old.0 old.1 in
                 let classed = classed-same cost t u m g sets (ap (λ (x : Mark). class_of x.worth cost) at ∙ old.2) s.classed in
@@ -126,10 +126,10 @@ change-stealable t u g n cost pinned m s sets lt =
                   | inl w ↦ let some = stealing-some cost pinned m w in let at : k ≡ class_of m.worth cost = some.0 in let low : 0 < class_of m.worth cost = some.1 in absurd (omega arith)
                   | inr f ↦ f
                 ] in
-                let marks : marks_of u (moved_to k c g) ≡ changed cost pinned m xs =
+                let marks : marks_of u (moved_to k c g) ≡ after_mark_change cost pinned m xs =
                 ap (marks_of u) same ∙ (marks-absent t u m g sets off
-                ∙ sym (ap (λ o. cond (option_map_or (λ (old : Mark). class_of old.worth cost == class_of m.worth cost) o false) (replaced m xs) (entered cost pinned m (without m.colour xs))) none
-                ∙ (ap (entered cost pinned m) (without-none m.colour xs none)
+                ∙ sym (ap (λ o. cond (option_map_or (λ (old : Mark). class_of old.worth cost == class_of m.worth cost) o false) (after_replacement m xs) (after_entry cost pinned m (without m.colour xs))) none
+                ∙ (ap (after_entry cost pinned m) (without-none m.colour xs none)
                 ∙ cond-false (is_worthy cost pinned m) (xs ++ m ∷ []) xs idle))) in
                 (marks, record { worthy = subst Kept (sym marks) after; classed = subst Classed (sym same) (classed-absent cost t u m g sets off s.classed) })
           ]
@@ -137,9 +137,9 @@ change-stealable t u g n cost pinned m s sets lt =
           let rest = enter-stealable t u (gone c g) n cost pinned m (leave-stealable t g n cost pinned m.colour s) sets lt (gone-has c g) (none-gone t m.colour g) in
           let moved : moved_to k c g ≡ joined_by k c (gone c g) = cond-false (eqb (class_in c g) k) g (joined_by k c (gone c g)) (ne_eqb (class_in c g) k ne) in
           let loses : keeps_class cost m xs ≡ false = elim (cases_Bool (keeps_class cost m xs)) [ inl keeps ↦ absurd (ne (keeps-is t g n cost pinned m s keeps)) | inr f ↦ f ] in
-          let marks : marks_of u (moved_to k c g) ≡ changed cost pinned m xs =
+          let marks : marks_of u (moved_to k c g) ≡ after_mark_change cost pinned m xs =
           ap (marks_of u) moved ∙ (rest.0
-          ∙ (ap (entered cost pinned m) (sym (without-entries t m.colour g))
-          ∙ sym (cond-false (keeps_class cost m xs) (replaced m xs) (entered cost pinned m (without m.colour xs)) loses))) in
+          ∙ (ap (after_entry cost pinned m) (sym (without-entries t m.colour g))
+          ∙ sym (cond-false (keeps_class cost m xs) (after_replacement m xs) (after_entry cost pinned m (without m.colour xs)) loses))) in
           (marks, record { worthy = subst Kept (sym marks) after; classed = subst Classed (sym moved) rest.1.classed })
     ]

@@ -6,7 +6,7 @@ use Rattle.std.proofs.lemmas.Option.{none-some, same_Some}
 use Rattle.mely_event.specs.declared.colour.Colour.{Colour}
 use Rattle.mely_event.specs.declared.mark.Mark.{Mark}
 use Rattle.mely_steal.specs.Classes.{class_of}
-use Rattle.mely_steal.specs.Marks.{mark_of, without, replaced}
+use Rattle.mely_steal.specs.Marks.{mark_of, without, after_replacement}
 use Rattle.mely_steal.specs.StealQueue.{first_of, pick_of}
 use Rattle.mely_steal.specs.Entering.{Ranked, gone, has_entry, class_in}
 use Rattle.mely_steal.specs.StealTable.{Told, mark_in, SetsMark, marks_of, AreOfClass}
@@ -35,7 +35,7 @@ marks-absent old new m (x ∷ g) sets off =
     ap (λ k. k ∷ marks_of new g) (sets.others x.colour (λ e. eqb-false x.colour m.colour.0 parts.0 (sym e)))
     ∙ ap (λ ys. mark_in old x.colour ∷ ys) (marks-absent old new m g sets parts.1)
 
-pub marks-replaced : (old new : Told) (m : Mark) (g : List Ranked) → SetsMark m old new → marks_of new g ≡ replaced m (marks_of old g)
+pub marks-replaced : (old new : Told) (m : Mark) (g : List Ranked) → SetsMark m old new → marks_of new g ≡ after_replacement m (marks_of old g)
 marks-replaced old new m [] sets = refl
 marks-replaced old new m (x ∷ g) sets =
     let here : mark_in new x.colour ≡ cond (eqb x.colour m.colour.0) m (mark_in old x.colour) = elim (cases_eq m.colour.0 x.colour) [

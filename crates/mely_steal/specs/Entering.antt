@@ -5,7 +5,7 @@ use Rattle.std.specs.Option.{option_map_or}
 use Rattle.mely_steal.specs.declared.links.TheConstants.{MOST_PLACES}
 use Rattle.mely_steal.specs.declared.links.Link.{Link}
 use Rattle.mely_steal.specs.declared.links.Ends.{Ends}
-use Rattle.mely_steal.specs.Links.{list_at, listed, IsStrung}
+use Rattle.mely_steal.specs.Links.{list_at, places_of, IsStrung}
 
 -- a colour that entered a class
 pub record Ranked : Type 0 where
@@ -45,23 +45,25 @@ moved_to class colour entries = if class_in colour entries == class then entries
     class colour (gone colour entries)
 
 -- these colours are of the class
-abbrev pub ranked : ℕ → List ℕ → List Ranked
-ranked class colours = map (λ colour. record { colour = colour; class = class }) colours
+abbrev pub ranks_of : ℕ → List ℕ → List Ranked
+ranks_of class colours = map (λ colour. record { colour = colour; class = class }) colours
 
 -- an entry put before the first that has a greater number, and entries by their numbers
-abbrev pub placed : (ℕ → ℕ) → Ranked → List Ranked → List Ranked
-placed number entry [] = entry ∷ []
-placed number entry (next ∷ entries) = if nat_lt (number entry.colour) (number next.colour) then
-    entry ∷ next ∷ entries else next ∷ placed number entry entries
+abbrev pub insert_by_number : (ℕ → ℕ) → Ranked → List Ranked → List Ranked
+insert_by_number number entry [] = entry ∷ []
+insert_by_number number entry (next ∷ entries) =
+    if nat_lt (number entry.colour) (number next.colour) then entry ∷ next ∷ entries
+    else next ∷ insert_by_number number entry entries
 
 -- the entries in the order of their numbers
 abbrev pub by_number : (ℕ → ℕ) → List Ranked → List Ranked
 by_number number [] = []
-by_number number (entry ∷ entries) = placed number entry (by_number number entries)
+by_number number (entry ∷ entries) = insert_by_number number entry (by_number number entries)
 
 -- the one list of three classes, by the numbers of entering
-abbrev pub merged : (ℕ → ℕ) → List ℕ → List ℕ → List ℕ → List Ranked
-merged number one two three = by_number number (ranked 1 one ++ (ranked 2 two ++ ranked 3 three))
+abbrev pub merge_classes : (ℕ → ℕ) → List ℕ → List ℕ → List ℕ → List Ranked
+merge_classes number one two three =
+    by_number number (ranks_of 1 one ++ (ranks_of 2 two ++ ranks_of 3 three))
 
 -- the number of the entry is below those of the others
 abbrev pub IsLeast : (ℕ → ℕ) → Ranked → List Ranked → Type 0
@@ -84,9 +86,9 @@ AreClassed (entry ∷ entries) = ((entry.class ≡ 1) ⊎ ((entry.class ≡ 2) �
 pub record IsMerged (number : ℕ → ℕ) (entries : List Ranked) (one two three : List ℕ) : Type 0 where
   pub ascending : IsAscending number entries
   pub classed : AreClassed entries
-  pub ones : of_class 1 entries ≡ ranked 1 one
-  pub twos : of_class 2 entries ≡ ranked 2 two
-  pub threes : of_class 3 entries ≡ ranked 3 three
+  pub ones : of_class 1 entries ≡ ranks_of 1 one
+  pub twos : of_class 2 entries ≡ ranks_of 2 two
+  pub threes : of_class 3 entries ≡ ranks_of 3 three
 
 -- the number of a colour's entering
 abbrev pub number_at : List ℕ → ℕ → ℕ
@@ -102,8 +104,8 @@ ends_at ends place = slice_index_or ends place no_ends
 
 -- the one list of a table of links with the ends of three lists, and numbers
 abbrev pub entries_of : List Link → List Ends → List ℕ → List Ranked
-entries_of links ends numbers = merged (number_at numbers) (listed links (ends_at ends 0))
-    (listed links (ends_at ends 1)) (listed links (ends_at ends 2))
+entries_of links ends numbers = merge_classes (number_at numbers) (places_of links (ends_at ends 0))
+    (places_of links (ends_at ends 1)) (places_of links (ends_at ends 2))
 
 -- the entries are the same by other numbers
 abbrev pub KeepsEntries : List Link → List Ends → List ℕ → List ℕ → Type 0
@@ -125,8 +127,8 @@ pub record StandInOrder (links : List Link) (ends : List Ends) (numbers : List �
   pub two : IsStrung 2 links (ends_at ends 1)
   pub three : IsStrung 3 links (ends_at ends 2)
   pub merge : IsMerged (number_at numbers) (entries_of links ends numbers)
-      (listed links (ends_at ends 0)) (listed links (ends_at ends 1))
-      (listed links (ends_at ends 2))
+      (places_of links (ends_at ends 0)) (places_of links (ends_at ends 1))
+      (places_of links (ends_at ends 2))
   pub below : AreBelow (number_at numbers) next (entries_of links ends numbers)
 
 -- the first place of each list that isn't empty has a number

@@ -21,21 +21,21 @@ abbrev pub after_at : List Link → ℕ → ℕ
 after_at links place = (slice_index_or links place unlinked).after
 
 -- so many places, this one first, and behind each the one that its link names
-abbrev pub followed : (ℕ → ℕ) → ℕ → ℕ → List ℕ
-followed after zero place = []
-followed after (suc n) place = place ∷ followed after n (after place)
+abbrev pub places_from : (ℕ → ℕ) → ℕ → ℕ → List ℕ
+places_from after zero place = []
+places_from after (suc n) place = place ∷ places_from after n (after place)
 
 -- the list that has these ends
-abbrev pub listed : List Link → Ends → List ℕ
-listed links ends = followed (after_at links) ends.len ends.first
+abbrev pub places_of : List Link → Ends → List ℕ
+places_of links ends = places_from (after_at links) ends.len ends.first
 
 -- the place is in the list
 abbrev pub is_in : List ℕ → ℕ → Bool
 is_in places place = list_any (λ other. place == other) places
 
 -- the list without a place
-abbrev pub dropped : ℕ → List ℕ → List ℕ
-dropped place places = filter (λ other. not (place == other)) places
+abbrev pub without_place : ℕ → List ℕ → List ℕ
+without_place place places = filter (λ other. not (place == other)) places
 
 -- no place is twice in the list
 abbrev pub AreDistinct : List ℕ → Type 0
@@ -66,11 +66,11 @@ AreJoined after before (place ∷ places) = AreJoinedFrom after before place pla
 -- the list of this number, which has these ends: neighbours name one another, and it has exactly the places that say that they
 -- are in it, each once
 pub record IsStrung (number : ℕ) (links : List Link) (ends : Ends) : Type 0 where
-  pub joined : AreJoined (after_at links) (before_at links) (listed links ends)
-  pub last : LastIs ends.last (listed links ends)
-  pub apart : AreDistinct (listed links ends)
-  pub below : (place : ℕ) → is_in (listed links ends) place ≡ true → place < length links
-  pub exact : (place : ℕ) → place < length links → is_in (listed links ends) place
+  pub joined : AreJoined (after_at links) (before_at links) (places_of links ends)
+  pub last : LastIs ends.last (places_of links ends)
+  pub apart : AreDistinct (places_of links ends)
+  pub below : (place : ℕ) → is_in (places_of links ends) place ≡ true → place < length links
+  pub exact : (place : ℕ) → place < length links → is_in (places_of links ends) place
       ≡ (list_at links place == number)
 
 -- all places but this one are in the lists that they were in
@@ -82,7 +82,7 @@ pub record MovesOnly (place list : ℕ) (old new : List Link) : Type 0 where
 -- every list but the one of this number stays
 abbrev pub SparesOthers : ℕ → List Link → List Link → Type 0
 SparesOthers number old new = (other : ℕ) (ends : Ends) → 0 < other → (other ≡ number → ⊥)
-    → IsStrung other old ends → (listed new ends ≡ listed old ends) × IsStrung other new ends
+    → IsStrung other old ends → (places_of new ends ≡ places_of old ends) × IsStrung other new ends
 
 -- one place's link behind it is written, and nothing else
 pub record SetsAfter (place after : ℕ) (old new : List Link) : Type 0 where

@@ -16,8 +16,8 @@ abbrev pub without : Colour → List Mark → List Mark
 without colour marks = filter (λ mark. not (is_of colour mark)) marks
 
 -- this mark in the place of the mark of its colour
-abbrev pub replaced : Mark → List Mark → List Mark
-replaced new marks = map (λ mark. if is_of new.colour mark then new else mark) marks
+abbrev pub after_replacement : Mark → List Mark → List Mark
+after_replacement new marks = map (λ mark. if is_of new.colour mark then new else mark) marks
 
 -- at most one mark a colour
 abbrev pub IsOneEach : List Mark → Type 0

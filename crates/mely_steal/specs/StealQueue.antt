@@ -3,7 +3,7 @@ use Rattle.std.specs.Prelude.{◌<◌, ◌≤◌, ◌==◌, ◌&&◌, nat_lt, na
 use Rattle.std.specs.Option.{option_or, option_map_or}
 use Rattle.mely_event.specs.declared.mark.Mark.{Mark}
 use Rattle.mely_steal.specs.Classes.{class_of}
-use Rattle.mely_steal.specs.Marks.{IsOneEach, mark_of, without, replaced}
+use Rattle.mely_steal.specs.Marks.{IsOneEach, mark_of, without, after_replacement}
 
 -- marks of classes 1 to 3 in the order in which each entered its class, the number of colours, the cost of a steal, and below
 -- which number colours are pinned to their cores
@@ -30,8 +30,9 @@ pub record AreWorthy (q : StealQueueState) : Type 0 where
   pub loose : All (λ mark. q.pinned ≤ mark.colour.0) q.marks
 
 -- the marks after this one entered its class: behind all others, and nowhere where it may not be stolen
-abbrev pub entered : ℕ → ℕ → Mark → List Mark → List Mark
-entered cost pinned mark marks = if is_worthy cost pinned mark then marks ++ mark ∷ [] else marks
+abbrev pub after_entry : ℕ → ℕ → Mark → List Mark → List Mark
+after_entry cost pinned mark marks =
+    if is_worthy cost pinned mark then marks ++ mark ∷ [] else marks
 
 -- the mark of this colour is of the same class
 abbrev pub keeps_class : ℕ → Mark → List Mark → Bool
@@ -40,9 +41,10 @@ keeps_class cost new marks =
     (mark_of new.colour marks) false
 
 -- the marks after the mark of a colour became this one: it keeps its place within its class, and enters a class that it wasn't in
-abbrev pub changed : ℕ → ℕ → Mark → List Mark → List Mark
-changed cost pinned new marks = if keeps_class cost new marks then replaced new marks else entered
-    cost pinned new (without new.colour marks)
+abbrev pub after_mark_change : ℕ → ℕ → Mark → List Mark → List Mark
+after_mark_change cost pinned new marks =
+    if keeps_class cost new marks then after_replacement new marks
+    else after_entry cost pinned new (without new.colour marks)
 
 -- the first mark of a class
 abbrev pub first_of : ℕ → ℕ → List Mark → Option Mark

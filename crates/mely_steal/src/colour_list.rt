@@ -1,6 +1,6 @@
 //! A list of colours by links.
 ghost use Rattle.std.specs.Prelude.{◌≡◌, ◌<◌, ◌↔◌, ◌∷◌, ◌++◌, [], false, IfOk, IfSome, IsTrue, option_map, slice_get};
-ghost use Rattle.mely_steal.specs.Links.{dropped, is_in};
+ghost use Rattle.mely_steal.specs.Links.{without_place, is_in};
 
 use crate::links::{Ends, Link, MOST_PLACES, NO_ENDS, UNLINKED};
 use crate::table::{push_back, unlink};
@@ -25,10 +25,10 @@ impl Model for ColourList {
 
     ghost Value = { ColourListState };
 
-    ghost use Rattle.mely_steal.specs.Links.{listed};
+    ghost use Rattle.mely_steal.specs.Links.{places_of};
 
     ghost view = { λ list. record {
-      list = listed list.links.items list.ends;
+      list = places_of list.links.items list.ends;
       colours = list.colours;
     } };
 
@@ -107,7 +107,7 @@ impl ColourList {
     /// Takes a colour out of the list, and the others keep their order. Nothing changes where it isn't there.
     pub fn remove(&mut self, colour: Colour)
         requires { colour.0 < self.old.colours }
-        ensures after { self.new ≡ record self.old { list = dropped colour.0 self.old.list } }
+        ensures after { self.new ≡ record self.old { list = without_place colour.0 self.old.list } }
     {
         if self.contains(colour) {
             unlink(&mut self.links, &mut self.ends, colour.0);

@@ -1,7 +1,7 @@
 //! The marks that may be stolen.
 ghost use Rattle.std.specs.Prelude.{◌≡◌, ◌<◌, ◌≤◌, ◌↔◌, None, [], IfOk, IfSome, IsNone, MatchOption};
 ghost use Rattle.mely_steal.specs.Marks.{mark_of, without};
-ghost use Rattle.mely_steal.specs.StealQueue.{entered, changed, pick_of, empty_worthy};
+ghost use Rattle.mely_steal.specs.StealQueue.{after_entry, after_mark_change, pick_of, empty_worthy};
 
 use crate::steal_table::StealTable;
 use mely_event::{Colour, Mark, Memory};
@@ -50,7 +50,7 @@ impl StealQueue {
     pub fn enter(&mut self, mark: Mark)
         requires below { mark.colour.0 < self.old.colours }
         requires absent { mark_of mark.colour self.old.marks ≡ None }
-        ensures after { let marks = entered self.old.cost self.old.pinned mark self.old.marks in
+        ensures after { let marks = after_entry self.old.cost self.old.pinned mark self.old.marks in
             self.new ≡ record self.old { marks = marks } }
         ensures pinned { mark.colour.0 < self.old.pinned → self.new ≡ self.old }
         ensures worthy { AreWorthy self.new }
@@ -63,8 +63,8 @@ impl StealQueue {
     /// changes where the colour is pinned.
     pub fn change(&mut self, mark: Mark)
         requires { mark.colour.0 < self.old.colours }
-        ensures after { let marks = changed self.old.cost self.old.pinned mark self.old.marks in
-            self.new ≡ record self.old { marks = marks } }
+        ensures after { let old = self.old in
+            self.new ≡ record old { marks = after_mark_change old.cost old.pinned mark old.marks } }
         ensures pinned { mark.colour.0 < self.old.pinned → self.new ≡ self.old }
         ensures worthy { AreWorthy self.new }
     {

@@ -2,7 +2,7 @@
 ghost use Rattle.std.specs.Prelude.{◌≡◌, ◌<◌, ◌≤◌, ◌==◌, None, IfOk, IfSome, MatchOption, find, length, min, option_map, ℕ, if◌then◌else◌};
 ghost use Rattle.std.specs.Option.{option_or};
 ghost use Rattle.mely_steal.specs.Marks.{mark_of, without};
-ghost use Rattle.mely_steal.specs.StealQueue.{entered, changed, is_worthy, pick_of};
+ghost use Rattle.mely_steal.specs.StealQueue.{after_entry, after_mark_change, is_worthy, pick_of};
 ghost use Rattle.mely_steal.specs.Classes as classes_of;
 ghost use Rattle.mely_steal.specs.Entering.{class_in, joined_by, moved_to};
 
@@ -148,7 +148,8 @@ impl StealTable {
         requires absent { mark_of mark.colour (worthy_of self.old).marks ≡ None }
         ensures told { SetsMark mark self.old.told self.new.told }
         ensures worthy { let old = worthy_of self.old in
-            worthy_of self.new ≡ record old { marks = entered old.cost old.pinned mark old.marks } }
+            let marks = after_entry old.cost old.pinned mark old.marks in
+            worthy_of self.new ≡ record old { marks = marks } }
         ensures same { KeepsNumbers self.old self.new }
         ensures stealable { AreStealable self.new }
     {
@@ -163,7 +164,8 @@ impl StealTable {
         requires { mark.colour.0 < self.old.colours }
         ensures told { SetsMark mark self.old.told self.new.told }
         ensures worthy { let old = worthy_of self.old in
-            worthy_of self.new ≡ record old { marks = changed old.cost old.pinned mark old.marks } }
+            let marks = after_mark_change old.cost old.pinned mark old.marks in
+            worthy_of self.new ≡ record old { marks = marks } }
         ensures same { KeepsNumbers self.old self.new }
         ensures stealable { AreStealable self.new }
     {

@@ -1,7 +1,7 @@
 //! Lists by links in one table.
 ghost use Rattle.std.specs.Prelude.{◌≡◌, ◌==◌, ◌<◌, ◌≤◌, ◌++◌, ◌∷◌, ◌-◌, [], length, if◌then◌else◌};
 ghost use Rattle.mely_steal.specs.declared.links.TheConstants.{MOST_PLACES};
-ghost use Rattle.mely_steal.specs.Links.{listed, list_at, before_at, after_at, dropped, IsStrung, MovesOnly, SparesOthers, SetsAfter, SetsBefore, SetsList, SetsLink, JoinsBehind, JoinsBefore};
+ghost use Rattle.mely_steal.specs.Links.{places_of, list_at, before_at, after_at, without_place, IsStrung, MovesOnly, SparesOthers, SetsAfter, SetsBefore, SetsList, SetsLink, JoinsBehind, JoinsBefore};
 
 use crate::links::{Ends, Link};
 
@@ -12,7 +12,7 @@ pub(crate) fn push_back(links: &mut [Link], ends: &mut Ends, list: u8, place: u1
     requires below { place < length links.old }
     requires free { list_at links.old place ≡ 0 }
     requires small { length links.old ≤ MOST_PLACES }
-    ensures listed { listed links.new ends.new ≡ listed links.old ends.old ++ place ∷ [] }
+    ensures listed { places_of links.new ends.new ≡ places_of links.old ends.old ++ place ∷ [] }
     ensures strung { IsStrung list links.new ends.new }
     ensures spares { SparesOthers list links.old links.new }
     ensures moves { MovesOnly place list links.old links.new }
@@ -42,7 +42,8 @@ pub(crate) fn unlink(links: &mut [Link], ends: &mut Ends, place: u16)
     requires below { place < length links.old }
     requires number { 0 < list_at links.old place }
     requires strung { IsStrung (list_at links.old place) links.old ends.old }
-    ensures listed { listed links.new ends.new ≡ dropped place (listed links.old ends.old) }
+    ensures listed { places_of links.new ends.new
+        ≡ without_place place (places_of links.old ends.old) }
     ensures strung { IsStrung (list_at links.old place) links.new ends.new }
     ensures spares { SparesOthers (list_at links.old place) links.old links.new }
     ensures moves { MovesOnly place 0 links.old links.new }

@@ -16,8 +16,8 @@ use Rattle.mely_history.specs.History.{registered_of, begun_of}
 use Rattle.mely_history.specs.Legal.{IsRunningOn}
 use Rattle.mely_queue.specs.Turn.{TurnState}
 use Rattle.mely_shard.specs.Shard.{ShardState, Registers, RegisteredAs, HasSameContents, Takes, KeepsStates, NoTakeAs, Finishes, AfterAs, Steals, NoStealAs}
-use Rattle.mely_steal.specs.Marks.{mark_of, without, replaced}
-use Rattle.mely_steal.specs.StealQueue.{entered, changed, pick_of}
+use Rattle.mely_steal.specs.Marks.{mark_of, without, after_replacement}
+use Rattle.mely_steal.specs.StealQueue.{after_entry, after_mark_change, pick_of}
 use Rattle.mely_core.specs.CoreQueue.{CoreQueueState, told_of}
 use Rattle.mely_worker.specs.declared.access.Access.{Ghosts as AccessWords}
 use Rattle.mely_weave.specs.Side.{SideState, shard_of, history_at}
@@ -70,7 +70,7 @@ abbrev pub PushAs : Mark → Result (Unit {0}) There → CoreQueueState → Core
 PushAs mark (Ok done) old new = (mark_of mark.colour old.chain ≡ None)
     × (new ≡ record old {
       chain = old.chain ++ mark ∷ [];
-      worthy = entered old.cost old.pinned mark old.worthy;
+      worthy = after_entry old.cost old.pinned mark old.worthy;
     })
 PushAs mark (Err there) old new = IsSome (mark_of mark.colour old.chain) × (new ≡ old)
 
@@ -85,8 +85,8 @@ abbrev pub RetellAs : Colour → ℕ → ℕ → Bool → CoreQueueState → Cor
 RetellAs c started worth found old new = (found ≡ is_some (told_of c started worth old.chain))
     × MatchOption (told_of c started worth old.chain) (new ≡ old) (λ told. new
     ≡ record old {
-      chain = replaced told old.chain;
-      worthy = changed old.cost old.pinned told old.worthy;
+      chain = after_replacement told old.chain;
+      worthy = after_mark_change old.cost old.pinned told old.worthy;
     })
 
 -- the first mark of the highest class is taken, of those whose colours aren't pinned

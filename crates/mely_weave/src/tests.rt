@@ -3,12 +3,17 @@ ghost use Rattle.std.specs.Prelude.{◌≡◌, ◌<◌, ◌≤◌, IfOk};
 ghost use Rattle.mely_history.specs.Setup.{shape_of, colours_of};
 ghost use Rattle.mely_weave.specs.Examples.{IsExample};
 
+mod named;
 mod sending;
 
 use crate::{Drained, Weave, WeaveRoom, Went};
-use mely_event::{Colour, Event, Fits, Handlers, Mark, Memory, Trail, TrailLog};
+use mely_event::{Colour, Event, Fits, Handlers, Memory, Trail, TrailLog};
 use mely_history::{Entry, Judged, Registered, Setup, Shape, judge};
 use mely_worker::Made;
+use named::{
+    fin, finished, landed, mark, picked, popped, pushed, ran, reg, registered, stole, take, told,
+    took,
+};
 use sending::Sending;
 use std::alloc::Global;
 use std::test::Fail;
@@ -103,105 +108,42 @@ fn a_late_report_finds_no_mark_of_its_period(rt: HostRuntime) -> Result<(), Fail
     let mut weave = weave_of(rt.alloc(), &setup)?;
     assert!(rt; post(&mut weave, 0, 1, 1).is_some());
     assert!(rt; post(&mut weave, 1, 0, 0).is_some());
-    let registers = [
-        Made::Popped { colour: C0 },
-        Made::Took {
-            colour: C0,
-            count: 1,
-        },
-        Made::Ran {
-            colour: C0,
-            handler: 1,
-        },
-        Made::Registered { colour: C1 },
-    ];
+    let registers = [popped(C0), took(C0, 1), ran(C0, 1), registered(C1)];
     assert!(rt; follows(&mut weave, 0, &registers));
     let takes = [
-        Made::Popped { colour: C1 },
-        Made::Took {
-            colour: C1,
-            count: 1,
-        },
-        Made::Ran {
-            colour: C1,
-            handler: 0,
-        },
-        Made::Finished {
-            colour: C1,
-            more: true,
-        },
-        Made::Pushed {
-            colour: C1,
-            core: 1,
-        },
+        popped(C1),
+        took(C1, 1),
+        ran(C1, 0),
+        finished(C1, true),
+        pushed(C1, 1),
     ];
     assert!(rt; follows(&mut weave, 1, &takes));
     let reports = [
-        Made::Told {
-            colour: C1,
-            core: 1,
-            found: false,
-        },
-        Made::Finished {
-            colour: C0,
-            more: false,
-        },
+        told(C1, 1, false),
+        finished(C0, false),
         Made::NoneHere,
         Made::NoneThere { victim: 1 },
     ];
     assert!(rt; follows(&mut weave, 0, &reports));
     let written = [
-        Entry::Reg {
-            colour: C0,
-            event: SENDS,
-            by: 2,
-        },
-        Entry::Reg {
-            colour: C1,
-            event: FIRST,
-            by: 2,
-        },
-        Entry::Take {
-            colour: C0,
-            core: 0,
-            count: 1,
-        },
-        Entry::Reg {
-            colour: C1,
-            event: FIRST,
-            by: 0,
-        },
-        Entry::Take {
-            colour: C1,
-            core: 1,
-            count: 1,
-        },
-        Entry::Fin {
-            colour: C1,
-            core: 1,
-            count: 1,
-        },
-        Entry::Fin {
-            colour: C0,
-            core: 0,
-            count: 1,
-        },
+        reg(C0, SENDS, 2),
+        reg(C1, FIRST, 2),
+        take(C0, 0, 1),
+        reg(C1, FIRST, 0),
+        take(C1, 1, 1),
+        fin(C1, 1, 1),
+        fin(C0, 0, 1),
     ];
     assert_eq!(rt; weave.history(0), written.as_slice());
     assert_eq!(rt; judge(&setup, weave.history(0)), Judged::Legal);
-    let mark = Mark {
-        colour: C1,
-        started: 1,
-        worth: 10,
-    };
-    assert_eq!(rt; weave.chain_at(1, 0), Some(mark));
+    assert_eq!(rt; weave.chain_at(1, 0), Some(mark(C1, 1, 10)));
     assert_eq!(rt; weave.chain_at(1, 1), None);
     assert_eq!(rt; weave.drain(&rt, &Sending), Drained::Empty);
     assert_eq!(rt; weave.history(0).len(), 9);
     let parts = weave.into_parts();
     assert_eq!(rt; parts.histories.len(), 1);
-    assert!(rt; ran(parts.states.get(0), &[SENDS]));
-    assert!(rt; ran(parts.states.get(1), &[FIRST, FIRST]));
+    assert!(rt; has_run(parts.states.get(0), &[SENDS]));
+    assert!(rt; has_run(parts.states.get(1), &[FIRST, FIRST]));
     assert_eq!(rt; parts.queued.len(), 2);
     assert!(rt; parts.lost.is_empty());
     Ok(())
@@ -216,34 +158,15 @@ fn a_registration_between_finish_and_push_is_told(rt: HostRuntime) -> Result<(),
     assert!(rt; post(&mut weave, 0, 1, 1).is_some());
     assert_eq!(rt; weave.run(&[(1, 4)], &Sending), Went::All);
     let reports = [
-        Made::Popped { colour: C0 },
-        Made::Took {
-            colour: C0,
-            count: 1,
-        },
-        Made::Ran {
-            colour: C0,
-            handler: 1,
-        },
-        Made::Registered { colour: C1 },
-        Made::Told {
-            colour: C1,
-            core: 1,
-            found: false,
-        },
+        popped(C0),
+        took(C0, 1),
+        ran(C0, 1),
+        registered(C1),
+        told(C1, 1, false),
     ];
     assert!(rt; follows(&mut weave, 0, &reports));
-    let pushes = [Made::Pushed {
-        colour: C1,
-        core: 1,
-    }];
-    assert!(rt; follows(&mut weave, 1, &pushes));
-    let mark = Mark {
-        colour: C1,
-        started: 1,
-        worth: 10,
-    };
-    assert_eq!(rt; weave.chain_at(1, 0), Some(mark));
+    assert!(rt; follows(&mut weave, 1, &[pushed(C1, 1)]));
+    assert_eq!(rt; weave.chain_at(1, 0), Some(mark(C1, 1, 10)));
     assert_eq!(rt; weave.chain_at(1, 1), None);
     assert_eq!(rt; weave.drain(&rt, &Sending), Drained::Empty);
     assert!(rt; weave.into_parts().lost.is_empty());
@@ -257,44 +180,12 @@ fn a_pinned_colour_stays_on_its_core(rt: HostRuntime) -> Result<(), Fail> {
     let c2 = Colour(2);
     assert!(rt; post(&mut weave, 0, 0, 0).is_some());
     assert!(rt; post(&mut weave, 2, 0, 0).is_some());
-    let steals = [
-        Made::NoneHere,
-        Made::Picked {
-            colour: c2,
-            victim: 0,
-        },
-        Made::Stole {
-            colour: c2,
-            from: 0,
-        },
-        Made::Landed { colour: c2 },
-    ];
+    let steals = [Made::NoneHere, picked(c2, 0), stole(c2, 0), landed(c2)];
     assert!(rt; follows(&mut weave, 1, &steals));
     assert_eq!(rt; weave.drain(&rt, &Sending), Drained::Empty);
-    let ran = [
-        Entry::Take {
-            colour: C0,
-            core: 0,
-            count: 1,
-        },
-        Entry::Take {
-            colour: c2,
-            core: 1,
-            count: 1,
-        },
-        Entry::Fin {
-            colour: C0,
-            core: 0,
-            count: 1,
-        },
-        Entry::Fin {
-            colour: c2,
-            core: 1,
-            count: 1,
-        },
-    ];
+    let turns = [take(C0, 0, 1), take(c2, 1, 1), fin(C0, 0, 1), fin(c2, 1, 1)];
     assert_eq!(rt; weave.history(0).len(), 7);
-    for entry in ran {
+    for entry in turns {
         assert!(rt; weave.history(0).contains(&entry));
     }
     assert!(rt; weave.into_parts().lost.is_empty());
@@ -322,17 +213,9 @@ fn post_twenty(weave: &mut Weave<TrailLog, u8>) -> bool
 fn entry_at(at: usize, count: u16) -> Entry {
     let colour = if at % 4 < 2 { C0 } else { Colour(2) };
     if at % 2 == 0 {
-        Entry::Take {
-            colour,
-            core: 0,
-            count,
-        }
+        take(colour, 0, count)
     } else {
-        Entry::Fin {
-            colour,
-            core: 0,
-            count,
-        }
+        fin(colour, 0, count)
     }
 }
 
@@ -347,7 +230,7 @@ fn alternates(entries: &[Entry], count: u16) -> bool {
 }
 
 /// Whether the ten events were run on the state of a colour, in order.
-fn ran_ten(state: Option<&TrailLog>) -> bool {
+fn has_run_ten(state: Option<&TrailLog>) -> bool {
     let Some(state) = state else {
         return false;
     };
@@ -360,7 +243,7 @@ fn ran_ten(state: Option<&TrailLog>) -> bool {
 }
 
 /// Whether these events were run on the state of a colour.
-fn ran(state: Option<&TrailLog>, events: &[Event]) -> bool {
+fn has_run(state: Option<&TrailLog>, events: &[Event]) -> bool {
     match state {
         Some(state) => state.trail() == events,
         None => false,
@@ -380,8 +263,8 @@ fn batches_alternate_or_take_all(rt: HostRuntime) -> Result<(), Fail> {
         assert_eq!(rt; weave.history(0).len(), entries);
         assert!(rt; alternates(weave.history(0), batch));
         let parts = weave.into_parts();
-        assert!(rt; ran_ten(parts.states.get(0)) && ran_ten(parts.states.get(2)));
-        assert!(rt; ran(parts.states.get(1), &[]));
+        assert!(rt; has_run_ten(parts.states.get(0)) && has_run_ten(parts.states.get(2)));
+        assert!(rt; has_run(parts.states.get(1), &[]));
     }
     Ok(())
 }

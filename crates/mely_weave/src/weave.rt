@@ -14,6 +14,17 @@ use std::marker::Model;
 /// have, and its workers by core. The type keeps that the weave stands well. As a worker may hold a
 /// turn, a weave has no `Drop`: one whose workers are free is spent by
 /// [`into_parts`](Weave::into_parts).
+///
+/// What it can do, by the files that have it:
+///
+/// | call | file |
+/// |---|---|
+/// | [`new`](Weave::new), of states | `making.rt` |
+/// | [`gather`](Weave::gather), of shards, chains and workers | `gathering.rt` |
+/// | [`post`](Weave::post), [`step`](Weave::step), and what there is to see | here |
+/// | [`run`](Weave::run), by a schedule | `running.rt` |
+/// | [`drain`](Weave::drain), to its end | `draining.rt` |
+/// | [`into_parts`](Weave::into_parts) | `parts.rt` |
 pub struct Weave<S: Fits<P>, P> {
     pub(crate) shared: Shared<S, P>,
     pub(crate) workers: Vec<Worker<S, P>>,

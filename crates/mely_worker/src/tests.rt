@@ -6,25 +6,22 @@ ghost use Rattle.mely_worker.specs.Conditions.{MayStepAt, AppServesAt};
 
 mod ledger;
 mod lent;
+mod named;
 mod script;
 
 use crate::{Access, App, Delivery, IdleWorker, Made, Outs, Worker};
 use ledger::{Forwarding, Ledger, NOTE, Pass};
 use lent::{step_lent, steps_lent};
-use mely_event::{Colour, Event, Fits, Handlers, Mark, Trail};
-use mely_history::{After, NoSteal, NoTake, Registered, Setup, Shape, Stolen};
+use mely_event::{Colour, Event, Fits, Handlers, Trail};
+use mely_history::{After, NoSteal, NoTake, Registered, Setup, Shape};
+use named::{
+    finished, landed, mark, more_waits, picked, popped, pushed, ran, registered, stole,
+    stolen_from, told, took, was_ready, woke,
+};
 use script::{Call, Script};
 use std::alloc::Global;
 use std::process::Abort;
 use std::test::Fail;
-
-fn mark(colour: u16, started: u64, worth: u128) -> Mark {
-    Mark {
-        colour: Colour(colour),
-        started,
-        worth,
-    }
-}
 
 /// Two cores, four colours, batch 2 and two handlers, with these calls to come.
 fn script_of(alloc: Global, calls: &[Call]) -> Result<Script, Fail>
@@ -113,109 +110,44 @@ fn both_events(colour: Colour) -> [Option<Pass>; 3] {
 
 #[test]
 fn every_line_of_the_table_is_made(rt: HostRuntime) -> Result<(), Fail> {
-    let (lost, seen) = run(
-        &rt,
-        &[
-            Call::Pop(None),
-            Call::Pick(1, Some(mark(2, 4, 50))),
-            Call::Steal(
-                Colour(2),
-                Ok(Stolen {
-                    from: 1,
-                    started: 5,
-                    worth: 60,
-                }),
-            ),
-            Call::Push(0, mark(2, 5, 60)),
-            Call::Pop(Some(mark(2, 5, 60))),
-            Call::Take(Colour(2), None),
-            Call::Register(
-                Colour(0),
-                NOTE,
-                Some(7),
-                Some(Registered::Woke {
-                    owner: 1,
-                    started: 0,
-                    worth: 30,
-                }),
-            ),
-            Call::Push(1, mark(0, 0, 30)),
-            Call::Register(
-                Colour(1),
-                NOTE,
-                None,
-                Some(Registered::Told {
-                    owner: 1,
-                    started: 3,
-                    worth: 40,
-                }),
-            ),
-            Call::Retell(1, Colour(1), 3, 40, true),
-            Call::Finish(
-                Colour(2),
-                7,
-                After::More {
-                    started: 7,
-                    worth: 20,
-                },
-            ),
-            Call::Push(0, mark(2, 7, 20)),
-            Call::Pop(Some(mark(2, 7, 20))),
-            Call::Take(Colour(2), Some(NoTake::Memory)),
-            Call::Push(0, mark(2, 7, 20)),
-        ],
-        &[
-            Made::NoneHere,
-            Made::Picked {
-                colour: Colour(2),
-                victim: 1,
-            },
-            Made::Stole {
-                colour: Colour(2),
-                from: 1,
-            },
-            Made::Landed { colour: Colour(2) },
-            Made::Popped { colour: Colour(2) },
-            Made::Took {
-                colour: Colour(2),
-                count: 2,
-            },
-            Made::Ran {
-                colour: Colour(2),
-                handler: 1,
-            },
-            Made::Registered { colour: Colour(0) },
-            Made::Pushed {
-                colour: Colour(0),
-                core: 1,
-            },
-            Made::Registered { colour: Colour(1) },
-            Made::Told {
-                colour: Colour(1),
-                core: 1,
-                found: true,
-            },
-            Made::Ran {
-                colour: Colour(2),
-                handler: 0,
-            },
-            Made::Finished {
-                colour: Colour(2),
-                more: true,
-            },
-            Made::Pushed {
-                colour: Colour(2),
-                core: 0,
-            },
-            Made::Popped { colour: Colour(2) },
-            Made::Memory,
-            Made::Pushed {
-                colour: Colour(2),
-                core: 0,
-            },
-            Made::Halted,
-        ],
-    )?;
+    let calls = [
+        Call::Pop(None),
+        Call::Pick(1, Some(mark(2, 4, 50))),
+        Call::Steal(Colour(2), Ok(stolen_from(1, 5, 60))),
+        Call::Push(0, mark(2, 5, 60)),
+        Call::Pop(Some(mark(2, 5, 60))),
+        Call::Take(Colour(2), None),
+        Call::Register(Colour(0), NOTE, Some(7), Some(woke(1, 0, 30))),
+        Call::Push(1, mark(0, 0, 30)),
+        Call::Register(Colour(1), NOTE, None, Some(was_ready(1, 3, 40))),
+        Call::Retell(1, Colour(1), 3, 40, true),
+        Call::Finish(Colour(2), 7, more_waits(7, 20)),
+        Call::Push(0, mark(2, 7, 20)),
+        Call::Pop(Some(mark(2, 7, 20))),
+        Call::Take(Colour(2), Some(NoTake::Memory)),
+        Call::Push(0, mark(2, 7, 20)),
+    ];
+    let steps = [
+        Made::NoneHere,
+        picked(Colour(2), 1),
+        stole(Colour(2), 1),
+        landed(Colour(2)),
+        popped(Colour(2)),
+        took(Colour(2), 2),
+        ran(Colour(2), 1),
+        registered(Colour(0)),
+        pushed(Colour(0), 1),
+        registered(Colour(1)),
+        told(Colour(1), 1, true),
+        ran(Colour(2), 0),
+        finished(Colour(2), true),
+        pushed(Colour(2), 0),
+        popped(Colour(2)),
+        Made::Memory,
+        pushed(Colour(2), 0),
+        Made::Halted,
+    ];
+    let (lost, seen) = run(&rt, &calls, &steps)?;
     assert_eq!(rt; lost.len(), 0);
     assert_eq!(rt; seen, both_events(Colour(2)));
     Ok(())
@@ -234,11 +166,7 @@ fn a_mark_that_is_refused_is_dropped(rt: HostRuntime) -> Result<(), Fail> {
             Call::Take(Colour(1), Some(why)),
             Call::Pop(None),
         ];
-        let steps = [
-            Made::Popped { colour: Colour(1) },
-            Made::NotTaken { why },
-            Made::NoneHere,
-        ];
+        let steps = [popped(Colour(1)), Made::NotTaken { why }, Made::NoneHere];
         run(&rt, &calls, &steps)?;
     }
     for why in [
@@ -258,10 +186,7 @@ fn a_mark_that_is_refused_is_dropped(rt: HostRuntime) -> Result<(), Fail> {
         ];
         let steps = [
             Made::NoneHere,
-            Made::Picked {
-                colour: Colour(1),
-                victim: 1,
-            },
+            picked(Colour(1), 1),
             Made::NotStolen { why },
             Made::NoneHere,
             Made::NoneThere { victim: 1 },
@@ -282,15 +207,9 @@ fn without_memory_a_steal_puts_the_mark_back(rt: HostRuntime) -> Result<(), Fail
     ];
     let steps = [
         Made::NoneHere,
-        Made::Picked {
-            colour: Colour(3),
-            victim: 1,
-        },
+        picked(Colour(3), 1),
         Made::Memory,
-        Made::Pushed {
-            colour: Colour(3),
-            core: 1,
-        },
+        pushed(Colour(3), 1),
         Made::Halted,
         Made::Halted,
     ];
@@ -308,25 +227,13 @@ fn without_memory_a_registration_is_kept_and_the_turn_ended(rt: HostRuntime) -> 
         Call::Finish(Colour(3), 7, After::Idle),
     ];
     let steps = [
-        Made::Popped { colour: Colour(3) },
-        Made::Took {
-            colour: Colour(3),
-            count: 2,
-        },
-        Made::Ran {
-            colour: Colour(3),
-            handler: 1,
-        },
+        popped(Colour(3)),
+        took(Colour(3), 2),
+        ran(Colour(3), 1),
         Made::Memory,
-        Made::Registered { colour: Colour(1) },
-        Made::Ran {
-            colour: Colour(3),
-            handler: 0,
-        },
-        Made::Finished {
-            colour: Colour(3),
-            more: false,
-        },
+        registered(Colour(1)),
+        ran(Colour(3), 0),
+        finished(Colour(3), false),
         Made::Halted,
     ];
     let (lost, seen) = run(&rt, &calls, &steps)?;

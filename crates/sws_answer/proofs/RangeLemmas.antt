@@ -22,9 +22,9 @@ use Rattle.sws_site.proofs.HeadLengthsLemmas.{head_text-short}
 use Rattle.sws_answer.specs.declared.ranges.RangeSpec.{RangeSpec}
 use Rattle.sws_answer.specs.declared.ranges.RangeSpec.TheVariants.{Between, Onward, Suffix}
 use Rattle.sws_answer.specs.declared.ranges.Selection.TheVariants.{Whole, Part, Unsatisfied}
-use Rattle.sws_answer.specs.Fields.{values_of, has_field, trimmed}
+use Rattle.sws_answer.specs.Fields.{values_of, has_field, trim_blanks}
 use Rattle.sws_answer.specs.Conditions.{one_of}
-use Rattle.sws_answer.specs.Ranges.{number_in, between, spec_of, is_dash, spec_said, asked_range, part_from, selection_of, selection_by, selection_in, selection_for, IsWithin}
+use Rattle.sws_answer.specs.Ranges.{number_in, range_between, spec_of, is_dash, spec_said, asked_range, part_from, selection_of, selection_by, selection_in, selection_for, IsWithin}
 
 -- ---- numbers
 
@@ -71,7 +71,7 @@ unfolding AreOrdered
 then-ordered None f each = tt
 then-ordered (Some x) f each = each x
 
-between-ordered : (first last : ℕ) → AreOrdered (between first last)
+between-ordered : (first last : ℕ) → AreOrdered (range_between first last)
 unfolding AreOrdered IsOrdered
 between-ordered first last = by_test (nat_le first last) refl
   where
@@ -101,9 +101,9 @@ spec_of-ordered before behind =
 
 spec_said-ordered : (value : List ℕ) → AreOrdered (spec_said value)
 spec_said-ordered value =
-    let text = drop 6 (trimmed value) in
+    let text = drop 6 (trim_blanks value) in
     let dash = position_or_len is_dash text in
-    if-ordered (str_eq_ignore_ascii_case (take 6 (trimmed value)) (codes "bytes=")) _ _
+    if-ordered (str_eq_ignore_ascii_case (take 6 (trim_blanks value)) (codes "bytes=")) _ _
     (if-ordered (nat_lt dash (length text)) _ _ (spec_of-ordered (take dash text) (drop (dash + 1) text)) none-ordered)
     none-ordered
 

@@ -13,7 +13,7 @@ use Rattle.sws_request.proofs.CutLemmas.{IsCutOf-cut_of, cut_of-append, cut_of-i
 use Rattle.sws_site.specs.Site.{SiteState}
 use Rattle.sws_answer.specs.Asked.{too_long, asked_by}
 use Rattle.sws_answer.specs.Answers.{Answer, answer_of, text_of}
-use Rattle.sws_answer.specs.Responses.{answers, answers_at, followed, answers_to, texts_of, responses_of, answer_limit, input_limit, Begins}
+use Rattle.sws_answer.specs.Responses.{answers, answers_at, answers_from, answers_to, texts_of, responses_of, answer_limit, input_limit, Begins}
 
 -- nothing is answered before a head is whole
 pub answers-not_yet : (left : ℕ) (site : SiteState) (bytes : List ℕ) → cut_of bytes ≡ NotYet → answers left site bytes ≡ []
@@ -38,17 +38,17 @@ too_long_is_there e = cc
 -- a whole head is answered, and then what comes behind it, whatever that is
 pub answers-head : (left : ℕ) (site : SiteState) (bytes more : List ℕ) (len : ℕ) → 0 < left → cut_of bytes ≡ Head len
     → answers left site (bytes ++ more)
-    ≡ followed (answer_of site (asked_by (take len bytes)) (left == 1)) (answers (left - 1) site (drop len bytes ++ more))
+    ≡ answers_from (answer_of site (asked_by (take len bytes)) (left == 1)) (answers (left - 1) site (drop len bytes ++ more))
 unfolding answers
 answers-head zero site bytes more len some e = absurd (omega arith)
 answers-head (suc left) site bytes more len some e =
     let same = stays bytes more (Head len) (head_is_there len) e in
     let fits = (IsCutOf-cut_of bytes (Head len) e).0.fits in
     ap (λ c. answers_at site (bytes ++ more) (left == 0) c (λ len. answers left site (drop len (bytes ++ more)))) same
-    ∙ ap (λ t. followed (answer_of site (asked_by t) (left == 0)) (answers left site (drop len (bytes ++ more)))) (take-append-le len bytes more fits)
-    ∙ ap (λ d. followed (answer_of site (asked_by (take len bytes)) (left == 0)) (answers left site d)) (drop-append-le len bytes more fits)
-    ∙ ap (λ l. followed (answer_of site (asked_by (take len bytes)) l) (answers left site (drop len bytes ++ more))) (last_of left)
-    ∙ ap (λ n. followed (answer_of site (asked_by (take len bytes)) (suc left == 1)) (answers n site (drop len bytes ++ more))) (let less : left ≡ suc left - 1 = omega arith in less)
+    ∙ ap (λ t. answers_from (answer_of site (asked_by t) (left == 0)) (answers left site (drop len (bytes ++ more)))) (take-append-le len bytes more fits)
+    ∙ ap (λ d. answers_from (answer_of site (asked_by (take len bytes)) (left == 0)) (answers left site d)) (drop-append-le len bytes more fits)
+    ∙ ap (λ l. answers_from (answer_of site (asked_by (take len bytes)) l) (answers left site (drop len bytes ++ more))) (last_of left)
+    ∙ ap (λ n. answers_from (answer_of site (asked_by (take len bytes)) (suc left == 1)) (answers n site (drop len bytes ++ more))) (let less : left ≡ suc left - 1 = omega arith in less)
 
 -- a head that is too long is answered, and nothing behind it
 pub answers-too_long : (left : ℕ) (site : SiteState) (bytes more : List ℕ) → 0 < left → cut_of bytes ≡ TooLong
@@ -61,7 +61,7 @@ answers-too_long (suc left) site bytes more some e =
 
 -- ---- more bytes
 
-begins_followed : (answer : Answer) (first whole : List Answer) → Begins first whole → Begins (followed answer first) (followed answer whole)
+begins_followed : (answer : Answer) (first whole : List Answer) → Begins first whole → Begins (answers_from answer first) (answers_from answer whole)
 begins_followed answer first whole begins = by_close answer.closes
   where
     by_close : (closes : Bool) → Begins (answer ∷ (if closes then [] else first)) (answer ∷ (if closes then [] else whole))
@@ -96,8 +96,8 @@ answers-append (suc left) site bytes more = by_cut (cut_of bytes) refl (λ len. 
         record {
           later = begins.later;
           is = ap (at_cut left site (bytes ++ more)) (stays bytes more (Head len) (head_is_there len) e)
-              ∙ ap (λ t. followed (answer_of site (asked_by t) (left == 0)) (answers left site (drop len (bytes ++ more)))) (take-append-le len bytes more fits)
-              ∙ ap (λ d. followed answer (answers left site d)) (drop-append-le len bytes more fits)
+              ∙ ap (λ t. answers_from (answer_of site (asked_by t) (left == 0)) (answers left site (drop len (bytes ++ more)))) (take-append-le len bytes more fits)
+              ∙ ap (λ d. answers_from answer (answers left site d)) (drop-append-le len bytes more fits)
               ∙ begins.is
               ∙ ap (λ first. first ++ begins.later) (sym (ap (at_cut left site bytes) e));
         }

@@ -4,12 +4,12 @@ use Rattle.std.specs.Prelude.{if◌then◌else◌, ◌&&◌, codes, nat_eq}
 use Rattle.std.specs.List.{position_or_len, starts_with}
 use Rattle.percent_encoding.specs.Percent.{percent_decode}
 use Rattle.percent_encoding.proofs.PercentLemmas.{percent_decode_not_percent}
-use Rattle.sws_answer.specs.Targets.{path_and_query, rooted, behind_authority, is_absolute, is_slash, path_of, ends_path, name_of, name_said_by, with_index}
+use Rattle.sws_answer.specs.Targets.{path_and_query, with_slash, behind_authority, is_absolute, is_slash, path_of, ends_path, name_of, name_said_by, with_index}
 
 IsRooted : List ℕ → Type 0
 IsRooted path = path ≡ 47 ∷ drop 1 path
 
-rooted_begins : (bytes : List ℕ) → IsRooted (rooted bytes)
+rooted_begins : (bytes : List ℕ) → IsRooted (with_slash bytes)
 unfolding IsRooted
 rooted_begins [] = refl
 rooted_begins (byte ∷ bytes) = by_slash (is_slash byte) refl
@@ -32,12 +32,12 @@ path_and_query_begins : (target path : List ℕ) → path_and_query target ≡ S
 unfolding IsRooted
 path_and_query_begins target path e = by_origin (starts_with nat_eq target (codes "/")) refl e
   where
-    by_absolute : (t : Bool) → (if t then Some (rooted (behind_authority (drop 7 target))) else None) ≡ Some path → path ≡ 47 ∷ drop 1 path
-    by_absolute true f = (let same : rooted (behind_authority (drop 7 target)) ≡ path = cc in subst IsRooted same (rooted_begins (behind_authority (drop 7 target))))
+    by_absolute : (t : Bool) → (if t then Some (with_slash (behind_authority (drop 7 target))) else None) ≡ Some path → path ≡ 47 ∷ drop 1 path
+    by_absolute true f = (let same : with_slash (behind_authority (drop 7 target)) ≡ path = cc in subst IsRooted same (rooted_begins (behind_authority (drop 7 target))))
     by_absolute false f = absurd (cc)
 
     by_origin : (t : Bool) → starts_with nat_eq target (codes "/") ≡ t
-        → (if t then Some target else (if is_absolute target then Some (rooted (behind_authority (drop 7 target))) else None)) ≡ Some path → path ≡ 47 ∷ drop 1 path
+        → (if t then Some target else (if is_absolute target then Some (with_slash (behind_authority (drop 7 target))) else None)) ≡ Some path → path ≡ 47 ∷ drop 1 path
     by_origin true is f = (let same : target ≡ path = cc in subst IsRooted same (starts_begins target is))
     by_origin false is f = by_absolute (is_absolute target) f
 

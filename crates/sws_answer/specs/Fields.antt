@@ -29,8 +29,8 @@ without_front [] = []
 without_front (byte ∷ text) = if is_blank byte then without_front text else byte ∷ text
 
 -- the text without the blanks at its ends
-abbrev pub trimmed : List ℕ → List ℕ
-trimmed text = reverse (without_front (reverse (without_front text)))
+abbrev pub trim_blanks : List ℕ → List ℕ
+trim_blanks text = reverse (without_front (reverse (without_front text)))
 
 -- what stands between the commas of a list (RFC 9110, section 5.6.1)
 abbrev pub parts_of : List ℕ → List (List ℕ)
@@ -38,7 +38,7 @@ parts_of value = slice_split (λ byte. byte == 44) value
 
 -- without the blanks round it, this is the word, without regard to ASCII case
 abbrev pub is_member : List ℕ → List ℕ → Bool
-is_member word part = str_eq_ignore_ascii_case (trimmed part) word
+is_member word part = str_eq_ignore_ascii_case (trim_blanks part) word
 
 -- the list has this member
 abbrev pub has_member : List ℕ → List ℕ → Bool

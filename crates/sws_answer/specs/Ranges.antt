@@ -9,7 +9,7 @@ use Rattle.sws_answer.specs.declared.ranges.RangeSpec.{RangeSpec}
 use Rattle.sws_answer.specs.declared.ranges.RangeSpec.TheVariants.{Between, Onward, Suffix}
 use Rattle.sws_answer.specs.declared.ranges.Selection.{Selection}
 use Rattle.sws_answer.specs.declared.ranges.Selection.TheVariants.{Whole, Part, Unsatisfied}
-use Rattle.sws_answer.specs.Fields.{values_of, has_field, trimmed}
+use Rattle.sws_answer.specs.Fields.{values_of, has_field, trim_blanks}
 use Rattle.sws_answer.specs.Conditions.{one_of}
 
 -- ---- what is asked
@@ -21,8 +21,8 @@ number_in digits =
     (digits_value 10 digits) else None
 
 -- from one byte to another that is not before it
-abbrev pub between : ℕ → ℕ → Option RangeSpec
-between first last = if nat_le first last then Some (Between first last) else None
+abbrev pub range_between : ℕ → ℕ → Option RangeSpec
+range_between first last = if nat_le first last then Some (Between first last) else None
 
 -- what stands before and behind the dash says a range (RFC 9110, section 14.1.1)
 abbrev pub spec_of : List ℕ → List ℕ → Option RangeSpec
@@ -30,7 +30,7 @@ spec_of before behind =
     if length before == 0 then option_map Suffix (number_in behind)
     else (if length behind == 0 then option_map Onward (number_in before)
     else option_and_then (λ first.
-    option_and_then (λ last. between first last) (number_in behind)) (number_in before))
+    option_and_then (λ last. range_between first last) (number_in behind)) (number_in before))
 
 -- b'-'
 abbrev pub is_dash : ℕ → Bool
@@ -45,7 +45,7 @@ spec_in text =
 -- a value that says one range of bytes, without regard to ASCII case and to blanks round it (RFC 9110, sections 14.1.2 and 14.2)
 abbrev pub spec_said : List ℕ → Option RangeSpec
 spec_said value =
-    let text = trimmed value in
+    let text = trim_blanks value in
     if str_eq_ignore_ascii_case (take 6 text) (codes "bytes=") then spec_in (drop 6 text) else None
 
 -- the range that a request asks for, if it asks for one: by GET, with one field Range and no condition on it; all else is ignored

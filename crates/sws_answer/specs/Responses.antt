@@ -17,15 +17,15 @@ abbrev pub answer_limit : ℕ
 answer_limit = 64
 
 -- an answer, and those after it unless it closes
-abbrev pub followed : Answer → List Answer → List Answer
-followed answer later = answer ∷ (if answer.closes then [] else later)
+abbrev pub answers_from : Answer → List Answer → List Answer
+answers_from answer later = answer ∷ (if answer.closes then [] else later)
 
 -- the answers to the bytes, by where their first head ends, with those to the bytes after it
 abbrev pub answers_at : SiteState → List ℕ → Bool → Cut → (ℕ → List Answer) → List Answer
 answers_at site bytes last NotYet later = []
 answers_at site bytes last TooLong later = answer_of site too_long last ∷ []
 answers_at site bytes last (Head len) later =
-    followed (answer_of site (asked_by (take len bytes)) last) (later len)
+    answers_from (answer_of site (asked_by (take len bytes)) last) (later len)
 
 -- the answers to the bytes, of which at most so many are given
 unfoldable pub answers : ℕ → SiteState → List ℕ → List Answer

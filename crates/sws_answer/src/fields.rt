@@ -2,7 +2,7 @@
 ghost use Rattle.std.specs.Prelude.{◌≡◌, ◌<◌, ◌==◌, length, Some, slice_get, reverse};
 ghost use Rattle.std.specs.Str.{str_eq_ignore_ascii_case};
 ghost use Rattle.std.specs.List.{list_any};
-ghost use Rattle.sws_answer.specs.Fields.{values_of, has_field, is_blank, without_front, trimmed, is_member, has_member};
+ghost use Rattle.sws_answer.specs.Fields.{values_of, has_field, is_blank, without_front, trim_blanks, is_member, has_member};
 
 use sws_request::RequestView;
 
@@ -72,7 +72,7 @@ fn trim_end(text: &[u8]) -> &[u8]
 
 /// The text without the blanks at its ends.
 pub fn trim(text: &[u8]) -> &[u8]
-    ensures { result.now ≡ trimmed text.now }
+    ensures { result.now ≡ trim_blanks text.now }
 {
     trim_end(trim_start(text))
 }

@@ -4,7 +4,7 @@ ghost use Rattle.std.specs.List.{position_or_len};
 ghost use Rattle.std.specs.Str.{all_ascii_digits};
 ghost use Rattle.std.specs.Str.Parse.{digits_value};
 ghost use Rattle.sws_answer.specs.declared.ranges.RangeSpec.TheVariants.{Suffix};
-ghost use Rattle.sws_answer.specs.Ranges.{number_in, between, spec_of, is_dash, spec_in, spec_said, asked_range, part_from, selection_of, selection_in, IsWithin};
+ghost use Rattle.sws_answer.specs.Ranges.{number_in, range_between, spec_of, is_dash, spec_in, spec_said, asked_range, part_from, selection_of, selection_in, IsWithin};
 
 use crate::conditions::sole_value;
 use crate::fields::{has, is_same_word, trim};
@@ -73,7 +73,7 @@ fn read_number(digits: &[u8]) -> Option<u64>
 /// The range from one byte to another, which is not before it.
 fn read_between(before: &[u8], behind: &[u8]) -> Option<RangeSpec>
     ensures { result ≡ option_and_then (λ first. option_and_then (λ last.
-        between first last) (number_in behind.now)) (number_in before.now) }
+        range_between first last) (number_in behind.now)) (number_in before.now) }
 {
     let first = read_number(before)?;
     let last = read_number(behind)?;

@@ -3,7 +3,7 @@ ghost use Rattle.std.specs.Prelude.{◌≡◌, ◌<◌, ◌≤◌, true, false, 
 ghost use Rattle.std.specs.List.{position_or_len};
 ghost use Rattle.percent_encoding.specs.Percent.{percent_decode as decoded};
 ghost use Rattle.sws_answer.specs.declared.path_room.TheConstants.{PATH_ROOM};
-ghost use Rattle.sws_answer.specs.Targets.{ends_path, ends_authority, path_of, rooted, behind_authority, is_absolute, path_and_query, with_index, ends_in_slash as ends_with_slash};
+ghost use Rattle.sws_answer.specs.Targets.{ends_path, ends_authority, path_of, with_slash, behind_authority, is_absolute, path_and_query, with_index, ends_in_slash as ends_with_slash};
 
 use crate::fields::is_same_word;
 use crate::path_room::PathRoom;
@@ -67,7 +67,7 @@ fn behind_host(bytes: &[u8]) -> &[u8]
 
 /// What stands behind the first slash, which may be left out.
 fn behind_root(bytes: &[u8]) -> &[u8]
-    ensures rest { result.now ≡ drop 1 (rooted bytes.now) }
+    ensures rest { result.now ≡ drop 1 (with_slash bytes.now) }
     ensures within { length result.now ≤ length bytes.now }
 {
     match bytes {

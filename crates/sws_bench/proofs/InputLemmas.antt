@@ -16,7 +16,7 @@ use Rattle.sws_script.specs.declared.input.ScriptConn.{ScriptConn}
 use Rattle.sws_script.specs.declared.line.Line.TheVariants as line
 use Rattle.sws_script.specs.Lines.{IsWithin, IsItem, IsLine}
 use Rattle.sws_script.specs.Inputs.{IsInOrder, IsInput, conn_lines}
-use Rattle.sws_bench.specs.Draws.{stepped, draws_from}
+use Rattle.sws_bench.specs.Draws.{next_state, draws_from}
 use Rattle.sws_bench.specs.BenchScript.{request, request_count, bytes_from, piece_size, pieces, sends, conn_from, conn_state, bench_conns}
 
 -- ---- of each member
@@ -67,7 +67,7 @@ AreBytes-requests (one ∷ drawn) = all_append (λ (byte : ℕ). byte < 256) (re
 
 AreBytes-bytes_from : (state : ℕ) → AreBytes (bytes_from state)
 unfolding bytes_from
-AreBytes-bytes_from state = AreBytes-requests (draws_from (stepped state) (request_count state))
+AreBytes-bytes_from state = AreBytes-requests (draws_from (next_state state) (request_count state))
 
 -- ---- pieces
 

@@ -3,7 +3,7 @@ use Rattle.std.proofs.Common.{◌≡◌, ℕ, ◌+◌, ◌/◌, List, [], ◌∷
 use Rattle.std.specs.List.{range_with_len, flat_map, sum}
 use Rattle.std.proofs.lemmas.List.FromFn.{map-range_with_len_more, sum_by-map-range_with_len_more}
 use Rattle.std.proofs.lemmas.Grind.{flat_map-append}
-use Rattle.sws_bench.specs.Draws.{stepped, behind, draw, draws_from}
+use Rattle.sws_bench.specs.Draws.{next_state, behind, draw, draws_from}
 use Rattle.sws_bench.specs.BenchScript.{request}
 
 -- the values at the first numbers, with the next one
@@ -17,14 +17,14 @@ three a b c w x y z e f g =
 
 -- ---- draws
 
-pub behind_more : (start n now after : ℕ) → now ≡ behind start n → after ≡ stepped now → after ≡ behind start (n + 1)
-behind_more start n now after e step = step ∙ ap stepped e ∙ ap (behind start) (sym (add-one n))
+pub behind_more : (start n now after : ℕ) → now ≡ behind start n → after ≡ next_state now → after ≡ behind start (n + 1)
+behind_more start n now after e step = step ∙ ap next_state e ∙ ap (behind start) (sym (add-one n))
 
 -- the request of one draw more
 pub requests_more : (start n now drawn : ℕ) (before after : List ℕ) → now ≡ behind start n → drawn ≡ draw now 0 → before ≡ flat_map request (draws_from start n)
     → after ≡ before ++ request drawn → after ≡ flat_map request (draws_from start (n + 1))
 requests_more start n now drawn before after e given made pushed =
-    let this : drawn ≡ draw start n = given ∙ ap (λ (x : ℕ). stepped x / 65536) e in
+    let this : drawn ≡ draw start n = given ∙ ap (λ (x : ℕ). next_state x / 65536) e in
     pushed
     ∙ ap (λ t. t ++ request drawn) made
     ∙ ap (λ (d : ℕ). flat_map request (draws_from start n) ++ request d) this

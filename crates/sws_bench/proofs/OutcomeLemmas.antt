@@ -9,7 +9,7 @@ use Rattle.sws_answer.specs.Responses.{answers_to, is_closed}
 use Rattle.sws_script.specs.Scripted.{script_of, link_items}
 use Rattle.sws_script.specs.declared.input.ScriptConn.{ScriptConn}
 use Rattle.sws_steps.specs.declared.End.TheVariants.{Done}
-use Rattle.sws_conn.specs.Outcome.{Input, at_end, at_limit, preceded, input_from, limited, end_of, scripted_input, outcome_of}
+use Rattle.sws_conn.specs.Outcome.{Input, at_end, at_limit, prepend_bytes, input_from, limit_input, end_of, scripted_input, outcome_of}
 use Rattle.sws_bench.specs.BenchScript.{bytes_from, piece_size, pieces, sends, conn_from, conn_state, bench_conns, bench_bytes}
 use Rattle.sws_bench.proofs.PieceLemmas.{joined}
 use Rattle.sws_bench.proofs.ConnLemmas.{length-bytes_from}
@@ -38,9 +38,9 @@ whole bytes = record { bytes = bytes; stop = at_end }
 input_of_pieces : (waits : ℕ) (parts : List (List ℕ)) → input_from waits (flat_map link_items (sends parts)) ≡ whole (flat_map (λ part. part) parts)
 input_of_pieces waits [] = refl
 input_of_pieces waits ([] ∷ parts) = input_of_pieces waits parts
-input_of_pieces waits ((byte ∷ bytes) ∷ parts) = ap (preceded (byte ∷ bytes)) (input_of_pieces 0 parts)
+input_of_pieces waits ((byte ∷ bytes) ∷ parts) = ap (prepend_bytes (byte ∷ bytes)) (input_of_pieces 0 parts)
 
-not_limited : (limit : ℕ) (input : Input) → length input.bytes < limit → limited limit input ≡ input
+not_limited : (limit : ℕ) (input : Input) → length input.bytes < limit → limit_input limit input ≡ input
 not_limited limit input short = λ i. cond (lt-leb limit (length input.bytes) short i) (record { bytes = take limit input.bytes; stop = at_limit }) input
 
 -- all that it sends counts, and its input ends behind it
@@ -49,7 +49,7 @@ unfolding conn_from
 scripted_input-conn_from state =
     let parts = pieces (piece_size state) (bytes_from state) in
     let short = length-bytes_from state in
-    ap (limited 65536) (input_of_pieces 0 parts ∙ ap whole (joined (piece_size state) (bytes_from state) (omega arith)))
+    ap (limit_input 65536) (input_of_pieces 0 parts ∙ ap whole (joined (piece_size state) (bytes_from state) (omega arith)))
     ∙ not_limited 65536 (whole (bytes_from state)) (omega arith)
 
 done : (closed : Bool) → end_of closed at_end ≡ Done

@@ -11,7 +11,7 @@ use Rattle.sws_script.specs.declared.input.Item.{Item}
 use Rattle.sws_script.specs.declared.input.Item.TheVariants.{Send}
 use Rattle.sws_script.specs.declared.input.ScriptConn.{ScriptConn}
 use Rattle.sws_script.specs.Scripted.{script_of}
-use Rattle.sws_bench.specs.Draws.{stepped, behind, draw, draws_from}
+use Rattle.sws_bench.specs.Draws.{next_state, behind, draw, draws_from}
 
 -- the request of a draw: for one of twenty files, of which the site has sixteen
 unfoldable pub request : ℕ → List ℕ
@@ -27,11 +27,11 @@ request_count state = 1 + draw state 0 % 8
 
 -- its bytes: a request for each of the draws behind the first
 unfoldable pub bytes_from : ℕ → List ℕ
-bytes_from state = flat_map request (draws_from (stepped state) (request_count state))
+bytes_from state = flat_map request (draws_from (next_state state) (request_count state))
 
 -- the state behind the draws of its requests
 abbrev pub behind_requests : ℕ → ℕ
-behind_requests state = behind (stepped state) (request_count state)
+behind_requests state = behind (next_state state) (request_count state)
 
 -- how many bytes its pieces have, by its last draw
 abbrev pub piece_size : ℕ → ℕ
@@ -39,7 +39,7 @@ piece_size state = 1 + draw (behind_requests state) 0 % 64
 
 -- the state behind all its draws
 unfoldable pub behind_conn : ℕ → ℕ
-behind_conn state = stepped (behind_requests state)
+behind_conn state = next_state (behind_requests state)
 
 -- bytes in pieces of this size, the last one shorter where need be
 unfoldable pub pieces : ℕ → List ℕ → List (List ℕ)

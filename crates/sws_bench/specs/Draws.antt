@@ -4,17 +4,17 @@ use Rattle.std.specs.Prelude.{ℕ, zero, suc, ◌+◌, ◌*◌, ◌/◌, ◌%◌
 use Rattle.std.specs.List.{range_with_len}
 
 -- the state behind the next draw
-abbrev pub stepped : ℕ → ℕ
-stepped state = (1664525 * state + 1013904223) % 2 ^ 32
+abbrev pub next_state : ℕ → ℕ
+next_state state = (1664525 * state + 1013904223) % 2 ^ 32
 
 -- the state behind so many draws
 abbrev pub behind : ℕ → ℕ → ℕ
 behind state zero = state
-behind state (suc count) = stepped (behind state count)
+behind state (suc count) = next_state (behind state count)
 
 -- what the draw behind so many others gives
 abbrev pub draw : ℕ → ℕ → ℕ
-draw state count = stepped (behind state count) / 65536
+draw state count = next_state (behind state count) / 65536
 
 -- what so many draws give
 abbrev pub draws_from : ℕ → ℕ → List ℕ

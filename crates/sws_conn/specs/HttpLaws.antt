@@ -11,7 +11,7 @@ use Rattle.sws_request.proofs.CutLemmas.{IsCutOf-cut_of, cut_of-is, cut_of-take}
 use Rattle.sws_site.specs.Site.{SiteState}
 use Rattle.sws_answer.specs.Asked.{asked_by}
 use Rattle.sws_answer.specs.Answers.{answer_of}
-use Rattle.sws_answer.specs.Responses.{answers, answers_to, responses_of, texts_of, answer_limit, input_limit, followed}
+use Rattle.sws_answer.specs.Responses.{answers, answers_to, responses_of, texts_of, answer_limit, input_limit, answers_from}
 use Rattle.sws_answer.proofs.AnsweredLemmas.{closes-last, closes-too_long, head-some}
 use Rattle.sws_answer.proofs.LengthLemmas.{answer_of-short}
 use Rattle.sws_answer.proofs.ResponseLemmas.{answers-head, answers-too_long, answers-not_yet}
@@ -76,16 +76,16 @@ nothing_cut =
 head-answered : (left : ℕ) (site : SiteState) (bytes more : List ℕ) (len : ℕ) → 0 < left
     → cut_of bytes ≡ Head len
     → answers left site (take len bytes ++ more)
-    ≡ followed (answer_of site (asked_by (take len bytes)) (left == 1))
+    ≡ answers_from (answer_of site (asked_by (take len bytes)) (left == 1))
     (answers (left - 1) site more)
 head-answered left site bytes more len some e =
     let head = take len bytes in
     let fits = (IsCutOf-cut_of bytes (Head len) e).0.fits in
     answers-head left site head more len some (cut_of-take bytes len e)
-    ∙ ap (λ h. followed (answer_of site (asked_by h) (left == 1))
+    ∙ ap (λ h. answers_from (answer_of site (asked_by h) (left == 1))
     (answers (left - 1) site (drop len head ++ more)))
     (take_all len head (omega (arith, length-take len bytes)))
-    ∙ ap (λ d. followed (answer_of site (asked_by head) (left == 1))
+    ∙ ap (λ d. answers_from (answer_of site (asked_by head) (left == 1))
     (answers (left - 1) site (d ++ more)))
     (drop_all len head (omega (arith, length-take len bytes)))
 

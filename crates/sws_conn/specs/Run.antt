@@ -7,7 +7,7 @@ use Rattle.sws_steps.specs.Run as runs
 use Rattle.sws_conn.specs.Http.{http}
 use Rattle.sws_conn.specs.Conn.{ConnState}
 use Rattle.sws_conn.specs.Path.{Handler}
-pub use Rattle.sws_steps.specs.Run.{opened}
+pub use Rattle.sws_steps.specs.Run.{conn_at_open}
 
 module _ {L : Type 0} (x : LinkWords L) (site : SiteState) (first : L) where
   -- the connection was opened over this link, which wasn't shut and of which nothing was taken or written before, and has run these

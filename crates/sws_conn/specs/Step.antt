@@ -22,8 +22,8 @@ abbrev pub after_parse : ConnCoreState → Cut → ConnCoreState
 after_parse c cut = steps.after_parse http c (cut_by cut)
 
 -- the answer is sent next, and this is left of the buffer
-abbrev pub answering : ConnCoreState → Answer → List ℕ → ConnCoreState
-answering c answer rest = steps.answering http c answer rest
+abbrev pub after_answer : ConnCoreState → Answer → List ℕ → ConnCoreState
+after_answer c answer rest = steps.after_answer http c answer rest
 
 -- the next answer is the last of the connection
 abbrev pub is_last : ConnCoreState → Bool

@@ -3,7 +3,7 @@ ghost use Rattle.std.specs.Prelude.{◌≡◌, ◌≢◌, ◌≤◌, ◌<◌, �
 ghost use Rattle.sws_conn.specs.Conn.{reported_step, told_end};
 ghost use Rattle.sws_link.specs.Links.{IsFresh};
 ghost use Rattle.sws_conn.specs.Step.{Steps, StepsFrom, Opens};
-ghost use Rattle.sws_conn.specs.Sound.{IsSound, IsShutAtEnd, unopened};
+ghost use Rattle.sws_conn.specs.Sound.{IsSound, IsShutAtEnd, core_before_open};
 ghost use Rattle.sws_conn.specs.Path.{FollowsScript, TakesEvent, TakesOff, HasNoEvents, open_link, path_told, rest_told, told_by_link};
 ghost use Rattle.sws_conn.specs.Serving.{BeginsResponses};
 ghost use Rattle.sws_conn.specs.Responses.{input_limit};
@@ -49,7 +49,7 @@ impl<'s, L: Link + Drop> Conn<'s, L> {
     /// answer is `Memory`.
     pub fn new(alloc: Global, site: &'s Site) -> Result<Conn<'s, L>, Memory>
         ensures new { IfOk result (λ conn. conn
-            ≡ record { standing = unopened site.now; link = None }) }
+            ≡ record { standing = core_before_open site.now; link = None }) }
         ensures sound { IfOk result (λ conn. IsSound L.Link conn) }
     {
         let buffer = Buffer::new(alloc)?;

@@ -8,10 +8,10 @@ ghost use Rattle.sws_steps.specs.declared.End.{End as EndValue};
 ghost use Rattle.sws_steps.specs.declared.Next.{Next as NextValue};
 ghost use Rattle.sws_conn.specs.Conn.{ConnState};
 ghost use Rattle.sws_conn.specs.Step.{going_to, Steps};
-ghost use Rattle.sws_conn.specs.Sound.{unopened, IsReadyTo, IsSound};
+ghost use Rattle.sws_conn.specs.Sound.{core_before_open, IsReadyTo, IsSound};
 ghost use Rattle.sws_conn.specs.Outcome.{UnlessMemory};
 ghost use Rattle.sws_conn.specs.Path.{Handler, Scripted, IsPathFrom, open_link, read_piece, parse, resume, close, event_of, scripted_step, path_of, rest_of_path, path_told, rest_told, TakesOff};
-ghost use Rattle.sws_conn.specs.Run.{opened, HasRun, EndsRun};
+ghost use Rattle.sws_conn.specs.Run.{conn_at_open, HasRun, EndsRun};
 
 use sws_link::Link;
 
@@ -20,11 +20,12 @@ use sws_link::Link;
 /// follows is the rest of the path after that step. `pause` is an example: a link that is not ready once, and then at its end.
 pub fn a_path_is_of_steps()
     ensures is { (site : SiteState) (script : Script) → IsWithinLimits site.files
-        → IsPathFrom (record { standing = unopened site; script = script }) (path_of site script) }
+        → IsPathFrom (record { standing = core_before_open site; script = script })
+        (path_of site script) }
     ensures alone { (from : Scripted) (one other : List Handler) → IsPathFrom from one
         → IsPathFrom from other → one ≡ other }
     ensures open { (site : SiteState) (script : Script) → path_of site script
-        ≡ open_link ∷ rest_of_path (going_to (unopened site) NextValue.Read) script }
+        ≡ open_link ∷ rest_of_path (going_to (core_before_open site) NextValue.Read) script }
     ensures close { (site : SiteState) (script : Script) → IsWithinLimits site.files
         → (before : List Handler) × (path_of site script ≡ before ++ close ∷ []) }
     ensures pause { (site : SiteState) (step cut : Option ℕ) → IsWithinLimits site.files
@@ -43,7 +44,7 @@ pub fn a_path_is_of_steps()
 pub fn a_run_serves_its_link<L: Link>()
     ensures start { (site : SiteState) (first : L) → IsWithinLimits site.files
         → IsFresh (L.tells first) → L.is_shut first ≡ false
-        → HasRun L.Link site first [] (opened site first) }
+        → HasRun L.Link site first [] (conn_at_open site first) }
     ensures goes_on { (site : SiteState) (first : L) (trail : List Handler) (event : Handler)
         (before after : ConnState L)
         → HasRun L.Link site first trail before → event_of before.standing ≡ event ∷ []

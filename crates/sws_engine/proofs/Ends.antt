@@ -5,6 +5,7 @@ pub mod HandingLemmas
 pub mod ConcludeLemmas
 pub mod SeatsOfRunLemmas
 pub mod ConcludedLemmas
+pub mod RunLeftLemmas
 pub mod NeverApartLemmas
 pub mod ThreadLemmas
 pub mod FreshServedLemmas

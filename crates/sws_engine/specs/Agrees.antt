@@ -63,14 +63,14 @@ is_state_of c (d, inl state) = d.0 == c
 is_state_of c (d, inr coming) = false
 
 -- so many worlds are in a state, or in a load where there is one
-abbrev pub carried : {P : Type 0} → (P → ℕ) → Option P → ℕ
-carried carries None = 0
-carried carries (Some load) = carries load
+abbrev pub worlds_in_load : {P : Type 0} → (P → ℕ) → Option P → ℕ
+worlds_in_load carries None = 0
+worlds_in_load carries (Some load) = carries load
 
 -- how many worlds a state or an event under way has
 abbrev pub worlds_of : {S P : Type 0} → (S → ℕ) → (P → ℕ) → Piece S P → ℕ
 worlds_of holds carries (c, inl state) = holds state
-worlds_of holds carries (c, inr (event, load)) = carried carries load
+worlds_of holds carries (c, inr (event, load)) = worlds_in_load carries load
 
 module _ {S P : Type 0} (IsPlace : S → Place → Type 0) (IsLoad : P → Load → Type 0) (holds : S → ℕ) (carries : P → ℕ) (whole : List (List Handler)) where
   abbrev pub PieceStands : Server → Piece S P → Type 0

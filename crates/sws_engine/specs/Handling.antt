@@ -109,15 +109,15 @@ abbrev pub is_to_ask : List ℕ → Bool → Bool → Bool
 is_to_ask waiting last failed = not failed && (not last || is_some waiting)
 
 -- where the world has failed, the first of those that wait is resumed
-abbrev pub resuming : Bool → List ℕ → Asked → Asked
-resuming true (first ∷ rest) asked =
+abbrev pub resume_first : Bool → List ℕ → Asked → Asked
+resume_first true (first ∷ rest) asked =
     record asked { waiting = rest; resumed = asked.resumed ++ first ∷ [] }
-resuming true [] asked = asked
-resuming false waiting asked = asked
+resume_first true [] asked = asked
+resume_first false waiting asked = asked
 
 -- where the world failed, the first that waits goes on
 abbrev pub resumed_one : Asked → Asked
-resumed_one asked = resuming asked.failed asked.waiting asked
+resumed_one asked = resume_first asked.failed asked.waiting asked
 
 -- how the world goes on: to the next accept, to another poll for those that wait, or to rest
 abbrev pub onward : {W L : Type 0} → Bool → List ℕ → WorldLoad W → List (Put W L)

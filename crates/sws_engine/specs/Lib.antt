@@ -16,12 +16,14 @@ pub mod RunStands
 pub mod RunFact
 pub mod Fresh
 pub mod RunEnds
+pub mod PartsKept
 pub mod RunParts
 pub mod EndRoom
 pub mod RunLeaves
 pub mod LeftKept
 pub mod Handing
 pub mod Conclusion
+pub mod RunLeft
 pub mod StepsLeave
 pub mod ThreadsLeave
 pub mod RunFits

@@ -6,7 +6,7 @@ use Rattle.sws_link.specs.declared.Link.{Ghosts as LinkWords}
 use Rattle.sws_link.specs.declared.world.World.{Ghosts as WorldWords}
 use Rattle.sws_link.specs.Counts.{Rose, IsLater, no_faults}
 use Rattle.sws_link.specs.Links.{LinkTells, IsFresh}
-use Rattle.sws_link.specs.Worlds.{WorldTells, Coming, untouched}
+use Rattle.sws_link.specs.Worlds.{WorldTells, Coming, fresh_tells}
 use Rattle.sws_engine.specs.declared.load.WorldLoad.{WorldLoad}
 use Rattle.sws_engine.specs.declared.load.Load.{Load}
 use Rattle.sws_engine.specs.declared.load.Load.TheVariants as load
@@ -24,7 +24,7 @@ world_of (Some (load.Link link)) = None
 abbrev pub IsComing : Option (List Coming) → ℕ → Option LinkTells → Type 0
 IsComing None i told = IsFresh told
 IsComing (Some coming) i told = (first : Coming) × (slice_get coming i ≡ Some first)
-    × (told ≡ Some (untouched first))
+    × (told ≡ Some (fresh_tells first))
 
 module _ {W L : Type 0} (x : WorldWords W L) (l : LinkWords L) (first : W) where
   -- what the world told at first

@@ -98,8 +98,8 @@ is_out_of_memory (Some ending.Fault) = false
 is_out_of_memory (Some ending.Memory) = true
 
 -- so many links were to be served
-abbrev pub owed : Bool → ℕ → ℕ → ℕ
-owed failed accepted total = if failed then accepted else total
+abbrev pub links_owed : Bool → ℕ → ℕ → ℕ
+links_owed failed accepted total = if failed then accepted else total
 
 module _ {L : Type 0} (served : List (Served L)) where
   -- of so many connections each has what it is to have
@@ -134,10 +134,10 @@ module _ {L : Type 0} (served : List (Served L)) where
   -- the verdict over what is shown: whether all was run, how many links there are, whether the world is there, how many links it gave and whether it failed
   abbrev pub VerdictIs : Bool → ℕ → Bool → ℕ → Bool → Verdict → Type 0
   VerdictIs whole total there accepted failed verdict.Ok = IsJudged whole × (there ≡ true)
-      × (failed ≡ false) × AreWhole (owed failed accepted total)
+      × (failed ≡ false) × AreWhole (links_owed failed accepted total)
   VerdictIs whole total there accepted failed verdict.World = IsJudged whole × (there ≡ true)
-      × (failed ≡ true) × AreWhole (owed failed accepted total)
+      × (failed ≡ true) × AreWhole (links_owed failed accepted total)
   VerdictIs whole total there accepted failed (verdict.Apart conn) =
-      IsJudged whole × (IsFirstLacking (owed failed accepted total) conn
-      ⊎ ((there ≡ false) × AreWhole (owed failed accepted total) × (conn ≡ total)))
+      IsJudged whole × (IsFirstLacking (links_owed failed accepted total) conn
+      ⊎ ((there ≡ false) × AreWhole (links_owed failed accepted total) × (conn ≡ total)))
   VerdictIs whole total there accepted failed verdict.Memory = (whole ≡ false) ⊎ SomeOutOfMemory

@@ -1,13 +1,9 @@
 -- What a run on a weave leaves, once the weave was taken apart.
-use Rattle.std.specs.Prelude.{◌≡◌, ℕ, ◌+◌, ◌++◌, List, [], Option, Some, length, flat_map, slice_get}
+use Rattle.std.specs.Prelude.{◌≡◌, ◌+◌, ◌++◌, List, [], Option, Some, flat_map, slice_get}
 use Rattle.mely_event.specs.declared.colour.Colour.{Colour}
 use Rattle.mely_event.specs.declared.event.Event.{Event}
-use Rattle.mely_history.specs.History.{ran_of}
-use Rattle.mely_history.specs.Legal.{AreLegal, IsDrained}
-use Rattle.mely_history.specs.Setup.{shape_of}
 use Rattle.mely_history.specs.declared.entry.Entry.{Entry}
 use Rattle.mely_history.specs.declared.setup.Setup.{Setup}
-use Rattle.mely_weave.specs.Side.{shard_of}
 use Rattle.mely_weave.specs.declared.draining.Drained.{Drained}
 use Rattle.mely_weave.specs.declared.draining.Drained.TheVariants.{Empty}
 use Rattle.mely_tally.specs.Tallies.{carried_by}
@@ -17,27 +13,14 @@ use Rattle.sws_engine.specs.declared.load.Load.{Load}
 use Rattle.sws_engine.specs.declared.place.Desk.{Desk}
 use Rattle.sws_engine.specs.declared.place.Role.TheVariants.{Polling}
 use Rattle.sws_engine.specs.Place.{PlaceState}
-use Rattle.sws_engine.specs.RunEnds.{IsPlacedAs, RunEnds}
+use Rattle.sws_engine.specs.PartsKept.{PartsKept}
+use Rattle.sws_engine.specs.RunEnds.{RunEnds}
 use Rattle.sws_engine.specs.RunStands.{Way, RunStands}
 
 module _ {W L T G H : Type 0} (x : WorldWords W L) (y : TalkWords T L G H) (setup : Setup) (first : W) (ended : Drained) (histories : List (List Entry)) (states : List (PlaceState H W T)) (queued : List (List (Way W L))) (lost : List (Colour × Event × Option (Load W L))) where
   pub record RunParts : Type 0 where
-    -- the histories are legal, one for each shard, and where the weave was drained each of them is
-    pub legal : AreLegal setup histories
-    pub shards : length histories ≡ (shape_of setup).shards
-    pub drained : ended ≡ Empty → (shard : ℕ) (history : List Entry)
-        → slice_get histories shard ≡ Some history → IsDrained history
-    -- nothing is queued then
-    pub emptied : ended ≡ Empty → flat_map (λ events. events) queued ≡ []
-    -- there is a state for each colour, of its role, over the world that was handed in, and its trail is what was run of it
-    pub many : length states ≡ (x.tells first).total + 2
-    pub placed : (i : ℕ) (place : PlaceState H W T)
-        → slice_get states i ≡ Some place → IsPlacedAs i place
-    pub of_world : (i : ℕ) (place : PlaceState H W T)
-        → slice_get states i ≡ Some place → place.first ≡ first
-    pub trailed : (c : Colour) (place : PlaceState H W T) (history : List Entry)
-        → slice_get states c.0 ≡ Some place → slice_get histories (shard_of setup c) ≡ Some history
-        → place.trail ≡ ran_of history c
+    pub kept : PartsKept x y setup first ended histories states queued
+    pub open kept use *
     -- what stands of a run stands of the states, with what is queued and what was lost
     pub stands : RunStands y (x.tells first).total states (flat_map (λ events.
         events) queued ++ carried_by lost)

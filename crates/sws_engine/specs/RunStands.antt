@@ -55,8 +55,8 @@ abbrev pub early : {W L : Type 0} → Way W L → ℕ
 early e = if_held (λ held. not (is_late e.0)) (world_of e.1)
 
 -- a world that is, though links are still to be accepted
-abbrev pub unended : {W L : Type 0} → ℕ → Way W L → ℕ
-unended total e = if_held (λ held. is_late e.0 && is_unended total held) (world_of e.1)
+abbrev pub unended_count : {W L : Type 0} → ℕ → Way W L → ℕ
+unended_count total e = if_held (λ held. is_late e.0 && is_unended total held) (world_of e.1)
 
 -- an event of this handler for this connection
 abbrev pub asks_for : {W L : Type 0} → ℕ → ℕ → Way W L → ℕ
@@ -92,8 +92,8 @@ is_stray None = 0
 is_stray (Some event) = 1
 
 module _ {H W T : Type 0} where
-  abbrev pub misplaced : PlaceState H W T → ℕ
-  misplaced s = misplaced_at s.colour.0 s.role
+  abbrev pub misplaced_count : PlaceState H W T → ℕ
+  misplaced_count s = misplaced_at s.colour.0 s.role
 
   abbrev pub desks : PlaceState H W T → ℕ
   desks s = at_desk (λ desk. 1) s.role
@@ -144,7 +144,7 @@ module _ {W L T G H : Type 0} (y : TalkWords T L G H) where
   -- Of all states and all events under way in a run with so many links
   pub record RunStands (total : ℕ) (states : List (PlaceState H W T)) (ways : List (Way W L)) : Type 0 where
     -- each colour has the role that is its own, there is one state that polls, and one for each connection
-    pub placed : sum_by misplaced states ≡ 0
+    pub placed : sum_by misplaced_count states ≡ 0
     pub one_desk : sum_by desks states ≡ 1
     pub one_seat : (i : ℕ) → i < total → sum_by (seats i) states ≡ 1
     -- there is one world: in an event, or at rest in the state that polls
@@ -160,6 +160,6 @@ module _ {W L T G H : Type 0} (y : TalkWords T L G H) where
         + sum_by (waits_for i) states ≡ sum_by (is_at i 9) states
     pub no_stray : sum_by strays states ≡ 0
     -- the poll after the last link comes after the last link or a fault, and so does the rest of the world
-    pub ended : sum_by (unended total) ways + sum_by (rests_unended total) states ≡ 0
+    pub ended : sum_by (unended_count total) ways + sum_by (rests_unended total) states ≡ 0
     pub late : sum_by early ways + sum_by is_last states ≤ 1
     pub not_in_vain : sum_by rests_in_vain states ≡ 0

@@ -1,35 +1,13 @@
 -- What a run of the server over a weave leaves.
-use Rattle.std.specs.Prelude.{◌≡◌, ◌≢◌, ◌+◌, ◌⊎◌, ℕ, false, true, List, [], map, Some, IsSome, length, slice_get}
-use Rattle.mely_event.specs.declared.colour.Colour.{Colour}
-use Rattle.mely_event.specs.declared.event.Event.{Event}
-use Rattle.mely_history.specs.History.{ran_of}
-use Rattle.mely_history.specs.Legal.{AreLegal, IsDrained}
-use Rattle.mely_history.specs.Setup.{colours_of}
-use Rattle.mely_history.specs.declared.entry.Entry.{Entry}
-use Rattle.mely_history.specs.declared.setup.Setup.{Setup}
+use Rattle.std.specs.Prelude.{◌≡◌, ◌≢◌, ◌⊎◌, ℕ, false, [], map, Some}
 use Rattle.mely_history.specs.declared.shape.Shape.{Shape}
-use Rattle.mely_machine.specs.Rules.{rules_of}
-use Rattle.mely_weave.specs.Side.{shard_of}
-use Rattle.mely_weave.specs.declared.draining.Drained.{Drained}
-use Rattle.mely_weave.specs.declared.parts.WeaveParts.{WeaveParts}
 use Rattle.sws_link.specs.declared.Link.{Ghosts as LinkWords}
 use Rattle.sws_link.specs.declared.world.World.{Ghosts as WorldWords}
-use Rattle.sws_link.specs.Scripts.{Script}
-use Rattle.sws_link.specs.Worlds.{Coming}
 use Rattle.sws_conn.specs.declared.talk.Talk.{Ghosts as TalkWords}
-use Rattle.sws_engine.specs.declared.ended.Served.{Served}
 use Rattle.sws_engine.specs.declared.ended.Ended.{Ended}
 use Rattle.sws_engine.specs.declared.ended.Verdict.TheVariants as verdict
-use Rattle.sws_engine.specs.declared.load.Load.{Load}
-use Rattle.sws_engine.specs.ConnFollows.{ConnFollows}
-use Rattle.sws_engine.specs.ConnLeft.{ConnLeft}
-use Rattle.sws_engine.specs.Loads.{WorldStands}
-use Rattle.sws_engine.specs.Place.{PlaceState}
-use Rattle.sws_engine.specs.RunLeaves.{AreWhole, NoneOutOfMemory}
-use Rattle.sws_engine.specs.ServerRun.{server_rules}
-use Rattle.sws_engine.specs.RunFits.{RunFits}
 use Rattle.sws_engine.specs.RunParts.{RunParts}
-use Rattle.sws_engine.specs.Conclusion.{IsConcluded}
+use Rattle.sws_engine.specs.RunLeft.{RunLeft, AllFollow}
 
 -- memory was refused before the first event: the world is handed back, and the lists are empty
 pub record HasNotBegun {W L : Type 0} (world : W) (ended : Ended W L) : Type 0 where
@@ -42,57 +20,14 @@ pub record HasNotBegun {W L : Type 0} (world : W) (ended : Ended W L) : Type 0 w
   pub no_trail : ended.trails.items ≡ []
 
 module _ {W L T G H : Type 0} (x : WorldWords W L) (l : LinkWords L) (y : TalkWords T L G H) (shape : Shape) (hall : H) (first : W) (ended : Ended W L) where
-  abbrev pub histories_in : List (List Entry)
-  histories_in = map (λ history. history.items) ended.histories.items
-
   -- a run by the shape, over the world that was handed in
   pub record HasRun : Type 0 where
-    pub setup : Setup
-    -- of the shape, with the server's handlers, and its first colour pinned
-    pub rules : rules_of setup ≡ server_rules shape
-    pub colours : colours_of setup ≡ (x.tells first).total + 2
-    -- what the weave came to, and its parts
-    pub how : Drained
-    pub parts : WeaveParts (PlaceState H W T) (Load W L)
+    pub left : RunLeft x l y shape hall first ended
+    pub open left use *
     pub ran : RunParts x y setup first how (map (λ history. history.items) parts.histories.items)
         parts.states.items (map (λ events. events.items) parts.queued.items) parts.lost.items
-    pub fits : RunFits x l first hall parts.states.items
-        (map (λ events. events.items) parts.queued.items) parts.lost.items
-    pub concluded : IsConcluded y (x.tells first).total how parts ended
-    -- the histories, one for each shard, are legal, and drained unless memory was refused; each colour's trail is what was run of it
-    pub legal : AreLegal setup histories_in
-    pub shards : length histories_in ≡ shape.shards
-    pub drained : ended.verdict ≢ verdict.Memory → (shard : ℕ) (history : List Entry)
-        → slice_get histories_in shard ≡ Some history → IsDrained history
-    pub trailed : (c : Colour) (history trail : List _)
-        → slice_get (map (λ t. t.items) ended.trails.items) c.0 ≡ Some trail
-        → slice_get histories_in (shard_of setup c) ≡ Some history → trail ≡ ran_of history c
-    pub many_trails : length ended.trails.items ≡ (x.tells first).total + 2
-    -- there is a member for each link; at Ok the world is there and each has its link, an end, and no stray event, and at World so have those that were accepted
-    pub many_served : length ended.served.items ≡ (x.tells first).total
-    pub ok : ended.verdict ≡ verdict.Ok → IsSome ended.world × (ended.failed ≡ false)
-        × AreWhole ended.served.items (x.tells first).total × NoneOutOfMemory ended.served.items
-    pub world : ended.verdict ≡ verdict.World → IsSome ended.world × (ended.failed ≡ true)
-        × AreWhole ended.served.items ended.accepted × NoneOutOfMemory ended.served.items
-    -- a connection has the link of its number, as it was served
-    pub conn : (i : ℕ) (s : Served L) (trail : List Event) → slice_get ended.served.items i ≡ Some s
-        → slice_get (map (λ t. t.items) ended.trails.items) (i + 2) ≡ Some trail
-        → ConnLeft x l y hall first i trail s
-    -- at Ok one whose link is known to answer by a script has run its path, and came to its outcome
-    pub follows : ended.verdict ≡ verdict.Ok
-        → (coming : List Coming) (one : Coming) (script : Script) (i : ℕ) (s : Served L)
-        (trail : List Event) → (x.tells first).coming ≡ Some coming → slice_get coming i ≡ Some one
-        → one.answers ≡ Some script
-        → slice_get ended.served.items i ≡ Some s
-        → slice_get (map (λ t. t.items) ended.trails.items) (i + 2) ≡ Some trail
-        → ConnFollows l y hall i script trail s
-    -- the world is the one that was handed in: it has its port, gave so many links, failed only where its count of faults rose, and never where it is scripted
-    pub stands : (world : W) → ended.world ≡ Some world
-        → WorldStands x l first (record {
-          world = world;
-          accepted = ended.accepted;
-          failed = ended.failed;
-        })
+    -- at Ok each connection follows the script that its link is known to answer by
+    pub follows : ended.verdict ≡ verdict.Ok → AllFollow x l y hall first ended
     -- nothing is ever amiss
     pub never_apart : (conn : ℕ) → ended.verdict ≢ verdict.Apart conn
 

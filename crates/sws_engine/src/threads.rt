@@ -8,7 +8,8 @@ ghost use Rattle.sws_engine.specs.Begins.{AreAtFirst, IsAtRest, IsSetFor, IsShap
 ghost use Rattle.sws_engine.specs.Fresh.{AreFirstPlaces};
 ghost use Rattle.sws_engine.specs.Invariant.{IsConsistent};
 ghost use Rattle.sws_engine.specs.RunFits.{RunFits};
-ghost use Rattle.sws_engine.specs.ThreadsLeave.{IsUnkept, PartsKept, ThreadsLeave};
+ghost use Rattle.sws_engine.specs.PartsKept.{PartsKept};
+ghost use Rattle.sws_engine.specs.ThreadsLeave.{IsUnkept, ThreadsLeave};
 
 use crate::app::Sws;
 use crate::concluding::conclude;

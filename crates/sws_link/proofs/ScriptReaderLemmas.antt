@@ -10,7 +10,7 @@ use Rattle.sws_link.specs.declared.link_item.LinkItem.{LinkItem}
 use Rattle.sws_link.specs.Links.{given_by, IsReadWithin}
 use Rattle.sws_link.specs.Scripts.{Item, piece, wait, fault, read_of}
 use Rattle.sws_link.specs.LinkItems.{item_of, bytes_of, all_bytes}
-use Rattle.sws_link.specs.ScriptReader.{shortened, size_of, left_of, given_of, IsUsed, Plays, GivesPiece}
+use Rattle.sws_link.specs.ScriptReader.{rest_of_item, size_of, left_of, given_of, IsUsed, Plays, GivesPiece}
 
 -- a front that is as long as all there is
 take_min_room : (room : ℕ) (bytes : List ℕ) → take (min room (length bytes)) bytes ≡ take room bytes
@@ -126,6 +126,6 @@ played_taken used now room all rest item answer into before e plays =
 
 pub read_as : (used room size : ℕ) (all rest : List Item) (item : Item) (answer : LinkRead) (now : ℕ) (into : List ℕ) (first : List Item) → all ≡ item ∷ rest
     → room ≡ size → read_of size (left_of used all) ≡ read_of size first → Plays item used room (Some (answer, now)) into
-    → read_of size first ≡ record { answer = answer; bytes = given_by answer into; items = shortened now item ∷ rest }
+    → read_of size first ≡ record { answer = answer; bytes = given_by answer into; items = rest_of_item now item ∷ rest }
 read_as used room size all rest item answer now into first e same read plays =
     sym read ∙ ap (λ n. read_of n (left_of used all)) (sym same) ∙ ap (λ l. read_of room (left_of used l)) e ∙ plays.0 rest

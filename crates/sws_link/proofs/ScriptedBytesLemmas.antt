@@ -4,7 +4,7 @@ use Rattle.std.specs.Prelude.{if◌then◌else◌}
 use Rattle.sws_link.specs.declared.LinkRead.{LinkRead}
 use Rattle.sws_link.specs.declared.LinkRead.TheVariants as read
 use Rattle.sws_link.specs.Links.{TakesTold, ReadsAs, EndsRead, given_by}
-use Rattle.sws_link.specs.Scripts.{Item, piece, wait, fault, read_of, lowered}
+use Rattle.sws_link.specs.Scripts.{Item, piece, wait, fault, read_of, left_of_limit}
 use Rattle.sws_link.specs.LinkItems.{all_bytes, HasNoFault}
 use Rattle.sws_link.specs.Calls.{next_fails}
 use Rattle.sws_link.specs.MemLinks.{script_unless, wire_tells, wire_after_read}
@@ -51,7 +51,7 @@ takes_wire failing before now room answer into a b is =
       left = read_bytes room before.input.items ∙ ap (λ g. g ++ all_bytes said.items) (sym b);
       taken = ap (λ g. before.input.taken ++ g) (sym b);
       written = refl;
-      to_come = reads_script failing before.step (lowered before.cut (length before.written)) before.input.items room answer into a b;
+      to_come = reads_script failing before.step (left_of_limit before.cut (length before.written)) before.input.items room answer into a b;
       ends = subst (λ r. EndsRead r (all_bytes before.input.items)) (sym a) (read_ends room before.input.items);
       says_all = refl;
     }

@@ -4,21 +4,21 @@ use Rattle.std.specs.Prelude.{IsSome}
 use Rattle.std.specs.List.{AllByRecursion}
 use Rattle.sws_link.specs.declared.Accepted.TheVariants as accepted
 use Rattle.sws_link.specs.Counts.{Count, HasCause, kept_count, no_faults}
-use Rattle.sws_link.specs.Calls.{CallsMade, called}
+use Rattle.sws_link.specs.Calls.{CallsMade, after_call}
 use Rattle.sws_link.specs.Links.{LinkTells, IsFresh}
 use Rattle.sws_link.specs.MemLinks.{wire_tells, mem_link_tells, sure_link_tells, script_of, script_unless}
 use Rattle.sws_link.specs.SureLink.{SureLinkState}
 use Rattle.sws_link.specs.MemLink.{MemLinkState}
 use Rattle.sws_link.specs.ScriptedBytes.{ScriptedBytesState}
 use Rattle.sws_link.specs.LinkItems.{all_bytes}
-use Rattle.sws_link.specs.Worlds.{Coming, untouched, AreScripted, IsScripted, TakesNext, GivesLink, Accepts}
+use Rattle.sws_link.specs.Worlds.{Coming, fresh_tells, AreScripted, IsScripted, TakesNext, GivesLink, Accepts}
 use Rattle.sws_link.specs.MemWorlds.{GivesNext, IsFreshMemLink, IsFreshSureLink, wire_coming, mem_coming, sure_coming, lobby_tells, is_none, mem_world_tells, sure_world_tells}
 use Rattle.sws_link.specs.MemWorld.{MemWorldState}
 use Rattle.sws_link.specs.Lobby.{LobbyState}
 use Rattle.sws_link.proofs.CountLemmas.{HasCause-none}
 
 -- a link of which nothing was taken or written tells what was to come of it
-wire-told : (failing : List ℕ) (wire : ScriptedBytesState) → wire.input.taken ≡ [] → wire.written ≡ [] → Some (wire_tells failing wire) ≡ Some (untouched (wire_coming failing wire))
+wire-told : (failing : List ℕ) (wire : ScriptedBytesState) → wire.input.taken ≡ [] → wire.written ≡ [] → Some (wire_tells failing wire) ≡ Some (fresh_tells (wire_coming failing wire))
 wire-told failing wire taken written =
     let told : List ℕ → List ℕ → Option LinkTells =
     (λ t w. Some (record { taken = t; left = all_bytes wire.input.items; written = w; to_come = script_unless failing (script_of wire); says_all = true })) in
@@ -27,7 +27,7 @@ wire-told failing wire taken written =
 -- the next link is given
 lobby-gives : {L : Type 0} (tells : L → Option LinkTells) (is_shut : L → Bool) (faults waits : L → Count) (coming : L → Coming) (scripted : Bool)
     (before after : LobbyState L) (link : L) → GivesNext before link after
-    → tells link ≡ Some (untouched (coming link)) → is_shut link ≡ false → faults link ≡ no_faults → waits link ≡ no_faults
+    → tells link ≡ Some (fresh_tells (coming link)) → is_shut link ≡ false → faults link ≡ no_faults → waits link ≡ no_faults
     → GivesLink tells is_shut faults waits (lobby_tells coming scripted before) link (lobby_tells coming scripted after)
 lobby-gives tells is_shut faults waits coming scripted before after link gives told not_shut no_faults_yet no_waits_yet = record {
   next = (coming link, map coming after.links, ap (λ links. map coming links) gives.next, refl, told);
@@ -51,7 +51,7 @@ cause-never : (IsFailure : Type 0) → (IsFailure → ⊥) → (count : Count) �
 cause-never IsFailure never count = HasCause-none count count IsFailure refl never
 
 pub mem-accepts : (before : MemWorldState) (after : LobbyState MemLinkState) (calls : CallsMade) (link : MemLinkState)
-    → AllByRecursion IsFreshMemLink before.lobby.links → GivesNext before.lobby link after → calls ≡ called before.calls
+    → AllByRecursion IsFreshMemLink before.lobby.links → GivesNext before.lobby link after → calls ≡ after_call before.calls
     → HasCause (kept_count before.calls.failed) (kept_count calls.failed) (accepted.Link link ≡ accepted.Failed)
     → Accepts mem_world_tells (λ world. kept_count world.calls.failed) (λ _. no_faults)
     mem_link_tells (λ link. link.shut) (λ link. kept_count link.calls.failed) (λ link. kept_count link.waits)

@@ -5,10 +5,10 @@ use Rattle.sws_link.specs.declared.LinkRead.{LinkRead}
 use Rattle.sws_link.specs.declared.LinkRead.TheVariants as read
 use Rattle.sws_link.specs.declared.LinkWrite.{LinkWrite}
 use Rattle.sws_link.specs.declared.LinkWrite.TheVariants as write
-use Rattle.sws_link.specs.Scripts.{Script, Item, lowered, within, read_of}
+use Rattle.sws_link.specs.Scripts.{Script, Item, left_of_limit, within, read_of}
 use Rattle.sws_link.specs.Links.{LinkTells, given_by, written_by}
 use Rattle.sws_link.specs.LinkItems.{all_bytes}
-use Rattle.sws_link.specs.Calls.{CallsMade, raised, next_fails}
+use Rattle.sws_link.specs.Calls.{CallsMade, count_up, next_fails}
 use Rattle.sws_link.specs.ScriptedBytes.{ScriptedBytesState}
 use Rattle.sws_link.specs.MemLink.{MemLinkState}
 use Rattle.sws_link.specs.SureLink.{SureLinkState}
@@ -29,7 +29,7 @@ abbrev pub script_of : ScriptedBytesState → Script
 script_of wire = record {
   items = wire.input.items;
   step = wire.step;
-  cut = lowered wire.cut (length wire.written);
+  cut = left_of_limit wire.cut (length wire.written);
 }
 
 -- no script has a step of nothing
@@ -84,7 +84,7 @@ write_answer (Some (suc limit)) (Some (suc left)) length =
 -- what a write may answer
 abbrev pub MayAnswer : ScriptedBytesState → ℕ → LinkWrite → Type 0
 MayAnswer wire count answer = (answer ≡ write.Memory)
-    ⊎ (answer ≡ write_answer wire.step (lowered wire.cut (length wire.written)) count)
+    ⊎ (answer ≡ write_answer wire.step (left_of_limit wire.cut (length wire.written)) count)
 
 -- what the answer says was written
 abbrev pub wire_after_write : ScriptedBytesState → LinkWrite → List ℕ → ScriptedBytesState
@@ -122,16 +122,16 @@ is_waiting_write write.Failed = false
 is_waiting_write write.Memory = false
 
 -- one more call was made, and it may have failed
-abbrev pub counted : CallsMade → Bool → CallsMade
-counted calls failed = record {
+abbrev pub after_link_call : CallsMade → Bool → CallsMade
+after_link_call calls failed = record {
   failing = calls.failing;
-  made = raised calls.made;
-  failed = if failed then raised calls.failed else calls.failed;
+  made = count_up calls.made;
+  failed = if failed then count_up calls.failed else calls.failed;
 }
 
 -- one more, where it wasn't ready
-abbrev pub waited : ℕ → Bool → ℕ
-waited waits waiting = if waiting then raised waits else waits
+abbrev pub waits_after : ℕ → Bool → ℕ
+waits_after waits waiting = if waiting then count_up waits else waits
 
 -- ---- whole calls
 
@@ -144,8 +144,8 @@ pub record FailsOrReads (before : MemLinkState) (room : ℕ) (answer : LinkRead)
       ≡ (if next_fails before.calls then [] else (read_of room before.wire.input.items).bytes)
   pub wire_is : after.wire
       ≡ (if next_fails before.calls then before.wire else wire_after_read before.wire room)
-  pub calls_are : after.calls ≡ counted before.calls (is_failed_read answer)
-  pub waits_are : after.waits ≡ waited before.waits (is_waiting_read answer)
+  pub calls_are : after.calls ≡ after_link_call before.calls (is_failed_read answer)
+  pub waits_are : after.waits ≡ waits_after before.waits (is_waiting_read answer)
   pub shut_is : after.shut ≡ before.shut
 
 -- a write that is to fail fails, and another answers as the bounds say, but for want of memory; either is counted, and writes nothing
@@ -154,8 +154,8 @@ pub record FailsOrWrites (before : MemLinkState) (piece : List ℕ) (answer : Li
   pub to_fail : IsTrue (next_fails before.calls) → answer ≡ write.Failed
   pub else_by_bounds : next_fails before.calls ≡ false → MayAnswer before.wire (length piece) answer
   pub wire_is : after.wire ≡ wire_after_write before.wire answer piece
-  pub calls_are : after.calls ≡ counted before.calls (is_failed_write answer)
-  pub waits_are : after.waits ≡ waited before.waits (is_waiting_write answer)
+  pub calls_are : after.calls ≡ after_link_call before.calls (is_failed_write answer)
+  pub waits_are : after.waits ≡ waits_after before.waits (is_waiting_write answer)
   pub shut_is : after.shut ≡ before.shut
 
 -- a read and a write of a link without faults answer as its items and its bound say, for a read of this much room
@@ -163,12 +163,12 @@ pub record SureReads (before : SureLinkState) (room : ℕ) (answer : LinkRead) (
   pub answer_is : answer ≡ (read_of room before.wire.input.items).answer
   pub bytes_are : given_by answer into ≡ (read_of room before.wire.input.items).bytes
   pub wire_is : after.wire ≡ wire_after_read before.wire room
-  pub waits_are : after.waits ≡ waited before.waits (is_waiting_read answer)
+  pub waits_are : after.waits ≡ waits_after before.waits (is_waiting_read answer)
   pub shut_is : after.shut ≡ before.shut
 
 -- a write on a link without faults answers as its bound says, but for want of memory
 pub record SureWrites (before : SureLinkState) (piece : List ℕ) (answer : LinkWrite) (after : SureLinkState) : Type 0 where
   pub by_bounds : MayAnswer before.wire (length piece) answer
   pub wire_is : after.wire ≡ wire_after_write before.wire answer piece
-  pub waits_are : after.waits ≡ waited before.waits (is_waiting_write answer)
+  pub waits_are : after.waits ≡ waits_after before.waits (is_waiting_write answer)
   pub shut_is : after.shut ≡ before.shut

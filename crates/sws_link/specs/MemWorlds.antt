@@ -7,7 +7,7 @@ use Rattle.sws_link.specs.declared.Polled.{Polled}
 use Rattle.sws_link.specs.declared.Polled.TheVariants as polled
 use Rattle.sws_link.specs.declared.Accepted.{Accepted}
 use Rattle.sws_link.specs.declared.Accepted.TheVariants as accepted
-use Rattle.sws_link.specs.Calls.{next_fails, called}
+use Rattle.sws_link.specs.Calls.{next_fails, after_call}
 use Rattle.sws_link.specs.LinkItems.{all_bytes}
 use Rattle.sws_link.specs.MemLinks.{script_of, script_unless}
 use Rattle.sws_link.specs.SureLink.{SureLinkState}
@@ -106,7 +106,7 @@ opened_or_fails world = if next_fails world.calls then opened.Failed else opened
 abbrev pub mem_world_opened : MemWorldState → ℕ → ℕ → MemWorldState
 mem_world_opened world port total = record {
   lobby = if next_fails world.calls then world.lobby else lobby_opened world.lobby port total;
-  calls = called world.calls;
+  calls = after_call world.calls;
 }
 
 -- what a poll answers: the first that waits, or that it fails where this call is to fail
@@ -122,7 +122,7 @@ FailsOrGivesBy false before answer after = (link : MemLinkState) × (answer ≡ 
 -- the next link is given or the call fails where it is to fail, and the call is counted
 pub record FailsOrGives (before : MemWorldState) (answer : Accepted MemLinkState) (after : MemWorldState) : Type 0 where
   pub gives : FailsOrGivesBy (next_fails before.calls) before answer after
-  pub calls_are : after.calls ≡ called before.calls
+  pub calls_are : after.calls ≡ after_call before.calls
 
 -- the next link is given
 abbrev pub Gives : LobbyState SureLinkState → Accepted SureLinkState

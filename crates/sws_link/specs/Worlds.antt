@@ -18,8 +18,8 @@ pub record Coming : Type 0 where
   pub says_all : Bool
 
 -- what such a link tells when it comes: nothing was taken or written
-abbrev pub untouched : Coming → LinkTells
-untouched coming = record {
+abbrev pub fresh_tells : Coming → LinkTells
+fresh_tells coming = record {
   taken = [];
   left = coming.input;
   written = [];
@@ -90,7 +90,7 @@ abbrev pub TakesNext : Option (List Coming) → Option LinkTells → Option (Lis
 TakesNext None told now = now ≡ None
 TakesNext (Some coming) told now =
     (first : Coming) × (rest : List Coming) × (coming ≡ first ∷ rest) × (now ≡ Some rest)
-    × (told ≡ Some (untouched first))
+    × (told ≡ Some (fresh_tells first))
 
 module _ {L : Type 0} (link_tells : L → Option LinkTells) (link_shut : L → Bool) (link_faults link_waits : L → Count) where
   -- the next link comes, of which nothing was taken or written, which isn't shut and whose counts begin

@@ -2,7 +2,7 @@
 ghost use Rattle.std.specs.Prelude.{◌≡◌, ◌<◌, ◌≤◌, length};
 ghost use Rattle.std.specs.List.{AllByRecursion};
 ghost use Rattle.sws_link.specs.Counts.{kept_count, no_faults};
-ghost use Rattle.sws_link.specs.Calls.{no_calls, next_fails, called};
+ghost use Rattle.sws_link.specs.Calls.{no_calls, next_fails, after_call};
 ghost use Rattle.sws_link.specs.MemLinks.{mem_link_tells};
 ghost use Rattle.sws_link.specs.Worlds.{Listens, Polls, Accepts};
 ghost use Rattle.sws_link.specs.MemWorlds.{fresh_lobby, IsFreshMemLink, mem_world_tells, opened_or_fails, mem_world_opened, ready_or_fails, FailsOrGives};
@@ -82,7 +82,7 @@ impl World for MemWorld {
     /// Names the first that waits, or fails where this call is to fail.
     fn poll(&mut self, waiting: &[u16]) -> Polled
         ensures exact { result ≡ ready_or_fails self.old waiting.now }
-        ensures becomes { self.new ≡ record self.old { calls = called self.old.calls } }
+        ensures becomes { self.new ≡ record self.old { calls = after_call self.old.calls } }
         ensures polls { Polls mem_world_tells (λ world.
             kept_count world.calls.failed) (λ _. no_faults)
             self.old waiting.now result self.new }

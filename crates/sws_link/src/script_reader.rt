@@ -23,9 +23,9 @@ impl Model for ScriptReader {
 
     ghost Value = { Played };
 
-    ghost use Rattle.sws_link.specs.Played.{played, IsPlayed};
+    ghost use Rattle.sws_link.specs.Played.{played_of, IsPlayed};
 
-    ghost view = { played };
+    ghost view = { played_of };
 
     ghost invariant = { IsPlayed };
 }

@@ -1,6 +1,6 @@
 //! A link in memory whose calls are not counted.
 ghost use Rattle.std.specs.Prelude.{◌≡◌, ◌<◌, ◌≤◌, length, map};
-ghost use Rattle.sws_link.specs.Scripts.{lowered, within, read_of};
+ghost use Rattle.sws_link.specs.Scripts.{left_of_limit, within, read_of};
 ghost use Rattle.sws_link.specs.Links.{IsReadWithin, IsWriteWithin, given_by};
 ghost use Rattle.sws_link.specs.LinkItems.{item_of};
 ghost use Rattle.sws_link.specs.MemLinks.{fresh_wire, wire_after_read, MayAnswer, wire_after_write};
@@ -89,7 +89,7 @@ impl ScriptedBytes {
 
     /// How many bytes may still be written, where that is bounded.
     fn left(&self) -> Option<u64>
-        ensures { result ≡ lowered self.now.cut (length self.now.written) }
+        ensures { result ≡ left_of_limit self.now.cut (length self.now.written) }
     {
         match self.cut {
             None => None,

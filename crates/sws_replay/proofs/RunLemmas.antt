@@ -26,6 +26,7 @@ use Rattle.sws_engine.specs.Invariant.{event_for}
 use Rattle.sws_engine.specs.Loads.{IsComing, LinkStands, WorldStands}
 use Rattle.sws_engine.specs.RunLeaves.{is_out_of_memory, AreWhole, NoneOutOfMemory}
 use Rattle.sws_engine.specs.ServerRun.{server_rules}
+use Rattle.sws_engine.specs.RunLeft.{RunLeft, AllFollow}
 use Rattle.sws_engine.specs.StepsLeave.{HasNotBegun, HasRun, StepsLeave}
 use Rattle.sws_engine.specs.ThreadsLeave.{IsUnkept, HasRunThreads, ThreadsLeave}
 use Rattle.sws_engine.specs.declared.ended.Ended.{Ended}
@@ -37,7 +38,7 @@ use Rattle.sws_link.specs.MemLinks.{wire_tells, mem_link_tells}
 use Rattle.sws_link.specs.MemLink.{MemLinkState}
 use Rattle.sws_link.specs.MemWorld.{MemWorldState}
 use Rattle.sws_link.specs.Scripts.{Script}
-use Rattle.sws_link.specs.Worlds.{Coming, WorldTells, untouched}
+use Rattle.sws_link.specs.Worlds.{Coming, WorldTells, fresh_tells}
 use Rattle.sws_link.specs.declared.Link.{Ghosts as LinkWords}
 use Rattle.sws_link.specs.declared.world.World.{Ghosts as WorldWords}
 use Rattle.sws_script.specs.Scripted.{coming_of, script_of, told_of}
@@ -63,19 +64,19 @@ module _ {T G : Type 0} (x : WorldWords MemWorldState MemLinkState) (l : LinkWor
   tells_is link tells is = same_Some tells (wire_tells link.calls.failing link.wire) (sym is ∙ link_told link)
 
   -- the link came with the input of its connection
-  came : (i : ℕ) (conn : ScriptConn) (begun : MemLinkState) → slice_get conns i ≡ Some conn → LinkStands x l first i begun → l.tells begun ≡ Some (untouched (coming_of conn))
+  came : (i : ℕ) (conn : ScriptConn) (begun : MemLinkState) → slice_get conns i ≡ Some conn → LinkStands x l first i begun → l.tells begun ≡ Some (fresh_tells (coming_of conn))
   came i conn begun at stands =
       let coming : IsComing (Some (map coming_of conns)) i (l.tells begun) = subst (λ (t : WorldTells). IsComing t.coming i (l.tells begun)) told stands.coming in
       let same : coming.0 ≡ coming_of conn = same_Some coming.0 (coming_of conn) (sym coming.1 ∙ map_at coming_of conns i conn at) in
-      coming.2 ∙ ap (λ (c : Coming). Some (untouched c)) same
+      coming.2 ∙ ap (λ (c : Coming). Some (fresh_tells c)) same
 
   -- what was taken and written of it, by the counts
   served_link : (i : ℕ) (conn : ScriptConn) (link : MemLinkState) (view : TalkView) → slice_get conns i ≡ Some conn → LinkLeft x l y site first i (Some link) view
-      → ServesLink (y.responses site) (untouched (coming_of conn)) (wire_tells link.calls.failing link.wire) view
+      → ServesLink (y.responses site) (fresh_tells (coming_of conn)) (wire_tells link.calls.failing link.wire) view
   served_link i conn link view at left =
-      let serves : ServesTold (y.responses site) (Some (untouched (coming_of conn))) (l.tells link) view =
+      let serves : ServesTold (y.responses site) (Some (fresh_tells (coming_of conn))) (l.tells link) view =
       subst (λ (t : Option LinkTells). ServesTold (y.responses site) t (l.tells link) view) (came i conn left.0 at left.1) left.2.told in
-      subst (λ (t : LinkTells). ServesLink (y.responses site) (untouched (coming_of conn)) t view) (tells_is link serves.0 serves.1) serves.2
+      subst (λ (t : LinkTells). ServesLink (y.responses site) (fresh_tells (coming_of conn)) t view) (tells_is link serves.0 serves.1) serves.2
 
   not_memory : (end : End) → is_out_of_memory (Some end) ≡ false → end ≢ Memory
   not_memory end enough same = true≢false (ap (λ (e : End). is_out_of_memory (Some e)) (sym same) ∙ enough)
@@ -148,14 +149,14 @@ module _ {T G : Type 0} (x : WorldWords MemWorldState MemLinkState) (l : LinkWor
 ok≢memory : verdict.Ok ≢ verdict.Memory
 ok≢memory same = cc
 
-pub threads_run_well : {T G : Type 0} (x : WorldWords MemWorldState MemLinkState) (l : LinkWords MemLinkState) (y : TalkWords T MemLinkState G SiteState) (site : SiteState) (shape : Shape) (first : MemWorldState) (conns : List ScriptConn) (ended : Ended MemWorldState MemLinkState)
-    → ThreadsLeave x l y shape site first ended → IsUnkept y → x.tells first ≡ told_of conns → ((link : MemLinkState) → l.tells link ≡ mem_link_tells link) → ((script : Script) → y.outcome site script ≡ outcome_of site script)
+-- what both ways of running leave
+run_well : {T G : Type 0} (x : WorldWords MemWorldState MemLinkState) (l : LinkWords MemLinkState) (y : TalkWords T MemLinkState G SiteState) (site : SiteState) (shape : Shape) (first : MemWorldState) (conns : List ScriptConn) (ended : Ended MemWorldState MemLinkState)
+    → RunLeft x l y shape site first ended → AllFollow x l y site first ended → x.tells first ≡ told_of conns → ((link : MemLinkState) → l.tells link ≡ mem_link_tells link) → ((script : Script) → y.outcome site script ≡ outcome_of site script)
     → ((script : Script) → y.path site script ≡ path_of site script) → ended.verdict ≡ verdict.Ok → RunsWell site shape conns ended
-threads_run_well x l y site shape first conns ended (inl refused) unkept told link_told outcome_is path_is well = absurd (ok≢memory (sym well ∙ refused.refused))
-threads_run_well x l y site shape first conns ended (inr run) unkept told link_told outcome_is path_is well =
+run_well x l y site shape first conns ended run follow told link_told outcome_is path_is well =
     let enough = (run.ok well).3 in
     record {
-      serves = serves_all x l y site shape first conns ended told link_told outcome_is path_is well run.many_served run.many_trails enough run.conn (run.follows unkept well);
+      serves = serves_all x l y site shape first conns ended told link_told outcome_is path_is well run.many_served run.many_trails enough run.conn follow;
       served = record {
         setup = run.setup;
         rules = run.rules;
@@ -163,28 +164,23 @@ threads_run_well x l y site shape first conns ended (inr run) unkept told link_t
         shards = run.shards;
         legal = run.legal;
         drained = run.drained (λ same. ok≢memory (sym well ∙ same));
-        paths = path_ran x l y site shape first conns ended told link_told outcome_is path_is well run.many_served run.many_trails enough run.conn (run.follows unkept well) run.setup run.trailed;
+        paths = path_ran x l y site shape first conns ended told link_told outcome_is path_is well run.many_served run.many_trails enough run.conn follow run.setup run.trailed;
       };
     }
+
+pub threads_run_well : {T G : Type 0} (x : WorldWords MemWorldState MemLinkState) (l : LinkWords MemLinkState) (y : TalkWords T MemLinkState G SiteState) (site : SiteState) (shape : Shape) (first : MemWorldState) (conns : List ScriptConn) (ended : Ended MemWorldState MemLinkState)
+    → ThreadsLeave x l y shape site first ended → IsUnkept y → x.tells first ≡ told_of conns → ((link : MemLinkState) → l.tells link ≡ mem_link_tells link) → ((script : Script) → y.outcome site script ≡ outcome_of site script)
+    → ((script : Script) → y.path site script ≡ path_of site script) → ended.verdict ≡ verdict.Ok → RunsWell site shape conns ended
+threads_run_well x l y site shape first conns ended (inl refused) unkept told link_told outcome_is path_is well = absurd (ok≢memory (sym well ∙ refused.refused))
+threads_run_well x l y site shape first conns ended (inr run) unkept told link_told outcome_is path_is well =
+    run_well x l y site shape first conns ended run.left (run.follows unkept well) told link_told outcome_is path_is well
 
 pub steps_run_well : {T G : Type 0} (x : WorldWords MemWorldState MemLinkState) (l : LinkWords MemLinkState) (y : TalkWords T MemLinkState G SiteState) (site : SiteState) (shape : Shape) (first : MemWorldState) (conns : List ScriptConn) (ended : Ended MemWorldState MemLinkState)
     → StepsLeave x l y shape site first ended → x.tells first ≡ told_of conns → ((link : MemLinkState) → l.tells link ≡ mem_link_tells link) → ((script : Script) → y.outcome site script ≡ outcome_of site script)
     → ((script : Script) → y.path site script ≡ path_of site script) → ended.verdict ≡ verdict.Ok → RunsWell site shape conns ended
 steps_run_well x l y site shape first conns ended (inl refused) told link_told outcome_is path_is well = absurd (ok≢memory (sym well ∙ refused.refused))
 steps_run_well x l y site shape first conns ended (inr run) told link_told outcome_is path_is well =
-    let enough = (run.ok well).3 in
-    record {
-      serves = serves_all x l y site shape first conns ended told link_told outcome_is path_is well run.many_served run.many_trails enough run.conn (run.follows well);
-      served = record {
-        setup = run.setup;
-        rules = run.rules;
-        colours = run.colours ∙ ap (λ (t : WorldTells). t.total + 2) told;
-        shards = run.shards;
-        legal = run.legal;
-        drained = run.drained (λ same. ok≢memory (sym well ∙ same));
-        paths = path_ran x l y site shape first conns ended told link_told outcome_is path_is well run.many_served run.many_trails enough run.conn (run.follows well) run.setup run.trailed;
-      };
-    }
+    run_well x l y site shape first conns ended run.left (run.follows well) told link_told outcome_is path_is well
 
 -- a scripted world doesn't fail
 no_fault : (x : WorldWords MemWorldState MemLinkState) (l : LinkWords MemLinkState) (first : MemWorldState) (conns : List ScriptConn) (ended : Ended MemWorldState MemLinkState) → x.tells first ≡ told_of conns → IsSome ended.world → ended.failed ≡ true

@@ -71,20 +71,6 @@ writes_one IsText text (Some before) after put.Done is puts = (before ++ text, p
 writes_one IsText text (Some before) after put.Failed is puts = (before ++ puts.0, puts.2, (puts.0, (text, is, puts.1), refl))
 writes_one IsText text (Some before) after put.Memory is puts = (before ++ puts.0, puts.2, (puts.0, inr (text, is, puts.1), refl))
 
--- by want of memory, before anything was written
-writes_nothing : (IsText : List ℕ → Type 0) (now : Option (List ℕ)) → WritesOne {T = Unit {0}} IsText now now (Err Memory)
-writes_nothing IsText None = refl
-writes_nothing IsText (Some bytes) = (bytes, refl, ([], inl refl, sym (append-nil bytes)))
-
--- only by a write that failed
-failed_only : (answer : Put) → result_of answer ≡ Err Write → answer ≡ put.Failed
-failed_only put.Done same = cc
-failed_only put.Failed same = refl
-failed_only put.Memory same = absurd (memory≢write same)
-  where
-    memory≢write : ◌≡◌ {A = Result (Unit {0}) RunFault} (Err Memory) (Err Write) → ⊥
-    memory≢write e = cc
-
 -- ---- the transcript, connection by connection
 
 -- so far what stands before a connection was written, and no write failed

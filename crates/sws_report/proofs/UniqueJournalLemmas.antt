@@ -10,7 +10,7 @@ use Rattle.mely_event.specs.declared.colour.Colour.{Colour}
 use Rattle.mely_event.specs.declared.event.Event.{Event}
 use Rattle.mely_history.specs.declared.entry.Entry.{Entry}
 use Rattle.mely_history.specs.declared.entry.Entry.TheVariants.{Reg, Take, Fin, Steal}
-use Rattle.sws_report.specs.Numbers.{spaced}
+use Rattle.sws_report.specs.Numbers.{space_number}
 use Rattle.sws_report.specs.Journal.{entry_line, shard_text, journal_from, journal, IsSmall, AreSmall}
 
 -- ---- numbers
@@ -50,7 +50,7 @@ digits_split (c ∷ a) (d ∷ b) x y all_a all_b ends_x ends_y e =
     (ap (λ z. z ∷ a) (head_is c d (a ++ x) (b ++ y) e) ∙ ap (λ z. d ∷ z) rest.0, rest.1)
 
 -- a number with a space before it, and what stands behind it
-pub spaced_split : (m n : ℕ) (x y : List ℕ) → m < 2 ^ 64 → n < 2 ^ 64 → Ends x → Ends y → spaced m ++ x ≡ spaced n ++ y → (m ≡ n) × (x ≡ y)
+pub spaced_split : (m n : ℕ) (x y : List ℕ) → m < 2 ^ 64 → n < 2 ^ 64 → Ends x → Ends y → space_number m ++ x ≡ space_number n ++ y → (m ≡ n) × (x ≡ y)
 spaced_split m n x y small_m small_n ends_x ends_y e =
     let parts = digits_split (decimal m) (decimal n) x y (decimal_is_IsNumeral m small_m).0.1 (decimal_is_IsNumeral n small_n).0.1 ends_x ends_y
     (tail_is 32 32 (decimal m ++ x) (decimal n ++ y) e) in
@@ -58,12 +58,12 @@ spaced_split m n x y small_m small_n ends_x ends_y e =
 
 -- two numbers, and three
 three_split : (a b c d e f : ℕ) (x y : List ℕ) → (a < 2 ^ 64) × (b < 2 ^ 64) × (c < 2 ^ 64) → (d < 2 ^ 64) × (e < 2 ^ 64) × (f < 2 ^ 64)
-    → spaced a ++ (spaced b ++ (spaced c ++ 10 ∷ x)) ≡ spaced d ++ (spaced e ++ (spaced f ++ 10 ∷ y)) → (a ≡ d) × (b ≡ e) × (c ≡ f) × (x ≡ y)
+    → space_number a ++ (space_number b ++ (space_number c ++ 10 ∷ x)) ≡ space_number d ++ (space_number e ++ (space_number f ++ 10 ∷ y)) → (a ≡ d) × (b ≡ e) × (c ≡ f) × (x ≡ y)
 three_split a b c d e f x y small other is =
     let low : 32 < 48 = omega arith in
     let feed : 10 < 48 = omega arith in
-    let first = spaced_split a d (spaced b ++ (spaced c ++ 10 ∷ x)) (spaced e ++ (spaced f ++ 10 ∷ y)) small.0 other.0 low low is in
-    let second = spaced_split b e (spaced c ++ 10 ∷ x) (spaced f ++ 10 ∷ y) small.1 other.1 low low first.1 in
+    let first = spaced_split a d (space_number b ++ (space_number c ++ 10 ∷ x)) (space_number e ++ (space_number f ++ 10 ∷ y)) small.0 other.0 low low is in
+    let second = spaced_split b e (space_number c ++ 10 ∷ x) (space_number f ++ 10 ∷ y) small.1 other.1 low low first.1 in
     let third = spaced_split c f (10 ∷ x) (10 ∷ y) small.2 other.2 feed feed second.1 in
     (first.0, second.0, third.0, tail_is 10 10 x y third.1)
 
@@ -87,11 +87,11 @@ left_two word a b r x = simp append_assoc
 
 -- the numbers behind one word
 numbers_split : (word : List ℕ) (a b c d e f : ℕ) (x y : List ℕ) → (a < 2 ^ 64) × (b < 2 ^ 64) × (c < 2 ^ 64) → (d < 2 ^ 64) × (e < 2 ^ 64) × (f < 2 ^ 64)
-    → (word ++ spaced a ++ spaced b ++ spaced c ++ 10 ∷ []) ++ x ≡ (word ++ spaced d ++ spaced e ++ spaced f ++ 10 ∷ []) ++ y → (a ≡ d) × (b ≡ e) × (c ≡ f) × (x ≡ y)
+    → (word ++ space_number a ++ space_number b ++ space_number c ++ 10 ∷ []) ++ x ≡ (word ++ space_number d ++ space_number e ++ space_number f ++ 10 ∷ []) ++ y → (a ≡ d) × (b ≡ e) × (c ≡ f) × (x ≡ y)
 numbers_split word a b c d e f x y small other is =
     three_split a b c d e f x y small other
-    (cancel word (spaced a ++ (spaced b ++ (spaced c ++ 10 ∷ x))) (spaced d ++ (spaced e ++ (spaced f ++ 10 ∷ y)))
-    (sym (left_three word (spaced a) (spaced b) (spaced c) x) ∙ is ∙ left_three word (spaced d) (spaced e) (spaced f) y))
+    (cancel word (space_number a ++ (space_number b ++ (space_number c ++ 10 ∷ x))) (space_number d ++ (space_number e ++ (space_number f ++ 10 ∷ y)))
+    (sym (left_three word (space_number a) (space_number b) (space_number c) x) ∙ is ∙ left_three word (space_number d) (space_number e) (space_number f) y))
 
 colour_at : ℕ → Colour
 colour_at number = record { 0 = number }
@@ -111,10 +111,10 @@ reg_split : (c d : Colour) (e f : Event) (by other : ℕ) (x y : List ℕ) → I
 unfolding colour_at
 reg_split c d e f by other x y small small' is =
     let low : 32 < 48 = omega arith in
-    let body : spaced c.0 ++ (spaced e.handler ++ (spaced e.arg ++ (spaced by ++ 10 ∷ x))) ≡ spaced d.0 ++ (spaced f.handler ++ (spaced f.arg ++ (spaced other ++ 10 ∷ y))) =
-    cancel (codes "reg") (spaced c.0 ++ (spaced e.handler ++ (spaced e.arg ++ (spaced by ++ 10 ∷ x)))) (spaced d.0 ++ (spaced f.handler ++ (spaced f.arg ++ (spaced other ++ 10 ∷ y))))
-    (sym (left_four (codes "reg") (spaced c.0) (spaced e.handler) (spaced e.arg) (spaced by) x) ∙ is ∙ left_four (codes "reg") (spaced d.0) (spaced f.handler) (spaced f.arg) (spaced other) y) in
-    let first = spaced_split c.0 d.0 (spaced e.handler ++ (spaced e.arg ++ (spaced by ++ 10 ∷ x))) (spaced f.handler ++ (spaced f.arg ++ (spaced other ++ 10 ∷ y))) small.0 small'.0 low low body in
+    let body : space_number c.0 ++ (space_number e.handler ++ (space_number e.arg ++ (space_number by ++ 10 ∷ x))) ≡ space_number d.0 ++ (space_number f.handler ++ (space_number f.arg ++ (space_number other ++ 10 ∷ y))) =
+    cancel (codes "reg") (space_number c.0 ++ (space_number e.handler ++ (space_number e.arg ++ (space_number by ++ 10 ∷ x)))) (space_number d.0 ++ (space_number f.handler ++ (space_number f.arg ++ (space_number other ++ 10 ∷ y))))
+    (sym (left_four (codes "reg") (space_number c.0) (space_number e.handler) (space_number e.arg) (space_number by) x) ∙ is ∙ left_four (codes "reg") (space_number d.0) (space_number f.handler) (space_number f.arg) (space_number other) y) in
+    let first = spaced_split c.0 d.0 (space_number e.handler ++ (space_number e.arg ++ (space_number by ++ 10 ∷ x))) (space_number f.handler ++ (space_number f.arg ++ (space_number other ++ 10 ∷ y))) small.0 small'.0 low low body in
     let rest = three_split e.handler e.arg by f.handler f.arg other x y (small.1, small.2, small.3) (small'.1, small'.2, small'.3) first.1 in (
       ap (λ k. Reg (colour_at k) e by) first.0 ∙ ap (λ k. Reg d (record { handler = k; arg = e.arg }) by) rest.0
           ∙ ap (λ k. Reg d (record { handler = f.handler; arg = k }) by) rest.1 ∙ ap (λ k. Reg d f k) rest.2,
@@ -154,10 +154,10 @@ entries_split (e ∷ a) (f ∷ b) x y small small' long is =
 pub shard_split : (number : ℕ) (a b : List Entry) (x y : List ℕ) → AreSmall a → AreSmall b → shard_text number a ++ x ≡ shard_text number b ++ y → (a ≡ b) × (x ≡ y)
 shard_split number a b x y small small' is =
     let feed : 10 < 48 = omega arith in
-    let counted = cancel (spaced number) (spaced (length a) ++ 10 ∷ (flat_map entry_line a ++ x)) (spaced (length b) ++ 10 ∷ (flat_map entry_line b ++ y))
-    (cancel (codes "shard") (spaced number ++ (spaced (length a) ++ 10 ∷ (flat_map entry_line a ++ x))) (spaced number ++ (spaced (length b) ++ 10 ∷ (flat_map entry_line b ++ y)))
-    (sym (left_two (codes "shard") (spaced number) (spaced (length a)) (flat_map entry_line a) x) ∙ is
-    ∙ left_two (codes "shard") (spaced number) (spaced (length b)) (flat_map entry_line b) y)) in
+    let counted = cancel (space_number number) (space_number (length a) ++ 10 ∷ (flat_map entry_line a ++ x)) (space_number (length b) ++ 10 ∷ (flat_map entry_line b ++ y))
+    (cancel (codes "shard") (space_number number ++ (space_number (length a) ++ 10 ∷ (flat_map entry_line a ++ x))) (space_number number ++ (space_number (length b) ++ 10 ∷ (flat_map entry_line b ++ y)))
+    (sym (left_two (codes "shard") (space_number number) (space_number (length a)) (flat_map entry_line a) x) ∙ is
+    ∙ left_two (codes "shard") (space_number number) (space_number (length b)) (flat_map entry_line b) y)) in
     let parts = spaced_split (length a) (length b) (10 ∷ (flat_map entry_line a ++ x)) (10 ∷ (flat_map entry_line b ++ y)) small.1 small'.1 feed feed counted in
     entries_split a b x y small.0 small'.0 parts.0 (tail_is 10 10 (flat_map entry_line a ++ x) (flat_map entry_line b ++ y) parts.1)
 

@@ -3,23 +3,23 @@ use Rattle.std.specs.Prelude.{ℕ, ◌+◌, ◌^◌, ◌<◌, List, [], ◌∷�
 use Rattle.std.specs.List.{flat_map, AllByRecursion}
 use Rattle.mely_history.specs.declared.entry.Entry.{Entry}
 use Rattle.mely_history.specs.declared.entry.Entry.TheVariants.{Reg, Take, Fin, Steal}
-use Rattle.sws_report.specs.Numbers.{spaced}
+use Rattle.sws_report.specs.Numbers.{space_number}
 
 -- the line of an entry
 abbrev pub entry_line : Entry → List ℕ
 entry_line (Reg colour event by) =
-    codes "reg" ++ spaced colour.0 ++ spaced event.handler ++ spaced event.arg
-    ++ spaced by ++ 10 ∷ []
+    codes "reg" ++ space_number colour.0 ++ space_number event.handler ++ space_number event.arg
+    ++ space_number by ++ 10 ∷ []
 entry_line (Take colour core count) =
-    codes "take" ++ spaced colour.0 ++ spaced core ++ spaced count ++ 10 ∷ []
+    codes "take" ++ space_number colour.0 ++ space_number core ++ space_number count ++ 10 ∷ []
 entry_line (Fin colour core count) =
-    codes "fin" ++ spaced colour.0 ++ spaced core ++ spaced count ++ 10 ∷ []
+    codes "fin" ++ space_number colour.0 ++ space_number core ++ space_number count ++ 10 ∷ []
 entry_line (Steal colour from to) =
-    codes "steal" ++ spaced colour.0 ++ spaced from ++ spaced to ++ 10 ∷ []
+    codes "steal" ++ space_number colour.0 ++ space_number from ++ space_number to ++ 10 ∷ []
 
 -- the line of a shard: its number, and how many entries its history has
 abbrev pub shard_line : ℕ → ℕ → List ℕ
-shard_line number count = codes "shard" ++ spaced number ++ spaced count ++ 10 ∷ []
+shard_line number count = codes "shard" ++ space_number number ++ space_number count ++ 10 ∷ []
 
 -- a shard: its line, and a line for each entry
 abbrev pub shard_text : ℕ → List Entry → List ℕ

@@ -3,7 +3,7 @@ use Rattle.std.specs.Prelude.{ℕ, Bool, true, false, List, [], ◌∷◌, ◌++
 use Rattle.std.specs.List.{count_by}
 use Rattle.sws_steps.specs.declared.End.{End}
 use Rattle.sws_steps.specs.declared.End.TheVariants.{Done, Idle, Fault}
-use Rattle.sws_report.specs.Numbers.{spaced}
+use Rattle.sws_report.specs.Numbers.{space_number}
 
 -- the connection ended well
 abbrev pub is_done : End → Bool
@@ -23,15 +23,15 @@ is_fault _ = false
 -- how many connections there are, and how many of them ended in each way
 abbrev pub ends_line : List End → List ℕ
 ends_line ends =
-    (codes "connections" ++ spaced (length ends))
-    ++ (codes " done" ++ spaced (count_by is_done ends))
-    ++ (codes " idle" ++ spaced (count_by is_idle ends))
-    ++ (codes " fault" ++ spaced (count_by is_fault ends)) ++ 10 ∷ []
+    (codes "connections" ++ space_number (length ends))
+    ++ (codes " done" ++ space_number (count_by is_done ends))
+    ++ (codes " idle" ++ space_number (count_by is_idle ends))
+    ++ (codes " fault" ++ space_number (count_by is_fault ends)) ++ 10 ∷ []
 
 -- how many bytes were read and written in all
 abbrev pub bytes_line : ℕ → ℕ → List ℕ
 bytes_line read written =
-    (codes "read" ++ spaced read) ++ (codes " written" ++ spaced written) ++ 10 ∷ []
+    (codes "read" ++ space_number read) ++ (codes " written" ++ space_number written) ++ 10 ∷ []
 
 -- the summary of these ends, and of so many bytes read and written
 abbrev pub summary : List End → ℕ → ℕ → List ℕ

@@ -3,7 +3,7 @@ use Rattle.std.specs.Prelude.{ℕ, ◌+◌, List, [], ◌∷◌, ◌++◌, lengt
 use Rattle.sws_text.specs.Shown.{shown}
 use Rattle.sws_steps.specs.declared.End.{End}
 use Rattle.sws_steps.specs.declared.End.TheVariants.{Done, Idle, Fault, Memory}
-use Rattle.sws_report.specs.Numbers.{spaced}
+use Rattle.sws_report.specs.Numbers.{space_number}
 
 -- how a connection ended; want of memory has no word
 abbrev pub end_word : End → List ℕ
@@ -15,7 +15,7 @@ end_word Memory = []
 -- the line of a connection: its number, its end, and how many bytes were written
 abbrev pub conn_line : ℕ → End → ℕ → List ℕ
 conn_line number end count =
-    codes "conn" ++ spaced number ++ end_word end ++ spaced count ++ 10 ∷ []
+    codes "conn" ++ space_number number ++ end_word end ++ space_number count ++ 10 ∷ []
 
 -- a connection: its line, and the lines that show the bytes
 abbrev pub conn_text : ℕ → End → List ℕ → List ℕ

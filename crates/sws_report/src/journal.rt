@@ -5,7 +5,7 @@ ghost use Rattle.std.specs.List.{flat_map};
 ghost use Rattle.sws_link.specs.declared.Put.TheVariants as put;
 ghost use Rattle.sws_link.specs.Counts.{HasCause};
 ghost use Rattle.sws_link.specs.Contents.{Puts};
-ghost use Rattle.sws_report.specs.Numbers.{spaced};
+ghost use Rattle.sws_report.specs.Numbers.{space_number};
 ghost use Rattle.sws_report.specs.Journal.{entry_line, shard_line, journal_from, journal};
 
 use crate::numbers::push_spaced;
@@ -110,7 +110,8 @@ fn push_three(
     third: u16,
 ) -> Result<(), AllocError>
     ensures { OnOk result (text.new.items
-        ≡ text.old.items ++ word.now ++ spaced first ++ spaced second ++ spaced third ++ 10 ∷ []) }
+        ≡ text.old.items ++ word.now ++ space_number first ++ space_number second
+        ++ space_number third ++ 10 ∷ []) }
 {
     text.extend_from_slice(word)?;
     push_spaced(text, first as u64)?;

@@ -5,7 +5,7 @@ ghost use Rattle.sws_steps.specs.declared.End.TheVariants as how;
 ghost use Rattle.sws_link.specs.declared.Put.TheVariants as put;
 ghost use Rattle.sws_link.specs.Counts.{HasCause};
 ghost use Rattle.sws_link.specs.Contents.{Puts};
-ghost use Rattle.sws_report.specs.Numbers.{spaced};
+ghost use Rattle.sws_report.specs.Numbers.{space_number};
 ghost use Rattle.sws_report.specs.Summary.{is_done, is_idle, is_fault, ends_line, bytes_line, summary};
 
 use crate::numbers::push_spaced;
@@ -68,7 +68,7 @@ fn push_bytes(text: &mut Vec<u8>, read: u64, written: u64) -> Result<(), AllocEr
 
 /// Adds a word and a number.
 fn push_counted(text: &mut Vec<u8>, word: &[u8], number: u64) -> Result<(), AllocError>
-    ensures { OnOk result (text.new.items ≡ text.old.items ++ (word.now ++ spaced number)) }
+    ensures { OnOk result (text.new.items ≡ text.old.items ++ (word.now ++ space_number number)) }
 {
     text.extend_from_slice(word)?;
     push_spaced(text, number)?;

@@ -8,7 +8,7 @@ use Rattle.std.proofs.lemmas.List.Elements.{All-from_get_or}
 use Rattle.memchr.specs.Find.{NoneBefore, Nowhere, Passes, is_byte}
 use Rattle.sws_request.specs.declared.cuts.Cut.TheVariants.{Head}
 use Rattle.sws_request.specs.declared.head.Found.TheVariants.{Lines}
-use Rattle.sws_request.specs.Head.{joined, IsLine, IsEmptyLine, IsHead, HasNoHeadWithin, IsCutOf}
+use Rattle.sws_request.specs.Head.{join_lines, IsLine, IsEmptyLine, IsHead, HasNoHeadWithin, IsCutOf}
 use Rattle.sws_request.specs.Cuts.{lines_of, is_empty_line, up_to_empty, head_lines}
 use Rattle.sws_request.specs.Scans.{whole_lines, has_other, rest_len, IsFound}
 use Rattle.sws_request.proofs.HeadLemmas.{IsNotFeed, EndsAt, NeverEnds}
@@ -44,7 +44,7 @@ IsScanned-line : (bytes : List ℕ) (first : Bool) (start : ℕ) (begun : Bool) 
 IsScanned-line bytes first start begun line scanned next goes_on = record {
   within = let long = ap length next.is in let some = scanned.within in omega (arith, length-append line (drop (start + length line) bytes), length-drop start bytes, length-drop (start + length line) bytes);
   ends = scanned.ends ∙ ap (option_map (λ len. start + len)) (ap (rest_len begun) lines ∙ rest_len-line begun line later goes_on) ∙ both (rest_len after later);
-  size = let all = scanned.size in let one = ap (λ l. length (joined l)) lines in omega (arith, length-append line (joined later));
+  size = let all = scanned.size in let one = ap (λ l. length (join_lines l)) lines in omega (arith, length-append line (join_lines later));
   others = scanned.others ∙ ap (λ l. begun || has_other l) lines ∙ sym (or_assoc begun (not (is_empty_line line)) (has_other later));
 }
   where
@@ -111,7 +111,7 @@ pub IsFound-none : (bytes : List ℕ) (first : Bool) (start : ℕ) (begun : Bool
 unfolding up_to_empty head_lines
 IsFound-none bytes first start begun scanned none = (
   scanned.ends ∙ ap (λ l. option_map (λ len. start + len) (rest_len begun l)) no_lines ∙ ap (option_map (λ len. start + len)) (none_of begun),
-  (let size = scanned.size in let nothing = ap (λ l. length (joined l)) no_lines in omega arith),
+  (let size = scanned.size in let nothing = ap (λ l. length (join_lines l)) no_lines in omega arith),
   sym (scanned.others ∙ ap (λ l. begun || has_other l) no_lines ∙ or-false begun),
 )
   where

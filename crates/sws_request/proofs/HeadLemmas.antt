@@ -3,7 +3,7 @@ use Rattle.std.specs.Prelude.{◌≡◌, ◌≢◌, ℕ, ◌+◌, ◌-◌, ◌<�
 use Rattle.std.proofs.Common.{zero, suc, refl, sym, ap, ◌∙◌, subst, inl, inr, arith, append_assoc, append-nil, length-append, true-eqb, false-eqb, leb-true, leb-false}
 use Rattle.std.proofs.lemmas.List.Elements.{All-nil, All-cons, All-head, All-tail}
 use Rattle.sws_request.specs.declared.cuts.Cut.TheVariants.{Head}
-use Rattle.sws_request.specs.Head.{joined, line_feed, IsLine, IsEmptyLine, IsOtherLine, IsRestOfHead, IsHead, HasNoHeadWithin, head_limit, IsCutOf}
+use Rattle.sws_request.specs.Head.{join_lines, line_feed, IsLine, IsEmptyLine, IsOtherLine, IsRestOfHead, IsHead, HasNoHeadWithin, head_limit, IsCutOf}
 
 -- ---- lines
 
@@ -85,18 +85,18 @@ pub data FirstLine (begun : Bool) (bytes : List ℕ) : Type 0 where
 Ends-first : (begun : Bool) (bytes : List ℕ) → Ends begun bytes → FirstLine begun bytes
 Ends-first true bytes h = by_others h.others h.other_lines h.is
   where
-    by_others : (others : List (List ℕ)) → All IsOtherLine others → bytes ≡ joined others ++ h.last → FirstLine true bytes
+    by_others : (others : List (List ℕ)) → All IsOtherLine others → bytes ≡ join_lines others ++ h.last → FirstLine true bytes
     by_others [] all is = last h.last h.last_line refl (is ∙ sym (append-nil h.last))
     by_others (line ∷ others) all is =
-        other line (joined others ++ h.last) (All-head IsOtherLine line others all)
+        other line (join_lines others ++ h.last) (All-head IsOtherLine line others all)
         (record { others = others; last = h.last; other_lines = All-tail IsOtherLine line others all; last_line = h.last_line; is = refl })
-        (is ∙ append_assoc line (joined others) h.last)
+        (is ∙ append_assoc line (join_lines others) h.last)
 Ends-first false bytes h = by_blank h.blank h.blank_lines h.is
   where
-    by_blank : (lines : List (List ℕ)) → All IsEmptyLine lines → bytes ≡ joined lines ++ (h.first ++ h.rest) → FirstLine false bytes
+    by_blank : (lines : List (List ℕ)) → All IsEmptyLine lines → bytes ≡ join_lines lines ++ (h.first ++ h.rest) → FirstLine false bytes
     by_blank [] all is = other h.first h.rest h.first_line h.rest_of_head is
     by_blank (line ∷ lines) all is =
-        blank line (joined lines ++ (h.first ++ h.rest)) (All-head IsEmptyLine line lines all) refl
+        blank line (join_lines lines ++ (h.first ++ h.rest)) (All-head IsEmptyLine line lines all) refl
         (record {
           blank = lines;
           first = h.first;
@@ -106,7 +106,7 @@ Ends-first false bytes h = by_blank h.blank h.blank_lines h.is
           rest_of_head = h.rest_of_head;
           is = refl;
         })
-        (is ∙ append_assoc line (joined lines) (h.first ++ h.rest))
+        (is ∙ append_assoc line (join_lines lines) (h.first ++ h.rest))
 
 -- so it has an LF
 Ends-feed : (begun : Bool) (bytes : List ℕ) → All IsNotFeed bytes → Ends begun bytes → ⊥
@@ -143,7 +143,7 @@ Leads-blank line empty = record { on = λ rest h. by_first rest (Ends-first fals
       blank_lines = All-cons IsEmptyLine line h.blank empty h.blank_lines;
       first_line = h.first_line;
       rest_of_head = h.rest_of_head;
-      is = ap (λ r. line ++ r) h.is ∙ sym (append_assoc line (joined h.blank) (h.first ++ h.rest));
+      is = ap (λ r. line ++ r) h.is ∙ sym (append_assoc line (join_lines h.blank) (h.first ++ h.rest));
     }
 
 -- another line begins the head, or goes on with it
@@ -173,7 +173,7 @@ Leads-other begun line is = record { on = λ rest h. by_first rest (Ends-first b
       last = h.last;
       other_lines = All-cons IsOtherLine line h.others is h.other_lines;
       last_line = h.last_line;
-      is = ap (λ r. line ++ r) h.is ∙ sym (append_assoc line (joined h.others) h.last);
+      is = ap (λ r. line ++ r) h.is ∙ sym (append_assoc line (join_lines h.others) h.last);
     }
 
 -- an empty line ends a head that has begun

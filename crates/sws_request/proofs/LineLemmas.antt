@@ -2,7 +2,7 @@
 use Rattle.std.specs.Prelude.{◌≡◌, ℕ, ◌+◌, ◌<◌, ◌==◌, Bool, true, false, ◌||◌, ◌&&◌, not, if◌then◌else◌, List, [], ◌∷◌, ◌++◌, length, All, Option, Some, None, option_map}
 use Rattle.std.proofs.Common.{zero, suc, refl, sym, ap, ◌∙◌, subst, inl, inr, arith, append_assoc, append-nil, length-append, ne_eqb, true-eqb, false-eqb}
 use Rattle.std.proofs.lemmas.List.Elements.{All-nil, All-cons, All-head, All-tail}
-use Rattle.sws_request.specs.Head.{joined, line_feed, IsLine, IsEmptyLine}
+use Rattle.sws_request.specs.Head.{join_lines, line_feed, IsLine, IsEmptyLine}
 use Rattle.sws_request.specs.Cuts.{before_first, lines_of, is_empty_line, up_to_empty, head_lines}
 use Rattle.sws_request.specs.Scans.{whole_lines, has_other, EndsWithLine, rest_len}
 use Rattle.sws_request.proofs.HeadLemmas.{IsNotFeed, Beginning, no_line, a_line, beginning_of, EndsAt, NeverEnds, NeverEnds-no_feed, EndsAt-last, EndsAt-line, NeverEnds-line, Leads, Leads-blank, Leads-other}
@@ -49,11 +49,11 @@ lines_of-line line rest is =
     ap lines_of (ap (λ l. l ++ rest) is.is ∙ append_assoc is.text (10 ∷ []) rest) ∙ lines_of-text is.text rest is.no_feed ∙ ap (λ l. l ∷ lines_of rest) (sym is.is)
 
 -- and so are several
-lines_of-joined : (lines : List (List ℕ)) (rest : List ℕ) → All IsLine lines → lines_of (joined lines ++ rest) ≡ lines ++ lines_of rest
+lines_of-joined : (lines : List (List ℕ)) (rest : List ℕ) → All IsLine lines → lines_of (join_lines lines ++ rest) ≡ lines ++ lines_of rest
 lines_of-joined [] rest all = refl
 lines_of-joined (line ∷ lines) rest all =
-    ap lines_of (append_assoc line (joined lines) rest)
-    ∙ lines_of-line line (joined lines ++ rest) (All-head IsLine line lines all)
+    ap lines_of (append_assoc line (join_lines lines) rest)
+    ∙ lines_of-line line (join_lines lines ++ rest) (All-head IsLine line lines all)
     ∙ ap (λ l. line ∷ l) (lines_of-joined lines rest (All-tail IsLine line lines all))
 
 -- what the lines of some bytes are
@@ -80,8 +80,8 @@ unfolding lines_of
 whole_lines-front [] = ([], refl)
 whole_lines-front (b ∷ bytes) = by_test (b == 10) (lines_of bytes) (whole_lines-front bytes)
   where
-    by_test : (t : Bool) (lines : List (List ℕ)) → (rest : List ℕ) × (bytes ≡ joined lines ++ rest)
-        → (rest : List ℕ) × (b ∷ bytes ≡ joined (if t then (b ∷ []) ∷ lines else before_first b lines) ++ rest)
+    by_test : (t : Bool) (lines : List (List ℕ)) → (rest : List ℕ) × (bytes ≡ join_lines lines ++ rest)
+        → (rest : List ℕ) × (b ∷ bytes ≡ join_lines (if t then (b ∷ []) ∷ lines else before_first b lines) ++ rest)
     by_test true lines (rest, is) = (rest, ap (λ l. b ∷ l) is)
     by_test false [] (rest, is) = (b ∷ bytes, refl)
     by_test false (line ∷ lines) (rest, is) = (rest, ap (λ l. b ∷ l) is)
@@ -92,7 +92,7 @@ unfolding lines_of
 whole_lines-text [] = refl
 whole_lines-text (b ∷ text) = by_test (b == 10) (lines_of (text ++ 10 ∷ [])) (whole_lines-text text)
   where
-    by_test : (t : Bool) (lines : List (List ℕ)) → joined lines ≡ text ++ 10 ∷ [] → joined (if t then (b ∷ []) ∷ lines else before_first b lines) ≡ b ∷ (text ++ 10 ∷ [])
+    by_test : (t : Bool) (lines : List (List ℕ)) → join_lines lines ≡ text ++ 10 ∷ [] → join_lines (if t then (b ∷ []) ∷ lines else before_first b lines) ≡ b ∷ (text ++ 10 ∷ [])
     by_test true lines is = ap (λ l. b ∷ l) is
     by_test false [] is = absurd (let size = ap length is in omega (arith, length-append text (10 ∷ [])))
     by_test false (line ∷ lines) is = ap (λ l. b ∷ l) is
@@ -103,14 +103,14 @@ whole_lines-ends bytes (inl none) = ap whole_lines none ∙ sym none
 whole_lines-ends bytes (inr (text, is)) = ap whole_lines is ∙ whole_lines-text text ∙ sym is
 
 -- and whole lines end with LF
-joined-ends : (lines : List (List ℕ)) → All IsLine lines → EndsWithLine (joined lines)
+joined-ends : (lines : List (List ℕ)) → All IsLine lines → EndsWithLine (join_lines lines)
 joined-ends [] all = inl refl
 joined-ends (line ∷ lines) all = by_rest (joined-ends lines (All-tail IsLine line lines all))
   where
     first : IsLine line
     first = All-head IsLine line lines all
 
-    by_rest : EndsWithLine (joined lines) → EndsWithLine (line ++ joined lines)
+    by_rest : EndsWithLine (join_lines lines) → EndsWithLine (line ++ join_lines lines)
     by_rest (inl none) = inr (first.text, ap (λ r. line ++ r) none ∙ append-nil line ∙ first.is)
     by_rest (inr (text, is)) = inr (line ++ text, ap (λ r. line ++ r) is ∙ sym (append_assoc line text (10 ∷ [])))
 
@@ -134,31 +134,31 @@ lines_of-behind front rest whole =
 pub rest_len-last : (line : List ℕ) (lines : List (List ℕ)) → is_empty_line line ≡ true → rest_len true (line ∷ lines) ≡ Some (length line)
 unfolding up_to_empty
 rest_len-last line lines e =
-    ap (λ t. option_map (λ head. length (joined head)) (if t then Some (line ∷ []) else option_map (λ later. line ∷ later) (up_to_empty lines))) e
+    ap (λ t. option_map (λ head. length (join_lines head)) (if t then Some (line ∷ []) else option_map (λ later. line ∷ later) (up_to_empty lines))) e
     ∙ ap (λ l. Some (length l)) (append-nil line)
 
 further : (line : List ℕ) (found : Option (List (List ℕ)))
-    → option_map (λ head. length (joined head)) (option_map (λ later. line ∷ later) found)
-    ≡ option_map (λ len. length line + len) (option_map (λ head. length (joined head)) found)
+    → option_map (λ head. length (join_lines head)) (option_map (λ later. line ∷ later) found)
+    ≡ option_map (λ len. length line + len) (option_map (λ head. length (join_lines head)) found)
 further line None = refl
-further line (Some later) = ap Some (length-append line (joined later))
+further line (Some later) = ap Some (length-append line (join_lines later))
 
 pub rest_len-line : (begun : Bool) (line : List ℕ) (lines : List (List ℕ)) → (begun && is_empty_line line) ≡ false
     → rest_len begun (line ∷ lines) ≡ option_map (λ len. length line + len) (rest_len (begun || not (is_empty_line line)) lines)
 unfolding up_to_empty head_lines
 rest_len-line true line lines e =
-    ap (λ t. option_map (λ head. length (joined head)) (if t then Some (line ∷ []) else option_map (λ later. line ∷ later) (up_to_empty lines))) e
+    ap (λ t. option_map (λ head. length (join_lines head)) (if t then Some (line ∷ []) else option_map (λ later. line ∷ later) (up_to_empty lines))) e
     ∙ further line (up_to_empty lines)
 rest_len-line false line lines e = by_test (is_empty_line line)
   where
-    by_test : (t : Bool) → option_map (λ head. length (joined head)) (option_map (λ later. line ∷ later) (if t then head_lines lines else up_to_empty lines))
+    by_test : (t : Bool) → option_map (λ head. length (join_lines head)) (option_map (λ later. line ∷ later) (if t then head_lines lines else up_to_empty lines))
         ≡ option_map (λ len. length line + len) (rest_len (not t) lines)
     by_test true = further line (head_lines lines)
     by_test false = further line (up_to_empty lines)
 
 -- behind lines in which the head doesn't end
 pub rest_len-behind : (begun : Bool) (lines more : List (List ℕ)) → rest_len begun lines ≡ None
-    → rest_len begun (lines ++ more) ≡ option_map (λ len. length (joined lines) + len) (rest_len (begun || has_other lines) more)
+    → rest_len begun (lines ++ more) ≡ option_map (λ len. length (join_lines lines) + len) (rest_len (begun || has_other lines) more)
 rest_len-behind begun [] more none =
     sym (same (rest_len begun more)) ∙ ap (λ b. option_map (λ len. 0 + len) (rest_len b more)) (sym (or-false begun))
   where
@@ -176,10 +176,10 @@ rest_len-behind begun (line ∷ lines) more none =
     none_of None e = refl
     none_of (Some len) e = cc
 
-    both : (found : Option ℕ) → option_map (λ len. length line + len) (option_map (λ len. length (joined lines) + len) found)
-        ≡ option_map (λ len. length (line ++ joined lines) + len) found
+    both : (found : Option ℕ) → option_map (λ len. length line + len) (option_map (λ len. length (join_lines lines) + len) found)
+        ≡ option_map (λ len. length (line ++ join_lines lines) + len) found
     both None = refl
-    both (Some len) = ap Some (let e : length line + (length (joined lines) + len) ≡ length (line ++ joined lines) + len = omega (arith, length-append line (joined lines)) in e)
+    both (Some len) = ap Some (let e : length line + (length (join_lines lines) + len) ≡ length (line ++ join_lines lines) + len = omega (arith, length-append line (join_lines lines)) in e)
 
     or_assoc : (a b c : Bool) → ((a || b) || c) ≡ (a || (b || c))
     or_assoc true b c = refl
@@ -190,9 +190,9 @@ rest_len-behind begun (line ∷ lines) more none =
     last false t e = cc
 
     by_end : ((next : Bool) → rest_len next lines ≡ None
-        → rest_len next (lines ++ more) ≡ option_map (λ len. length (joined lines) + len) (rest_len (next || has_other lines) more))
+        → rest_len next (lines ++ more) ≡ option_map (λ len. length (join_lines lines) + len) (rest_len (next || has_other lines) more))
         → (t : Bool) → (begun && is_empty_line line) ≡ t
-        → rest_len begun (line ∷ (lines ++ more)) ≡ option_map (λ len. length (joined (line ∷ lines)) + len) (rest_len (begun || has_other (line ∷ lines)) more)
+        → rest_len begun (line ∷ (lines ++ more)) ≡ option_map (λ len. length (join_lines (line ∷ lines)) + len) (rest_len (begun || has_other (line ∷ lines)) more)
     by_end later true e =
         let ends = last begun (is_empty_line line) e in
         let some : rest_len begun (line ∷ lines) ≡ Some (length line) =
@@ -203,7 +203,7 @@ rest_len-behind begun (line ∷ lines) more none =
         rest_len-line begun line (lines ++ more) e
         ∙ ap (option_map (λ len. length line + len)) (later next (none_of (rest_len next lines) (sym (rest_len-line begun line lines e) ∙ none)))
         ∙ both (rest_len (next || has_other lines) more)
-        ∙ ap (λ b. option_map (λ len. length (line ++ joined lines) + len) (rest_len b more)) (or_assoc begun (not (is_empty_line line)) (has_other lines))
+        ∙ ap (λ b. option_map (λ len. length (line ++ join_lines lines) + len) (rest_len b more)) (or_assoc begun (not (is_empty_line line)) (has_other lines))
 
 -- where the head ends, as a length; it has no end where there is none
 abbrev pub IsEnding : Bool → List ℕ → Option ℕ → Type 0

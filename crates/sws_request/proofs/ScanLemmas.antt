@@ -5,7 +5,7 @@ use Rattle.std.proofs.lemmas.List.Folds.{list_any-append}
 use Rattle.sws_request.specs.declared.cuts.Cut.{Cut}
 use Rattle.sws_request.specs.declared.cuts.Cut.TheVariants.{Head, TooLong, NotYet}
 use Rattle.sws_request.specs.declared.scans.Scan.{Scan}
-use Rattle.sws_request.specs.Head.{HasNoHeadWithin, head_limit, IsCutOf, joined}
+use Rattle.sws_request.specs.Head.{HasNoHeadWithin, head_limit, IsCutOf, join_lines}
 use Rattle.sws_request.specs.Cuts.{lines_of, is_empty_line, cut_of}
 use Rattle.sws_request.specs.Scans.{whole_lines, has_other, StandsFor, rest_len}
 use Rattle.sws_request.proofs.LineLemmas.{ending-is, IsEnding, whole_lines-front, whole_lines-end, lines_of-whole, lines_of-behind, whole_lines-ends, rest_len-behind}
@@ -33,7 +33,7 @@ module _ (scan : Scan) (front : List ℕ) (stands : StandsFor scan front) where
   behind rest =
       ap (rest_len false) (lines_of-behind front rest stands.whole)
       ∙ rest_len-behind false (lines_of front) (lines_of rest) (no_end front stands.not_yet)
-      ∙ ap (λ b. option_map (λ len. length (joined (lines_of front)) + len) (rest_len b (lines_of rest))) (sym stands.begun)
+      ∙ ap (λ b. option_map (λ len. length (join_lines (lines_of front)) + len) (rest_len b (lines_of rest))) (sym stands.begun)
       ∙ ap (λ n. option_map (λ len. n + len) (rest_len scan.begun (lines_of rest))) (ap length (whole_lines-ends front stands.whole) ∙ sym stands.at)
 
   -- the bytes of which a head may consist
@@ -83,7 +83,7 @@ module _ (scan : Scan) (front : List ℕ) (stands : StandsFor scan front) where
       → next.begun ≡ (scan.begun || has_other (lines_of rest)) → StandsFor next (whole_lines (front ++ rest))
   stands-on rest next not_yet at begun = record {
     at = at ∙ ap (λ n. n + length (whole_lines rest)) (stands.at ∙ ap length (sym (whole_lines-ends front stands.whole)))
-        ∙ sym (length-append (whole_lines front) (whole_lines rest)) ∙ ap length (sym (joined-behind (lines_of front) (lines_of rest)) ∙ ap joined (sym lines));
+        ∙ sym (length-append (whole_lines front) (whole_lines rest)) ∙ ap length (sym (joined-behind (lines_of front) (lines_of rest)) ∙ ap join_lines (sym lines));
     whole = whole_lines-end all;
     not_yet = by_cut (cut_of (whole_lines all)) refl;
     begun = begun ∙ ap (λ b. b || has_other (lines_of rest)) stands.begun
@@ -96,9 +96,9 @@ module _ (scan : Scan) (front : List ℕ) (stands : StandsFor scan front) where
       lines : lines_of (front ++ rest) ≡ lines_of front ++ lines_of rest
       lines = lines_of-behind front rest stands.whole
 
-      joined-behind : (a b : List (List ℕ)) → joined (a ++ b) ≡ joined a ++ joined b
+      joined-behind : (a b : List (List ℕ)) → join_lines (a ++ b) ≡ join_lines a ++ join_lines b
       joined-behind [] b = refl
-      joined-behind (line ∷ a) b = ap (λ l. line ++ l) (joined-behind a b) ∙ sym (append_assoc line (joined a) (joined b))
+      joined-behind (line ∷ a) b = ap (λ l. line ++ l) (joined-behind a b) ∙ sym (append_assoc line (join_lines a) (join_lines b))
 
       grown : (cut : Cut) → cut_of (whole_lines (front ++ rest)) ≡ cut → cut ≢ NotYet → cut ≡ NotYet
       grown cut e there =

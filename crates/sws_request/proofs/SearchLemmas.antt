@@ -5,7 +5,7 @@ use Rattle.std.proofs.Common.{refl, sym, ap, ◌∙◌, subst, arith, length-app
 use Rattle.std.proofs.Math.Seq.{take-append_seam}
 use Rattle.sws_request.specs.declared.scans.Scan.{Scan}
 use Rattle.sws_request.specs.declared.cuts.Cut.TheVariants.{TooLong, NotYet}
-use Rattle.sws_request.specs.Head.{joined, line_feed, head_limit}
+use Rattle.sws_request.specs.Head.{join_lines, line_feed, head_limit}
 use Rattle.sws_request.specs.Cuts.{before_first, lines_of, cut_by, cut_of}
 use Rattle.sws_request.specs.Scans.{whole_lines, rest_len, StandsFor}
 use Rattle.sws_request.proofs.LineLemmas.{whole_lines-front, lines_of-whole}
@@ -51,7 +51,7 @@ lines_of-quiet (b ∷ bytes) more quiet =
 -- and so the search stops where it did
 pub StandsFor-quiet : (scan : Scan) (bytes more : List ℕ) → has_feed more ≡ false → StandsFor scan (whole_lines bytes)
     → StandsFor scan (whole_lines (bytes ++ more))
-StandsFor-quiet scan bytes more quiet stands = subst (λ lines. StandsFor scan (joined lines)) (sym (lines_of-quiet bytes more quiet)) stands
+StandsFor-quiet scan bytes more quiet stands = subst (λ lines. StandsFor scan (join_lines lines)) (sym (lines_of-quiet bytes more quiet)) stands
 
 -- nothing is found in few bytes whose whole lines were searched
 pub cut_of-searched : (scan : Scan) (bytes : List ℕ) → StandsFor scan (whole_lines bytes) → length bytes < head_limit → cut_of bytes ≡ NotYet

@@ -2,7 +2,7 @@
 use Rattle.std.specs.Prelude.{ℕ, ◌==◌, nat_le, Bool, false, ◌&&◌, if◌then◌else◌, List, [], ◌∷◌, length, Option, Some, None, option_map}
 use Rattle.sws_request.specs.declared.cuts.Cut.{Cut}
 use Rattle.sws_request.specs.declared.cuts.Cut.TheVariants.{Head, TooLong, NotYet}
-use Rattle.sws_request.specs.Head.{joined, line_feed, carriage_return, head_limit}
+use Rattle.sws_request.specs.Head.{join_lines, line_feed, carriage_return, head_limit}
 
 -- a byte in front of the first line, where there is one
 abbrev pub before_first : ℕ → List (List ℕ) → List (List ℕ)
@@ -37,7 +37,7 @@ head_lines (line ∷ lines) =
 
 -- the length of the first head, where it is whole
 abbrev pub head_len : List ℕ → Option ℕ
-head_len bytes = option_map (λ lines. length (joined lines)) (head_lines (lines_of bytes))
+head_len bytes = option_map (λ lines. length (join_lines lines)) (head_lines (lines_of bytes))
 
 -- so many bytes without a head that is short enough
 abbrev pub cut_without : ℕ → Cut

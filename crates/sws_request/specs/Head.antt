@@ -5,8 +5,8 @@ use Rattle.sws_request.specs.declared.cuts.Cut.{Cut}
 use Rattle.sws_request.specs.declared.cuts.Cut.TheVariants.{Head, TooLong, NotYet}
 
 -- the lines, one after another
-abbrev pub joined : List (List ℕ) → List ℕ
-joined lines = flat_map (λ line. line) lines
+abbrev pub join_lines : List (List ℕ) → List ℕ
+join_lines lines = flat_map (λ line. line) lines
 
 -- b'\n'
 abbrev pub line_feed : ℕ
@@ -36,7 +36,7 @@ pub record IsRestOfHead (bytes : List ℕ) : Type 0 where
   pub last : List ℕ
   pub other_lines : All IsOtherLine others
   pub last_line : IsEmptyLine last
-  pub is : bytes ≡ joined others ++ last
+  pub is : bytes ≡ join_lines others ++ last
 
 -- any number of empty lines, then at least one other line, then other lines up to and with the first empty line
 pub record IsHead (bytes : List ℕ) : Type 0 where
@@ -46,7 +46,7 @@ pub record IsHead (bytes : List ℕ) : Type 0 where
   pub blank_lines : All IsEmptyLine blank
   pub first_line : IsOtherLine first
   pub rest_of_head : IsRestOfHead rest
-  pub is : bytes ≡ joined blank ++ (first ++ rest)
+  pub is : bytes ≡ join_lines blank ++ (first ++ rest)
 
 -- the first len bytes are a head, and no shorter prefix is one
 pub record BeginsWithHead (bytes : List ℕ) (len : ℕ) : Type 0 where

@@ -2,7 +2,7 @@
 use Rattle.std.specs.Prelude.{◌≡◌, ℕ, ◌≤◌, List, [], ◌++◌, length, map, All}
 use Rattle.httparse.specs.Grammar.{RequestHead, ReadsRequest}
 use Rattle.httparse.specs.Spans.{name_and_value}
-use Rattle.sws_request.specs.Head.{joined, IsEmptyLine}
+use Rattle.sws_request.specs.Head.{join_lines, IsEmptyLine}
 
 -- a head has at most so many fields
 abbrev pub field_limit : ℕ
@@ -35,7 +35,7 @@ pub record BeginsEmpty (bytes : List ℕ) : Type 0 where
 pub record IsLeftOf (bytes : List ℕ) (rest : List ℕ) : Type 0 where
   pub blank : List (List ℕ)
   pub blank_lines : All IsEmptyLine blank
-  pub is : bytes ≡ joined blank ++ rest
+  pub is : bytes ≡ join_lines blank ++ rest
   pub all_blank : BeginsEmpty rest → ⊥
 
 -- the bytes as a whole are a head of the grammar, which has few enough fields, and says this request

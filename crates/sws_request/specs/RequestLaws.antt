@@ -10,7 +10,7 @@ use Rattle.httparse.specs.Grammar.{is_token_byte, is_uri_byte, is_value_byte, Al
 use Rattle.httparse.specs.Pieces.{Piece, Begins, Then, Stops, is_newline, Newline, Blank, Word, Method, Target, Version, Text, FieldLine, Section, RequestStart}
 use Rattle.httparse.proofs.PieceLemmas.{IsDeterministic, Then_deterministic, space_ends_token, colon_ends_token, newline_not_stopped, Newline_deterministic, Blank_deterministic, Method_deterministic, Target_deterministic, Version_deterministic, Name_deterministic, Text_deterministic, print_field-append, FieldLine_parts, FieldLine_deterministic, Stops-FieldLine, Stops_token, Section_line, Section_skip, RequestStart_deterministic, Section_deterministic, Stops_value}
 use Rattle.httparse.proofs.GrammarLemmas.{request_tree, request_head, print_request-append, request_pieces, request_from_pieces, request_unique}
-use Rattle.sws_request.specs.Head.{joined, IsEmptyLine}
+use Rattle.sws_request.specs.Head.{join_lines, IsEmptyLine}
 use Rattle.sws_request.specs.Request.{Request, BeginsEmpty, SaysRequest, IsRequest, IsNoRequest, said_by, field_limit}
 
 -- a fact, or its denial
@@ -494,22 +494,23 @@ ends_empty (end ∷ ends) =
     All-cons IsEmptyLine (print_end end) (map print_end ends) (end_empty end) (ends_empty ends)
 
 -- the empty lines of the grammar are those lines, joined
-ends_joined : (ends : List LineEnd) → print_blank ends ≡ joined (map print_end ends)
+ends_joined : (ends : List LineEnd) → print_blank ends ≡ join_lines (map print_end ends)
 ends_joined [] = refl
 ends_joined (end ∷ ends) = ap (λ r. print_end end ++ r) (ends_joined ends)
 
 -- empty lines are ends of lines
 ends_of : (lines : List (List ℕ)) → All IsEmptyLine lines → (ends : List LineEnd)
-    × (joined lines ≡ print_blank ends)
+    × (join_lines lines ≡ print_blank ends)
 ends_of [] all = ([], refl)
 ends_of (line ∷ lines) all = by_line (ends_of lines (All-tail IsEmptyLine line lines all))
     (All-head IsEmptyLine line lines all)
   where
-    by_line : (ends : List LineEnd) × (joined lines ≡ print_blank ends) → IsEmptyLine line
-        → (ends : List LineEnd) × (joined (line ∷ lines) ≡ print_blank ends)
-    by_line (ends, e) (inl is) = (lf ∷ ends, ap (λ l. l ++ joined lines) is ∙ ap (λ r. 10 ∷ r) e)
+    by_line : (ends : List LineEnd) × (join_lines lines ≡ print_blank ends) → IsEmptyLine line
+        → (ends : List LineEnd) × (join_lines (line ∷ lines) ≡ print_blank ends)
+    by_line (ends, e) (inl is) =
+        (lf ∷ ends, ap (λ l. l ++ join_lines lines) is ∙ ap (λ r. 10 ∷ r) e)
     by_line (ends, e) (inr is) =
-        (crlf ∷ ends, ap (λ l. l ++ joined lines) is ∙ ap (λ r. 13 ∷ 10 ∷ r) e)
+        (crlf ∷ ends, ap (λ l. l ++ join_lines lines) is ∙ ap (λ r. 13 ∷ 10 ∷ r) e)
 
 -- the same head with these empty lines in front
 abbrev with_blank : List LineEnd → RequestHead → RequestHead

@@ -5,12 +5,12 @@ use Rattle.sws_request.specs.declared.cuts.Cut.TheVariants.{NotYet}
 use Rattle.sws_request.specs.declared.scans.Scan.{Scan}
 use Rattle.sws_request.specs.declared.head.Found.{Found}
 use Rattle.sws_request.specs.declared.head.Found.TheVariants.{End, Lines}
-use Rattle.sws_request.specs.Head.{joined, line_feed}
+use Rattle.sws_request.specs.Head.{join_lines, line_feed}
 use Rattle.sws_request.specs.Cuts.{lines_of, is_empty_line, up_to_empty, head_lines, cut_of}
 
 -- the bytes up to and with the last LF
 abbrev pub whole_lines : List ℕ → List ℕ
-whole_lines bytes = joined (lines_of bytes)
+whole_lines bytes = join_lines (lines_of bytes)
 
 -- whether one of the lines isn't empty
 abbrev pub has_other : List (List ℕ) → Bool
@@ -37,7 +37,7 @@ rest_lines false lines = head_lines lines
 
 -- how many bytes of the lines belong to the head, where it ends in them
 abbrev pub rest_len : Bool → List (List ℕ) → Option ℕ
-rest_len begun lines = option_map (λ head. length (joined head)) (rest_lines begun lines)
+rest_len begun lines = option_map (λ head. length (join_lines head)) (rest_lines begun lines)
 
 -- where the head ends in them, or how many bytes their lines have, and whether a line has come that isn't empty
 abbrev pub IsFound : Bool → List ℕ → Found → Type 0

@@ -1,5 +1,5 @@
 -- Laws of lines: a line spells one, by the word with which it begins and what stands behind it.
-use Rattle.std.proofs.Common.{◌≡◌, ℕ, ◌<◌, Bool, true, false, cond, eqb, List, [], ◌∷◌, ◌++◌, Option, Some, None, refl, sym, ap, ◌∙◌, subst, inl, inr, arith, append-nil, true-eqb}
+use Rattle.std.proofs.Common.{◌≡◌, ℕ, ◌<◌, Bool, true, false, cond, eqb, List, [], ◌∷◌, ◌++◌, Option, Some, None, refl, sym, ap, ◌∙◌, subst, inl, inr, lit<, arith, append-nil, true-eqb}
 use Rattle.std.specs.Fmt.{decimal}
 use Rattle.std.specs.Str.Parse.{AllDigits}
 use Rattle.std.proofs.lemmas.Fmt.{decimal_injective}
@@ -12,8 +12,8 @@ use Rattle.sws_script.specs.declared.line.Line.TheVariants as line
 use Rattle.sws_script.specs.declared.words.Word.{Word}
 use Rattle.sws_script.specs.declared.words.Word.TheVariants.{ScheduleHead, End, ScriptHead, Conn, Step, Cut, Send, Fill, Pause, Fault}
 use Rattle.sws_script.specs.Lines.{SpellsLine, IsLine, IsSpelled}
-use Rattle.sws_script.specs.Words.{word_text, stripped, onward, first_word, all_words, word_in, Says, HasNo}
-use Rattle.sws_script.proofs.NumberLemmas.{decimal_digits}
+use Rattle.sws_script.specs.Words.{word_text, strip_word, onward, first_word, all_words, word_in, Says, HasNo}
+use Rattle.sws_text.proofs.NumberLemmas.{decimal_digits}
 use Rattle.sws_script.proofs.WordLemmas.{word_at}
 
 -- ---- words
@@ -44,7 +44,7 @@ word_none w a e = absurd (none_some (w, a) e)
     none_some : {A : Type 0} (x : A) → None ≡ Some x → ⊥
     none_some x e = cc
 
-stripped-is : (word text rest : List ℕ) → stripped word text ≡ Some rest → text ≡ word ++ rest
+stripped-is : (word text rest : List ℕ) → strip_word word text ≡ Some rest → text ≡ word ++ rest
 stripped-is [] text rest e = same text rest e
   where
     same : (a b : List ℕ) → Some a ≡ Some b → a ≡ b
@@ -58,15 +58,15 @@ stripped-is (letter ∷ word) (byte ∷ text) rest e = by_test (eqb byte letter)
     none_some : (a : List ℕ) → None ≡ Some a → ⊥
     none_some a e = cc
 
-    by_test : (t : Bool) → t ≡ eqb byte letter → cond t (stripped word text) None ≡ Some rest → (stripped word text ≡ Some rest → text ≡ word ++ rest) → byte ∷ text ≡ letter ∷ (word ++ rest)
+    by_test : (t : Bool) → t ≡ eqb byte letter → cond t (strip_word word text) None ≡ Some rest → (strip_word word text ≡ Some rest → text ≡ word ++ rest) → byte ∷ text ≡ letter ∷ (word ++ rest)
     by_test true is e more = ap (λ b. b ∷ text) (true-eqb byte letter is) ∙ ap (λ t. letter ∷ t) (more e)
     by_test false is e more = absurd (none_some rest e)
 
 first_word-is : (words : List Word) (text : List ℕ) (word : Word) (rest : List ℕ) → first_word words text ≡ word_at word rest → text ≡ word_text word ++ rest
 first_word-is [] text word rest e = word_none word rest e
-first_word-is (w ∷ words) text word rest e = by_front (stripped (word_text w) text) refl e (first_word-is words text word rest)
+first_word-is (w ∷ words) text word rest e = by_front (strip_word (word_text w) text) refl e (first_word-is words text word rest)
   where
-    by_front : (o : Option (List ℕ)) → stripped (word_text w) text ≡ o → onward w o (first_word words text) ≡ word_at word rest
+    by_front : (o : Option (List ℕ)) → strip_word (word_text w) text ≡ o → onward w o (first_word words text) ≡ word_at word rest
         → (first_word words text ≡ word_at word rest → text ≡ word_text word ++ rest) → text ≡ word_text word ++ rest
     by_front None is e more = more e
     by_front (Some front) is e more =
@@ -166,7 +166,7 @@ digits_no_space [] all = tt
 digits_no_space (c ∷ digits) all = (λ e. let at = digit_from_value c all.0 in omega arith, digits_no_space digits all.1)
 
 pub decimal_no_space : (n : ℕ) → n < 10000000000 → HasNo 32 (decimal n)
-decimal_no_space n small = digits_no_space (decimal n) (decimal_digits n small).digits
+decimal_no_space n small = digits_no_space (decimal n) (decimal_digits 10 n (lit< tt) small (omega arith)).digits
 
 -- of two numbers
 pub two_numbers : (a b c d : ℕ) → a < 10000000000 → b < 10000000000 → c < 10000000000 → d < 10000000000 → decimal a ++ 32 ∷ decimal b ≡ decimal c ++ 32 ∷ decimal d → (a ≡ c) × (b ≡ d)

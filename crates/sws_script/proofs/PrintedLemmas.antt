@@ -1,5 +1,5 @@
 -- The text that is written for an input spells it.
-use Rattle.std.proofs.Common.{rules, ◌≡◌, ◌≢◌, ℕ, ◌<◌, ◌≤◌, List, [], ◌∷◌, ◌++◌, length, map, refl, sym, ap, ◌∙◌, subst, arith, append_assoc}
+use Rattle.std.proofs.Common.{rules, ◌≡◌, ◌≢◌, ℕ, ◌<◌, ◌≤◌, List, [], ◌∷◌, ◌++◌, length, map, refl, sym, ap, ◌∙◌, subst, lit<, arith, append_assoc}
 use Rattle.std.specs.Prelude.{codes, Bool}
 use Rattle.std.specs.List.{AllZip, AllByRecursion}
 use Rattle.std.specs.Fmt.{decimal}
@@ -15,8 +15,8 @@ use Rattle.sws_script.specs.Lines.{SpellsLine, IsLine}
 use Rattle.sws_script.specs.Words.{HasNo}
 use Rattle.sws_script.specs.Inputs.{input_lines, IsInput}
 use Rattle.sws_script.specs.Grammar.{lines_of, Spells}
-use Rattle.sws_script.specs.Printed.{line_text, printed_lines, printed}
-use Rattle.sws_script.proofs.NumberLemmas.{decimal_digits}
+use Rattle.sws_script.specs.Printed.{line_text, printed_lines, print_input}
+use Rattle.sws_text.proofs.NumberLemmas.{decimal_digits}
 use Rattle.sws_script.proofs.SplitLemmas.{lines_of-line, AreLines}
 
 HasNo-append : (a b : List ℕ) → HasNo 10 a → HasNo 10 b → HasNo 10 (a ++ b)
@@ -33,7 +33,7 @@ digits_no_feed [] all = tt
 digits_no_feed (c ∷ digits) all = (λ e. let at = digit_from_value c all.0 in omega arith, digits_no_feed digits all.1)
 
 decimal_no_feed : (n : ℕ) → n < 10000000000 → HasNo 10 (decimal n)
-decimal_no_feed n small = digits_no_feed (decimal n) (decimal_digits n small).digits
+decimal_no_feed n small = digits_no_feed (decimal n) (decimal_digits 10 n (lit< tt) small (omega arith)).digits
 
 send_no_feed : (bytes : List ℕ) → AllByRecursion (λ b. b < 256) bytes → HasNo 10 (text_of bytes)
 send_no_feed bytes small = high_no_feed (text_of bytes) (StandsFor-shown (text_of bytes) bytes (StandsFor-text_of bytes small))
@@ -83,7 +83,7 @@ lines_spelled : (lines : List Line) → AreLines lines → AllZip SpellsLine (ma
 lines_spelled [] all = tt
 lines_spelled (l ∷ lines) all = (line_spelled l all.0, lines_spelled lines all.1)
 
-pub printed-spells : (schedule : Bool) (cores : ℕ) (input : Input) → IsInput schedule cores input → length (printed schedule input) ≤ 16777216 → Spells schedule cores (printed schedule input) input
+pub printed-spells : (schedule : Bool) (cores : ℕ) (input : Input) → IsInput schedule cores input → length (print_input schedule input) ≤ 16777216 → Spells schedule cores (print_input schedule input) input
 printed-spells schedule cores input is short =
     record {
       is = is;

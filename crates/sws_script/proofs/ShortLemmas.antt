@@ -11,7 +11,7 @@ use Rattle.sws_script.specs.declared.line.Line.TheVariants as line
 use Rattle.sws_script.specs.Lines.{SpellsLine}
 use Rattle.sws_script.specs.Inputs.{input_lines}
 use Rattle.sws_script.specs.Grammar.{lines_of, size_of, Spells}
-use Rattle.sws_script.specs.Printed.{line_text, printed_line, printed_lines, printed}
+use Rattle.sws_script.specs.Printed.{line_text, printed_line, printed_lines, print_input}
 
 line_short : (text : List ℕ) (says : Line) → SpellsLine text says → length (line_text says) ≤ length text
 line_short text line.ScheduleHead is = omega (arith, ap length is)
@@ -50,7 +50,7 @@ size_of-lines_of (byte ∷ bytes) = by_test (eqb byte 10) (size_of-lines_of byte
     by_test true few = omega arith
     by_test false few = onto_first-size byte bytes (lines_of bytes) few
 
-pub printed-short : (schedule : Bool) (cores : ℕ) (text : List ℕ) (input : Input) → Spells schedule cores text input → length (printed schedule input) ≤ length text + 1
+pub printed-short : (schedule : Bool) (cores : ℕ) (text : List ℕ) (input : Input) → Spells schedule cores text input → length (print_input schedule input) ≤ length text + 1
 printed-short schedule cores text input spells =
     let few = lines_short (lines_of text) (input_lines schedule input) spells.lines in
     let size = size_of-lines_of text in omega arith

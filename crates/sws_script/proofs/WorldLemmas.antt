@@ -2,7 +2,7 @@
 use Rattle.std.proofs.Common.{◌≡◌, ℕ, ◌<◌, ◌-◌, Bool, true, false, List, [], ◌∷◌, ◌++◌, length, map, zero, suc, Option, Some, None, refl, sym, ap, ◌∙◌, subst, arith}
 use Rattle.std.specs.Prelude.{⊤}
 use Rattle.std.specs.List.{flat_map, AllByRecursion}
-use Rattle.sws_link.specs.Scripts.{Script, lowered}
+use Rattle.sws_link.specs.Scripts.{Script, left_of_limit}
 use Rattle.sws_link.specs.MemLinks.{script_by_step}
 use Rattle.sws_link.specs.Worlds.{Coming, WorldTells, AreScripted}
 use Rattle.sws_link.specs.MemWorlds.{IsFreshMemLink, mem_coming, mem_world_tells}
@@ -61,7 +61,7 @@ by_step None script some = refl
 by_step (Some zero) script some = absurd (omega arith)
 by_step (Some (suc count)) script some = refl
 
-not_lowered : (cut : Option ℕ) → lowered cut 0 ≡ cut
+not_lowered : (cut : Option ℕ) → left_of_limit cut 0 ≡ cut
 not_lowered None = refl
 not_lowered (Some count) = let same : count - 0 ≡ count = omega arith in ap (λ n. Some n) same
 

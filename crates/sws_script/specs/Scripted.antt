@@ -15,14 +15,14 @@ use Rattle.sws_script.specs.declared.input.Item.TheVariants.{Send, Fill, Pause, 
 use Rattle.sws_script.specs.declared.input.ScriptConn.{ScriptConn}
 
 -- so many bytes `a`, in one piece
-abbrev pub filled : ℕ → LinkItem
-filled count = piece (replicate count 97)
+abbrev pub filled_item : ℕ → LinkItem
+filled_item count = piece (replicate count 97)
 
 -- in pieces of this many, and one of what is left, if anything is
 abbrev pub fill_pieces_by : ℕ → ℕ → List LinkItem
 fill_pieces_by size count =
-    replicate (count / size) (filled size)
-    ++ (if count % size == 0 then [] else filled (count % size) ∷ [])
+    replicate (count / size) (filled_item size)
+    ++ (if count % size == 0 then [] else filled_item (count % size) ∷ [])
 
 -- so many bytes in pieces of 4,096, the last one shorter
 abbrev pub fill_pieces : ℕ → List LinkItem

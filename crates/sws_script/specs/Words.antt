@@ -28,10 +28,10 @@ abbrev pub all_words : List Word
 all_words = ScheduleHead ∷ End ∷ ScriptHead ∷ Conn ∷ Step ∷ Cut ∷ Send ∷ Fill ∷ Pause ∷ Fault ∷ []
 
 -- what stands behind a word at the front of a line
-abbrev pub stripped : List ℕ → List ℕ → Option (List ℕ)
-stripped [] line = Some line
-stripped (letter ∷ word) [] = None
-stripped (letter ∷ word) (byte ∷ line) = if byte == letter then stripped word line else None
+abbrev pub strip_word : List ℕ → List ℕ → Option (List ℕ)
+strip_word [] line = Some line
+strip_word (letter ∷ word) [] = None
+strip_word (letter ∷ word) (byte ∷ line) = if byte == letter then strip_word word line else None
 
 -- the word with what stands behind it, where the line begins with it, and else what was found
 abbrev pub onward : Word → Option (List ℕ) → Option (Word × List ℕ) → Option (Word × List ℕ)
@@ -42,7 +42,7 @@ onward word (Some rest) other = Some (word, rest)
 abbrev pub first_word : List Word → List ℕ → Option (Word × List ℕ)
 first_word [] text = None
 first_word (word ∷ words) text =
-    onward word (stripped (word_text word) text) (first_word words text)
+    onward word (strip_word (word_text word) text) (first_word words text)
 
 unfoldable pub word_in : List ℕ → Option (Word × List ℕ)
 word_in text = first_word all_words text

@@ -5,7 +5,7 @@ ghost use Rattle.sws_script.specs.declared.fault.ScriptFault.TheVariants.{Memory
 ghost use Rattle.sws_script.specs.declared.input.Input.{Input as InputValue};
 ghost use Rattle.sws_script.specs.Inputs.{IsInput};
 ghost use Rattle.sws_script.specs.Grammar.{byte_limit, conn_limit, Spells, IsCause};
-ghost use Rattle.sws_script.specs.Printed.{printed};
+ghost use Rattle.sws_script.specs.Printed.{print_input};
 ghost use Rattle.sws_script.specs.Scripted.{fill_pieces};
 ghost use Rattle.sws_link.specs.LinkItems.{all_bytes};
 
@@ -25,17 +25,17 @@ pub fn a_text_has_one_answer()
 /// What is printed of an input spells it, and nothing else, with a schedule and without.
 pub fn what_is_printed_is_read()
     ensures spells { (schedule : Bool) (cores : ℕ) (input : InputValue)
-        → IsInput schedule cores input → length (printed schedule input) ≤ byte_limit
-        → Spells schedule cores (printed schedule input) input }
+        → IsInput schedule cores input → length (print_input schedule input) ≤ byte_limit
+        → Spells schedule cores (print_input schedule input) input }
     ensures only { (schedule : Bool) (cores : ℕ) (input other : InputValue)
-        → IsInput schedule cores input → length (printed schedule input) ≤ byte_limit
-        → Spells schedule cores (printed schedule input) other → other ≡ input }
+        → IsInput schedule cores input → length (print_input schedule input) ≤ byte_limit
+        → Spells schedule cores (print_input schedule input) other → other ≡ input }
 {}
 
 /// What is printed of an input is the shortest of its texts, but for the LF at its end, which any other may lack.
 pub fn what_is_printed_is_short()
     ensures { (schedule : Bool) (cores : ℕ) (text : List ℕ) (input : InputValue)
-        → Spells schedule cores text input → length (printed schedule input) ≤ length text + 1 }
+        → Spells schedule cores text input → length (print_input schedule input) ≤ length text + 1 }
 {}
 
 /// The pieces of a filling have as many bytes as it says.

@@ -6,7 +6,7 @@ ghost use Rattle.sws_script.specs.declared.line.Line.TheVariants as line;
 ghost use Rattle.sws_script.specs.declared.input.Item.TheVariants.{Send};
 ghost use Rattle.sws_script.specs.Inputs.{IsInput, conn_lines, cut_lines, step_lines, run_line, schedule_lines, script_lines};
 ghost use Rattle.sws_script.specs.Grammar.{byte_limit, Spells};
-ghost use Rattle.sws_script.specs.Printed.{printed_line, printed_lines, printed};
+ghost use Rattle.sws_script.specs.Printed.{printed_line, printed_lines, print_input};
 
 use crate::{Input, Item, ScriptConn};
 use itoa::Buffer;
@@ -17,7 +17,7 @@ use sws_text::push_text;
 /// The text of an input, with a schedule before the script where `schedule` is true. Where the input is one that is read
 /// with this `schedule`, and the text has at most [`MAX_BYTES`](crate::MAX_BYTES), it is read again as this input.
 pub fn print(alloc: Global, input: &Input, schedule: bool) -> Result<Vec<u8>, Memory>
-    ensures text { IfOk result (λ text. text.items ≡ printed schedule input.now) }
+    ensures text { IfOk result (λ text. text.items ≡ print_input schedule input.now) }
     ensures spells { IfOk result (λ text. (cores : ℕ) → IsInput schedule cores input.now
         → length text.items ≤ byte_limit → Spells schedule cores text.items input.now) }
 {
@@ -27,7 +27,7 @@ pub fn print(alloc: Global, input: &Input, schedule: bool) -> Result<Vec<u8>, Me
 
 /// The lines of an input.
 fn print_all(alloc: Global, input: &Input, schedule: bool) -> Result<Vec<u8>, AllocError>
-    ensures { IfOk result (λ text. text.items ≡ printed schedule input.now) }
+    ensures { IfOk result (λ text. text.items ≡ print_input schedule input.now) }
 {
     let mut text = Vec::new(alloc);
     if schedule {

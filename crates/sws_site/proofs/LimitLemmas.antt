@@ -101,24 +101,3 @@ at_most n limit never = by_test (nat_lt limit n) refl
     by_test : (t : Bool) → nat_lt limit n ≡ t → n ≤ limit
     by_test true is = absurd (never (ltb-true limit n is))
     by_test false is = ltb-false limit n is
-
--- a file that meets no limit is within them
-within-limit_met : (before : List File) (file : File) → limit_met before file ≡ None
-    → (length before + 1 ≤ 4096) × (length file.0 ≤ 1024) × (bytes_of before + length file.1 ≤ 268435456)
-within-limit_met before file none =
-    let few = at_most (length before + 1) 4096 (λ h. (let met = sym none ∙ limit_met-files before file h in cc)) in
-    let short = at_most (length file.0) 1024 (λ h. (let met = sym none ∙ limit_met-name before file few h in cc)) in
-    (few, short, at_most (bytes_of before + length file.1) 268435456 (λ h. (let met = sym none ∙ limit_met-bytes before file few short h in cc)))
-
--- the first of two limits, where there is none
-no_first : (met rest : Option SiteFault) → option_or met rest ≡ None → (met ≡ None) × (rest ≡ None)
-no_first None rest none = (refl, none)
-no_first (Some limit) rest none = absurd (cc)
-
-within-first_limit : (before files : List File) → IsWithinLimits before → first_limit before files ≡ None → IsWithinLimits (before ++ files)
-within-first_limit before [] within none = subst IsWithinLimits (sym (append-nil before)) within
-within-first_limit before (file ∷ files) within none =
-    let neither = no_first (limit_met before file) (first_limit (before ++ file ∷ []) files) none in
-    let here = within-limit_met before file neither.0 in
-    subst IsWithinLimits (append_assoc before (file ∷ []) files)
-    (within-first_limit (before ++ file ∷ []) files (IsWithinLimits-push before file within here.0 here.1 here.2) neither.1)

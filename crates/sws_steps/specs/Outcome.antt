@@ -16,25 +16,26 @@ pub record Input : Type 0 where
   pub stop : Stop
 
 -- an input with these bytes in front
-abbrev pub preceded : List ℕ → Input → Input
-preceded bytes input = record { bytes = bytes ++ input.bytes; stop = input.stop }
+abbrev pub prepend_bytes : List ℕ → Input → Input
+prepend_bytes bytes input = record { bytes = bytes ++ input.bytes; stop = input.stop }
 
 -- an input without bytes, which stops so
-abbrev pub stopped : Stop → Input
-stopped stop = record { bytes = []; stop = stop }
+abbrev pub empty_input : Stop → Input
+empty_input stop = record { bytes = []; stop = stop }
 
 -- the input of the items, where the link was not ready so often in succession: 30 times stop it
 abbrev pub input_from : ℕ → List Item → Input
-input_from waits [] = stopped at_end
+input_from waits [] = empty_input at_end
 input_from waits (piece [] ∷ items) = input_from waits items
-input_from waits (piece (byte ∷ bytes) ∷ items) = preceded (byte ∷ bytes) (input_from 0 items)
+input_from waits (piece (byte ∷ bytes) ∷ items) = prepend_bytes (byte ∷ bytes) (input_from 0 items)
 input_from waits (wait count ∷ items) =
-    if nat_le wait_limit (waits + count) then stopped at_pause else input_from (waits + count) items
-input_from waits (fault ∷ items) = stopped at_fault
+    if nat_le wait_limit (waits + count) then empty_input at_pause
+    else input_from (waits + count) items
+input_from waits (fault ∷ items) = empty_input at_fault
 
 -- no more than so many bytes: the last of these stops it before what follows
-abbrev pub limited : ℕ → Input → Input
-limited limit input =
+abbrev pub limit_input : ℕ → Input → Input
+limit_input limit input =
     if nat_le limit (length input.bytes) then record {
       bytes = take limit input.bytes;
       stop = at_limit;
@@ -69,7 +70,7 @@ module _ {Hall Answer : Type 0} (p : Protocol Hall Answer) where
       cut_off cut (texts_of p given) (end_of (is_closed p given) input.stop)
 
   abbrev pub scripted_input : Script → Input
-  scripted_input script = limited p.input_limit (input_from 0 script.items)
+  scripted_input script = limit_input p.input_limit (input_from 0 script.items)
 
   -- the outcome of a scripted connection
   abbrev pub outcome_of : Hall → Script → Outcome

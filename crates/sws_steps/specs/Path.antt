@@ -10,7 +10,7 @@ use Rattle.sws_steps.specs.ConnCore.{ConnCoreState, is_waiting, ConnState}
 use Rattle.sws_steps.specs.declared.Next.{Next}
 use Rattle.sws_steps.specs.declared.Next.TheVariants as next
 use Rattle.sws_steps.specs.Step.{going_to, room_of, after_read, after_parse, after_look, after_write, wait_limit}
-use Rattle.sws_steps.specs.Sound.{unopened}
+use Rattle.sws_steps.specs.Sound.{core_before_open}
 use Rattle.sws_steps.specs.Outcome.{UnlessMemory}
 
 -- the handler that does the pending step: its own, or `Resume` where the link was not ready in the step before
@@ -137,7 +137,7 @@ module _ {Hall Answer : Type 0} (p : Protocol Hall Answer) where
 
   -- the path of a scripted connection
   abbrev pub path_of : Hall → Script → List Handler
-  path_of hall script = rest_of_path (unopened hall) script
+  path_of hall script = rest_of_path (core_before_open hall) script
 
   -- ---- a connection over a link that tells its answers to come
 

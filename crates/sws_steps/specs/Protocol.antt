@@ -57,8 +57,8 @@ module _ {Hall Answer : Type 0} (p : Protocol Hall Answer) where
   is_closed given = list_any p.closes given
 
   -- an answer, and those after it unless it closes
-  abbrev pub followed : Answer → List Answer → List Answer
-  followed answer later = answer ∷ later_unless (p.closes answer) later
+  abbrev pub answers_from : Answer → List Answer → List Answer
+  answers_from answer later = answer ∷ later_unless (p.closes answer) later
 
   -- The answers are those to the requests, in order: to each as soon as it is whole, whatever comes behind it, up to the first that closes.
   -- One that is too long is the last, and so is the answer that is given as the last one. What doesn't close has bytes.
@@ -69,7 +69,7 @@ module _ {Hall Answer : Type 0} (p : Protocol Hall Answer) where
     pub one_more : (left : ℕ) (hall : Hall) (bytes more : List ℕ) (len : ℕ) → 0 < left
         → p.cut bytes ≡ Whole len
         → p.answers left hall (take len bytes ++ more)
-        ≡ followed (p.answer hall (request (take len bytes)) (left == 1))
+        ≡ answers_from (p.answer hall (request (take len bytes)) (left == 1))
         (p.answers (left - 1) hall more)
     pub refused : (left : ℕ) (hall : Hall) (bytes more : List ℕ) → 0 < left → p.cut bytes ≡ TooLong
         → p.answers left hall (bytes ++ more) ≡ p.answer hall too_long (left == 1) ∷ []

@@ -9,7 +9,7 @@ use Rattle.sws_steps.specs.ConnCore.{ConnCoreState}
 use Rattle.sws_steps.specs.declared.End.{End}
 use Rattle.sws_steps.specs.declared.Next.{Next}
 use Rattle.sws_steps.specs.declared.Next.TheVariants as next
-use Rattle.sws_steps.specs.Outcome.{Outcome, Input, at_end, stopped, input_from, limited, cut_off, end_of, UnlessMemory}
+use Rattle.sws_steps.specs.Outcome.{Outcome, Input, at_end, empty_input, input_from, limit_input, cut_off, end_of, UnlessMemory}
 
 -- only waits before a read count
 abbrev pub waits_at : Next → ℕ → ℕ
@@ -24,7 +24,7 @@ waits_at next.Nothing waits = 0
 
 -- what is to come of the input, by whether it has ended and how often the link was not ready
 abbrev pub input_by : Bool → ℕ → Script → Input
-input_by true waits script = stopped at_end
+input_by true waits script = empty_input at_end
 input_by false waits script = input_from waits script.items
 
 -- what was written, and then the rest
@@ -34,7 +34,8 @@ with_written written outcome = record { bytes = written ++ outcome.bytes; end = 
 module _ {Hall Answer : Type 0} (p : Protocol Hall Answer) where
   abbrev pub input_to_come : ConnCoreState Hall → Script → Input
   input_to_come c script =
-      limited (p.input_limit - c.read) (input_by c.input_ended (waits_at c.pending c.waits) script)
+      limit_input (p.input_limit - c.read)
+      (input_by c.input_ended (waits_at c.pending c.waits) script)
 
   -- what comes of the rest of the parts, and of what will be answered of the buffer and the input to come
   abbrev pub ahead : ConnCoreState Hall → Option ℕ → Input → Outcome

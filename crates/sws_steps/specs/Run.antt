@@ -9,14 +9,17 @@ use Rattle.sws_steps.specs.declared.End.{End}
 use Rattle.sws_steps.specs.declared.End.TheVariants as ending
 use Rattle.sws_steps.specs.declared.Next.TheVariants as next
 use Rattle.sws_steps.specs.Step.{Steps, going_to, wait_limit}
-use Rattle.sws_steps.specs.Sound.{unopened}
+use Rattle.sws_steps.specs.Sound.{core_before_open}
 use Rattle.sws_steps.specs.Outcome.{UnlessMemory}
 use Rattle.sws_steps.specs.Path.{Handler, event_of, open_link, path_told}
 use Rattle.sws_steps.specs.Serving.{Serves, EndsAs, RoseBy}
 
 -- a connection that was just opened over a link
-abbrev pub opened : {Hall L : Type 0} → Hall → L → ConnState Hall L
-opened hall link = record { standing = going_to (unopened hall) next.Read; link = Some link }
+abbrev pub conn_at_open : {Hall L : Type 0} → Hall → L → ConnState Hall L
+conn_at_open hall link = record {
+  standing = going_to (core_before_open hall) next.Read;
+  link = Some link;
+}
 
 -- these events are the whole path, where that is told
 abbrev pub IsWhole : List Handler → Option (List Handler) → Type 0
@@ -39,7 +42,7 @@ module _ {Hall Answer L : Type 0} (p : Protocol Hall Answer) (x : LinkWords L) (
     pub limits : p.IsHall hall
     pub fresh : IsFresh (x.tells first)
     pub not_shut : x.is_shut first ≡ false
-    pub runs : RunsBy p x trail (opened hall first) conn
+    pub runs : RunsBy p x trail (conn_at_open hall first) conn
 
   -- a run has ended with this link and this end
   pub record HasEnded (now : L) (end : End) : Type 0 where

@@ -13,8 +13,8 @@ use Rattle.sws_steps.specs.declared.Next.TheVariants as next
 use Rattle.sws_steps.specs.Step.{wait_limit, has_all_input}
 
 -- a connection that isn't open yet
-abbrev pub unopened : {Hall : Type 0} → Hall → ConnCoreState Hall
-unopened hall = record {
+abbrev pub core_before_open : {Hall : Type 0} → Hall → ConnCoreState Hall
+core_before_open hall = record {
   hall = hall;
   pending = next.Open;
   buffer = [];
@@ -73,7 +73,7 @@ module _ {Hall Answer : Type 0} (p : Protocol Hall Answer) where
 
   -- what is known where the step is pending
   abbrev pub IsReadyTo : Next → ConnCoreState Hall → Type 0
-  IsReadyTo next.Open c = c ≡ unopened c.hall
+  IsReadyTo next.Open c = c ≡ core_before_open c.hall
   IsReadyTo next.Read c = IsToRead c
   IsReadyTo next.Parse c = IsToParse c
   IsReadyTo next.Look c = IsToLook c

@@ -93,8 +93,8 @@ module _ {Hall Answer : Type 0} (p : Protocol Hall Answer) (c : ConnCoreState Ha
   after_parse NotYet = if has_all_input then ending_as c ending.Done else going_to c next.Read
 
   -- the answer is sent next, and this is left of the buffer
-  abbrev pub sending : Answer → List ℕ → ConnCoreState Hall
-  sending answer rest = record c {
+  abbrev pub with_answer : Answer → List ℕ → ConnCoreState Hall
+  with_answer answer rest = record c {
     buffer = rest;
     parts = record { head = p.head answer; body = p.body answer };
     closes = p.closes answer;
@@ -103,16 +103,17 @@ module _ {Hall Answer : Type 0} (p : Protocol Hall Answer) (c : ConnCoreState Ha
   }
 
   -- nothing is written where it has no bytes
-  abbrev pub answering : Answer → List ℕ → ConnCoreState Hall
-  answering answer rest = after_part (p.is_empty answer) (p.closes answer) (sending answer rest)
+  abbrev pub after_answer : Answer → List ℕ → ConnCoreState Hall
+  after_answer answer rest =
+      after_part (p.is_empty answer) (p.closes answer) (with_answer answer rest)
 
   abbrev pub is_last : Bool
   is_last = c.answered + 1 == p.answer_limit
 
   abbrev pub after_look : Cut → ConnCoreState Hall
   after_look (Whole len) =
-      answering (p.answer c.hall (request (take len c.buffer)) is_last) (drop len c.buffer)
-  after_look TooLong = answering (p.answer c.hall too_long is_last) []
+      after_answer (p.answer c.hall (request (take len c.buffer)) is_last) (drop len c.buffer)
+  after_look TooLong = after_answer (p.answer c.hall too_long is_last) []
   after_look NotYet = c
 
 module _ {Hall L : Type 0} (x : LinkWords L) (before after : ConnCoreState Hall) where

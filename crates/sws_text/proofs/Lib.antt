@@ -4,3 +4,4 @@ pub mod WrittenLemmas
 pub mod LengthLemmas
 pub mod ShownLemmas
 pub mod PlainLemmas
+pub mod NumberLemmas

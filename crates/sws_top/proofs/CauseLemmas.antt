@@ -430,12 +430,6 @@ module _ {F R W L O T G : Type 0} (f : FolderWords F) (r : SourceWords R) (x : W
       untouched_causes f r x o before now world outcome Memory is (λ e. cc) (λ e. cc) (record { unfailed = λ e. cc; unlost = λ conn e. cc }) untouched
   causes_of order (inr ran) = causes_as order ran
 
-  pub refused_causes : (outcome.fault ≡ Some Usage) ⊎ (outcome.fault ≡ Some Memory) → IsUntouched before now world outcome → Caused
-  refused_causes (inl usage) untouched =
-      untouched_causes f r x o before now world outcome Usage usage (λ e. cc) (λ e. cc) (record { unfailed = λ e. cc; unlost = λ conn e. cc }) untouched
-  refused_causes (inr memory) untouched =
-      untouched_causes f r x o before now world outcome Memory memory (λ e. cc) (λ e. cc) (record { unfailed = λ e. cc; unlost = λ conn e. cc }) untouched
-
   -- ---- all is done
 
   not_full : (told : Option FolderTells) (limit : SiteLimit) → TellsWithinLimits told

@@ -9,7 +9,7 @@ use Rattle.mely_check.specs.Verdicts.{IsDrainedRun}
 use Rattle.mely_check.specs.declared.report.CoreReport.{CoreReport}
 use Rattle.mely_check.specs.declared.report.Report.{Report}
 use Rattle.sws_engine.specs.ServerRun.{handler_rows}
-use Rattle.sws_report.specs.Numbers.{spaced}
+use Rattle.sws_report.specs.Numbers.{space_number}
 
 -- the setup of the server's runs with so many connections: a colour of polling, which stays on its
 -- core, one of accepting, and one for each connection
@@ -29,13 +29,14 @@ TellsDrainedRun connections shape (Some text) = (histories : List (List Entry))
 
 -- how many entries there are
 abbrev pub accepted_line : ℕ → List ℕ
-accepted_line entries = (codes "accepted" ++ spaced entries) ++ 10 ∷ []
+accepted_line entries = (codes "accepted" ++ space_number entries) ++ 10 ∷ []
 
 -- what a core ran, and how many colours it stole and lost
 abbrev pub core_line : ℕ → CoreReport → List ℕ
 core_line core report =
-    (codes "core" ++ spaced core) ++ (codes " ran" ++ spaced report.ran)
-    ++ (codes " in" ++ spaced report.stolen_in) ++ (codes " out" ++ spaced report.stolen_out)
+    (codes "core" ++ space_number core) ++ (codes " ran" ++ space_number report.ran)
+    ++ (codes " in" ++ space_number report.stolen_in)
+    ++ (codes " out" ++ space_number report.stolen_out)
     ++ 10 ∷ []
 
 -- the lines of cores from this number on

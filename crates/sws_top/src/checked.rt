@@ -2,7 +2,7 @@
 ghost use Rattle.std.specs.Prelude.{◌≡◌, ◌++◌, OnOk, IfOk};
 ghost use Rattle.sws_link.specs.Contents.{Puts};
 ghost use Rattle.sws_link.specs.Counts.{HasCause};
-ghost use Rattle.sws_report.specs.Numbers.{spaced};
+ghost use Rattle.sws_report.specs.Numbers.{space_number};
 ghost use Rattle.sws_top.specs.Checked.{accepted_line, core_line, core_lines, report_text};
 ghost use Rattle.sws_top.specs.Faults.{fault_of};
 ghost use Rattle.sws_top.specs.Texts.{WritesText};
@@ -71,7 +71,7 @@ fn push_core(text: &mut Vec<u8>, core: u64, report: &CoreReport) -> Result<(), A
 
 /// Adds a word and a number.
 fn push_counted(text: &mut Vec<u8>, word: &[u8], number: u64) -> Result<(), AllocError>
-    ensures { OnOk result (text.new.items ≡ text.old.items ++ (word.now ++ spaced number)) }
+    ensures { OnOk result (text.new.items ≡ text.old.items ++ (word.now ++ space_number number)) }
 {
     text.extend_from_slice(word)?;
     text.push(b' ')?;

@@ -1,7 +1,7 @@
 //! The top call: from the words to the command that they order.
 ghost use Rattle.std.specs.Prelude.{◌≡◌, Some, None, map, string_bytes};
 ghost use Rattle.sws_words.specs.Orders.{order_of, Order as OrderValue};
-ghost use Rattle.sws_words.specs.Told.{told};
+ghost use Rattle.sws_words.specs.Told.{order_view};
 ghost use Rattle.sws_top.specs.Causes.{HasCauses, IsDone, IsSound, NothingFailed};
 ghost use Rattle.sws_top.specs.Faults.{status_of};
 ghost use Rattle.sws_top.specs.Hands.{hands};
@@ -93,12 +93,12 @@ fn run<
 >(rt: &T, order: &Order, folder: &mut F, source: &mut R, world: W, out: &mut O) -> Outcome<W>
 where
     W::Link: Send,
-    requires range { IsInRange (told order.now) }
+    requires range { IsInRange (order_view order.now) }
     ensures status { result.status ≡ status_of result.fault }
     ensures ran { RanAs F.Folder R.Source W.World W.Link.Link O.Sink
         ⟦<Conn<'static, W::Link> as Talk<W::Link>>⟧
         (hands folder.old source.old out.old) (hands folder.new source.new out.new)
-        world result (told order.now) }
+        world result (order_view order.now) }
 {
     match order {
         Order::Answer { folder: path, date } => {

@@ -1,5 +1,5 @@
 -- What `clap` makes of one word of each kind, as a step of its walk and as the fault of that step.
-use Rattle.std.proofs.Common.{◌≡◌, ℕ, true, false, List, [], ◌∷◌, Option, Some, None, refl}
+use Rattle.std.proofs.Common.{◌≡◌, ℕ, true, false, List, [], ◌∷◌, Some, None, refl}
 use Rattle.std.specs.Option.{is_some}
 use Rattle.std.specs.Str.{bytes_eq}
 use Rattle.clap.specs.Lexer.{long_of, short_of}
@@ -7,7 +7,6 @@ use Rattle.clap.specs.Walk.{Held, Rule, Text, Walk, idle, option, walked, reacte
 use Rattle.clap.specs.Simple.{Shape}
 use Rattle.clap.specs.Kinds.{Kinds, or_else}
 use Rattle.clap.specs.Faults.{turn_fault, react_fault}
-use Rattle.clap.specs.declared.error.kind.ErrorKind.TheVariants as kind
 
 -- the walk between two words, where nothing waits, and where an option waits for its value
 abbrev pub idle_at : Held → ℕ → Walk

@@ -73,12 +73,11 @@ has_row_at name (x ∷ rows) = by_name (bytes_eq x.id name) refl (has_row_at nam
 abbrev pub Leaves : Text → Rule → Type 0
 Leaves name a = (a.defaults ≡ []) ⊎ (bytes_eq a.id name ≡ false)
 
-has_any : List Text → Bool
+abbrev pub has_any : List Text → Bool
 has_any [] = false
 has_any (x ∷ xs) = true
 
 default_leaves : (name : Text) (rows : List Row) (a : Rule) → Leaves name a → row_at name (with_default rows a) ≡ row_at name rows
-unfolding has_any
 default_leaves name rows a leaves = by_row (has_row a.id rows) a.defaults refl refl leaves
   where
     by_row : (b : Bool) (defaults : List Text) → has_row a.id rows ≡ b → a.defaults ≡ defaults → (a.defaults ≡ []) ⊎ (bytes_eq a.id name ≡ false)

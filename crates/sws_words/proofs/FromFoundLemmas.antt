@@ -3,7 +3,7 @@ use Rattle.std.proofs.Common.{◌≡◌, ◌∙◌, ◌≢◌, ℕ, Bool, true, 
 use Rattle.std.specs.Prelude.{if◌then◌else◌, option_and_then, option_map, Result, Ok, Err, IfErr}
 use Rattle.std.specs.Str.{bytes_eq}
 use Rattle.std.proofs.lemmas.List.{take_all}
-use Rattle.clap.specs.Walk.{Row, Text, first_of, one_of}
+use Rattle.clap.specs.Walk.{Row, Text, one_of}
 use Rattle.clap.specs.Words.{first_value, rows_of, App}
 use Rattle.clap.specs.Simple.{matches_of}
 use Rattle.clap.specs.Matches.{one_text}
@@ -18,6 +18,8 @@ use Rattle.sws_words.specs.Orders as orders
 use Rattle.sws_words.specs.declared.order.WordFault.{WordFault}
 use Rattle.sws_words.specs.declared.order.WordFault.TheVariants.{Usage}
 use Rattle.sws_words.proofs.ClapWalkLemmas.{unless}
+use Rattle.sws_words.proofs.CommandRowsLemmas.{shape_at}
+use Rattle.sws_words.proofs.SameLemmas.{ap₃, ap₅}
 use Rattle.sws_words.proofs.AnswerLemmas.{answer_order, answer_at, answer_bundle}
 use Rattle.sws_words.proofs.ReplayLemmas.{replay_order, replay_at, replay_bundle, replay_flags, flag_of, flag_got}
 use Rattle.sws_words.proofs.ServeLemmas.{serve_order, serve_at, serve_bundle}
@@ -54,13 +56,12 @@ none_after : {X Y : Type 0} (k : X → Option Y) (o : Option X) → ((x : X) →
 none_after k None all = refl
 none_after k (Some x) all = all x
 
-shape_rows : (f : Found) → shape_in (first_of (codes "workers") (rows_of f)) (first_of (codes "shards") (rows_of f)) (first_of (codes "batch") (rows_of f)) (first_of (codes "group") (rows_of f)) (first_of (codes "cost") (rows_of f))
-    ≡ shape_in (first_value f (codes "workers")) (first_value f (codes "shards")) (first_value f (codes "batch")) (first_value f (codes "group")) (first_value f (codes "cost"))
-shape_rows f = five (sym (first_value-rows f (codes "workers"))) (sym (first_value-rows f (codes "shards"))) (sym (first_value-rows f (codes "batch"))) (sym (first_value-rows f (codes "group"))) (sym (first_value-rows f (codes "cost")))
-  where
-    five : {a b c d e v w x y z : Option Text} → a ≡ v → b ≡ w → c ≡ x → d ≡ y → e ≡ z → shape_in a b c d e ≡ shape_in v w x y z
-    five {a} {b} {c} {d} {e} {v} {w} {x} {y} {z} p q r s t =
-        ap (λ o. shape_in o b c d e) p ∙ ap (λ o. shape_in v o c d e) q ∙ ap (λ o. shape_in v w o d e) r ∙ ap (λ o. shape_in v w x o e) s ∙ ap (λ o. shape_in v w x y o) t
+-- the shape, of what `clap` found
+abbrev pub shape_told : Found → Option orders.Shape
+shape_told f = shape_in (first_value f (codes "workers")) (first_value f (codes "shards")) (first_value f (codes "batch")) (first_value f (codes "group")) (first_value f (codes "cost"))
+
+shape_rows : (f : Found) → shape_at (rows_of f) ≡ shape_told f
+shape_rows f = ap₅ shape_in (sym (first_value-rows f (codes "workers"))) (sym (first_value-rows f (codes "shards"))) (sym (first_value-rows f (codes "batch"))) (sym (first_value-rows f (codes "group"))) (sym (first_value-rows f (codes "cost")))
 
 -- ---- an order of its parts
 
@@ -135,7 +136,7 @@ answer_refused app words is clear faults = refused_order answer_at app answer_ap
 -- ---- `replay`
 
 abbrev pub replay_of : Found → Bool → Bool → Option Order
-replay_of f journal schedule = replay_parts (first_value f (codes "folder")) (shape_in (first_value f (codes "workers")) (first_value f (codes "shards")) (first_value f (codes "batch")) (first_value f (codes "group")) (first_value f (codes "cost"))) (date_in (first_value f (codes "date"))) journal schedule
+replay_of f journal schedule = replay_parts (first_value f (codes "folder")) (shape_told f) (date_in (first_value f (codes "date"))) journal schedule
 
 replay_found : (app : App) (words : List Text) (f : Found) (journal schedule : Bool) → app ≡ replay_app → has_bundle words ≡ false → fault_of app words ≡ [] → rows_of f ≡ matches_of app words
     → (one_text f (codes "journal") ≡ Some (codes "true") → journal ≡ true) → (one_text f (codes "journal") ≡ Some (codes "false") → journal ≡ false)
@@ -152,11 +153,7 @@ replay_found app words f journal schedule is clear taken rows on off on_s off_s 
     flag_got schedule (one_of (codes "schedule") (rows_of f)) (ap (λ r. Rattle.sws_words.proofs.ReplayLemmas.is_flag_text (one_of (codes "schedule") r)) found ∙ texts.1)
     (λ e. on_s (one_text-rows f (codes "schedule") ∙ e)) (λ e. off_s (one_text-rows f (codes "schedule") ∙ e)) in
     taken_order replay_at app replay_app words f is (replay_order words clear) taken rows
-    ∙ five (sym (first_value-rows f (codes "folder"))) (shape_rows f) (ap date_in (sym (first_value-rows f (codes "date")))) j t
-  where
-    five : {a v : Option Text} {b w : Option orders.Shape} {c x : Option (Option ℕ)} {d y e z : Bool} → a ≡ v → b ≡ w → c ≡ x → d ≡ y → e ≡ z → replay_parts a b c d e ≡ replay_parts v w x y z
-    five {a} {v} {b} {w} {c} {x} {d} {y} {e} {z} p q r s t =
-        ap (λ o. replay_parts o b c d e) p ∙ ap (λ o. replay_parts v o c d e) q ∙ ap (λ o. replay_parts v w o d e) r ∙ ap (λ o. replay_parts v w x o e) s ∙ ap (λ o. replay_parts v w x y o) t
+    ∙ ap₅ replay_parts (sym (first_value-rows f (codes "folder"))) (shape_rows f) (ap date_in (sym (first_value-rows f (codes "date")))) j t
 
 pub replay_refused : (app : App) (words : List Text) → app ≡ replay_app → has_bundle words ≡ false → fault_of app words ≢ []
     → option_and_then replay_by (given_of replay_known words) ≡ None
@@ -167,28 +164,20 @@ replay_lacks : (app : App) (words : List Text) (f : Found) → app ≡ replay_ap
     → ((j t : Bool) → replay_of f j t ≡ None) → option_and_then replay_by (given_of replay_known words) ≡ None
 replay_lacks app words f is clear taken rows lacks =
     taken_order replay_at app replay_app words f is (replay_order words clear) taken rows
-    ∙ three (flag_of (one_of (codes "journal") (rows_of f))) (flag_of (one_of (codes "schedule") (rows_of f)))
+    ∙ ap₃ (λ a b c. replay_parts a b c (flag_of (one_of (codes "journal") (rows_of f))) (flag_of (one_of (codes "schedule") (rows_of f))))
     (sym (first_value-rows f (codes "folder"))) (shape_rows f) (ap date_in (sym (first_value-rows f (codes "date"))))
     ∙ lacks (flag_of (one_of (codes "journal") (rows_of f))) (flag_of (one_of (codes "schedule") (rows_of f)))
-  where
-    three : {a v : Option Text} {b w : Option orders.Shape} {c x : Option (Option ℕ)} (d e : Bool) → a ≡ v → b ≡ w → c ≡ x → replay_parts a b c d e ≡ replay_parts v w x d e
-    three {a} {v} {b} {w} {c} {x} d e p q r =
-        ap (λ o. replay_parts o b c d e) p ∙ ap (λ o. replay_parts v o c d e) q ∙ ap (λ o. replay_parts v w o d e) r
 
 -- ---- `serve`
 
 abbrev pub serve_of : Found → Option Order
-serve_of f = serve_parts (first_value f (codes "folder")) (option_and_then (within 1 65535) (first_value f (codes "port"))) (option_and_then (within 1 1024) (first_value f (codes "connections"))) (shape_in (first_value f (codes "workers")) (first_value f (codes "shards")) (first_value f (codes "batch")) (first_value f (codes "group")) (first_value f (codes "cost"))) (date_in (first_value f (codes "date")))
+serve_of f = serve_parts (first_value f (codes "folder")) (option_and_then (within 1 65535) (first_value f (codes "port"))) (option_and_then (within 1 1024) (first_value f (codes "connections"))) (shape_told f) (date_in (first_value f (codes "date")))
 
 serve_found : (app : App) (words : List Text) (f : Found) → app ≡ serve_app → has_bundle words ≡ false → fault_of app words ≡ [] → rows_of f ≡ matches_of app words
     → option_and_then serve_by (given_of serve_known words) ≡ serve_of f
 serve_found app words f is clear taken rows =
     taken_order serve_at app serve_app words f is (serve_order words clear) taken rows
-    ∙ five (sym (first_value-rows f (codes "folder"))) (ap (option_and_then (within 1 65535)) (sym (first_value-rows f (codes "port")))) (ap (option_and_then (within 1 1024)) (sym (first_value-rows f (codes "connections")))) (shape_rows f) (ap date_in (sym (first_value-rows f (codes "date"))))
-  where
-    five : {a v : Option Text} {b w c x : Option ℕ} {d y : Option orders.Shape} {e z : Option (Option ℕ)} → a ≡ v → b ≡ w → c ≡ x → d ≡ y → e ≡ z → serve_parts a b c d e ≡ serve_parts v w x y z
-    five {a} {v} {b} {w} {c} {x} {d} {y} {e} {z} p q r s t =
-        ap (λ o. serve_parts o b c d e) p ∙ ap (λ o. serve_parts v o c d e) q ∙ ap (λ o. serve_parts v w o d e) r ∙ ap (λ o. serve_parts v w x o e) s ∙ ap (λ o. serve_parts v w x y o) t
+    ∙ ap₅ serve_parts (sym (first_value-rows f (codes "folder"))) (ap (option_and_then (within 1 65535)) (sym (first_value-rows f (codes "port")))) (ap (option_and_then (within 1 1024)) (sym (first_value-rows f (codes "connections")))) (shape_rows f) (ap date_in (sym (first_value-rows f (codes "date"))))
 
 pub serve_refused : (app : App) (words : List Text) → app ≡ serve_app → has_bundle words ≡ false → fault_of app words ≢ []
     → option_and_then serve_by (given_of serve_known words) ≡ None
@@ -197,16 +186,13 @@ serve_refused app words is clear faults = refused_order serve_at app serve_app w
 -- ---- `bench`
 
 abbrev pub bench_of : Found → Option Order
-bench_of f = bench_parts (option_and_then (within 1 1024) (first_value f (codes "connections"))) (option_and_then (within 0 4294967295) (first_value f (codes "number"))) (shape_in (first_value f (codes "workers")) (first_value f (codes "shards")) (first_value f (codes "batch")) (first_value f (codes "group")) (first_value f (codes "cost")))
+bench_of f = bench_parts (option_and_then (within 1 1024) (first_value f (codes "connections"))) (option_and_then (within 0 4294967295) (first_value f (codes "number"))) (shape_told f)
 
 bench_found : (app : App) (words : List Text) (f : Found) → app ≡ bench_app → has_bundle words ≡ false → fault_of app words ≡ [] → rows_of f ≡ matches_of app words
     → option_and_then bench_by (given_of bench_known words) ≡ bench_of f
 bench_found app words f is clear taken rows =
     taken_order bench_at app bench_app words f is (bench_order words clear) taken rows
-    ∙ three (ap (option_and_then (within 1 1024)) (sym (first_value-rows f (codes "connections")))) (ap (option_and_then (within 0 4294967295)) (sym (first_value-rows f (codes "number")))) (shape_rows f)
-  where
-    three : {a v b w : Option ℕ} {c x : Option orders.Shape} → a ≡ v → b ≡ w → c ≡ x → bench_parts a b c ≡ bench_parts v w x
-    three {a} {v} {b} {w} {c} {x} p q r = ap (λ o. bench_parts o b c) p ∙ ap (λ o. bench_parts v o c) q ∙ ap (λ o. bench_parts v w o) r
+    ∙ ap₃ bench_parts (ap (option_and_then (within 1 1024)) (sym (first_value-rows f (codes "connections")))) (ap (option_and_then (within 0 4294967295)) (sym (first_value-rows f (codes "number")))) (shape_rows f)
 
 pub bench_refused : (app : App) (words : List Text) → app ≡ bench_app → has_bundle words ≡ false → fault_of app words ≢ []
     → option_and_then bench_by (given_of bench_known words) ≡ None
@@ -230,78 +216,76 @@ answer_complete app words f v_folder v_date is clear taken rows e_folder e_date 
 
 pub replay_lacks_folder : (app : App) (words : List Text) (f : Found) → app ≡ replay_app → has_bundle words ≡ false → fault_of app words ≡ [] → rows_of f ≡ matches_of app words
     → first_value f (codes "folder") ≡ None → option_and_then replay_by (given_of replay_known words) ≡ None
-replay_lacks_folder app words f is clear taken rows e = replay_lacks app words f is clear taken rows (λ j t. ap (λ o. replay_parts o (shape_in (first_value f (codes "workers")) (first_value f (codes "shards")) (first_value f (codes "batch")) (first_value f (codes "group")) (first_value f (codes "cost"))) (date_in (first_value f (codes "date"))) j t) e)
+replay_lacks_folder app words f is clear taken rows e = replay_lacks app words f is clear taken rows (λ j t. ap (λ o. replay_parts o (shape_told f) (date_in (first_value f (codes "date"))) j t) e)
 
 pub replay_lacks_shape : (app : App) (words : List Text) (f : Found) → app ≡ replay_app → has_bundle words ≡ false → fault_of app words ≡ [] → rows_of f ≡ matches_of app words
-    → shape_in (first_value f (codes "workers")) (first_value f (codes "shards")) (first_value f (codes "batch")) (first_value f (codes "group")) (first_value f (codes "cost")) ≡ None → option_and_then replay_by (given_of replay_known words) ≡ None
-replay_lacks_shape app words f is clear taken rows e = replay_lacks app words f is clear taken rows (λ j t. replay_no_shape (first_value f (codes "folder")) (shape_in (first_value f (codes "workers")) (first_value f (codes "shards")) (first_value f (codes "batch")) (first_value f (codes "group")) (first_value f (codes "cost"))) (date_in (first_value f (codes "date"))) j t e)
+    → shape_told f ≡ None → option_and_then replay_by (given_of replay_known words) ≡ None
+replay_lacks_shape app words f is clear taken rows e = replay_lacks app words f is clear taken rows (λ j t. replay_no_shape (first_value f (codes "folder")) (shape_told f) (date_in (first_value f (codes "date"))) j t e)
 
 pub replay_lacks_date : (app : App) (words : List Text) (f : Found) → app ≡ replay_app → has_bundle words ≡ false → fault_of app words ≡ [] → rows_of f ≡ matches_of app words
     → date_in (first_value f (codes "date")) ≡ None → option_and_then replay_by (given_of replay_known words) ≡ None
-replay_lacks_date app words f is clear taken rows e = replay_lacks app words f is clear taken rows (λ j t. replay_no_date (first_value f (codes "folder")) (shape_in (first_value f (codes "workers")) (first_value f (codes "shards")) (first_value f (codes "batch")) (first_value f (codes "group")) (first_value f (codes "cost"))) (date_in (first_value f (codes "date"))) j t e)
+replay_lacks_date app words f is clear taken rows e = replay_lacks app words f is clear taken rows (λ j t. replay_no_date (first_value f (codes "folder")) (shape_told f) (date_in (first_value f (codes "date"))) j t e)
 
 pub replay_complete : (app : App) (words : List Text) (f : Found) (journal schedule : Bool) (v_folder : Text) (v_shape : orders.Shape) (v_date : Option ℕ)
     → app ≡ replay_app → has_bundle words ≡ false → fault_of app words ≡ [] → rows_of f ≡ matches_of app words
     → (one_text f (codes "journal") ≡ Some (codes "true") → journal ≡ true) → (one_text f (codes "journal") ≡ Some (codes "false") → journal ≡ false)
     → (one_text f (codes "schedule") ≡ Some (codes "true") → schedule ≡ true) → (one_text f (codes "schedule") ≡ Some (codes "false") → schedule ≡ false)
-    → first_value f (codes "folder") ≡ Some v_folder → shape_in (first_value f (codes "workers")) (first_value f (codes "shards")) (first_value f (codes "batch")) (first_value f (codes "group")) (first_value f (codes "cost")) ≡ Some v_shape → date_in (first_value f (codes "date")) ≡ Some v_date
+    → first_value f (codes "folder") ≡ Some v_folder → shape_told f ≡ Some v_shape → date_in (first_value f (codes "date")) ≡ Some v_date
     → option_and_then replay_by (given_of replay_known words) ≡ Some (replay v_folder v_shape v_date journal schedule)
 replay_complete app words f journal schedule v_folder v_shape v_date is clear taken rows on off on_s off_s e_folder e_shape e_date =
-    replay_found app words f journal schedule is clear taken rows on off on_s off_s ∙ replay_all (first_value f (codes "folder")) (shape_in (first_value f (codes "workers")) (first_value f (codes "shards")) (first_value f (codes "batch")) (first_value f (codes "group")) (first_value f (codes "cost"))) (date_in (first_value f (codes "date"))) journal schedule e_folder e_shape e_date
+    replay_found app words f journal schedule is clear taken rows on off on_s off_s ∙ replay_all (first_value f (codes "folder")) (shape_told f) (date_in (first_value f (codes "date"))) journal schedule e_folder e_shape e_date
 
 pub serve_lacks_folder : (app : App) (words : List Text) (f : Found) → app ≡ serve_app → has_bundle words ≡ false → fault_of app words ≡ [] → rows_of f ≡ matches_of app words
     → first_value f (codes "folder") ≡ None → option_and_then serve_by (given_of serve_known words) ≡ None
-serve_lacks_folder app words f is clear taken rows e = serve_found app words f is clear taken rows ∙ ap (λ o. serve_parts o (option_and_then (within 1 65535) (first_value f (codes "port"))) (option_and_then (within 1 1024) (first_value f (codes "connections"))) (shape_in (first_value f (codes "workers")) (first_value f (codes "shards")) (first_value f (codes "batch")) (first_value f (codes "group")) (first_value f (codes "cost"))) (date_in (first_value f (codes "date")))) e
+serve_lacks_folder app words f is clear taken rows e = serve_found app words f is clear taken rows ∙ ap (λ o. serve_parts o (option_and_then (within 1 65535) (first_value f (codes "port"))) (option_and_then (within 1 1024) (first_value f (codes "connections"))) (shape_told f) (date_in (first_value f (codes "date")))) e
 
 pub serve_lacks_port : (app : App) (words : List Text) (f : Found) → app ≡ serve_app → has_bundle words ≡ false → fault_of app words ≡ [] → rows_of f ≡ matches_of app words
     → option_and_then (within 1 65535) (first_value f (codes "port")) ≡ None → option_and_then serve_by (given_of serve_known words) ≡ None
-serve_lacks_port app words f is clear taken rows e = serve_found app words f is clear taken rows ∙ serve_no_port (first_value f (codes "folder")) (option_and_then (within 1 65535) (first_value f (codes "port"))) (option_and_then (within 1 1024) (first_value f (codes "connections"))) (shape_in (first_value f (codes "workers")) (first_value f (codes "shards")) (first_value f (codes "batch")) (first_value f (codes "group")) (first_value f (codes "cost"))) (date_in (first_value f (codes "date"))) e
+serve_lacks_port app words f is clear taken rows e = serve_found app words f is clear taken rows ∙ serve_no_port (first_value f (codes "folder")) (option_and_then (within 1 65535) (first_value f (codes "port"))) (option_and_then (within 1 1024) (first_value f (codes "connections"))) (shape_told f) (date_in (first_value f (codes "date"))) e
 
 pub serve_lacks_connections : (app : App) (words : List Text) (f : Found) → app ≡ serve_app → has_bundle words ≡ false → fault_of app words ≡ [] → rows_of f ≡ matches_of app words
     → option_and_then (within 1 1024) (first_value f (codes "connections")) ≡ None → option_and_then serve_by (given_of serve_known words) ≡ None
-serve_lacks_connections app words f is clear taken rows e = serve_found app words f is clear taken rows ∙ serve_no_connections (first_value f (codes "folder")) (option_and_then (within 1 65535) (first_value f (codes "port"))) (option_and_then (within 1 1024) (first_value f (codes "connections"))) (shape_in (first_value f (codes "workers")) (first_value f (codes "shards")) (first_value f (codes "batch")) (first_value f (codes "group")) (first_value f (codes "cost"))) (date_in (first_value f (codes "date"))) e
+serve_lacks_connections app words f is clear taken rows e = serve_found app words f is clear taken rows ∙ serve_no_connections (first_value f (codes "folder")) (option_and_then (within 1 65535) (first_value f (codes "port"))) (option_and_then (within 1 1024) (first_value f (codes "connections"))) (shape_told f) (date_in (first_value f (codes "date"))) e
 
 pub serve_lacks_shape : (app : App) (words : List Text) (f : Found) → app ≡ serve_app → has_bundle words ≡ false → fault_of app words ≡ [] → rows_of f ≡ matches_of app words
-    → shape_in (first_value f (codes "workers")) (first_value f (codes "shards")) (first_value f (codes "batch")) (first_value f (codes "group")) (first_value f (codes "cost")) ≡ None → option_and_then serve_by (given_of serve_known words) ≡ None
-serve_lacks_shape app words f is clear taken rows e = serve_found app words f is clear taken rows ∙ serve_no_shape (first_value f (codes "folder")) (option_and_then (within 1 65535) (first_value f (codes "port"))) (option_and_then (within 1 1024) (first_value f (codes "connections"))) (shape_in (first_value f (codes "workers")) (first_value f (codes "shards")) (first_value f (codes "batch")) (first_value f (codes "group")) (first_value f (codes "cost"))) (date_in (first_value f (codes "date"))) e
+    → shape_told f ≡ None → option_and_then serve_by (given_of serve_known words) ≡ None
+serve_lacks_shape app words f is clear taken rows e = serve_found app words f is clear taken rows ∙ serve_no_shape (first_value f (codes "folder")) (option_and_then (within 1 65535) (first_value f (codes "port"))) (option_and_then (within 1 1024) (first_value f (codes "connections"))) (shape_told f) (date_in (first_value f (codes "date"))) e
 
 pub serve_lacks_date : (app : App) (words : List Text) (f : Found) → app ≡ serve_app → has_bundle words ≡ false → fault_of app words ≡ [] → rows_of f ≡ matches_of app words
     → date_in (first_value f (codes "date")) ≡ None → option_and_then serve_by (given_of serve_known words) ≡ None
-serve_lacks_date app words f is clear taken rows e = serve_found app words f is clear taken rows ∙ serve_no_date (first_value f (codes "folder")) (option_and_then (within 1 65535) (first_value f (codes "port"))) (option_and_then (within 1 1024) (first_value f (codes "connections"))) (shape_in (first_value f (codes "workers")) (first_value f (codes "shards")) (first_value f (codes "batch")) (first_value f (codes "group")) (first_value f (codes "cost"))) (date_in (first_value f (codes "date"))) e
+serve_lacks_date app words f is clear taken rows e = serve_found app words f is clear taken rows ∙ serve_no_date (first_value f (codes "folder")) (option_and_then (within 1 65535) (first_value f (codes "port"))) (option_and_then (within 1 1024) (first_value f (codes "connections"))) (shape_told f) (date_in (first_value f (codes "date"))) e
 
 pub serve_complete : (app : App) (words : List Text) (f : Found) (v_folder : Text) (v_port : ℕ) (v_connections : ℕ) (v_shape : orders.Shape) (v_date : Option ℕ)
     → app ≡ serve_app → has_bundle words ≡ false → fault_of app words ≡ [] → rows_of f ≡ matches_of app words
-    → first_value f (codes "folder") ≡ Some v_folder → option_and_then (within 1 65535) (first_value f (codes "port")) ≡ Some v_port → option_and_then (within 1 1024) (first_value f (codes "connections")) ≡ Some v_connections → shape_in (first_value f (codes "workers")) (first_value f (codes "shards")) (first_value f (codes "batch")) (first_value f (codes "group")) (first_value f (codes "cost")) ≡ Some v_shape → date_in (first_value f (codes "date")) ≡ Some v_date
+    → first_value f (codes "folder") ≡ Some v_folder → option_and_then (within 1 65535) (first_value f (codes "port")) ≡ Some v_port → option_and_then (within 1 1024) (first_value f (codes "connections")) ≡ Some v_connections → shape_told f ≡ Some v_shape → date_in (first_value f (codes "date")) ≡ Some v_date
     → option_and_then serve_by (given_of serve_known words) ≡ Some (serve v_folder v_port v_connections v_shape v_date)
-serve_complete app words f v_folder v_port v_connections v_shape v_date is clear taken rows e_folder e_port e_connections e_shape e_date = serve_found app words f is clear taken rows ∙ serve_all (first_value f (codes "folder")) (option_and_then (within 1 65535) (first_value f (codes "port"))) (option_and_then (within 1 1024) (first_value f (codes "connections"))) (shape_in (first_value f (codes "workers")) (first_value f (codes "shards")) (first_value f (codes "batch")) (first_value f (codes "group")) (first_value f (codes "cost"))) (date_in (first_value f (codes "date"))) e_folder e_port e_connections e_shape e_date
+serve_complete app words f v_folder v_port v_connections v_shape v_date is clear taken rows e_folder e_port e_connections e_shape e_date = serve_found app words f is clear taken rows ∙ serve_all (first_value f (codes "folder")) (option_and_then (within 1 65535) (first_value f (codes "port"))) (option_and_then (within 1 1024) (first_value f (codes "connections"))) (shape_told f) (date_in (first_value f (codes "date"))) e_folder e_port e_connections e_shape e_date
 
 pub bench_lacks_connections : (app : App) (words : List Text) (f : Found) → app ≡ bench_app → has_bundle words ≡ false → fault_of app words ≡ [] → rows_of f ≡ matches_of app words
     → option_and_then (within 1 1024) (first_value f (codes "connections")) ≡ None → option_and_then bench_by (given_of bench_known words) ≡ None
-bench_lacks_connections app words f is clear taken rows e = bench_found app words f is clear taken rows ∙ ap (λ o. bench_parts o (option_and_then (within 0 4294967295) (first_value f (codes "number"))) (shape_in (first_value f (codes "workers")) (first_value f (codes "shards")) (first_value f (codes "batch")) (first_value f (codes "group")) (first_value f (codes "cost")))) e
+bench_lacks_connections app words f is clear taken rows e = bench_found app words f is clear taken rows ∙ ap (λ o. bench_parts o (option_and_then (within 0 4294967295) (first_value f (codes "number"))) (shape_told f)) e
 
 pub bench_lacks_number : (app : App) (words : List Text) (f : Found) → app ≡ bench_app → has_bundle words ≡ false → fault_of app words ≡ [] → rows_of f ≡ matches_of app words
     → option_and_then (within 0 4294967295) (first_value f (codes "number")) ≡ None → option_and_then bench_by (given_of bench_known words) ≡ None
-bench_lacks_number app words f is clear taken rows e = bench_found app words f is clear taken rows ∙ bench_no_number (option_and_then (within 1 1024) (first_value f (codes "connections"))) (option_and_then (within 0 4294967295) (first_value f (codes "number"))) (shape_in (first_value f (codes "workers")) (first_value f (codes "shards")) (first_value f (codes "batch")) (first_value f (codes "group")) (first_value f (codes "cost"))) e
+bench_lacks_number app words f is clear taken rows e = bench_found app words f is clear taken rows ∙ bench_no_number (option_and_then (within 1 1024) (first_value f (codes "connections"))) (option_and_then (within 0 4294967295) (first_value f (codes "number"))) (shape_told f) e
 
 pub bench_lacks_shape : (app : App) (words : List Text) (f : Found) → app ≡ bench_app → has_bundle words ≡ false → fault_of app words ≡ [] → rows_of f ≡ matches_of app words
-    → shape_in (first_value f (codes "workers")) (first_value f (codes "shards")) (first_value f (codes "batch")) (first_value f (codes "group")) (first_value f (codes "cost")) ≡ None → option_and_then bench_by (given_of bench_known words) ≡ None
-bench_lacks_shape app words f is clear taken rows e = bench_found app words f is clear taken rows ∙ bench_no_shape (option_and_then (within 1 1024) (first_value f (codes "connections"))) (option_and_then (within 0 4294967295) (first_value f (codes "number"))) (shape_in (first_value f (codes "workers")) (first_value f (codes "shards")) (first_value f (codes "batch")) (first_value f (codes "group")) (first_value f (codes "cost"))) e
+    → shape_told f ≡ None → option_and_then bench_by (given_of bench_known words) ≡ None
+bench_lacks_shape app words f is clear taken rows e = bench_found app words f is clear taken rows ∙ bench_no_shape (option_and_then (within 1 1024) (first_value f (codes "connections"))) (option_and_then (within 0 4294967295) (first_value f (codes "number"))) (shape_told f) e
 
 pub bench_complete : (app : App) (words : List Text) (f : Found) (v_connections : ℕ) (v_number : ℕ) (v_shape : orders.Shape)
     → app ≡ bench_app → has_bundle words ≡ false → fault_of app words ≡ [] → rows_of f ≡ matches_of app words
-    → option_and_then (within 1 1024) (first_value f (codes "connections")) ≡ Some v_connections → option_and_then (within 0 4294967295) (first_value f (codes "number")) ≡ Some v_number → shape_in (first_value f (codes "workers")) (first_value f (codes "shards")) (first_value f (codes "batch")) (first_value f (codes "group")) (first_value f (codes "cost")) ≡ Some v_shape
+    → option_and_then (within 1 1024) (first_value f (codes "connections")) ≡ Some v_connections → option_and_then (within 0 4294967295) (first_value f (codes "number")) ≡ Some v_number → shape_told f ≡ Some v_shape
     → option_and_then bench_by (given_of bench_known words) ≡ Some (bench v_connections v_number v_shape)
-bench_complete app words f v_connections v_number v_shape is clear taken rows e_connections e_number e_shape = bench_found app words f is clear taken rows ∙ bench_all (option_and_then (within 1 1024) (first_value f (codes "connections"))) (option_and_then (within 0 4294967295) (first_value f (codes "number"))) (shape_in (first_value f (codes "workers")) (first_value f (codes "shards")) (first_value f (codes "batch")) (first_value f (codes "group")) (first_value f (codes "cost"))) e_connections e_number e_shape
-
--- ---- words with a bundle
+bench_complete app words f v_connections v_number v_shape is clear taken rows e_connections e_number e_shape = bench_found app words f is clear taken rows ∙ bench_all (option_and_then (within 1 1024) (first_value f (codes "connections"))) (option_and_then (within 0 4294967295) (first_value f (codes "number"))) (shape_told f) e_connections e_number e_shape
 
 -- ---- `check`
 
 check_found : (app : App) (words : List Text) (f : Found) → app ≡ check_app → has_bundle words ≡ false → fault_of app words ≡ [] → rows_of f ≡ matches_of app words
-    → option_and_then check_by (given_of check_known words) ≡ check_in [] (option_and_then (within 0 1024) (first_value f (codes "connections"))) (shape_in (first_value f (codes "workers")) (first_value f (codes "shards")) (first_value f (codes "batch")) (first_value f (codes "group")) (first_value f (codes "cost")))
+    → option_and_then check_by (given_of check_known words) ≡ check_in [] (option_and_then (within 0 1024) (first_value f (codes "connections"))) (shape_told f)
 check_found app words f is clear taken rows =
     taken_order check_at app check_app words f is (check_order words clear) taken rows
-    ∙ ap (λ o. check_in [] (option_and_then (within 0 1024) o) (shape_in (first_of (codes "workers") (rows_of f)) (first_of (codes "shards") (rows_of f)) (first_of (codes "batch") (rows_of f)) (first_of (codes "group") (rows_of f)) (first_of (codes "cost") (rows_of f)))) (sym (first_value-rows f (codes "connections")))
+    ∙ ap (λ o. check_in [] (option_and_then (within 0 1024) o) (shape_at (rows_of f))) (sym (first_value-rows f (codes "connections")))
     ∙ ap (check_in [] (option_and_then (within 0 1024) (first_value f (codes "connections")))) (shape_rows f)
 
 pub check_refused : (app : App) (words : List Text) → app ≡ check_app → has_bundle words ≡ false → fault_of app words ≢ []
@@ -310,15 +294,17 @@ check_refused app words is clear faults = refused_order check_at app check_app w
 
 pub check_lacks_connections : (app : App) (words : List Text) (f : Found) → app ≡ check_app → has_bundle words ≡ false → fault_of app words ≡ [] → rows_of f ≡ matches_of app words
     → option_and_then (within 0 1024) (first_value f (codes "connections")) ≡ None → option_and_then check_by (given_of check_known words) ≡ None
-check_lacks_connections app words f is clear taken rows e = check_found app words f is clear taken rows ∙ ap (λ o. check_in [] o (shape_in (first_value f (codes "workers")) (first_value f (codes "shards")) (first_value f (codes "batch")) (first_value f (codes "group")) (first_value f (codes "cost")))) e
+check_lacks_connections app words f is clear taken rows e = check_found app words f is clear taken rows ∙ ap (λ o. check_in [] o (shape_told f)) e
 
 pub check_lacks_shape : (app : App) (words : List Text) (f : Found) → app ≡ check_app → has_bundle words ≡ false → fault_of app words ≡ [] → rows_of f ≡ matches_of app words
-    → shape_in (first_value f (codes "workers")) (first_value f (codes "shards")) (first_value f (codes "batch")) (first_value f (codes "group")) (first_value f (codes "cost")) ≡ None → option_and_then check_by (given_of check_known words) ≡ None
+    → shape_told f ≡ None → option_and_then check_by (given_of check_known words) ≡ None
 check_lacks_shape app words f is clear taken rows e = check_found app words f is clear taken rows ∙ ap (check_in [] (option_and_then (within 0 1024) (first_value f (codes "connections")))) e ∙ none_after _ (option_and_then (within 0 1024) (first_value f (codes "connections"))) (λ n. refl)
 
 pub check_complete : (app : App) (words : List Text) (f : Found) (connections : ℕ) (shape : orders.Shape) → app ≡ check_app → has_bundle words ≡ false → fault_of app words ≡ [] → rows_of f ≡ matches_of app words
-    → option_and_then (within 0 1024) (first_value f (codes "connections")) ≡ Some connections → shape_in (first_value f (codes "workers")) (first_value f (codes "shards")) (first_value f (codes "batch")) (first_value f (codes "group")) (first_value f (codes "cost")) ≡ Some shape → option_and_then check_by (given_of check_known words) ≡ Some (check connections shape)
-check_complete app words f connections shape is clear taken rows e1 e2 = check_found app words f is clear taken rows ∙ ap (λ o. check_in [] o (shape_in (first_value f (codes "workers")) (first_value f (codes "shards")) (first_value f (codes "batch")) (first_value f (codes "group")) (first_value f (codes "cost")))) e1 ∙ ap (check_in [] (Some connections)) e2
+    → option_and_then (within 0 1024) (first_value f (codes "connections")) ≡ Some connections → shape_told f ≡ Some shape → option_and_then check_by (given_of check_known words) ≡ Some (check connections shape)
+check_complete app words f connections shape is clear taken rows e1 e2 = check_found app words f is clear taken rows ∙ ap (λ o. check_in [] o (shape_told f)) e1 ∙ ap (check_in [] (Some connections)) e2
+
+-- ---- words with a bundle
 
 no_order : (a b c d f : Bool) {w x y z v : Option Order} → w ≡ None → x ≡ None → y ≡ None → z ≡ None → v ≡ None
     → (if a then w else if b then x else if c then y else if d then z else if f then v else None) ≡ None

@@ -1,5 +1,6 @@
 -- The lemmas of the proofs.
 pub mod NumberLemmas
+pub mod SameLemmas
 pub mod ClapStepLemmas
 pub mod CommandLemmas
 pub mod ClapWalkLemmas
@@ -10,6 +11,7 @@ pub mod ReplayLemmas
 pub mod GivenRows
 pub mod TakenLemmas
 pub mod FoundLemmas
+pub mod CommandRowsLemmas
 pub mod ServeLemmas
 pub mod BenchLemmas
 pub mod CheckLemmas

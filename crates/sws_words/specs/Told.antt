@@ -16,11 +16,11 @@ told_shape shape = record {
 }
 
 -- the order that the program has read, as a definition has it
-abbrev pub told : Order → orders.Order
-told (Answer folder date) = orders.answer (string_bytes folder) date
-told (Replay folder shape date journal schedule) =
+abbrev pub order_view : Order → orders.Order
+order_view (Answer folder date) = orders.answer (string_bytes folder) date
+order_view (Replay folder shape date journal schedule) =
     orders.replay (string_bytes folder) (told_shape shape) date journal schedule
-told (Serve folder port connections shape date) =
+order_view (Serve folder port connections shape date) =
     orders.serve (string_bytes folder) port connections (told_shape shape) date
-told (Bench connections number shape) = orders.bench connections number (told_shape shape)
-told (Check connections shape) = orders.check connections (told_shape shape)
+order_view (Bench connections number shape) = orders.bench connections number (told_shape shape)
+order_view (Check connections shape) = orders.check connections (told_shape shape)

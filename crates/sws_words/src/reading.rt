@@ -5,7 +5,7 @@ ghost use Rattle.clap.specs.Words.{found_of, first_of, first_value, one_of, rows
 ghost use Rattle.sws_words.specs.Grammar.{given_of, has_bundle as have_bundle};
 ghost use Rattle.sws_words.specs.Orders.{within, or_default, shape_in, date_in, order_of, answer_by, answer_known, replay_by, replay_known};
 ghost use Rattle.sws_words.specs.Orders.{serve_by, serve_known, bench_by, bench_known, check_by, check_known};
-ghost use Rattle.sws_words.specs.Told.{told, told_shape};
+ghost use Rattle.sws_words.specs.Told.{order_view, told_shape};
 
 use crate::commands::{
     answer_command, bench_command, check_command, replay_command, serve_command,
@@ -158,7 +158,7 @@ fn read_answer(alloc: Global, words: &[String]) -> Result<Order, WordFault>
     requires { have_bundle (map string_bytes words.now) ≡ false }
     ensures read { IfOk result (λ order.
         option_and_then answer_by (given_of answer_known (map string_bytes words.now))
-        ≡ Some (told order)) }
+        ≡ Some (order_view order)) }
     ensures refused { IfErr result (λ fault. fault ≡ WordFault.Usage
         → option_and_then answer_by (given_of answer_known (map string_bytes words.now)) ≡ None) }
 {
@@ -174,7 +174,7 @@ fn read_replay(alloc: Global, words: &[String]) -> Result<Order, WordFault>
     requires { have_bundle (map string_bytes words.now) ≡ false }
     ensures read { IfOk result (λ order.
         option_and_then replay_by (given_of replay_known (map string_bytes words.now))
-        ≡ Some (told order)) }
+        ≡ Some (order_view order)) }
     ensures refused { IfErr result (λ fault. fault ≡ WordFault.Usage
         → option_and_then replay_by (given_of replay_known (map string_bytes words.now)) ≡ None) }
 {
@@ -199,7 +199,7 @@ fn read_serve(alloc: Global, words: &[String]) -> Result<Order, WordFault>
     requires { have_bundle (map string_bytes words.now) ≡ false }
     ensures read { IfOk result (λ order.
         option_and_then serve_by (given_of serve_known (map string_bytes words.now))
-        ≡ Some (told order)) }
+        ≡ Some (order_view order)) }
     ensures refused { IfErr result (λ fault. fault ≡ WordFault.Usage
         → option_and_then serve_by (given_of serve_known (map string_bytes words.now)) ≡ None) }
 {
@@ -224,7 +224,7 @@ fn read_bench(alloc: Global, words: &[String]) -> Result<Order, WordFault>
     requires { have_bundle (map string_bytes words.now) ≡ false }
     ensures read { IfOk result (λ order.
         option_and_then bench_by (given_of bench_known (map string_bytes words.now))
-        ≡ Some (told order)) }
+        ≡ Some (order_view order)) }
     ensures refused { IfErr result (λ fault. fault ≡ WordFault.Usage
         → option_and_then bench_by (given_of bench_known (map string_bytes words.now)) ≡ None) }
 {
@@ -245,7 +245,7 @@ fn read_check(alloc: Global, words: &[String]) -> Result<Order, WordFault>
     requires { have_bundle (map string_bytes words.now) ≡ false }
     ensures read { IfOk result (λ order.
         option_and_then check_by (given_of check_known (map string_bytes words.now))
-        ≡ Some (told order)) }
+        ≡ Some (order_view order)) }
     ensures refused { IfErr result (λ fault. fault ≡ WordFault.Usage
         → option_and_then check_by (given_of check_known (map string_bytes words.now)) ≡ None) }
 {
@@ -262,7 +262,7 @@ fn read_check(alloc: Global, words: &[String]) -> Result<Order, WordFault>
 /// memory.
 pub fn read_words(alloc: Global, words: &[String]) -> Result<Order, WordFault>
     ensures read { IfOk result (λ order. order_of (map string_bytes words.now)
-        ≡ Some (told order)) }
+        ≡ Some (order_view order)) }
     ensures refused { IfErr result (λ fault. fault ≡ WordFault.Usage
         → order_of (map string_bytes words.now) ≡ None) }
 {

@@ -11,8 +11,8 @@ use Rattle.mely_history.specs.declared.registered.Registered.{Registered}
 use Rattle.mely_history.specs.declared.registered.Registered.TheVariants.{Woke, Told, Running}
 use Rattle.mely_history.specs.History.{begun_of, ended_of, queued_of}
 use Rattle.mely_shard.specs.Shard.{RegisteredAs}
-use Rattle.mely_steal.specs.Marks.{replaced}
-use Rattle.mely_steal.specs.StealQueue.{changed}
+use Rattle.mely_steal.specs.Marks.{after_replacement}
+use Rattle.mely_steal.specs.StealQueue.{after_mark_change}
 use Rattle.mely_core.specs.CoreQueue.{CoreQueueState, HoldTogether, told_of}
 use Rattle.mely_core.proofs.ChainLemmas.{absent-worthy}
 use Rattle.mely_worker.specs.declared.delivery.Delivery.TheVariants.{Nothing, PushMark, Report}
@@ -52,7 +52,7 @@ push_listed now old new together list is mark does =
 pub report_listed : (now : ℕ) (old new : CoreQueueState) (together : HoldTogether old) (list : List Listed) → IsListed now old list → (c : Colour) (started worth : ℕ) (found : Bool) → RetellAs c started worth found old new → IsListed (now + 1) new (map (hears old.cost now c started worth) list)
 report_listed now old new together list is c started worth found does = by_told (told_of c started worth old.chain) refl does.1
   where
-    by_told : (told : Option Mark) → told_of c started worth old.chain ≡ told → MatchOption told (new ≡ old) (λ told. new ≡ record old { chain = replaced told old.chain; worthy = changed old.cost old.pinned told old.worthy })
+    by_told : (told : Option Mark) → told_of c started worth old.chain ≡ told → MatchOption told (new ≡ old) (λ told. new ≡ record old { chain = after_replacement told old.chain; worthy = after_mark_change old.cost old.pinned told old.worthy })
         → IsListed (now + 1) new (map (hears old.cost now c started worth) list)
     by_told None none same = subst (λ (q : CoreQueueState). IsListed (now + 1) q (map (hears old.cost now c started worth) list)) (sym same) (untold now old together list is c started worth none)
     by_told (Some told) some becomes = subst (λ (q : CoreQueueState). IsListed (now + 1) q (map (hears old.cost now c started worth) list)) (sym becomes) (after_told now old together list is c started worth told some)

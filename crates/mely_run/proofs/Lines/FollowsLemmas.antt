@@ -33,7 +33,7 @@ use Rattle.mely_machine.specs.Rules.{Rules, rules_of, owner_by, mark_by}
 use Rattle.mely_machine.specs.Listing.{Listed, hears, first_to_steal, without_colour}
 use Rattle.mely_machine.specs.Machine.{Doing, Free, Popped, Picked, Landing, Pushing, Turning, Machine, list_at, enters, lists_at, turns_to, pushes}
 use Rattle.mely_machine.specs.MachineStep.{history_for, reports, doing_after, delivery_by, place_after, step_finish, step_register, step_pop, step_pick, step_hunt, step_take, step_steal}
-use Rattle.mely_run.specs.Corresponds.{listed, doing, without_load, without_loads, IsListed, IsShown, Corresponds}
+use Rattle.mely_run.specs.Corresponds.{listed_mark, worker_doing, without_load, without_loads, IsListed, IsShown, Corresponds}
 use Rattle.mely_run.proofs.Lists.ElementsLemmas.{got, set_there, map_take}
 use Rattle.mely_run.proofs.Lists.PushesLemmas.{after_pop as popped_list}
 use Rattle.mely_run.proofs.Lists.PicksLemmas.{no_pick, picked_first, after_pick as picked_list}
@@ -52,7 +52,7 @@ module _ {S P F X : Type 0} (t : TrailWords S F) (fits : F → Colour → Event 
   pub record Follows (b : SideState S P) (v : WorkerState S P) (n : Machine X) : Type 0 where
     pub setup : b.setup ≡ weave.setup
     pub shown : IsShown b.shards b.chains (m.made + 1) n.histories n.lists
-    pub workers : n.workers ≡ slice_set m.workers k (doing v)
+    pub workers : n.workers ≡ slice_set m.workers k (worker_doing v)
     pub made : n.made ≡ m.made
     pub going : v.halted ≡ false
 
@@ -62,19 +62,19 @@ module _ {S P F X : Type 0} (t : TrailWords S F) (fits : F → Colour → Event 
 
   -- ---- one chain changes
 
-  chain_line : (b : SideState S P) (to : ℕ) (Does : CoreQueueState → CoreQueueState → Type 0) (called : AtChain a b to Does) (list : List Listed) → IsListed (m.made + 1) called.new list → (v : WorkerState S P) (d : Doing) → d ≡ doing v → v.halted ≡ false
+  chain_line : (b : SideState S P) (to : ℕ) (Does : CoreQueueState → CoreQueueState → Type 0) (called : AtChain a b to Does) (list : List Listed) → IsListed (m.made + 1) called.new list → (v : WorkerState S P) (d : Doing) → d ≡ worker_doing v → v.halted ≡ false
       → Follows b v (turns_to k d (lists_at to list m))
-  chain_line b to Does called list listed v d e not_halted = record {
+  chain_line b to Does called list listed_mark v d e not_halted = record {
     setup = ap (λ (s : SideState S P). s.setup) called.becomes;
     shown = subst (λ (s : SideState S P). IsShown s.shards s.chains (m.made + 1) m.histories (slice_set m.lists to list)) (sym called.becomes)
-        (shown_list weave.shards weave.chains m.made m.histories m.lists is.shown to called.old called.new list called.was listed);
+        (shown_list weave.shards weave.chains m.made m.histories m.lists is.shown to called.old called.new list called.was listed_mark);
     workers = ap (slice_set m.workers k) e;
     made = refl;
     going = not_halted;
   }
 
   -- nothing changes
-  pub same_line : (b : SideState S P) → b ≡ a → (v : WorkerState S P) (d : Doing) (app : X) → d ≡ doing v → v.halted ≡ false → Follows b v (turns_to k d (record m { app = app }))
+  pub same_line : (b : SideState S P) → b ≡ a → (v : WorkerState S P) (d : Doing) (app : X) → d ≡ worker_doing v → v.halted ≡ false → Follows b v (turns_to k d (record m { app = app }))
   same_line b same v d app e not_halted = record {
     setup = ap (λ (s : SideState S P). s.setup) same;
     shown = subst (λ (s : SideState S P). IsShown s.shards s.chains (m.made + 1) m.histories m.lists) (sym same) (shown_later weave.shards weave.chains m.made m.histories m.lists is.shown);
@@ -100,13 +100,13 @@ module _ {S P F X : Type 0} (t : TrailWords S F) (fits : F → Colour → Event 
   first_is core queue there = λ i. first_to_steal (sym (cost_is core queue there) i) (sym (well.chain core queue there).pinned i) (list_at m core)
 
   -- a mark is pushed
-  pub push_line : (b : SideState S P) (to : ℕ) (mark : Mark) → AtChain a b to (PushAs mark (Ok tt)) → (v : WorkerState S P) (d : Doing) → d ≡ doing v → v.halted ≡ false → Follows b v (turns_to k d (pushes to mark m))
+  pub push_line : (b : SideState S P) (to : ℕ) (mark : Mark) → AtChain a b to (PushAs mark (Ok tt)) → (v : WorkerState S P) (d : Doing) → d ≡ worker_doing v → v.halted ≡ false → Follows b v (turns_to k d (pushes to mark m))
   push_line b to mark called v d e not_halted =
       chain_line b to (PushAs mark (Ok tt)) called (list_at m to ++ record { mark = mark; since = m.made } ∷ [])
       (push_listed m.made called.old called.new (well.chain to called.old called.was).together (list_at m to) (its_list to called.old called.was) mark called.does) v d e not_halted
 
   -- a report is heard
-  pub report_line : (b : SideState S P) (to : ℕ) (c : Colour) (started worth : ℕ) (found : Bool) → AtChain a b to (RetellAs c started worth found) → (v : WorkerState S P) (d : Doing) → d ≡ doing v → v.halted ≡ false
+  pub report_line : (b : SideState S P) (to : ℕ) (c : Colour) (started worth : ℕ) (found : Bool) → AtChain a b to (RetellAs c started worth found) → (v : WorkerState S P) (d : Doing) → d ≡ worker_doing v → v.halted ≡ false
       → Follows b v (turns_to k d (reports rules to c started worth m))
   report_line b to c started worth found called v d e not_halted =
       chain_line b to (RetellAs c started worth found) called (map (hears rules.shape.steal_cost m.made c started worth) (list_at m to))
@@ -120,15 +120,15 @@ module _ {S P F X : Type 0} (t : TrailWords S F) (fits : F → Colour → Event 
   -- the own list is popped
   pub pop_line : (b : SideState S P) (answer : Option Mark) → AtChain a b k (PopAs answer) → Follows b (after_pop w answer) (step_pop rules k m (list_at m k))
   pop_line b None called =
-      let no_list : list_at m k ≡ [] = (its_list k called.old called.was).marks ∙ ap (map (listed (its_list k called.old called.was).since)) called.does.0 in
+      let no_list : list_at m k ≡ [] = (its_list k called.old called.was).marks ∙ ap (map (listed_mark (its_list k called.old called.was).since)) called.does.0 in
       subst (λ (l : List Listed). Follows b (after_pop w None) (step_pop rules k m l)) (sym no_list)
       (same_line b (unchanged b k (PopAs None) called called.does.1) (after_pop w None) (Free (place_after rules k 0)) m.app (ap Free (place_is 0)) going)
   pop_line b (Some mark) called =
       let both = popped_list m.made called.old (list_at m k) (its_list k called.old called.was) mark called.new.chain called.does.0 in
       let since = (its_list k called.old called.was).since in
       subst (λ (l : List Listed). Follows b (after_pop w (Some mark)) (step_pop rules k m l)) (sym both.0)
-      (chain_line b k (PopAs (Some mark)) called (map (listed since) called.new.chain)
-      (subst (λ (q : CoreQueueState). IsListed (m.made + 1) q (map (listed since) called.new.chain)) (sym called.does.1) both.1)
+      (chain_line b k (PopAs (Some mark)) called (map (listed_mark since) called.new.chain)
+      (subst (λ (q : CoreQueueState). IsListed (m.made + 1) q (map (listed_mark since) called.new.chain)) (sym called.does.1) both.1)
       (after_pop w (Some mark)) (Popped mark) refl going)
 
   -- a mark is picked
@@ -141,7 +141,7 @@ module _ {S P F X : Type 0} (t : TrailWords S F) (fits : F → Colour → Event 
       (same_line b (unchanged b victim (PickAs None) called called.does.1) (after_pick w place victim None) (Free (place_after rules k place)) m.app (ap Free (place_is place)) going)
   pick_line b place victim (Some mark) called =
       let its = its_list victim called.old called.was in
-      let some : first_to_steal rules.shape.steal_cost rules.pinned (list_at m victim) ≡ Some (listed its.since mark) =
+      let some : first_to_steal rules.shape.steal_cost rules.pinned (list_at m victim) ≡ Some (listed_mark its.since mark) =
       first_is victim called.old called.was
       ∙ picked_first m.made called.old (well.chain victim called.old called.was).together (list_at m victim) its mark called.does.0 in
       subst (λ (l : Option Listed). Follows b (after_pick w place victim (Some mark)) (step_pick rules k m place victim l)) (sym some)
@@ -170,7 +170,7 @@ module _ {S P F X : Type 0} (t : TrailWords S F) (fits : F → Colour → Event 
   of_setup c old there = (well.shard (shard c) old there).of_setup
 
   shard_line : (b : SideState S P) (c : Colour) (Does : ShardState S P → ShardState S P → Type 0) (called : AtShard a b c Does) (entry : Entry) → called.new.history ≡ called.old.history ++ entry ∷ []
-      → (v : WorkerState S P) (d : Doing) → d ≡ doing v → v.halted ≡ false → Follows b v (turns_to k d (enters (shard c) entry m))
+      → (v : WorkerState S P) (d : Doing) → d ≡ worker_doing v → v.halted ≡ false → Follows b v (turns_to k d (enters (shard c) entry m))
   shard_line b c Does called entry more v d e not_halted = record {
     setup = ap (λ (s : SideState S P). s.setup) called.becomes;
     shown = subst (λ (s : SideState S P). IsShown s.shards s.chains (m.made + 1) (slice_set m.histories (shard c) (history_for rules m c ++ entry ∷ [])) m.lists) (sym called.becomes)
@@ -196,7 +196,7 @@ module _ {S P F X : Type 0} (t : TrailWords S F) (fits : F → Colour → Event 
       (ap (λ (h : Delivery). Turning turn.colour turn.count (events_of turn.events) h (without_loads rest)) hand) going
 
   -- the turn ends
-  rest_is : (history : List Entry) (c : Colour) (answer : After) → AfterAs weave.setup history c answer → (queued : List Event) → queued_of history c ≡ queued → doing_after rules k history c queued ≡ doing (after_finish w c answer)
+  rest_is : (history : List Entry) (c : Colour) (answer : After) → AfterAs weave.setup history c answer → (queued : List Event) → queued_of history c ≡ queued → doing_after rules k history c queued ≡ worker_doing (after_finish w c answer)
   rest_is history c (More started worth) said [] none = absurd (let some = said.0 in omega (arith, some, ap length none))
   rest_is history c (More started worth) said (event ∷ queued) some = λ i. Pushing (sym (own t fits weave well k w here low) i) (record { colour = c; started = sym said.1 i; worth = sym said.2 i })
   rest_is history c Idle said [] none = refl
@@ -209,13 +209,13 @@ module _ {S P F X : Type 0} (t : TrailWords S F) (fits : F → Colour → Event 
       let more : called.new.history ≡ called.old.history ++ entry ∷ [] = called.does.0.after.history ∙ ap (λ (core : ℕ). called.old.history ++ Fin c core turn.count ∷ []) on_own in
       let now = now_history c called.old called.new entry called.was more in
       let d : Doing = doing_after rules k (history_for rules (enters (shard c) entry m) c) c (queued_of (history_for rules (enters (shard c) entry m) c) c) in
-      let d_is : d ≡ doing (after_finish w c answer) =
+      let d_is : d ≡ worker_doing (after_finish w c answer) =
       ap (λ (h : List Entry). doing_after rules k h c (queued_of h c)) now
       ∙ rest_is called.new.history c answer (subst (λ (s : Setup). AfterAs s called.new.history c answer) (of_setup c called.old called.was) called.does.2) (queued_of called.new.history c) refl in
       by_answer answer d d_is (shard_line b c (FinishAs turn answer) called entry more)
     where
-      by_answer : (is_answer : After) (d : Doing) → d ≡ doing (after_finish w turn.colour is_answer)
-          → ((v : WorkerState S P) (e : Doing) → e ≡ doing v → v.halted ≡ false → Follows b v (turns_to k e (enters (shard turn.colour) (Fin turn.colour k turn.count) m)))
+      by_answer : (is_answer : After) (d : Doing) → d ≡ worker_doing (after_finish w turn.colour is_answer)
+          → ((v : WorkerState S P) (e : Doing) → e ≡ worker_doing v → v.halted ≡ false → Follows b v (turns_to k e (enters (shard turn.colour) (Fin turn.colour k turn.count) m)))
           → Follows b (after_finish w turn.colour is_answer) (turns_to k d (enters (shard turn.colour) (Fin turn.colour k turn.count) m))
       by_answer (More started worth) d e line = line (after_finish w turn.colour (More started worth)) d e going
       by_answer Idle d e line = line (after_finish w turn.colour Idle) d e going

@@ -18,7 +18,7 @@ use Rattle.mely_core.specs.CoreQueue.{CoreQueueState, HoldTogether, if_worthy}
 use Rattle.mely_core.proofs.ChainLemmas.{if_worthy-some}
 use Rattle.mely_weave.proofs.Entries.SideLemmas.{get_map}
 use Rattle.mely_machine.specs.Listing.{Listed, class, to_steal, goes_before, first_to_steal, without_colour}
-use Rattle.mely_run.specs.Corresponds.{listed, times, Increases, IsListed}
+use Rattle.mely_run.specs.Corresponds.{listed_mark, times, Increases, IsListed}
 use Rattle.mely_run.proofs.Lists.ElementsLemmas.{all_weaker, all_both, find_passes, find_has, find_place, find_none, find_only, filter_place, none_any, none_is}
 use Rattle.mely_run.proofs.Lists.PushesLemmas.{increases_filter, all_filter}
 
@@ -41,7 +41,7 @@ before_same ca sa cb sb e h = grind (arith, nat_tests)
 
 module _ (cost : ℕ) (since : ℕ → ℕ) where
   abbrev goes : Mark → Mark → Bool
-  goes m o = goes_before cost (listed since m) (listed since o)
+  goes m o = goes_before cost (listed_mark since m) (listed_mark since o)
 
   abbrev has_class : ℕ → Mark → Bool
   has_class k m = eqb (class_of m.worth cost) k
@@ -106,7 +106,7 @@ module _ (cost : ℕ) (since : ℕ → ℕ) where
 
 module _ (now : ℕ) (queue : CoreQueueState) (together : HoldTogether queue) (list : List Listed) (is : IsListed now queue list) where
   abbrev at : Mark → Listed
-  at = listed is.since
+  at = listed_mark is.since
 
   abbrev able : Listed → Bool
   able l = is_worthy queue.cost queue.pinned l.mark

@@ -5,12 +5,12 @@ use Rattle.std.proofs.lemmas.Bool.{cond-true, cond-false, eq-eqb}
 use Rattle.std.proofs.lemmas.List.{map-append}
 use Rattle.mely_event.specs.declared.colour.Colour.{Colour}
 use Rattle.mely_event.specs.declared.mark.Mark.{Mark}
-use Rattle.mely_steal.specs.Marks.{is_of, mark_of, without, replaced}
-use Rattle.mely_steal.specs.StealQueue.{is_worthy, entered}
+use Rattle.mely_steal.specs.Marks.{is_of, mark_of, without, after_replacement}
+use Rattle.mely_steal.specs.StealQueue.{is_worthy, after_entry}
 use Rattle.mely_steal.proofs.MarkLemmas.{none-parts, replaced-colour}
 use Rattle.mely_core.specs.CoreQueue.{CoreQueueState}
 use Rattle.mely_machine.specs.Listing.{Listed}
-use Rattle.mely_run.specs.Corresponds.{listed, times, Increases, IsListed}
+use Rattle.mely_run.specs.Corresponds.{listed_mark, times, Increases, IsListed}
 use Rattle.mely_run.proofs.Lists.ElementsLemmas.{all_weaker, all_push}
 
 -- ---- numbers that increase
@@ -55,16 +55,16 @@ times_other since c now (x ∷ xs) none =
     let rest = times_other since c now xs parts.1 in
     λ i. head i ∷ rest i
 
-listed_other : (since : ℕ → ℕ) (c : Colour) (now : ℕ) (xs : List Mark) → mark_of c xs ≡ None → map (listed (entering since c.0 now)) xs ≡ map (listed since) xs
+listed_other : (since : ℕ → ℕ) (c : Colour) (now : ℕ) (xs : List Mark) → mark_of c xs ≡ None → map (listed_mark (entering since c.0 now)) xs ≡ map (listed_mark since) xs
 listed_other since c now [] none = refl
 listed_other since c now (x ∷ xs) none =
     let parts = none-parts c x xs none in
-    let head : listed (entering since c.0 now) x ≡ listed since x = ap (λ (n : ℕ). record { mark = x; since = n }) (entering_other since c.0 now x.colour.0 parts.0) in
+    let head : listed_mark (entering since c.0 now) x ≡ listed_mark since x = ap (λ (n : ℕ). record { mark = x; since = n }) (entering_other since c.0 now x.colour.0 parts.0) in
     let rest = listed_other since c now xs parts.1 in
     λ i. head i ∷ rest i
 
 -- a mark keeps its time in another's place
-pub times_replaced : (since : ℕ → ℕ) (new : Mark) (xs : List Mark) → times since (replaced new xs) ≡ times since xs
+pub times_replaced : (since : ℕ → ℕ) (new : Mark) (xs : List Mark) → times since (after_replacement new xs) ≡ times since xs
 times_replaced since new [] = refl
 times_replaced since new (x ∷ xs) =
     let head = ap since (replaced-colour new x) in
@@ -81,7 +81,7 @@ past_more now ns past = all_weaker (λ n. n < now) (λ n. n < now + 1) ns (λ n 
 
 -- and so they do after a mark entered now
 pub entered_sorted : (since : ℕ → ℕ) (now cost pinned : ℕ) (mark : Mark) (worthy : List Mark) → mark_of mark.colour worthy ≡ None → Increases (times since worthy) → AllByRecursion (λ n. n < now) (times since worthy)
-    → IsSorted (entering since mark.colour.0 now) (now + 1) (entered cost pinned mark worthy)
+    → IsSorted (entering since mark.colour.0 now) (now + 1) (after_entry cost pinned mark worthy)
 entered_sorted since now cost pinned mark worthy none up past = elim (is_worthy cost pinned mark) as (λ b. IsSorted (entering since mark.colour.0 now) (now + 1) (cond b (worthy ++ mark ∷ []) worthy)) [
   | true ↦ record {
     increases = subst Increases (sym last) (increases_push (times since worthy) now up past);
@@ -113,13 +113,13 @@ module _ (now : ℕ) (queue : CoreQueueState) (list : List Listed) (is : IsListe
 
   -- a mark is pushed
   pub after_push : (mark : Mark) → mark_of mark.colour queue.chain ≡ None → mark_of mark.colour queue.worthy ≡ None
-      → IsListed (now + 1) (record queue { chain = queue.chain ++ mark ∷ []; worthy = entered queue.cost queue.pinned mark queue.worthy }) (list ++ record { mark = mark; since = now } ∷ [])
+      → IsListed (now + 1) (record queue { chain = queue.chain ++ mark ∷ []; worthy = after_entry queue.cost queue.pinned mark queue.worthy }) (list ++ record { mark = mark; since = now } ∷ [])
   after_push mark absent none =
       let sorted = entered_sorted is.since now queue.cost queue.pinned mark queue.worthy none is.increases is.past in
       record {
         since = entering is.since mark.colour.0 now;
         marks = sym (
-            map-append (listed (entering is.since mark.colour.0 now)) queue.chain (mark ∷ [])
+            map-append (listed_mark (entering is.since mark.colour.0 now)) queue.chain (mark ∷ [])
             ∙ (λ i. listed_other is.since mark.colour now queue.chain absent i ++ record { mark = mark; since = entering_same is.since mark.colour.0 now mark.colour.0 refl i } ∷ [])
             ∙ ap (λ ls. ls ++ record { mark = mark; since = now } ∷ []) (sym is.marks)
             );
@@ -129,11 +129,11 @@ module _ (now : ℕ) (queue : CoreQueueState) (list : List Listed) (is : IsListe
 
   -- the front is popped
   pub after_pop : (mark : Mark) (chain : List Mark) → queue.chain ≡ mark ∷ chain
-      → (list ≡ listed is.since mark ∷ map (listed is.since) chain)
-      × IsListed (now + 1) (record queue { chain = chain; worthy = without mark.colour queue.worthy }) (map (listed is.since) chain)
+      → (list ≡ listed_mark is.since mark ∷ map (listed_mark is.since) chain)
+      × IsListed (now + 1) (record queue { chain = chain; worthy = without mark.colour queue.worthy }) (map (listed_mark is.since) chain)
   unfolding later
   after_pop mark chain e = (
-    is.marks ∙ ap (map (listed is.since)) e,
+    is.marks ∙ ap (map (listed_mark is.since)) e,
     record {
       since = is.since;
       marks = refl;

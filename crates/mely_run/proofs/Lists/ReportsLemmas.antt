@@ -7,14 +7,14 @@ use Rattle.std.proofs.lemmas.Option.{none-some, same_Some}
 use Rattle.mely_event.specs.declared.colour.Colour.{Colour}
 use Rattle.mely_event.specs.declared.mark.Mark.{Mark}
 use Rattle.mely_steal.specs.Classes.{class_of}
-use Rattle.mely_steal.specs.Marks.{is_of, mark_of, without, replaced, IsOneEach}
-use Rattle.mely_steal.specs.StealQueue.{is_worthy, entered, changed, keeps_class}
+use Rattle.mely_steal.specs.Marks.{is_of, mark_of, without, after_replacement, IsOneEach}
+use Rattle.mely_steal.specs.StealQueue.{is_worthy, after_entry, after_mark_change, keeps_class}
 use Rattle.mely_steal.proofs.MarkLemmas.{none-parts, mark_of-colour, mark_of-same, mark_of-without_same}
 use Rattle.mely_steal.proofs.StealLemmas.{class_of-worthy, worthy-class_of, worthy-parts, worthy-from}
-use Rattle.mely_core.specs.CoreQueue.{CoreQueueState, HoldTogether, if_worthy, raised, told_of}
+use Rattle.mely_core.specs.CoreQueue.{CoreQueueState, HoldTogether, if_worthy, after_report, told_of}
 use Rattle.mely_core.proofs.ChainLemmas.{if_worthy-some}
 use Rattle.mely_machine.specs.Listing.{Listed, in_place_of, hears}
-use Rattle.mely_run.specs.Corresponds.{listed, times, Increases, IsListed}
+use Rattle.mely_run.specs.Corresponds.{listed_mark, times, Increases, IsListed}
 use Rattle.mely_run.proofs.Lists.PushesLemmas.{increases_filter, all_filter, entering, entering_same, entering_other, times_replaced, IsSorted, past_more, entered_sorted}
 
 module _ (cost now : ℕ) (c : Colour) (started worth : ℕ) where
@@ -38,42 +38,42 @@ module _ (cost now : ℕ) (c : Colour) (started worth : ℕ) where
       ∙ ap (λ b. cond b (in_place_of cost l now (record l.mark { worth = max l.mark.worth worth })) l) same
 
   -- where no mark hears it, the list stays
-  none_hears : (since : ℕ → ℕ) (xs : List Mark) → mark_of c xs ≡ None → map hear (map (listed since) xs) ≡ map (listed since) xs
+  none_hears : (since : ℕ → ℕ) (xs : List Mark) → mark_of c xs ≡ None → map hear (map (listed_mark since) xs) ≡ map (listed_mark since) xs
   none_hears since [] none = refl
   none_hears since (x ∷ xs) none =
       let parts = none-parts c x xs none in
-      let head = deaf (listed since x) parts.0 in
+      let head = deaf (listed_mark since x) parts.0 in
       let rest = none_hears since xs parts.1 in
       λ i. head i ∷ rest i
 
-  stays : (since : ℕ → ℕ) (xs : List Mark) → IsOneEach xs → told_of c started worth xs ≡ None → map hear (map (listed since) xs) ≡ map (listed since) xs
+  stays : (since : ℕ → ℕ) (xs : List Mark) → IsOneEach xs → told_of c started worth xs ≡ None → map hear (map (listed_mark since) xs) ≡ map (listed_mark since) xs
   stays since [] one none = refl
   stays since (x ∷ xs) one none = elim (cases_Bool (is_of c x)) [
     | inl met ↦
         let there : mark_of c (x ∷ xs) ≡ Some x = cond-true (is_of c x) (Some x) (mark_of c xs) met in
         let off : eqb x.started started ≡ false = elim (cases_Bool (eqb x.started started)) [
-          | inl t ↦ absurd (none-some (record x { worth = max x.worth worth }) (sym none ∙ ap (raised started worth) there ∙ cond-true (eqb x.started started) (Some (record x { worth = max x.worth worth })) None t))
+          | inl t ↦ absurd (none-some (record x { worth = max x.worth worth }) (sym none ∙ ap (after_report started worth) there ∙ cond-true (eqb x.started started) (Some (record x { worth = max x.worth worth })) None t))
           | inr f ↦ f
         ] in
-        let head = late (listed since x) off in
+        let head = late (listed_mark since x) off in
         let rest = none_hears since xs (mark_of-same c x.colour xs (sym (eqb-true x.colour.0 c.0 met)) ∙ one.0) in
         λ i. head i ∷ rest i
     | inr un ↦
-        let head = deaf (listed since x) un in
-        let rest = stays since xs one.1 (ap (raised started worth) (sym (cond-false (is_of c x) (Some x) (mark_of c xs) un)) ∙ none) in
+        let head = deaf (listed_mark since x) un in
+        let rest = stays since xs one.1 (ap (after_report started worth) (sym (cond-false (is_of c x) (Some x) (mark_of c xs) un)) ∙ none) in
         λ i. head i ∷ rest i
   ]
 
   -- the mark that hears it is in another's place
-  module _ (since then : ℕ → ℕ) (old told : Mark) (of : told.colour.0 ≡ c.0) (head_is : hear (listed since old) ≡ listed then told) (other_is : (k : ℕ) → eqb k c.0 ≡ false → then k ≡ since k) where
-    head_other : (x : Mark) → is_of c x ≡ false → hear (listed since x) ≡ listed then (cond (is_of told.colour x) told x)
+  module _ (since then : ℕ → ℕ) (old told : Mark) (of : told.colour.0 ≡ c.0) (head_is : hear (listed_mark since old) ≡ listed_mark then told) (other_is : (k : ℕ) → eqb k c.0 ≡ false → then k ≡ since k) where
+    head_other : (x : Mark) → is_of c x ≡ false → hear (listed_mark since x) ≡ listed_mark then (cond (is_of told.colour x) told x)
     head_other x off =
         let out : is_of told.colour x ≡ false = ap (λ n. eqb x.colour.0 n) of ∙ off in
-        deaf (listed since x) off
+        deaf (listed_mark since x) off
         ∙ ap (λ (n : ℕ). record { mark = x; since = n }) (sym (other_is x.colour.0 off))
-        ∙ ap (listed then) (sym (cond-false (is_of told.colour x) told x out))
+        ∙ ap (listed_mark then) (sym (cond-false (is_of told.colour x) told x out))
 
-    tail_stays : (xs : List Mark) → mark_of c xs ≡ None → map hear (map (listed since) xs) ≡ map (listed then) (replaced told xs)
+    tail_stays : (xs : List Mark) → mark_of c xs ≡ None → map hear (map (listed_mark since) xs) ≡ map (listed_mark then) (after_replacement told xs)
     tail_stays [] none = refl
     tail_stays (x ∷ xs) none =
         let parts = none-parts c x xs none in
@@ -81,14 +81,14 @@ module _ (cost now : ℕ) (c : Colour) (started worth : ℕ) where
         let rest = tail_stays xs parts.1 in
         λ i. head i ∷ rest i
 
-    pub one_hears : (xs : List Mark) → IsOneEach xs → mark_of c xs ≡ Some old → map hear (map (listed since) xs) ≡ map (listed then) (replaced told xs)
+    pub one_hears : (xs : List Mark) → IsOneEach xs → mark_of c xs ≡ Some old → map hear (map (listed_mark since) xs) ≡ map (listed_mark then) (after_replacement told xs)
     one_hears [] one there = absurd (none-some old there)
     one_hears (x ∷ xs) one there = elim (cases_Bool (is_of c x)) [
       | inl met ↦
           let is : x ≡ old = same_Some x old (sym (cond-true (is_of c x) (Some x) (mark_of c xs) met) ∙ there) in
           let on : is_of told.colour x ≡ true = ap (λ n. eqb x.colour.0 n) of ∙ met in
-          let head : hear (listed since x) ≡ listed then (cond (is_of told.colour x) told x) =
-          ap (λ (m : Mark). hear (listed since m)) is ∙ head_is ∙ ap (listed then) (sym (cond-true (is_of told.colour x) told x on)) in
+          let head : hear (listed_mark since x) ≡ listed_mark then (cond (is_of told.colour x) told x) =
+          ap (λ (m : Mark). hear (listed_mark since m)) is ∙ head_is ∙ ap (listed_mark then) (sym (cond-true (is_of told.colour x) told x on)) in
           let rest = tail_stays xs (mark_of-same c x.colour xs (sym (eqb-true x.colour.0 c.0 met)) ∙ one.0) in
           λ i. head i ∷ rest i
       | inr un ↦
@@ -119,7 +119,7 @@ module _ (now : ℕ) (queue : CoreQueueState) (together : HoldTogether queue) (l
     pub period : eqb old.started started ≡ true
     pub raised : told ≡ record old { worth = max old.worth worth }
 
-  is_told : (told : Mark) (found : Option Mark) → mark_of c queue.chain ≡ found → raised started worth found ≡ Some told → IsTold told
+  is_told : (told : Mark) (found : Option Mark) → mark_of c queue.chain ≡ found → after_report started worth found ≡ Some told → IsTold told
   is_told told None e h = absurd (none-some told h)
   is_told told (Some old) e h = elim (cases_Bool (eqb old.started started)) [
     | inl t ↦ record {
@@ -177,25 +177,25 @@ module _ (now : ℕ) (queue : CoreQueueState) (together : HoldTogether queue) (l
       sorted_out : IsSorted is.since (now + 1) rest
       sorted_out = record { increases = rest_increases; past = past_more now (times is.since rest) rest_past }
 
-      sorted_same : IsSorted is.since (now + 1) (changed cost pinned new queue.worthy)
+      sorted_same : IsSorted is.since (now + 1) (after_mark_change cost pinned new queue.worthy)
       sorted_same = elim (cases_Bool (keeps_class cost new queue.worthy)) [
-        | inl met ↦ subst (IsSorted is.since (now + 1)) (sym (cond-true (keeps_class cost new queue.worthy) (replaced new queue.worthy) (entered cost pinned new rest) met)) (record {
+        | inl met ↦ subst (IsSorted is.since (now + 1)) (sym (cond-true (keeps_class cost new queue.worthy) (after_replacement new queue.worthy) (after_entry cost pinned new rest) met)) (record {
           increases = subst Increases (sym (times_replaced is.since new queue.worthy)) is.increases;
           past = subst (AllByRecursion (λ n. n < now + 1)) (sym (times_replaced is.since new queue.worthy)) (past_more now (times is.since queue.worthy) is.past);
         })
-        | inr un ↦ subst (IsSorted is.since (now + 1)) (sym (cond-false (keeps_class cost new queue.worthy) (replaced new queue.worthy) (entered cost pinned new rest) un))
+        | inr un ↦ subst (IsSorted is.since (now + 1)) (sym (cond-false (keeps_class cost new queue.worthy) (after_replacement new queue.worthy) (after_entry cost pinned new rest) un))
             (elim (cases_Bool (is_worthy cost pinned new)) [
               | inl w ↦ absurd (stays_out w un)
               | inr w ↦ subst (IsSorted is.since (now + 1)) (sym (cond-false (is_worthy cost pinned new) (rest ++ new ∷ []) rest w)) sorted_out
             ])
       ]
 
-      told_same : IsListed (now + 1) (record queue { chain = replaced new queue.chain; worthy = changed cost pinned new queue.worthy }) (map (hears cost now c started worth) list)
+      told_same : IsListed (now + 1) (record queue { chain = after_replacement new queue.chain; worthy = after_mark_change cost pinned new queue.worthy }) (map (hears cost now c started worth) list)
       told_same = record {
         since = is.since;
         marks = ap (map (hears cost now c started worth)) is.marks
             ∙ one_hears cost now c started worth is.since is.since old new of
-            (heard cost now c started worth (listed is.since old) on period ∙ ap (λ b. record { mark = new; since = cond b (is.since old.colour.0) now }) same)
+            (heard cost now c started worth (listed_mark is.since old) on period ∙ ap (λ b. record { mark = new; since = cond b (is.since old.colour.0) now }) same)
             (λ k off. refl) queue.chain together.apart there;
         increases = sorted_same.increases;
         past = sorted_same.past;
@@ -215,16 +215,16 @@ module _ (now : ℕ) (queue : CoreQueueState) (together : HoldTogether queue) (l
               let was : keeps ≡ true = ap (λ (m : Mark). eqb (class_of m.worth cost) (class_of new.worth cost)) (sym (of_worthy o e)) ∙ t in
               elim keeps as (λ b. b ≡ true → b ≡ false → ⊥) [ true ↦ λ a b. cc | false ↦ λ a b. cc ] was apart
 
-      sorted_new : IsSorted then (now + 1) (changed cost pinned new queue.worthy)
-      sorted_new = subst (IsSorted then (now + 1)) (sym (cond-false (keeps_class cost new queue.worthy) (replaced new queue.worthy) (entered cost pinned new rest) leaves))
+      sorted_new : IsSorted then (now + 1) (after_mark_change cost pinned new queue.worthy)
+      sorted_new = subst (IsSorted then (now + 1)) (sym (cond-false (keeps_class cost new queue.worthy) (after_replacement new queue.worthy) (after_entry cost pinned new rest) leaves))
           (entered_sorted is.since now cost pinned new rest (mark_of-without_same new.colour old.colour queue.worthy refl) rest_increases rest_past)
 
-      told_new : IsListed (now + 1) (record queue { chain = replaced new queue.chain; worthy = changed cost pinned new queue.worthy }) (map (hears cost now c started worth) list)
+      told_new : IsListed (now + 1) (record queue { chain = after_replacement new queue.chain; worthy = after_mark_change cost pinned new queue.worthy }) (map (hears cost now c started worth) list)
       told_new = record {
         since = then;
         marks = ap (map (hears cost now c started worth)) is.marks
             ∙ one_hears cost now c started worth is.since then old new of
-            (heard cost now c started worth (listed is.since old) on period
+            (heard cost now c started worth (listed_mark is.since old) on period
             ∙ ap (λ b. record { mark = new; since = cond b (is.since old.colour.0) now }) apart
             ∙ ap (λ (n : ℕ). record { mark = new; since = n }) (sym (entering_same is.since new.colour.0 now new.colour.0 refl)))
             (λ k off. entering_other is.since new.colour.0 now k (ap (eqb k) of ∙ off)) queue.chain together.apart there;
@@ -232,13 +232,13 @@ module _ (now : ℕ) (queue : CoreQueueState) (together : HoldTogether queue) (l
         past = sorted_new.past;
       }
 
-    told_either : IsListed (now + 1) (record queue { chain = replaced new queue.chain; worthy = changed cost pinned new queue.worthy }) (map (hears cost now c started worth) list)
+    told_either : IsListed (now + 1) (record queue { chain = after_replacement new queue.chain; worthy = after_mark_change cost pinned new queue.worthy }) (map (hears cost now c started worth) list)
     told_either = elim (cases_Bool keeps) [ inl same ↦ told_same same | inr apart ↦ told_new apart ]
 
   -- the mark of the colour hears it
   pub after_told : (told : Mark) → told_of c started worth queue.chain ≡ Some told
-      → IsListed (now + 1) (record queue { chain = replaced told queue.chain; worthy = changed cost pinned told queue.worthy }) (map (hears cost now c started worth) list)
+      → IsListed (now + 1) (record queue { chain = after_replacement told queue.chain; worthy = after_mark_change cost pinned told queue.worthy }) (map (hears cost now c started worth) list)
   after_told told h =
       let t = is_told told (mark_of c queue.chain) refl h in
-      subst (λ (m : Mark). IsListed (now + 1) (record queue { chain = replaced m queue.chain; worthy = changed cost pinned m queue.worthy }) (map (hears cost now c started worth) list)) (sym t.raised)
+      subst (λ (m : Mark). IsListed (now + 1) (record queue { chain = after_replacement m queue.chain; worthy = after_mark_change cost pinned m queue.worthy }) (map (hears cost now c started worth) list)) (sym t.raised)
       (told_either t.old t.there t.period)

@@ -9,7 +9,7 @@ use Rattle.mely_event.specs.declared.trail.Trail.{Ghosts as TrailWords}
 use Rattle.mely_worker.specs.declared.app.App.{Ghosts as AppWords}
 use Rattle.mely_machine.specs.Machine.{Acts}
 use Rattle.mely_run.specs.Corresponds.{without_loads}
-use Rattle.mely_run.specs.Pieces.{Piece, kept, coming, of_put, IsTold}
+use Rattle.mely_run.specs.Pieces.{Piece, state_piece, event_piece, of_put, IsTold}
 
 -- one for each spoilt state
 abbrev pub one_if : Bool → ℕ
@@ -17,7 +17,7 @@ one_if b = cond b 1 0
 
 abbrev pub spoilt_in : {S P : Type 0} → (S → Bool) → Piece S P → ℕ
 spoilt_in spoilt (c, inl state) = one_if (spoilt state)
-spoilt_in spoilt (c, inr coming) = 0
+spoilt_in spoilt (c, inr event_piece) = 0
 
 abbrev pub how_spoilt : {S P : Type 0} → (S → Bool) → List (Piece S P) → ℕ
 how_spoilt spoilt ps = sum_by (spoilt_in spoilt) ps
@@ -31,19 +31,15 @@ no_more false b to = omega arith
 no_more true true to = omega arith
 no_more true false to = let e : false ≡ true = to refl in cc
 
-puts_unspoilt : {S P : Type 0} (spoilt : S → Bool) (puts : List (Colour × Event × Option P)) → how_spoilt spoilt (map (of_put {S = S}) puts) ≡ 0
-puts_unspoilt spoilt [] = refl
-puts_unspoilt {S = S} spoilt (put ∷ puts) = let one = sum_by-cons (spoilt_in spoilt) (of_put {S = S} put) (map of_put puts) in omega (arith, one, puts_unspoilt spoilt puts)
-
 -- a state has more room
 pub record Roomed {S P F : Type 0} (t : TrailWords S F) (before after : List (Piece S P)) : Type 0 where
   pub colour : Colour
   pub state : S
   pub roomy : S
   pub rest : List (Piece S P)
-  pub was : IsPermutation before (kept colour state ∷ rest)
+  pub was : IsPermutation before (state_piece colour state ∷ rest)
   pub alike : t.alike state roomy
-  pub becomes : IsPermutation (kept colour roomy ∷ rest) after
+  pub becomes : IsPermutation (state_piece colour roomy ∷ rest) after
 
 module _ {S P F R : Type 0} (t : TrailWords S F) (fits : F → Colour → Event → Option P → Type 0) (y : AppWords R P S F) (app : R) (frame : F) where
   -- a handler ran on an event that had come
@@ -55,12 +51,12 @@ module _ {S P F R : Type 0} (t : TrailWords S F) (fits : F → Colour → Event 
     pub left : S
     pub puts : List (Colour × Event × Option P)
     pub rest : List (Piece S P)
-    pub was : IsPermutation before (kept colour state ∷ coming colour event load ∷ rest)
+    pub was : IsPermutation before (state_piece colour state ∷ event_piece colour event load ∷ rest)
     pub coloured : t.colour_of state ≡ colour
     pub framed : t.frame_of state ≡ frame
     pub fit : fits frame colour event load
     pub runs : y.runs app state event load left puts
-    pub becomes : IsPermutation (kept colour left ∷ (map of_put puts ++ rest)) after
+    pub becomes : IsPermutation (state_piece colour left ∷ (map of_put puts ++ rest)) after
 
   pub data Changed (before after : List (Piece S P)) : Type 0 where
     moved : IsPermutation before after → Changed before after
@@ -85,18 +81,18 @@ module _ {S P F R : Type 0} (t : TrailWords S F) (fits : F → Colour → Event 
     pub stays_spoilt : Changed before after → how_spoilt spoilt before ≤ how_spoilt spoilt after
     stays_spoilt (moved order) = let same = sum_by-IsPermutation (spoilt_in spoilt) before after order in omega (arith, same)
     stays_spoilt (roomed r) =
-        let was = sum_by-IsPermutation (spoilt_in spoilt) before (kept r.colour r.state ∷ r.rest) r.was in
-        let now = sum_by-IsPermutation (spoilt_in spoilt) (kept r.colour r.roomy ∷ r.rest) after r.becomes in
-        let one = sum_by-cons (spoilt_in spoilt) (kept r.colour r.state) r.rest in
-        let other = sum_by-cons (spoilt_in spoilt) (kept r.colour r.roomy) r.rest in
+        let was = sum_by-IsPermutation (spoilt_in spoilt) before (state_piece r.colour r.state ∷ r.rest) r.was in
+        let now = sum_by-IsPermutation (spoilt_in spoilt) (state_piece r.colour r.roomy ∷ r.rest) after r.becomes in
+        let one = sum_by-cons (spoilt_in spoilt) (state_piece r.colour r.state) r.rest in
+        let other = sum_by-cons (spoilt_in spoilt) (state_piece r.colour r.roomy) r.rest in
         let more = no_more (spoilt r.state) (spoilt r.roomy) (is_told.spoilt_roomier r.state r.roomy r.alike) in
         omega (arith, was, now, one, other, more)
     stays_spoilt (ran r) =
-        let was = sum_by-IsPermutation (spoilt_in spoilt) before (kept r.colour r.state ∷ coming r.colour r.event r.load ∷ r.rest) r.was in
-        let now = sum_by-IsPermutation (spoilt_in spoilt) (kept r.colour r.left ∷ (map of_put r.puts ++ r.rest)) after r.becomes in
-        let one = sum_by-cons (spoilt_in spoilt) (kept r.colour r.state) (coming r.colour r.event r.load ∷ r.rest) in
-        let two = sum_by-cons (spoilt_in spoilt) (coming r.colour r.event r.load) r.rest in
-        let three = sum_by-cons (spoilt_in spoilt) (kept r.colour r.left) (map of_put r.puts ++ r.rest) in
+        let was = sum_by-IsPermutation (spoilt_in spoilt) before (state_piece r.colour r.state ∷ event_piece r.colour r.event r.load ∷ r.rest) r.was in
+        let now = sum_by-IsPermutation (spoilt_in spoilt) (state_piece r.colour r.left ∷ (map of_put r.puts ++ r.rest)) after r.becomes in
+        let one = sum_by-cons (spoilt_in spoilt) (state_piece r.colour r.state) (event_piece r.colour r.event r.load ∷ r.rest) in
+        let two = sum_by-cons (spoilt_in spoilt) (event_piece r.colour r.event r.load) r.rest in
+        let three = sum_by-cons (spoilt_in spoilt) (state_piece r.colour r.left) (map of_put r.puts ++ r.rest) in
         let four = sum_by-append (spoilt_in spoilt) (map of_put r.puts) r.rest in
         let more = no_more (spoilt r.state) (spoilt r.left) (is_told.spoilt_after r.state r.left r.event r.load r.puts r.runs) in
         omega (arith, was, now, one, two, three, four, more)
@@ -106,13 +102,13 @@ module _ {S P F R : Type 0} (t : TrailWords S F) (fits : F → Colour → Event 
     change_told x (moved order) none agrees = (tt, is_told.moved x before after order agrees)
     change_told x (roomed r) none agrees = (
       tt,
-      is_told.moved x (kept r.colour r.roomy ∷ r.rest) after r.becomes
-          (is_told.roomier x r.colour r.state r.roomy r.rest r.alike (is_told.moved x before (kept r.colour r.state ∷ r.rest) r.was agrees)),
+      is_told.moved x (state_piece r.colour r.roomy ∷ r.rest) after r.becomes
+          (is_told.roomier x r.colour r.state r.roomy r.rest r.alike (is_told.moved x before (state_piece r.colour r.state ∷ r.rest) r.was agrees)),
     )
     change_told x (ran r) none agrees =
-        let now = sum_by-IsPermutation (spoilt_in spoilt) (kept r.colour r.left ∷ (map of_put r.puts ++ r.rest)) after r.becomes in
-        let one = sum_by-cons (spoilt_in spoilt) (kept r.colour r.left) (map of_put r.puts ++ r.rest) in
+        let now = sum_by-IsPermutation (spoilt_in spoilt) (state_piece r.colour r.left ∷ (map of_put r.puts ++ r.rest)) after r.becomes in
+        let one = sum_by-cons (spoilt_in spoilt) (state_piece r.colour r.left) (map of_put r.puts ++ r.rest) in
         let fine : spoilt r.left ≡ false = unspoilt (spoilt r.left) (omega (arith, now, one, none)) in
         let told = is_told.runs x r.colour r.event r.load r.state r.left r.puts r.rest r.coloured r.framed r.fit
-        (is_told.moved x before (kept r.colour r.state ∷ coming r.colour r.event r.load ∷ r.rest) r.was agrees) r.runs fine in
-        (told.0, is_told.moved (act x r.colour r.event).becomes (kept r.colour r.left ∷ (map of_put r.puts ++ r.rest)) after r.becomes told.1)
+        (is_told.moved x before (state_piece r.colour r.state ∷ event_piece r.colour r.event r.load ∷ r.rest) r.was agrees) r.runs fine in
+        (told.0, is_told.moved (act x r.colour r.event).becomes (state_piece r.colour r.left ∷ (map of_put r.puts ++ r.rest)) after r.becomes told.1)

@@ -21,7 +21,7 @@ use Rattle.mely_weave.specs.Weave.{WeaveState}
 use Rattle.mely_weave.specs.Making.{IsFirstWeave}
 use Rattle.mely_weave.proofs.Entries.SideLemmas.{get_map}
 use Rattle.mely_weave.proofs.Wholes.SpreadLemmas.{pile_size, dealt_last, dealt_less}
-use Rattle.mely_run.specs.Pieces.{Piece, kept, of_lane, of_lanes, of_shard, of_worker, pieces}
+use Rattle.mely_run.specs.Pieces.{Piece, state_piece, of_lane, of_lanes, of_shard, of_worker, pieces}
 use Rattle.mely_run.specs.Pieces.{kept_from}
 use Rattle.mely_run.proofs.Lists.ElementsLemmas.{there_of}
 use Rattle.mely_run.proofs.Pieces.PermutingLemmas.{same_order, onward, back}
@@ -74,42 +74,42 @@ module _ {S P : Type 0} (shards : ℕ) (some : 1 ≤ shards) where
   -- the states of a shard from a place on
   abbrev pub of_pile : ℕ → ℕ → List S → List (Piece S P)
   of_pile g i [] = []
-  of_pile g i (state ∷ pile) = kept (record { 0 = i * shards + g }) state ∷ of_pile g (i + 1) pile
+  of_pile g i (state ∷ pile) = state_piece (record { 0 = i * shards + g }) state ∷ of_pile g (i + 1) pile
 
   abbrev pub spread : ℕ → List (List S) → List (Piece S P)
   spread g [] = []
   spread g (pile ∷ piles) = of_pile g 0 pile ++ spread (g + 1) piles
 
-  pile_more : (g i : ℕ) (pile : List S) (state : S) → of_pile g i (pile ++ state ∷ []) ≡ of_pile g i pile ++ kept (record { 0 = (i + length pile) * shards + g }) state ∷ []
-  pile_more g i [] state = ap (λ (n : ℕ). kept {S = S} {P = P} (record { 0 = n * shards + g }) state ∷ []) (let e : i ≡ i + 0 = omega arith in e)
+  pile_more : (g i : ℕ) (pile : List S) (state : S) → of_pile g i (pile ++ state ∷ []) ≡ of_pile g i pile ++ state_piece (record { 0 = (i + length pile) * shards + g }) state ∷ []
+  pile_more g i [] state = ap (λ (n : ℕ). state_piece {S = S} {P = P} (record { 0 = n * shards + g }) state ∷ []) (let e : i ≡ i + 0 = omega arith in e)
   pile_more g i (x ∷ pile) state =
-      ap (λ (ps : List (Piece S P)). kept (record { 0 = i * shards + g }) x ∷ ps)
+      ap (λ (ps : List (Piece S P)). state_piece (record { 0 = i * shards + g }) x ∷ ps)
       (pile_more g (i + 1) pile state
-      ∙ ap (λ (n : ℕ). of_pile g (i + 1) pile ++ kept (record { 0 = n * shards + g }) state ∷ []) (let e : (i + 1) + length pile ≡ i + length (x ∷ pile) = omega arith in e))
+      ∙ ap (λ (n : ℕ). of_pile g (i + 1) pile ++ state_piece (record { 0 = n * shards + g }) state ∷ []) (let e : (i + 1) + length pile ≡ i + length (x ∷ pile) = omega arith in e))
 
-  kept_more : (n : ℕ) (states : List S) (state : S) → kept_from {S = S} {P = P} n (states ++ state ∷ []) ≡ kept_from n states ++ kept (record { 0 = n + length states }) state ∷ []
-  kept_more n [] state = ap (λ (k : ℕ). kept {S = S} {P = P} (record { 0 = k }) state ∷ []) (let e : n ≡ n + 0 = omega arith in e)
+  kept_more : (n : ℕ) (states : List S) (state : S) → kept_from {S = S} {P = P} n (states ++ state ∷ []) ≡ kept_from n states ++ state_piece (record { 0 = n + length states }) state ∷ []
+  kept_more n [] state = ap (λ (k : ℕ). state_piece {S = S} {P = P} (record { 0 = k }) state ∷ []) (let e : n ≡ n + 0 = omega arith in e)
   kept_more n (x ∷ states) state =
-      ap (λ (ps : List (Piece S P)). kept (record { 0 = n }) x ∷ ps)
-      (kept_more (n + 1) states state ∙ ap (λ (k : ℕ). kept_from (n + 1) states ++ kept (record { 0 = k }) state ∷ []) (let e : (n + 1) + length states ≡ n + length (x ∷ states) = omega arith in e))
+      ap (λ (ps : List (Piece S P)). state_piece (record { 0 = n }) x ∷ ps)
+      (kept_more (n + 1) states state ∙ ap (λ (k : ℕ). kept_from (n + 1) states ++ state_piece (record { 0 = k }) state ∷ []) (let e : (n + 1) + length states ≡ n + length (x ∷ states) = omega arith in e))
 
   -- one more in a pile
   spread_more : (g : ℕ) (piles : List (List S)) (k : ℕ) (old new : List S) (state : S) → slice_get piles k ≡ Some old → old ≡ new ++ state ∷ []
-      → IsPermutation (spread g piles) (kept (record { 0 = length new * shards + (g + k) }) state ∷ spread g (slice_set piles k new))
+      → IsPermutation (spread g piles) (state_piece (record { 0 = length new * shards + (g + k) }) state ∷ spread g (slice_set piles k new))
   spread_more g [] k old new state there e = absurd (none-some old there)
   spread_more g (pile ∷ piles) zero old new state there e =
       let is : pile ≡ new ++ state ∷ [] = same_Some pile old there ∙ e in
-      let last : of_pile g 0 pile ≡ of_pile g 0 new ++ kept (record { 0 = length new * shards + (g + 0) }) state ∷ [] =
+      let last : of_pile g 0 pile ≡ of_pile g 0 new ++ state_piece (record { 0 = length new * shards + (g + 0) }) state ∷ [] =
       ap (of_pile g 0) is ∙ pile_more g 0 new state
-      ∙ ap (λ (n : ℕ). of_pile g 0 new ++ kept (record { 0 = n }) state ∷ []) (let a : (0 + length new) ≡ length new = omega arith in let b : g ≡ g + 0 = omega arith in λ i. a i * shards + b i) in
-      onward (same_order (of_pile g 0 pile ++ spread (g + 1) piles) (of_pile g 0 new ++ kept (record { 0 = length new * shards + (g + 0) }) state ∷ spread (g + 1) piles)
-      (ap (λ (ps : List (Piece S P)). ps ++ spread (g + 1) piles) last ∙ append_assoc (of_pile g 0 new) (kept (record { 0 = length new * shards + (g + 0) }) state ∷ []) (spread (g + 1) piles)))
-      (IsPermutation-middle (of_pile g 0 new) (kept (record { 0 = length new * shards + (g + 0) }) state) (spread (g + 1) piles))
+      ∙ ap (λ (n : ℕ). of_pile g 0 new ++ state_piece (record { 0 = n }) state ∷ []) (let a : (0 + length new) ≡ length new = omega arith in let b : g ≡ g + 0 = omega arith in λ i. a i * shards + b i) in
+      onward (same_order (of_pile g 0 pile ++ spread (g + 1) piles) (of_pile g 0 new ++ state_piece (record { 0 = length new * shards + (g + 0) }) state ∷ spread (g + 1) piles)
+      (ap (λ (ps : List (Piece S P)). ps ++ spread (g + 1) piles) last ∙ append_assoc (of_pile g 0 new) (state_piece (record { 0 = length new * shards + (g + 0) }) state ∷ []) (spread (g + 1) piles)))
+      (IsPermutation-middle (of_pile g 0 new) (state_piece (record { 0 = length new * shards + (g + 0) }) state) (spread (g + 1) piles))
   spread_more g (pile ∷ piles) (suc k) old new state there e =
       let at : (g + 1) + k ≡ g + suc k = omega arith in
-      let more = subst (λ (n : ℕ). IsPermutation (spread (g + 1) piles) (kept (record { 0 = length new * shards + n }) state ∷ spread (g + 1) (slice_set piles k new))) at (spread_more (g + 1) piles k old new state there e) in
-      onward (IsPermutation-append_right (of_pile g 0 pile) (spread (g + 1) piles) (kept (record { 0 = length new * shards + (g + suc k) }) state ∷ spread (g + 1) (slice_set piles k new)) more)
-      (IsPermutation-middle (of_pile g 0 pile) (kept (record { 0 = length new * shards + (g + suc k) }) state) (spread (g + 1) (slice_set piles k new)))
+      let more = subst (λ (n : ℕ). IsPermutation (spread (g + 1) piles) (state_piece (record { 0 = length new * shards + n }) state ∷ spread (g + 1) (slice_set piles k new))) at (spread_more (g + 1) piles k old new state there e) in
+      onward (IsPermutation-append_right (of_pile g 0 pile) (spread (g + 1) piles) (state_piece (record { 0 = length new * shards + (g + suc k) }) state ∷ spread (g + 1) (slice_set piles k new)) more)
+      (IsPermutation-middle (of_pile g 0 pile) (state_piece (record { 0 = length new * shards + (g + suc k) }) state) (spread (g + 1) (slice_set piles k new)))
 
   all_empty : (g : ℕ) (piles : List (List S)) → ((k : ℕ) (pile : List S) → slice_get piles k ≡ Some pile → pile ≡ []) → spread g piles ≡ []
   all_empty g [] none = refl
@@ -120,17 +120,17 @@ module _ {S P : Type 0} (shards : ℕ) (some : 1 ≤ shards) where
     abbrev others : List (Piece S P)
     others = spread 0 (slice_set piles (n % shards) new)
 
-    in_pile : IsPermutation (spread 0 piles) (kept (record { 0 = 0 + length front }) x ∷ others)
+    in_pile : IsPermutation (spread 0 piles) (state_piece (record { 0 = 0 + length front }) x ∷ others)
     in_pile =
-        subst (λ (k : ℕ). IsPermutation (spread 0 piles) (kept (record { 0 = k }) x ∷ others)) (colour_is shards some n front old x piles count dealt there new y is)
-        (subst (λ (z : S). IsPermutation (spread 0 piles) (kept (record { 0 = length new * shards + (0 + n % shards) }) z ∷ others)) (same shards some n front old x piles count dealt there new y is)
+        subst (λ (k : ℕ). IsPermutation (spread 0 piles) (state_piece (record { 0 = k }) x ∷ others)) (colour_is shards some n front old x piles count dealt there new y is)
+        (subst (λ (z : S). IsPermutation (spread 0 piles) (state_piece (record { 0 = length new * shards + (0 + n % shards) }) z ∷ others)) (same shards some n front old x piles count dealt there new y is)
         (spread_more 0 piles (n % shards) old new y there is))
 
     one_dealt : IsPermutation (kept_from 0 front) others → IsPermutation (kept_from 0 (front ++ x ∷ [])) (spread 0 piles)
     one_dealt rest =
-        onward (same_order (kept_from 0 (front ++ x ∷ [])) (kept_from 0 front ++ kept (record { 0 = 0 + length front }) x ∷ []) (kept_more 0 front x))
-        (onward (IsPermutation-to_front (kept_from 0 front) (kept (record { 0 = 0 + length front }) x))
-        (onward (IsPermutation-cons (kept (record { 0 = 0 + length front }) x) (kept_from 0 front) others rest) (back in_pile)))
+        onward (same_order (kept_from 0 (front ++ x ∷ [])) (kept_from 0 front ++ state_piece (record { 0 = 0 + length front }) x ∷ []) (kept_more 0 front x))
+        (onward (IsPermutation-to_front (kept_from 0 front) (state_piece (record { 0 = 0 + length front }) x))
+        (onward (IsPermutation-cons (state_piece (record { 0 = 0 + length front }) x) (kept_from 0 front) others rest) (back in_pile)))
 
   -- states that were dealt to the shards stand there on their colours
   pub dealt_pieces : (n : ℕ) (all : List S) (piles : List (List S)) → length all ≡ n → AreDealt (λ pile. pile) shards all piles → IsPermutation (kept_from 0 all) (spread 0 piles)
@@ -208,7 +208,7 @@ module _ {S P F : Type 0} (t : TrailWords S F) (fits : F → Colour → Event �
   lanes_pieces s g i [] each = refl
   lanes_pieces s g i (lane ∷ lanes) each =
       (λ j. of_lane (colour_at s g i) (each 0 lane refl j) ++ of_lanes s g (i + 1) lanes)
-      ∙ ap (λ (ps : List (Piece S P)). kept (colour_at s g i) lane.given ∷ ps) (lanes_pieces s g (i + 1) lanes (λ k. each (suc k)))
+      ∙ ap (λ (ps : List (Piece S P)). state_piece (colour_at s g i) lane.given ∷ ps) (lanes_pieces s g (i + 1) lanes (λ k. each (suc k)))
 
   lane_first : (g : ℕ) (has : ShardState S P) → slice_get weave.shards g ≡ Some has → (k : ℕ) (lane : ColourState S P) → slice_get has.lanes k ≡ Some lane → lane ≡ first_lane lane.given
   lane_first g has there k lane at =

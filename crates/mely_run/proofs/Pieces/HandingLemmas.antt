@@ -29,7 +29,7 @@ use Rattle.mely_weave.specs.StandsWell.{side_of, StandsWell}
 use Rattle.mely_weave.specs.Weave.{WeaveState}
 use Rattle.mely_weave.proofs.Entries.SideLemmas.{shard_owns}
 use Rattle.mely_weave.proofs.Lines.LineLemmas.{stands}
-use Rattle.mely_run.specs.Pieces.{Piece, kept, coming, of_state, of_lane, of_put, of_phase, of_worker, pieces}
+use Rattle.mely_run.specs.Pieces.{Piece, state_piece, event_piece, of_state, of_lane, of_put, of_phase, of_worker, pieces}
 use Rattle.mely_run.proofs.Pieces.ChangesLemmas.{Roomed, Ran}
 use Rattle.mely_run.proofs.Pieces.PermutingLemmas.{same_order, onward, back, past}
 use Rattle.mely_run.proofs.Pieces.MovesLemmas.{next, worker_front, none_moves, lane_front}
@@ -80,13 +80,13 @@ module _ {S P F : Type 0} (t : TrailWords S F) (fits : F → Colour → Event �
       let in_setup : IsColour weave.setup c = (may (at.Turning turn Nothing (put ∷ rest)) phase).of_puts.0.colour in
       let front = lane_front t fits weave well k w here low c in_setup called.old called.was does.before does.was in
       let v' : WorkerState S P = after_register w turn rest put (Ok reply) in
-      let left : List (Piece S P) = map (λ (e : Event × Option P). coming turn.colour e.0 e.1) turn.events in
+      let left : List (Piece S P) = map (λ (e : Event × Option P). event_piece turn.colour e.0 e.1) turn.events in
       let lane_now : of_lane c (record does.before { events = does.before.events ++ (put.1, put.2) ∷ [] }) ≡ of_lane c does.before ++ of_put put ∷ [] =
-      ap (λ (ps : List (Piece S P)). of_state c does.before.state ++ ps) (map-append (λ (e : Event × Option P). coming c e.0 e.1) does.before.events ((put.1, put.2) ∷ []))
-      ∙ sym (append_assoc (of_state c does.before.state) (map (λ (e : Event × Option P). coming c e.0 e.1) does.before.events) (of_put put ∷ [])) in
+      ap (λ (ps : List (Piece S P)). of_state c does.before.state ++ ps) (map-append (λ (e : Event × Option P). event_piece c e.0 e.1) does.before.events ((put.1, put.2) ∷ []))
+      ∙ sym (append_assoc (of_state c does.before.state) (map (λ (e : Event × Option P). event_piece c e.0 e.1) does.before.events) (of_put put ∷ [])) in
       onward (subst (λ (ps : List (Piece S P)). IsPermutation (pieces weave) (of_lane c does.before ++ (ps ++ front.rest))) (held_in (at.Turning turn Nothing (put ∷ rest)) phase) front.was)
-      (onward (given_over (of_lane c does.before) (kept turn.colour turn.state ∷ left) (of_put put) (map of_put rest) front.rest)
-      (subst (λ (ps : List (Piece S P)). IsPermutation (ps ++ (((kept turn.colour turn.state ∷ left) ++ map of_put rest) ++ front.rest)) (pieces (after v'))) lane_now
+      (onward (given_over (of_lane c does.before) (state_piece turn.colour turn.state ∷ left) (of_put put) (map of_put rest) front.rest)
+      (subst (λ (ps : List (Piece S P)). IsPermutation (ps ++ (((state_piece turn.colour turn.state ∷ left) ++ map of_put rest) ++ front.rest)) (pieces (after v'))) lane_now
       (front.becomes b v' called.new _ (record does.before { events = does.before.events ++ (put.1, put.2) ∷ [] }) does.after (ap (λ (s : SideState S P). s.shards) called.becomes))))
 
   -- a turn ends
@@ -97,13 +97,13 @@ module _ {S P F : Type 0} (t : TrailWords S F) (fits : F → Colour → Event �
       let in_setup : IsColour weave.setup c = (may (at.Turning turn Nothing []) phase).of_turn.of_setup in
       let front = lane_front t fits weave well k w here low c in_setup called.old called.was does.before does.was in
       let lane_is = (well.shard (shard_of weave.setup c) called.old called.was).kept.each c does.before (shard_owns t fits from (stands t fits weave well k w here low) c called.old in_setup called.was) does.was in
-      let waiting : List (Piece S P) = map (λ (e : Event × Option P). coming c e.0 e.1) does.before.events in
+      let waiting : List (Piece S P) = map (λ (e : Event × Option P). event_piece c e.0 e.1) does.before.events in
       let was_away : does.before.state ≡ None = away does.before.state refl lane_is.state called.does.1 in
       let u : WorkerState S P = after_finish w c answer in
-      onward (subst (λ (ps : List (Piece S P)). IsPermutation (pieces weave) (of_lane c does.before ++ (ps ++ front.rest))) (held_in (at.Turning turn Nothing []) phase ∙ ap (λ (es : List (Event × Option P)). kept c turn.state ∷ (map (λ (e : Event × Option P). coming c e.0 e.1) es ++ [])) none) front.was)
-      (onward (same_order (of_lane c does.before ++ ((kept c turn.state ∷ []) ++ front.rest)) (waiting ++ kept c turn.state ∷ front.rest) (ap (λ (o : Option S). (of_state c o ++ waiting) ++ kept c turn.state ∷ front.rest) was_away))
-      (onward (IsPermutation-middle waiting (kept c turn.state) front.rest)
-      (subst (λ (ps : List (Piece S P)). IsPermutation ((kept c turn.state ∷ waiting) ++ (ps ++ front.rest)) (pieces (after u))) (nothing answer)
+      onward (subst (λ (ps : List (Piece S P)). IsPermutation (pieces weave) (of_lane c does.before ++ (ps ++ front.rest))) (held_in (at.Turning turn Nothing []) phase ∙ ap (λ (es : List (Event × Option P)). state_piece c turn.state ∷ (map (λ (e : Event × Option P). event_piece c e.0 e.1) es ++ [])) none) front.was)
+      (onward (same_order (of_lane c does.before ++ ((state_piece c turn.state ∷ []) ++ front.rest)) (waiting ++ state_piece c turn.state ∷ front.rest) (ap (λ (o : Option S). (of_state c o ++ waiting) ++ state_piece c turn.state ∷ front.rest) was_away))
+      (onward (IsPermutation-middle waiting (state_piece c turn.state) front.rest)
+      (subst (λ (ps : List (Piece S P)). IsPermutation ((state_piece c turn.state ∷ waiting) ++ (ps ++ front.rest)) (pieces (after u))) (nothing answer)
       (front.becomes b u called.new _ (record does.before { state = Some turn.state }) does.after (ap (λ (s : SideState S P). s.shards) called.becomes)))))
     where
       nothing : (answer : After) → of_worker (after_finish w turn.colour answer) ≡ []
@@ -126,17 +126,17 @@ module _ {S P F : Type 0} (t : TrailWords S F) (fits : F → Colour → Event �
       let does = called.does in
       let in_setup : IsColour weave.setup c = may (at.Popped mark) phase in
       let front = lane_front t fits weave well k w here low c in_setup called.old called.was does.before does.was in
-      let piece : Event × Option P → Piece S P = λ e. coming c e.0 e.1 in
+      let piece : Event × Option P → Piece S P = λ e. event_piece c e.0 e.1 in
       let u : WorkerState S P = after_take w mark (Ok turn) in
-      let in_lane : IsPermutation (pieces weave) (kept c does.home ∷ (map piece does.before.events ++ front.rest)) =
+      let in_lane : IsPermutation (pieces weave) (state_piece c does.home ∷ (map piece does.before.events ++ front.rest)) =
       onward (subst (λ (ps : List (Piece S P)). IsPermutation (pieces weave) (of_lane c does.before ++ (ps ++ front.rest))) (held_in (at.Popped mark) phase) front.was)
-      (same_order (of_lane c does.before ++ front.rest) (kept c does.home ∷ (map piece does.before.events ++ front.rest)) (ap (λ (o : Option S). (of_state c o ++ map piece does.before.events) ++ front.rest) does.at_home)) in
+      (same_order (of_lane c does.before ++ front.rest) (state_piece c does.home ∷ (map piece does.before.events ++ front.rest)) (ap (λ (o : Option S). (of_state c o ++ map piece does.before.events) ++ front.rest) does.at_home)) in
       let split : map piece does.before.events ≡ map piece (take turn.count does.before.events) ++ map piece (drop turn.count does.before.events) =
       ap (map piece) (sym (take-append-drop turn.count does.before.events)) ∙ map-append piece (take turn.count does.before.events) (drop turn.count does.before.events) in
-      let held : of_worker u ≡ kept c turn.state ∷ (map piece (take turn.count does.before.events) ++ []) = ap (λ (r : TurnState S P). of_phase (at.Turning r Nothing [])) does.made in
-      let out : IsPermutation (kept c turn.state ∷ (map piece does.before.events ++ front.rest)) (pieces (after u)) =
-      onward (same_order (kept c turn.state ∷ (map piece does.before.events ++ front.rest)) (kept c turn.state ∷ ((map piece (take turn.count does.before.events) ++ map piece (drop turn.count does.before.events)) ++ front.rest)) (ap (λ (ps : List (Piece S P)). kept c turn.state ∷ (ps ++ front.rest)) split))
-      (onward (taken_over (kept c turn.state) (map piece (take turn.count does.before.events)) (map piece (drop turn.count does.before.events)) front.rest)
+      let held : of_worker u ≡ state_piece c turn.state ∷ (map piece (take turn.count does.before.events) ++ []) = ap (λ (r : TurnState S P). of_phase (at.Turning r Nothing [])) does.made in
+      let out : IsPermutation (state_piece c turn.state ∷ (map piece does.before.events ++ front.rest)) (pieces (after u)) =
+      onward (same_order (state_piece c turn.state ∷ (map piece does.before.events ++ front.rest)) (state_piece c turn.state ∷ ((map piece (take turn.count does.before.events) ++ map piece (drop turn.count does.before.events)) ++ front.rest)) (ap (λ (ps : List (Piece S P)). state_piece c turn.state ∷ (ps ++ front.rest)) split))
+      (onward (taken_over (state_piece c turn.state) (map piece (take turn.count does.before.events)) (map piece (drop turn.count does.before.events)) front.rest)
       (subst (λ (ps : List (Piece S P)). IsPermutation (map piece (drop turn.count does.before.events) ++ (ps ++ front.rest)) (pieces (after u))) held
       (front.becomes b u called.new _ (record does.before { state = None; events = drop turn.count does.before.events }) does.after (ap (λ (s : SideState S P). s.shards) called.becomes)))) in
       record { colour = c; state = does.home; roomy = turn.state; rest = map piece does.before.events ++ front.rest; was = in_lane; alike = does.alike.0; becomes = out }
@@ -146,14 +146,14 @@ module _ {S P F : Type 0} (t : TrailWords S F) (fits : F → Colour → Event �
       → y.runs app turn.state event.0 event.1 state puts → Ran t fits y app (t.frame_of weave.given) (pieces weave) (pieces (after (in_phase w (at.Turning (record turn { state = state; events = rest }) Nothing puts))))
   run_moves y app turn event rest state puts phase some same runs =
       let c : Colour = turn.colour in
-      let piece : Event × Option P → Piece S P = λ e. coming c e.0 e.1 in
+      let piece : Event × Option P → Piece S P = λ e. event_piece c e.0 e.1 in
       let spent = (may (at.Turning turn Nothing []) phase).of_turn in
       let fit : EachFits (fits (t.frame_of weave.given) c) (event ∷ rest) = subst (EachFits (fits (t.frame_of weave.given) c)) some spent.events_fit in
       let front = worker_front t fits weave well k w here low in
       let u : WorkerState S P = in_phase w (at.Turning (record turn { state = state; events = rest }) Nothing puts) in
-      let open_up : IsPermutation (pieces weave) (kept c turn.state ∷ piece event ∷ (map piece rest ++ front.rest)) =
-      onward (subst (λ (ps : List (Piece S P)). IsPermutation (pieces weave) (ps ++ front.rest)) (held_in (at.Turning turn Nothing []) phase ∙ ap (λ (es : List (Event × Option P)). kept c turn.state ∷ (map piece es ++ [])) some) front.was)
-      (same_order ((kept c turn.state ∷ piece event ∷ (map piece rest ++ [])) ++ front.rest) (kept c turn.state ∷ piece event ∷ (map piece rest ++ front.rest)) (ap (λ (ps : List (Piece S P)). kept c turn.state ∷ piece event ∷ (ps ++ front.rest)) (append-nil (map piece rest)))) in
+      let open_up : IsPermutation (pieces weave) (state_piece c turn.state ∷ piece event ∷ (map piece rest ++ front.rest)) =
+      onward (subst (λ (ps : List (Piece S P)). IsPermutation (pieces weave) (ps ++ front.rest)) (held_in (at.Turning turn Nothing []) phase ∙ ap (λ (es : List (Event × Option P)). state_piece c turn.state ∷ (map piece es ++ [])) some) front.was)
+      (same_order ((state_piece c turn.state ∷ piece event ∷ (map piece rest ++ [])) ++ front.rest) (state_piece c turn.state ∷ piece event ∷ (map piece rest ++ front.rest)) (ap (λ (ps : List (Piece S P)). state_piece c turn.state ∷ piece event ∷ (ps ++ front.rest)) (append-nil (map piece rest)))) in
       record {
         colour = c;
         event = event.0;
@@ -168,7 +168,7 @@ module _ {S P F : Type 0} (t : TrailWords S F) (fits : F → Colour → Event �
         fit = fit.0;
         runs = runs;
         becomes =
-            onward (IsPermutation-cons (kept c state) (map of_put puts ++ (map piece rest ++ front.rest)) (map piece rest ++ (map of_put puts ++ front.rest)) (past (map of_put puts) (map piece rest) front.rest))
-            (onward (same_order (kept c state ∷ (map piece rest ++ (map of_put puts ++ front.rest))) ((kept c state ∷ (map piece rest ++ map of_put puts)) ++ front.rest) (ap (λ (ps : List (Piece S P)). kept c state ∷ ps) (sym (append_assoc (map piece rest) (map of_put puts) front.rest))))
+            onward (IsPermutation-cons (state_piece c state) (map of_put puts ++ (map piece rest ++ front.rest)) (map piece rest ++ (map of_put puts ++ front.rest)) (past (map of_put puts) (map piece rest) front.rest))
+            (onward (same_order (state_piece c state ∷ (map piece rest ++ (map of_put puts ++ front.rest))) ((state_piece c state ∷ (map piece rest ++ map of_put puts)) ++ front.rest) (ap (λ (ps : List (Piece S P)). state_piece c state ∷ ps) (sym (append_assoc (map piece rest) (map of_put puts) front.rest))))
             (front.becomes b u (ap (λ (s : SideState S P). s.shards) same)));
       }

@@ -18,7 +18,7 @@ use Rattle.mely_weave.specs.Lanes.{lane_in, lane_for, AreByColour}
 use Rattle.mely_weave.specs.StandsWell.{StandsWell}
 use Rattle.mely_weave.specs.Weave.{WeaveState}
 use Rattle.mely_weave.specs.Drains.{IsQuiet}
-use Rattle.mely_run.specs.Pieces.{kept, coming, of_state, of_lane, of_lanes, of_shard, of_phase, of_worker, pieces}
+use Rattle.mely_run.specs.Pieces.{state_piece, event_piece, of_state, of_lane, of_lanes, of_shard, of_phase, of_worker, pieces}
 use Rattle.mely_run.proofs.Lists.ElementsLemmas.{get_map_back}
 use Rattle.mely_run.proofs.Pieces.ChangesLemmas.{one_if, spoilt_in, how_spoilt}
 
@@ -43,20 +43,20 @@ module _ {S : Type 0} (P : Type 0) (spoilt : S → Bool) where
   abbrev pub IsFine : ColourState S P → Type 0
   IsFine lane = (state : S) → lane.state ≡ Some state → spoilt state ≡ false
 
-  events_fine : (c : Colour) (events : List (Event × Option P)) → how_spoilt {S = S} {P = P} spoilt (map (λ e. coming c e.0 e.1) events) ≡ 0
+  events_fine : (c : Colour) (events : List (Event × Option P)) → how_spoilt {S = S} {P = P} spoilt (map (λ e. event_piece c e.0 e.1) events) ≡ 0
   events_fine c [] = refl
-  events_fine c (e ∷ events) = let one = sum_by-cons (spoilt_in spoilt) (coming {S = S} c e.0 e.1) (map (λ (e : Event × Option P). coming c e.0 e.1) events) in omega (arith, one, events_fine c events)
+  events_fine c (e ∷ events) = let one = sum_by-cons (spoilt_in spoilt) (event_piece {S = S} c e.0 e.1) (map (λ (e : Event × Option P). event_piece c e.0 e.1) events) in omega (arith, one, events_fine c events)
 
   state_fine : (c : Colour) (home : Option S) → ((state : S) → home ≡ Some state → spoilt state ≡ false) → how_spoilt {S = S} {P = P} spoilt (of_state c home) ≡ 0
   state_fine c None fine = refl
   state_fine c (Some state) fine =
-      let one = sum_by-cons (spoilt_in {S = S} {P = P} spoilt) (kept c state) [] in
+      let one = sum_by-cons (spoilt_in {S = S} {P = P} spoilt) (state_piece c state) [] in
       let none : one_if (spoilt state) ≡ 0 = ap (λ (b : Bool). one_if b) (fine state refl) in
       omega (arith, one, none)
 
   lane_fine : (c : Colour) (lane : ColourState S P) → IsFine lane → how_spoilt {S = S} {P = P} spoilt (of_lane c lane) ≡ 0
   lane_fine c lane fine =
-      let both = sum_by-append (spoilt_in spoilt) (of_state c lane.state) (map (λ (e : Event × Option P). coming c e.0 e.1) lane.events) in
+      let both = sum_by-append (spoilt_in spoilt) (of_state c lane.state) (map (λ (e : Event × Option P). event_piece c e.0 e.1) lane.events) in
       omega (arith, both, state_fine c lane.state fine, events_fine c lane.events)
 
   pub lanes_fine : (setup : Setup) (shard i : ℕ) (lanes : List (ColourState S P)) → ((k : ℕ) (lane : ColourState S P) → slice_get lanes k ≡ Some lane → IsFine lane) → how_spoilt {S = S} {P = P} spoilt (of_lanes setup shard i lanes) ≡ 0

@@ -20,7 +20,7 @@ use Rattle.mely_weave.specs.Calls.{AtShard, RegisterAs, weave_words}
 use Rattle.mely_weave.specs.Steps.{PostsAt}
 use Rattle.mely_weave.specs.StandsWell.{side_of, StandsWell}
 use Rattle.mely_weave.specs.Weave.{WeaveState}
-use Rattle.mely_run.specs.Pieces.{Piece, coming, of_state, of_lane, of_lanes, of_shard, of_worker, pieces}
+use Rattle.mely_run.specs.Pieces.{Piece, event_piece, of_state, of_lane, of_lanes, of_shard, of_worker, pieces}
 use Rattle.mely_run.proofs.Pieces.PermutingLemmas.{same_order, onward, back, out, lane_out}
 
 module _ {S P F : Type 0} (t : TrailWords S F) (fits : F → Colour → Event → Option P → Type 0) (weave posted : WeaveState S P) (well : StandsWell t fits weave) (c : Colour) (event : Event) (load : Option P) (reply : Registered) (posts : PostsAt t weave c event load (Ok reply) posted) where
@@ -42,7 +42,7 @@ module _ {S P F : Type 0} (t : TrailWords S F) (fits : F → Colour → Event �
   workers_are = ap (λ (l : WeaveState S P). l.workers) posts.leaves
 
   -- what a post registers comes beside what was there
-  pub post_pieces : IsPermutation (coming c event load ∷ pieces weave) (pieces posted)
+  pub post_pieces : IsPermutation (event_piece c event load ∷ pieces weave) (pieces posted)
   post_pieces =
       let does = called.does.0 in
       let is = well.shard (shard_of weave.setup c) called.old called.was in
@@ -54,24 +54,24 @@ module _ {S P F : Type 0} (t : TrailWords S F) (fits : F → Colour → Event �
       let o = out of_shard weave.shards (shard_of weave.setup c) called.old called.was in
       let l = lane_out called.old.setup called.old.shard 0 called.old.lanes (place called.old.setup c) does.before does.was in
       let after : ColourState S P = record does.before { events = does.before.events ++ (event, load) ∷ [] } in
-      let lane_now : of_lane c after ≡ of_lane c does.before ++ coming c event load ∷ [] =
-      ap (λ (ps : List (Piece S P)). of_state c does.before.state ++ ps) (map-append (λ (e : Event × Option P). coming c e.0 e.1) does.before.events ((event, load) ∷ []))
-      ∙ sym (append_assoc (of_state c does.before.state) (map (λ (e : Event × Option P). coming c e.0 e.1) does.before.events) (coming c event load ∷ [])) in
+      let lane_now : of_lane c after ≡ of_lane c does.before ++ event_piece c event load ∷ [] =
+      ap (λ (ps : List (Piece S P)). of_state c does.before.state ++ ps) (map-append (λ (e : Event × Option P). event_piece c e.0 e.1) does.before.events ((event, load) ∷ []))
+      ∙ sym (append_assoc (of_state c does.before.state) (map (λ (e : Event × Option P). event_piece c e.0 e.1) does.before.events) (event_piece c event load ∷ [])) in
       let new_is : of_shard called.new ≡ of_lanes called.old.setup called.old.shard 0 (slice_set called.old.lanes (place called.old.setup c) after) = λ i. of_lanes (does.after.same_setup i) (does.after.same_shard i) 0 (does.after.lanes i) in
       let was_lane : IsPermutation (of_shard called.old) (of_lane c does.before ++ l.rest) = subst (λ (d : Colour). IsPermutation (of_shard called.old) (of_lane d does.before ++ l.rest)) at l.was in
-      let now_lane : IsPermutation (of_shard called.new) ((of_lane c does.before ++ coming c event load ∷ []) ++ l.rest) =
+      let now_lane : IsPermutation (of_shard called.new) ((of_lane c does.before ++ event_piece c event load ∷ []) ++ l.rest) =
       subst (λ (ps : List (Piece S P)). IsPermutation (of_shard called.new) (ps ++ l.rest)) lane_now
       (subst (λ (ps : List (Piece S P)). IsPermutation ps (of_lane c after ++ l.rest)) (sym new_is)
       (subst (λ (d : Colour). IsPermutation (of_lanes called.old.setup called.old.shard 0 (slice_set called.old.lanes (place called.old.setup c) after)) (of_lane d after ++ l.rest)) at (l.becomes after))) in
-      let one_more : IsPermutation (coming c event load ∷ of_shard called.old) (of_shard called.new) =
-      onward (IsPermutation-cons (coming c event load) (of_shard called.old) (of_lane c does.before ++ l.rest) was_lane)
-      (onward (back (IsPermutation-middle (of_lane c does.before) (coming c event load) l.rest))
-      (onward (same_order (of_lane c does.before ++ coming c event load ∷ l.rest) ((of_lane c does.before ++ coming c event load ∷ []) ++ l.rest) (sym (append_assoc (of_lane c does.before) (coming c event load ∷ []) l.rest)))
+      let one_more : IsPermutation (event_piece c event load ∷ of_shard called.old) (of_shard called.new) =
+      onward (IsPermutation-cons (event_piece c event load) (of_shard called.old) (of_lane c does.before ++ l.rest) was_lane)
+      (onward (back (IsPermutation-middle (of_lane c does.before) (event_piece c event load) l.rest))
+      (onward (same_order (of_lane c does.before ++ event_piece c event load ∷ l.rest) ((of_lane c does.before ++ event_piece c event load ∷ []) ++ l.rest) (sym (append_assoc (of_lane c does.before) (event_piece c event load ∷ []) l.rest)))
       (back now_lane))) in
-      let all_shards : IsPermutation (coming c event load ∷ flat_map of_shard weave.shards) (flat_map of_shard posted.shards) =
-      subst (λ (ss : List (ShardState S P)). IsPermutation (coming c event load ∷ flat_map of_shard weave.shards) (flat_map of_shard ss)) (sym shards_are)
-      (onward (IsPermutation-cons (coming c event load) (flat_map of_shard weave.shards) (of_shard called.old ++ o.rest) o.was)
-      (onward (IsPermutation-append_left o.rest (coming c event load ∷ of_shard called.old) (of_shard called.new) one_more)
+      let all_shards : IsPermutation (event_piece c event load ∷ flat_map of_shard weave.shards) (flat_map of_shard posted.shards) =
+      subst (λ (ss : List (ShardState S P)). IsPermutation (event_piece c event load ∷ flat_map of_shard weave.shards) (flat_map of_shard ss)) (sym shards_are)
+      (onward (IsPermutation-cons (event_piece c event load) (flat_map of_shard weave.shards) (of_shard called.old ++ o.rest) o.was)
+      (onward (IsPermutation-append_left o.rest (event_piece c event load ∷ of_shard called.old) (of_shard called.new) one_more)
       (back (o.becomes called.new)))) in
-      subst (λ (ws : List (WorkerState S P)). IsPermutation (coming c event load ∷ pieces weave) (flat_map of_shard posted.shards ++ flat_map of_worker ws)) (sym workers_are)
-      (IsPermutation-append_left (flat_map of_worker weave.workers) (coming c event load ∷ flat_map of_shard weave.shards) (flat_map of_shard posted.shards) all_shards)
+      subst (λ (ws : List (WorkerState S P)). IsPermutation (event_piece c event load ∷ pieces weave) (flat_map of_shard posted.shards ++ flat_map of_worker ws)) (sym workers_are)
+      (IsPermutation-append_left (flat_map of_worker weave.workers) (event_piece c event load ∷ flat_map of_shard weave.shards) (flat_map of_shard posted.shards) all_shards)

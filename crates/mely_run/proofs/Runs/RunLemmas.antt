@@ -28,7 +28,7 @@ use Rattle.mely_machine.specs.Listing.{Listed}
 use Rattle.mely_machine.specs.Machine.{Acts, Doing, Machine}
 use Rattle.mely_machine.specs.MachineStep.{step}
 use Rattle.mely_machine.specs.MachineRun.{is_free, is_empty, is_quiet, steps, round, rounds, DrainsTo}
-use Rattle.mely_run.specs.Corresponds.{doing, doing_of, listed, Corresponds}
+use Rattle.mely_run.specs.Corresponds.{worker_doing, doing_of, listed_mark, Corresponds}
 use Rattle.mely_run.specs.Pieces.{Piece, pieces, IsTold}
 use Rattle.mely_run.proofs.Lists.ElementsLemmas.{all_from, and_true, all_at, map_nothing, get_map_back, there_of}
 use Rattle.mely_run.proofs.Pieces.ChangesLemmas.{how_spoilt, stays_spoilt, change_told}
@@ -52,28 +52,28 @@ empty_is (l ∷ list) h = cc
 module _ {S P X : Type 0} (weave : WeaveState S P) (m : Machine X) (is : Corresponds weave m) where
   pub quiet_is : IsQuiet weave → is_quiet m ≡ true
   quiet_is quiet =
-      let free : list_all is_free m.workers ≡ true = ap (list_all is_free) is.workers ∙ all_from is_free (map doing weave.workers)
-      (λ i d there. let w = get_map_back doing weave.workers i d there in ap is_free (sym w.2) ∙ free_is w.0.phase ∙ quiet.free i w.0 w.1) in
+      let free : list_all is_free m.workers ≡ true = ap (list_all is_free) is.workers ∙ all_from is_free (map worker_doing weave.workers)
+      (λ i d there. let w = get_map_back worker_doing weave.workers i d there in ap is_free (sym w.2) ∙ free_is w.0.phase ∙ quiet.free i w.0 w.1) in
       let empty : list_all is_empty m.lists ≡ true = all_from is_empty m.lists
       (λ core list there.
       let low = slice_get_within m.lists core list there in
       let many = is.shown.many in
       let queue = there_of weave.chains core (omega (arith, low, many)) in
       let listed_is = is.shown.each core queue.0 list queue.1 there in
-      ap is_empty (listed_is.marks ∙ ap (map (listed listed_is.since)) (quiet.empty core queue.0 queue.1))) in
+      ap is_empty (listed_is.marks ∙ ap (map (listed_mark listed_is.since)) (quiet.empty core queue.0 queue.1))) in
       ap (λ b. b && list_all is_empty m.lists) free ∙ empty
 
   pub is_quiet_then : is_quiet m ≡ true → IsQuiet weave
   is_quiet_then h =
       let both = and_true (list_all is_free m.workers) (list_all is_empty m.lists) h in
       record {
-        free = λ core w there. sym (free_is w.phase) ∙ all_at is_free m.workers both.0 core (doing w) (ap (λ (ws : List Doing). slice_get ws core) is.workers ∙ get_map doing weave.workers core w there);
+        free = λ core w there. sym (free_is w.phase) ∙ all_at is_free m.workers both.0 core (worker_doing w) (ap (λ (ws : List Doing). slice_get ws core) is.workers ∙ get_map worker_doing weave.workers core w there);
         empty = λ core queue there.
             let low = slice_get_within weave.chains core queue there in
             let many = is.shown.many in
             let list = there_of m.lists core (omega (arith, low, many)) in
             let listed_is = is.shown.each core queue list.0 there list.1 in
-            map_nothing (listed listed_is.since) queue.chain (sym listed_is.marks ∙ empty_is list.0 (all_at is_empty m.lists both.1 core list.0 list.1));
+            map_nothing (listed_mark listed_is.since) queue.chain (sym listed_is.marks ∙ empty_is list.0 (all_at is_empty m.lists both.1 core list.0 list.1));
       }
 
   pub busy_is : (IsQuiet weave → ⊥) → is_quiet m ≡ false

@@ -28,7 +28,7 @@ use Rattle.mely_machine.specs.Listing.{Listed, hears}
 use Rattle.mely_machine.specs.Machine.{Free, Machine, list_at, enters}
 use Rattle.mely_machine.specs.MachineStep.{history_for, delivery_by}
 use Rattle.mely_machine.specs.MachineRun.{first_machine, delivers, post}
-use Rattle.mely_run.specs.Corresponds.{doing, IsListed, IsShown, Corresponds}
+use Rattle.mely_run.specs.Corresponds.{worker_doing, IsListed, IsShown, Corresponds}
 use Rattle.mely_run.proofs.Lists.ElementsLemmas.{got, all_one, of_one}
 use Rattle.mely_run.proofs.Lines.ShownLemmas.{history_shown, list_is, shown_later, shown_entry, shown_list}
 use Rattle.mely_run.proofs.Lines.DeliveriesLemmas.{delivery_is, push_listed, report_listed}
@@ -43,7 +43,7 @@ first_corresponds {S = S} {P = P} t fits setup states weave app first well = rec
     each = λ core queue list at in_lists. subst (λ (l : List Listed). IsListed 0 queue l) (sym (of_one (shape_of weave.setup).cores [] core list in_lists))
         (subst (λ (q : CoreQueueState). IsListed 0 q []) (sym (first.chain core queue at)) (record { since = λ n. 0; marks = refl; increases = tt; past = tt }));
   };
-  workers = sym (all_one doing (Free 0) weave.workers (λ core w there. ap doing (first.worker core w there)) ∙ ap (λ (n : ℕ). replicate n (Free 0)) well.workers);
+  workers = sym (all_one worker_doing (Free 0) weave.workers (λ core w there. ap worker_doing (first.worker core w there)) ∙ ap (λ (n : ℕ). replicate n (Free 0)) well.workers);
   going = λ core w there. ap (λ (v : WorkerState S P). v.halted) (first.worker core w there);
 }
 

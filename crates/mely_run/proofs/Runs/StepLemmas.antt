@@ -40,7 +40,7 @@ use Rattle.mely_machine.specs.Rules.{Rules, rules_of}
 use Rattle.mely_machine.specs.Listing.{Listed, first_to_steal}
 use Rattle.mely_machine.specs.Machine.{Acts, Doing, Free, Popped, Picked, Turning, Machine, list_at}
 use Rattle.mely_machine.specs.MachineStep.{step_from, step_of, step_turning, step_puts, step_turn, step_free, step_hunt, step_pop, step_pick, step}
-use Rattle.mely_run.specs.Corresponds.{doing, doing_of, without_loads, IsShown, Corresponds}
+use Rattle.mely_run.specs.Corresponds.{worker_doing, doing_of, without_loads, IsShown, Corresponds}
 use Rattle.mely_run.specs.Pieces.{Piece, of_lanes, of_worker, pieces}
 use Rattle.mely_run.proofs.Lines.FollowsLemmas.{Follows, push_line, report_line, pop_line, pick_line, register_line, finish_line, take_line, steal_line, same_line}
 use Rattle.mely_run.proofs.Pieces.MovesLemmas.{next, shard_same}
@@ -258,22 +258,22 @@ module _ {S P F R X : Type 0} (t : TrailWords S F) (fits : F → Colour → Even
       let goes = from_phase w.phase refl line in
       let none : NoneHalted (with_workers b (slice_set weave.workers k v)) = each_set (λ core (u : WorkerState S P). u.halted ≡ false) weave.workers k w v here going_all goes.going in
       let after : WeaveState S P = with_workers b (slice_set weave.workers k v) in
-      let n : Machine X = step_from rules k act m (doing w) in
+      let n : Machine X = step_from rules k act m (worker_doing w) in
       let then : Machine X = step_of rules k act m (slice_get m.workers k) in
-      let same : slice_get m.workers k ≡ Some (doing w) → then ≡ n = λ at_work. ap (λ (d : Option Doing). step_of rules k act m d) at_work in
+      let same : slice_get m.workers k ≡ Some (worker_doing w) → then ≡ n = λ at_work. ap (λ (d : Option Doing). step_of rules k act m d) at_work in
       record {
         change = goes.change;
         going = none;
         corresponds = λ is puts.
             let follows = goes.follows is puts in
-            let at_work : slice_get m.workers k ≡ Some (doing w) = ap (λ (ws : List Doing). slice_get ws k) is.workers ∙ get_map doing weave.workers k w here in
+            let at_work : slice_get m.workers k ≡ Some (worker_doing w) = ap (λ (ws : List Doing). slice_get ws k) is.workers ∙ get_map worker_doing weave.workers k w here in
             subst (λ (x : Machine X). Corresponds after (record x { made = x.made + 1 })) (sym (same at_work))
             (record {
               shown = subst (λ (count : ℕ). IsShown b.shards b.chains (count + 1) n.histories n.lists) (sym follows.made) follows.shown;
-              workers = follows.workers ∙ ap (λ (ws : List Doing). slice_set ws k (doing v)) is.workers ∙ sym (map-set doing weave.workers k v);
+              workers = follows.workers ∙ ap (λ (ws : List Doing). slice_set ws k (worker_doing v)) is.workers ∙ sym (map-set worker_doing weave.workers k v);
               going = none;
             });
         becomes = λ is.
-            let at_work : slice_get m.workers k ≡ Some (doing w) = ap (λ (ws : List Doing). slice_get ws k) is.workers ∙ get_map doing weave.workers k w here in
+            let at_work : slice_get m.workers k ≡ Some (worker_doing w) = ap (λ (ws : List Doing). slice_get ws k) is.workers ∙ get_map worker_doing weave.workers k w here in
             ap (λ (x : Machine X). x.app) (same at_work) ∙ goes.becomes;
       }

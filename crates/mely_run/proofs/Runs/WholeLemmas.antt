@@ -15,7 +15,7 @@ use Rattle.mely_machine.specs.Rules.{Rules, rules_of}
 use Rattle.mely_machine.specs.Machine.{Acts, Machine}
 use Rattle.mely_machine.specs.MachineRun.{first_machine, delivers, post, steps, rounds, RunsTo}
 use Rattle.mely_run.specs.Corresponds.{Corresponds}
-use Rattle.mely_run.specs.Pieces.{Piece, coming, pieces, IsTold}
+use Rattle.mely_run.specs.Pieces.{Piece, event_piece, pieces, IsTold}
 use Rattle.mely_run.specs.Pieces.{kept_from}
 use Rattle.mely_run.specs.WholeRuns.{IsWholeRun}
 use Rattle.mely_run.proofs.Pieces.FirstLemmas.{first_pieces}
@@ -37,13 +37,13 @@ post_keeps rules c event m = delivers_keep rules _ _
 -- what the app has at first and what is posted agree with what it is, so the histories are those of the machine's run
 pub told_whole : {S P F R X : Type 0} {t : TrailWords S F} {fits : F → Colour → Event → Option P → Type 0} {y : AppWords R P S F} {app : R} {setup : Setup} {states : List S} {c : Colour} {event : Event} {load : Option P} {schedule : List (ℕ × ℕ)} {histories : List (List Entry)} {left : List S}
     → (frame : F) (act : Acts X) (Agrees : X → List (Piece S P) → Type 0) (spoilt : S → Bool) → IsTold t fits y app frame act Agrees spoilt → (x : X) → (whole : IsWholeRun t fits y app setup states c event load schedule histories left)
-    → t.frame_of whole.posted.given ≡ frame → Agrees x (coming c event load ∷ kept_from 0 states) → All (λ state. spoilt state ≡ false) left → RunsTo (rules_of setup) act x (c, event) schedule histories
+    → t.frame_of whole.posted.given ≡ frame → Agrees x (event_piece c event load ∷ kept_from 0 states) → All (λ state. spoilt state ≡ false) left → RunsTo (rules_of setup) act x (c, event) schedule histories
 told_whole {S = S} {P = P} {X = X} {t = t} {fits} {y} {app} {setup} {states} {c} {event} {load} {schedule} {histories} {left} frame act Agrees spoilt is_told x whole framed agrees fine =
     let rules : Rules = rules_of setup in
     let ruled : rules_of whole.begun.first.setup ≡ rules = ap rules_of whole.begun.made.of_setup in
-    let order : IsPermutation (coming c event load ∷ kept_from 0 states) (pieces whole.posted) =
-    IsPermutation-trans (coming c event load ∷ kept_from 0 states) (coming c event load ∷ pieces whole.begun.first) (pieces whole.posted)
-    (IsPermutation-cons (coming c event load) (kept_from 0 states) (pieces whole.begun.first) (first_pieces t fits setup states whole.begun.first whole.begun.made whole.begun.well whole.begun.all))
+    let order : IsPermutation (event_piece c event load ∷ kept_from 0 states) (pieces whole.posted) =
+    IsPermutation-trans (event_piece c event load ∷ kept_from 0 states) (event_piece c event load ∷ pieces whole.begun.first) (pieces whole.posted)
+    (IsPermutation-cons (event_piece c event load) (kept_from 0 states) (pieces whole.begun.first) (first_pieces t fits setup states whole.begun.first whole.begun.made whole.begun.well whole.begun.all))
     (post_pieces t fits whole.begun.first whole.posted whole.begun.well c event load whole.begun.reply whole.begun.posts) in
     let at_post : Machine X = post rules c event (first_machine rules x) in
     let after_post : Corresponds whole.posted at_post =
@@ -53,7 +53,7 @@ told_whole {S = S} {P = P} {X = X} {t = t} {fits} {y} {app} {setup} {states} {c}
       ready = record { well = whole.begun.well_posted; framed = framed; ruled = ap rules_of whole.begun.same.setup ∙ ruled; going = after_post.going };
       one = λ none. record {
         corresponds = after_post;
-        agrees = subst (λ (z : X). Agrees z (pieces whole.posted)) (sym (post_keeps rules c event (first_machine rules x))) (is_told.moved x (coming c event load ∷ kept_from 0 states) (pieces whole.posted) order agrees);
+        agrees = subst (λ (z : X). Agrees z (pieces whole.posted)) (sym (post_keeps rules c event (first_machine rules x))) (is_told.moved x (event_piece c event load ∷ kept_from 0 states) (pieces whole.posted) order agrees);
       };
     } in
     let scheduled = run_on t fits y app frame act Agrees spoilt is_told rules (spelled_out schedule) whole.posted whole.out.ran at_post started whole.out.runs in

@@ -27,7 +27,7 @@ use Rattle.mely_history.proofs.LegalAccountLemmas.{IsOnTurn, running_on_owner, o
 use Rattle.mely_queue.specs.Turn.{TurnState, EachFits}
 use Rattle.mely_shard.specs.Shard.{ShardState, ColourState, IsOwn, IsConsistent, KeepsFrame, lane_at, place, Registers, RegisteredAs, HasSameContents, Takes, KeepsStates, NoTakeAs, Steals, NoStealAs, TurnStands}
 use Rattle.mely_steal.specs.Marks.{mark_of, without}
-use Rattle.mely_steal.specs.StealQueue.{entered, pick_of}
+use Rattle.mely_steal.specs.StealQueue.{after_entry, pick_of}
 use Rattle.mely_core.specs.CoreQueue.{CoreQueueState}
 use Rattle.mely_worker.specs.Access.{IsTaken, IsSpent, StillOwes, NamesCore, GivesBack, IsColour, events_of}
 use Rattle.mely_weave.specs.Side.{SideState, shard_of, history_at, history_in}
@@ -55,7 +55,7 @@ is_none_where : {A : Type 0} (o : Option A) → (IsSome o → ⊥) → o ≡ Non
 is_none_where None h = refl
 is_none_where (Some x) h = absurd (h refl)
 
-pub push_does : (mark : Mark) (old new : CoreQueueState) (result : Result (Unit {0}) There) → OnOk result (new ≡ record old { chain = old.chain ++ mark ∷ []; worthy = entered old.cost old.pinned mark old.worthy }) → (IsErr result ↔ IsSome (mark_of mark.colour old.chain)) → OnErr result (new ≡ old) → PushAs mark result old new
+pub push_does : (mark : Mark) (old new : CoreQueueState) (result : Result (Unit {0}) There) → OnOk result (new ≡ record old { chain = old.chain ++ mark ∷ []; worthy = after_entry old.cost old.pinned mark old.worthy }) → (IsErr result ↔ IsSome (mark_of mark.colour old.chain)) → OnErr result (new ≡ old) → PushAs mark result old new
 push_does mark old new (Ok done) ok there err = (is_none_where (mark_of mark.colour old.chain) (λ some. let no : is_err {T = Unit {0}} {E = There} (Ok done) ≡ true = there.1 some in cc), ok)
 push_does mark old new (Err back) ok there err = (there.0 refl, err)
 

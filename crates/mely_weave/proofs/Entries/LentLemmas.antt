@@ -63,9 +63,3 @@ module _ {S P F : Type 0} (t : TrailWords S F) (fits : F → Colour → Event �
     retells = λ core c started worth found h. h;
     picks = λ core answer h. h;
   }) line
-
-  -- and so is a delivery
-  pub lent_delivers : (d : Delivery) (arrived : Bool) → Delivers (lent_words t fits) a d arrived b → Delivers (side_words t Keep) (side_state a) d arrived (side_state b)
-  lent_delivers Nothing arrived h = (ap side_state h.0, h.1)
-  lent_delivers (PushMark core mark) arrived h = h
-  lent_delivers (Report core colour started worth) arrived h = h

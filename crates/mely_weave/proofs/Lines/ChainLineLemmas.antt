@@ -9,9 +9,9 @@ use Rattle.mely_event.specs.declared.mark.Mark.{Mark}
 use Rattle.mely_event.specs.declared.there.There.{There}
 use Rattle.mely_event.specs.declared.trail.Trail.{Ghosts as TrailWords}
 use Rattle.mely_history.specs.Setup.{shape_of}
-use Rattle.mely_steal.specs.Marks.{mark_of, replaced}
-use Rattle.mely_steal.specs.StealQueue.{changed}
-use Rattle.mely_core.specs.CoreQueue.{CoreQueueState, raised}
+use Rattle.mely_steal.specs.Marks.{mark_of, after_replacement}
+use Rattle.mely_steal.specs.StealQueue.{after_mark_change}
+use Rattle.mely_core.specs.CoreQueue.{CoreQueueState, after_report}
 use Rattle.mely_steal.proofs.MarkLemmas.{mark_of-colour}
 use Rattle.mely_worker.specs.declared.phase.Phase.TheVariants.{Free, Popped, Picked}
 use Rattle.mely_worker.specs.declared.delivery.Delivery.TheVariants.{Report}
@@ -104,7 +104,7 @@ module _ {S P F : Type 0} (t : TrailWords S F) (fits : F → Colour → Event �
     was_there = subst (λ (l : List CoreQueueState). slice_get l core ≡ Some at.old) same_chains at.was
 
     -- the marks once a report was told
-    retold_from : (was : Option Mark) → was ≡ mark_of c at.old.chain → MatchOption (raised started worth was) (at.new ≡ at.old) (λ now. at.new ≡ record at.old { chain = replaced now at.old.chain; worthy = changed at.old.cost at.old.pinned now at.old.worthy })
+    retold_from : (was : Option Mark) → was ≡ mark_of c at.old.chain → MatchOption (after_report started worth was) (at.new ≡ at.old) (λ now. at.new ≡ record at.old { chain = after_replacement now at.old.chain; worthy = after_mark_change at.old.cost at.old.pinned now at.old.worthy })
         → MarksStand of' (held held_by (slice_set weave.chains core at.new) (slice_set weave.workers k v))
     retold_from None is does =
         stand_alike of' (held held_by weave.chains weave.workers) (held held_by (slice_set weave.chains core at.new) (slice_set weave.workers k v))
@@ -112,8 +112,8 @@ module _ {S P F : Type 0} (t : TrailWords S F) (fits : F → Colour → Event �
     retold_from (Some m) is does = elim (cases_Bool (m.started == started)) [
       | inl hit ↦
           let now : Mark = record m { worth = max m.worth worth } in
-          let becomes : at.new ≡ record at.old { chain = replaced now at.old.chain; worthy = changed at.old.cost at.old.pinned now at.old.worthy } =
-          subst (λ (o : Option Mark). MatchOption o (at.new ≡ at.old) (λ n. at.new ≡ record at.old { chain = replaced n at.old.chain; worthy = changed at.old.cost at.old.pinned n at.old.worthy })) (cond-true (m.started == started) (Some now) None hit) does in
+          let becomes : at.new ≡ record at.old { chain = after_replacement now at.old.chain; worthy = after_mark_change at.old.cost at.old.pinned now at.old.worthy } =
+          subst (λ (o : Option Mark). MatchOption o (at.new ≡ at.old) (λ n. at.new ≡ record at.old { chain = after_replacement n at.old.chain; worthy = after_mark_change at.old.cost at.old.pinned n at.old.worthy })) (cond-true (m.started == started) (Some now) None hit) does in
           let one = (well.chain core at.old was_there).together.apart in
           let of_c : m.colour.0 ≡ c.0 = mark_of-colour c at.old.chain m (sym is) in
           let same : m.colour ≡ c = ap (λ (n : ℕ). let d : Colour = record { 0 = n } in d) of_c in
@@ -125,7 +125,7 @@ module _ {S P F : Type 0} (t : TrailWords S F) (fits : F → Colour → Event �
           marks_raised held_by weave.chains weave.workers k core w v at.old at.new here was_there of' m now refl refl most one there (ap (λ (q : CoreQueueState). q.chain) becomes) hand (told_where of' core now sound.owner sound.begun most) stand
       | inr miss ↦
           let stays : at.new ≡ at.old =
-          subst (λ (o : Option Mark). MatchOption o (at.new ≡ at.old) (λ n. at.new ≡ record at.old { chain = replaced n at.old.chain; worthy = changed at.old.cost at.old.pinned n at.old.worthy })) (cond-false (m.started == started) (Some (record m { worth = max m.worth worth })) None miss) does in
+          subst (λ (o : Option Mark). MatchOption o (at.new ≡ at.old) (λ n. at.new ≡ record at.old { chain = after_replacement n at.old.chain; worthy = after_mark_change at.old.cost at.old.pinned n at.old.worthy })) (cond-false (m.started == started) (Some (record m { worth = max m.worth worth })) None miss) does in
           stand_alike of' (held held_by weave.chains weave.workers) (held held_by (slice_set weave.chains core at.new) (slice_set weave.workers k v))
           (marks_stay held_by weave.chains weave.workers k core w v at.old at.new here was_there stays hand) stand
     ]

@@ -195,7 +195,3 @@ module _ {S P F : Type 0} (t : TrailWords S F) (fits : F → Colour → Event �
             (record { may = may; victims = kept.victims ∙ was.victims; told = kept.told });
         running = kept.running;
       }
-
-  -- the shards and the chains from the side of the core
-  pub side_stands : k < (shape_of weave.setup).cores → SideStands t fits (side_of weave k)
-  side_stands low = record { core = low; shards = well.shards; shard = well.shard; chains = well.chains; chain = well.chain }

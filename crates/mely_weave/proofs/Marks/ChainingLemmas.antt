@@ -14,7 +14,7 @@ use Rattle.mely_history.specs.ColourAccount.{account_of}
 use Rattle.mely_history.proofs.LegalAccountLemmas.{owner_within}
 use Rattle.mely_shard.specs.Shard.{ShardState, IsOwn, ReadyAs}
 use Rattle.mely_steal.specs.Marks.{mark_of}
-use Rattle.mely_steal.specs.StealQueue.{entered}
+use Rattle.mely_steal.specs.StealQueue.{after_entry}
 use Rattle.mely_core.specs.CoreQueue.{CoreQueueState}
 use Rattle.mely_weave.specs.Side.{Readiness, shard_of, history_in, readiness_of, readiness_for}
 use Rattle.mely_weave.specs.Gathering.{AreChained, IsOwnShard, is_ready_on, mark_for, marks_below, chain_of}
@@ -83,9 +83,9 @@ module _ (setup : Setup) (of : Colour → Readiness) (n : ℕ) (chains : List Co
 
   -- the mark of a ready colour is pushed on the chain of its owner
   pub chained_ready : (owner : ℕ) (mark : Mark) (old new : CoreQueueState) → (of (numbered n)).ready ≡ true → owner ≡ (of (numbered n)).owner → mark ≡ mark_for of (numbered n) → slice_get chains owner ≡ Some old
-      → new ≡ record old { chain = old.chain ++ mark ∷ []; worthy = entered old.cost old.pinned mark old.worthy } → AreChained setup of (n + 1) (slice_set chains owner new)
+      → new ≡ record old { chain = old.chain ++ mark ∷ []; worthy = after_entry old.cost old.pinned mark old.worthy } → AreChained setup of (n + 1) (slice_set chains owner new)
   chained_ready owner mark old new ready owner_is mark_is there becomes =
-      let pushes : CoreQueueState → Mark → CoreQueueState = λ q m. record q { chain = q.chain ++ m ∷ []; worthy = entered q.cost q.pinned m q.worthy } in
+      let pushes : CoreQueueState → Mark → CoreQueueState = λ q m. record q { chain = q.chain ++ m ∷ []; worthy = after_entry q.cost q.pinned m q.worthy } in
       let mine : is_ready_on of owner (numbered n) ≡ true = ap (λ b. b && ((of (numbered n)).owner == owner)) ready ∙ eq-eqb (of (numbered n)).owner owner (sym owner_is) in
       record {
         many = length-set chains owner new ∙ chained.many;

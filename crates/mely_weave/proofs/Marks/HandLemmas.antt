@@ -7,7 +7,7 @@ use Rattle.std.specs.Prelude.{not, ◌==◌, ◌&&◌, nat_le, slice_get, slice_
 use Rattle.std.specs.List.{count_by}
 use Rattle.mely_event.specs.declared.colour.Colour.{Colour}
 use Rattle.mely_event.specs.declared.mark.Mark.{Mark}
-use Rattle.mely_steal.specs.Marks.{mark_of, without, replaced, IsOneEach, is_of as is_mark_of}
+use Rattle.mely_steal.specs.Marks.{mark_of, without, after_replacement, IsOneEach, is_of as is_mark_of}
 use Rattle.mely_steal.proofs.MarkLemmas.{mark_of-same, without-none}
 use Rattle.mely_core.specs.CoreQueue.{CoreQueueState}
 use Rattle.mely_weave.specs.Side.{Readiness}
@@ -32,18 +32,18 @@ count_without p core c (x ∷ xs) mark one there = elim (cases_Bool (is_mark_of 
 ]
 
 -- nothing is replaced where no mark is of the colour
-replaced-none : (new : Mark) (xs : List Mark) → mark_of new.colour xs ≡ None → replaced new xs ≡ xs
+replaced-none : (new : Mark) (xs : List Mark) → mark_of new.colour xs ≡ None → after_replacement new xs ≡ xs
 replaced-none new [] none = refl
 replaced-none new (x ∷ xs) none = elim (cases_Bool (is_mark_of new.colour x)) [
   | inl hit ↦ absurd (none-some x (sym none ∙ cond-true (is_mark_of new.colour x) (Some x) (mark_of new.colour xs) hit))
   | inr miss ↦
       let more : mark_of new.colour xs ≡ None = sym (cond-false (is_mark_of new.colour x) (Some x) (mark_of new.colour xs) miss) ∙ none in
-      let rest : replaced new xs ≡ xs = replaced-none new xs more in
-      ap (λ (y : Mark). y ∷ replaced new xs) (cond-false (is_mark_of new.colour x) new x miss) ∙ ap (λ (ys : List Mark). x ∷ ys) rest
+      let rest : after_replacement new xs ≡ xs = replaced-none new xs more in
+      ap (λ (y : Mark). y ∷ after_replacement new xs) (cond-false (is_mark_of new.colour x) new x miss) ∙ ap (λ (ys : List Mark). x ∷ ys) rest
 ]
 
 -- a chain in which a mark was replaced is the new one with the others
-count_replaced : (p : Placed → Bool) (core : ℕ) (new old : Mark) (chain : List Mark) → IsOneEach chain → mark_of new.colour chain ≡ Some old → count_by p (lying core (replaced new chain)) ≡ count_by p (lying core (without new.colour chain)) + bit (p (core, new))
+count_replaced : (p : Placed → Bool) (core : ℕ) (new old : Mark) (chain : List Mark) → IsOneEach chain → mark_of new.colour chain ≡ Some old → count_by p (lying core (after_replacement new chain)) ≡ count_by p (lying core (without new.colour chain)) + bit (p (core, new))
 count_replaced p core new old [] one there = absurd (none-some old there)
 count_replaced p core new old (x ∷ xs) one there =
     let c : Colour = new.colour in
@@ -51,13 +51,13 @@ count_replaced p core new old (x ∷ xs) one there =
       | inl hit ↦
           let none : mark_of c xs ≡ None = mark_of-same c x.colour xs (sym (eqb-true x.colour.0 c.0 hit)) ∙ one.0 in
           let rest : without c (x ∷ xs) ≡ xs = cond-false (not (is_mark_of c x)) (x ∷ without c xs) (without c xs) (ap not hit) ∙ without-none c xs none in
-          let now : replaced new (x ∷ xs) ≡ new ∷ xs = ap (λ (y : Mark). y ∷ replaced new xs) (cond-true (is_mark_of c x) new x hit) ∙ ap (λ (ys : List Mark). new ∷ ys) (replaced-none new xs none) in
+          let now : after_replacement new (x ∷ xs) ≡ new ∷ xs = ap (λ (y : Mark). y ∷ after_replacement new xs) (cond-true (is_mark_of c x) new x hit) ∙ ap (λ (ys : List Mark). new ∷ ys) (replaced-none new xs none) in
           rw rest (ap (λ (l : List Mark). count_by p (lying core l)) now ∙ omega (arith, count_cons p (core, new) (lying core xs)))
       | inr miss ↦
           let more : mark_of c xs ≡ Some old = sym (cond-false (is_mark_of c x) (Some x) (mark_of c xs) miss) ∙ there in
           let rest : without c (x ∷ xs) ≡ x ∷ without c xs = cond-true (not (is_mark_of c x)) (x ∷ without c xs) (without c xs) (ap not miss) in
-          let now : replaced new (x ∷ xs) ≡ x ∷ replaced new xs = ap (λ (y : Mark). y ∷ replaced new xs) (cond-false (is_mark_of c x) new x miss) in
-          rw rest (ap (λ (l : List Mark). count_by p (lying core l)) now ∙ omega (arith, count_replaced p core new old xs one.1 more, count_cons p (core, x) (lying core (replaced new xs)), count_cons p (core, x) (lying core (without c xs))))
+          let now : after_replacement new (x ∷ xs) ≡ x ∷ after_replacement new xs = ap (λ (y : Mark). y ∷ after_replacement new xs) (cond-false (is_mark_of c x) new x miss) in
+          rw rest (ap (λ (l : List Mark). count_by p (lying core l)) now ∙ omega (arith, count_replaced p core new old xs one.1 more, count_cons p (core, x) (lying core (after_replacement new xs)), count_cons p (core, x) (lying core (without c xs))))
     ]
 
 -- a chain that has a mark of the colour counts one
@@ -202,7 +202,7 @@ module _ {W : Type 0} (in_hand : W → List Placed) (chains : List CoreQueueStat
       omega (arith, count_held in_hand p chains ws core k old new w v there here, of_marks p (in_hand v) (in_hand w) hand, ap (λ (q : CoreQueueState). count_by p (lying core q.chain)) same)
 
   -- a mark is raised where it lies, as far as a report that is told
-  pub marks_raised : (of : Colour → Readiness) (was now : Mark) → now.colour ≡ was.colour → now.started ≡ was.started → now.worth ≤ (of was.colour).worth → IsOneEach old.chain → mark_of now.colour old.chain ≡ Some was → new.chain ≡ replaced now old.chain → in_hand v ≡ in_hand w
+  pub marks_raised : (of : Colour → Readiness) (was now : Mark) → now.colour ≡ was.colour → now.started ≡ was.started → now.worth ≤ (of was.colour).worth → IsOneEach old.chain → mark_of now.colour old.chain ≡ Some was → new.chain ≡ after_replacement now old.chain → in_hand v ≡ in_hand w
       → (told : is_told of (core, now) ≡ true) → MarksStand of (held in_hand chains ws) → MarksStand of moved
   marks_raised of was now of_colour started worth one_each is rest hand told stands =
       let c : Colour = now.colour in

@@ -12,7 +12,7 @@ use Rattle.mely_event.specs.declared.mark.Mark.{Mark}
 use Rattle.mely_history.specs.declared.setup.Setup.{Setup}
 use Rattle.mely_history.specs.Setup.{shape_of, pinned_of}
 use Rattle.mely_steal.specs.Marks.{mark_of}
-use Rattle.mely_steal.specs.StealQueue.{entered, is_worthy}
+use Rattle.mely_steal.specs.StealQueue.{after_entry, is_worthy}
 use Rattle.mely_steal.proofs.MarkLemmas.{none-parts}
 use Rattle.mely_steal.proofs.StealLemmas.{mark_of-push_other}
 use Rattle.mely_core.specs.CoreQueue.{CoreQueueState, HoldTogether, if_worthy, empty_core}
@@ -26,7 +26,7 @@ abbrev pub numbered : ℕ → Colour
 numbered n = record { 0 = n }
 
 -- a mark that is pushed on a chain into which these were pushed
-pub pushed : (setup : Setup) (marks : List Mark) (mark : Mark) → chain_of setup (marks ++ mark ∷ []) ≡ record (chain_of setup marks) { chain = marks ++ mark ∷ []; worthy = entered (shape_of setup).steal_cost (pinned_of setup) mark (chain_of setup marks).worthy }
+pub pushed : (setup : Setup) (marks : List Mark) (mark : Mark) → chain_of setup (marks ++ mark ∷ []) ≡ record (chain_of setup marks) { chain = marks ++ mark ∷ []; worthy = after_entry (shape_of setup).steal_cost (pinned_of setup) mark (chain_of setup marks).worthy }
 pushed setup marks mark = ap (λ worthy. record (chain_of setup marks) { chain = marks ++ mark ∷ []; worthy = worthy }) (filter-append (is_worthy (shape_of setup).steal_cost (pinned_of setup)) marks (mark ∷ []) ∙ one (is_worthy (shape_of setup).steal_cost (pinned_of setup) mark)) where
   one : (b : Bool) → filter (is_worthy (shape_of setup).steal_cost (pinned_of setup)) marks ++ cond b (mark ∷ []) [] ≡ cond b (filter (is_worthy (shape_of setup).steal_cost (pinned_of setup)) marks ++ mark ∷ []) (filter (is_worthy (shape_of setup).steal_cost (pinned_of setup)) marks)
   one true = refl
@@ -53,7 +53,7 @@ module _ (of : Colour → Readiness) (core n : ℕ) where
 
   -- the mark of a ready colour is pushed
   pub chain_ready : (setup : Setup) → is_ready_on of core (numbered n) ≡ true
-      → record (chain_of setup (marks_below of core n)) { chain = marks_below of core n ++ mark_for of (numbered n) ∷ []; worthy = entered (shape_of setup).steal_cost (pinned_of setup) (mark_for of (numbered n)) (chain_of setup (marks_below of core n)).worthy } ≡ chain_of setup (marks_below of core (n + 1))
+      → record (chain_of setup (marks_below of core n)) { chain = marks_below of core n ++ mark_for of (numbered n) ∷ []; worthy = after_entry (shape_of setup).steal_cost (pinned_of setup) (mark_for of (numbered n)) (chain_of setup (marks_below of core n)).worthy } ≡ chain_of setup (marks_below of core (n + 1))
   chain_ready setup on = sym (ap (chain_of setup) (marks_ready on) ∙ pushed setup (marks_below of core n) (mark_for of (numbered n)))
 
 -- no colour has a mark below its number

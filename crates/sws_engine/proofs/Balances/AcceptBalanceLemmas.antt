@@ -15,7 +15,7 @@ use Rattle.sws_engine.specs.declared.place.Role.{Role}
 use Rattle.sws_engine.specs.declared.place.Role.TheVariants.{Accepting}
 use Rattle.sws_engine.specs.Place.{PlaceState}
 use Rattle.sws_engine.specs.Handling.{Put, poll_after, accept_puts, RunsAccept, is_some}
-use Rattle.sws_engine.specs.RunStands.{Way, if_held, is_any, is_beyond, is_late, is_unended, at_desk, at_seat, misplaced_at, due_number, is_stray, worlds, beyond, early, unended, asks_for}
+use Rattle.sws_engine.specs.RunStands.{Way, if_held, is_any, is_beyond, is_late, is_unended, at_desk, at_seat, misplaced_at, due_number, is_stray, worlds, beyond, early, unended_count, asks_for}
 use Rattle.sws_engine.proofs.Balances.BalanceLemmas.{Balance}
 use Rattle.sws_engine.specs.Counting.{bit, times}
 use Rattle.sws_engine.specs.Loads.{world_of}
@@ -32,7 +32,7 @@ pub record AcceptSums {W L : Type 0} (total accepted : ℕ) (puts : List (Put W 
   pub one : sum_by worlds (carried_by puts) ≡ 1
   pub opens : (i : ℕ) → sum_by (asks_for 3 i) (carried_by puts) + bit (nat_lt i accepted) ≡ sum_by (beyond i) (carried_by puts)
   pub none : (i n : ℕ) → ((n ≡ 1) ⊎ (4 ≤ n)) → sum_by (asks_for n i) (carried_by puts) ≡ 0
-  pub unended_none : sum_by (unended total) (carried_by puts) ≡ 0
+  pub unended_none : sum_by (unended_count total) (carried_by puts) ≡ 0
   pub few : sum_by early (carried_by puts) ≤ 1
 
 apart_number : (k n i a : ℕ) → (k ≡ n → ⊥) → bit ((k == n) && (a == i)) ≡ 0

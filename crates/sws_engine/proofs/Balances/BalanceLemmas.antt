@@ -7,7 +7,7 @@ use Rattle.sws_engine.specs.declared.place.Role.{Role}
 use Rattle.sws_engine.specs.declared.place.Role.TheVariants.{Polling, Accepting, Talking}
 use Rattle.sws_conn.specs.declared.talk.Talk.{Ghosts as TalkWords}
 use Rattle.sws_engine.specs.Place.{PlaceState}
-use Rattle.sws_engine.specs.RunStands.{Way, if_held, is_any, is_late, at_desk, worlds, beyond, early, unended, asks_for, misplaced, desks, seats, rests, rests_beyond, rests_unended, rests_in_vain, is_last, waits_for, strays, is_at, is_opened, RunStands}
+use Rattle.sws_engine.specs.RunStands.{Way, if_held, is_any, is_late, at_desk, worlds, beyond, early, unended_count, asks_for, misplaced_count, desks, seats, rests, rests_beyond, rests_unended, rests_in_vain, is_last, waits_for, strays, is_at, is_opened, RunStands}
 use Rattle.sws_engine.specs.Counting.{bit}
 use Rattle.sws_engine.specs.Loads.{world_of}
 
@@ -68,7 +68,7 @@ last_of (Talking seat) none = refl
 module _ {W L T G H : Type 0} (y : TalkWords T L G H) (total : ℕ) where
   -- what one event and the state on which it is run owe, what it puts and the state then have
   pub record Balance (s becomes : PlaceState H W T) (e : Way W L) (puts : List (Way W L)) : Type 0 where
-    pub placed : misplaced becomes ≡ misplaced s
+    pub placed : misplaced_count becomes ≡ misplaced_count s
     pub desk : desks becomes ≡ desks s
     pub seat : (i : ℕ) → seats i becomes ≡ seats i s
     pub world : sum_by worlds puts + rests becomes ≡ worlds e + rests s
@@ -76,7 +76,7 @@ module _ {W L T G H : Type 0} (y : TalkWords T L G H) (total : ℕ) where
     pub steps : (i number : ℕ) → i < total → 4 ≤ number → number ≤ 8 → sum_by (asks_for number i) puts + is_at y i number s ≡ asks_for number i e + is_at y i number becomes
     pub waits : (i : ℕ) → i < total → sum_by (asks_for 9 i) puts + sum_by (asks_for 1 i) puts + waits_for i becomes + is_at y i 9 s ≡ asks_for 9 i e + asks_for 1 i e + waits_for i s + is_at y i 9 becomes
     pub stray : strays becomes ≡ strays s
-    pub none_unended : sum_by (unended total) puts ≡ 0
+    pub none_unended : sum_by (unended_count total) puts ≡ 0
     pub not_unended : rests_unended total becomes ≡ 0
     pub late : (sum_by early puts + is_last becomes ≤ early e + is_last s) ⊎ ((worlds e ≡ 1) × (desks s ≡ 1) × (sum_by early puts + is_last becomes ≤ 1))
     pub not_in_vain : rests_in_vain becomes ≡ 0
@@ -139,7 +139,7 @@ module _ {W L T G H : Type 0} (y : TalkWords T L G H) (total : ℕ) where
     -- the run stands afterwards
     pub stands_after : RunStands y total states ways → Balance s becomes e puts → RunStands y total after later
     stands_after stands balance = record {
-      placed = let h = stands.placed in let c = balance.placed in omega (arith, before_is misplaced, after_is misplaced, h, c);
+      placed = let h = stands.placed in let c = balance.placed in omega (arith, before_is misplaced_count, after_is misplaced_count, h, c);
       one_desk = let h = stands.one_desk in let c = balance.desk in omega (arith, before_is desks, after_is desks, h, c);
       one_seat = λ i low. let h = stands.one_seat i low in let c = balance.seat i in omega (arith, before_is (seats i), after_is (seats i), h, c);
       one_world = let h = stands.one_world in let c = balance.world in omega (arith, before_is rests, after_is rests, swaps.ways_are worlds, h, c);
@@ -160,7 +160,7 @@ module _ {W L T G H : Type 0} (y : TalkWords T L G H) (total : ℕ) where
           let h = stands.ended in
           let none = balance.none_unended in
           let not = balance.not_unended in
-          omega (arith, before_is (rests_unended total), after_is (rests_unended total), swaps.ways_are (unended total), h, none, not);
+          omega (arith, before_is (rests_unended total), after_is (rests_unended total), swaps.ways_are (unended_count total), h, none, not);
       late = late_after stands balance;
       not_in_vain = let h = stands.not_in_vain in let c = balance.not_in_vain in omega (arith, before_is rests_in_vain, after_is rests_in_vain, h, c);
     }

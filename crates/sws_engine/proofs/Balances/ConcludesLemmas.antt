@@ -14,7 +14,7 @@ use Rattle.sws_engine.specs.declared.place.Role.{Role}
 use Rattle.sws_engine.specs.declared.place.Role.TheVariants.{Polling, Accepting, Talking}
 use Rattle.sws_engine.specs.Place.{PlaceState}
 use Rattle.sws_engine.specs.Handling.{is_some}
-use Rattle.sws_engine.specs.RunStands.{if_held, is_any, is_beyond, is_unended, at_desk, at_seat, first_number, due_number, is_stray, misplaced_at, misplaced, desks, seats, strays, RunStands}
+use Rattle.sws_engine.specs.RunStands.{if_held, is_any, is_beyond, is_unended, at_desk, at_seat, first_number, due_number, is_stray, misplaced_at, misplaced_count, desks, seats, strays, RunStands}
 use Rattle.sws_engine.specs.RunEnds.{IsPlacedAs, RunEnds}
 use Rattle.mely_tally.proofs.SumsLemmas.{sum_member}
 use Rattle.sws_engine.proofs.Balances.BalanceLemmas.{others, others_none, sum_split}
@@ -197,11 +197,11 @@ place_role i (Talking seat) none =
 
 module _ {W L T G H : Type 0} (y : TalkWords T L G H) (total : ℕ) (states : List (PlaceState H W T)) (coloured : (i : ℕ) (place : PlaceState H W T) → slice_get states i ≡ Some place → place.colour.0 ≡ i) where
   -- each state has the role of its colour
-  pub placed_as : sum_by (λ (s : PlaceState H W T). misplaced s) states ≡ 0 → (i : ℕ) (place : PlaceState H W T) → slice_get states i ≡ Some place → IsPlacedAs i place
+  pub placed_as : sum_by (λ (s : PlaceState H W T). misplaced_count s) states ≡ 0 → (i : ℕ) (place : PlaceState H W T) → slice_get states i ≡ Some place → IsPlacedAs i place
   placed_as none i place at =
-      let few = sum_member (λ (s : PlaceState H W T). misplaced s) states i place at in
+      let few = sum_member (λ (s : PlaceState H W T). misplaced_count s) states i place at in
       let colour = coloured i place at in
-      let mine : misplaced_at i place.role ≡ 0 = ap (λ n. misplaced_at n place.role) (sym colour) ∙ (let zero_is : misplaced place ≡ 0 = omega (arith, few, none) in zero_is) in
+      let mine : misplaced_at i place.role ≡ 0 = ap (λ n. misplaced_at n place.role) (sym colour) ∙ (let zero_is : misplaced_count place ≡ 0 = omega (arith, few, none) in zero_is) in
       let role = place_role i place.role mine in
       record { colour = colour; polls = role.0; accepts = role.1; talks = role.2 }
 

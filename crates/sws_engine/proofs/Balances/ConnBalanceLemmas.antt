@@ -16,7 +16,7 @@ use Rattle.sws_engine.specs.declared.place.Role.{Role}
 use Rattle.sws_engine.specs.declared.place.Role.TheVariants.{Talking}
 use Rattle.sws_engine.specs.Place.{PlaceState}
 use Rattle.sws_engine.specs.Handling.{number_of, next_put, next_puts, is_some}
-use Rattle.sws_engine.specs.RunStands.{Way, if_held, is_any, is_beyond, is_late, is_unended, at_desk, at_seat, misplaced_at, first_number, due_number, is_stray, worlds, beyond, early, unended, asks_for, is_at, is_opened}
+use Rattle.sws_engine.specs.RunStands.{Way, if_held, is_any, is_beyond, is_late, is_unended, at_desk, at_seat, misplaced_at, first_number, due_number, is_stray, worlds, beyond, early, unended_count, asks_for, is_at, is_opened}
 use Rattle.sws_engine.proofs.Balances.BalanceLemmas.{Balance}
 use Rattle.sws_engine.specs.Counting.{bit, times}
 use Rattle.sws_engine.specs.Loads.{world_of}
@@ -160,7 +160,7 @@ module _ {W L T G H : Type 0} (y : TalkWords T L G H) (total : ℕ) (s becomes :
     waits = λ i low.
         omega (arith, next_waits i, at_was i 9, at_is i 9, asks i 9, not_asked i, (same_at (λ r. at_desk (λ d. times i d.waiting.items) r) (λ k. refl)).0, (same_at (λ r. at_desk (λ d. times i d.waiting.items) r) (λ k. refl)).1);
     stray = ap (at_seat (λ k. is_stray k.stray)) is ∙ ap is_stray kept ∙ sym (ap (at_seat (λ k. is_stray k.stray)) was);
-    none_unended = no_world W L (unended total) (λ e none. held_none (λ held. is_late e.0 && is_unended total held) (world_of e.1) none) (due (y.view_of after.talk)) i0;
+    none_unended = no_world W L (unended_count total) (λ e none. held_none (λ held. is_late e.0 && is_unended total held) (world_of e.1) none) (due (y.view_of after.talk)) i0;
     not_unended = (same_at (λ r. at_desk (λ d. if_held (is_unended total) d.resting) r) (λ k. refl)).1;
     late =
         let z = same_at (λ r. at_desk (λ d. bit d.last) r) (λ k. refl) in

@@ -15,7 +15,7 @@ use Rattle.sws_engine.specs.declared.place.Desk.{Desk}
 use Rattle.sws_engine.specs.declared.place.Role.TheVariants.{Polling}
 use Rattle.sws_engine.specs.Place.{PlaceState}
 use Rattle.sws_engine.specs.Handling.{Put, poll_put, is_some, woken_by, RunsWait}
-use Rattle.sws_engine.specs.RunStands.{Way, if_held, is_any, is_beyond, is_unended, at_desk, at_seat, misplaced_at, due_number, is_stray, worlds, beyond, early, unended, asks_for}
+use Rattle.sws_engine.specs.RunStands.{Way, if_held, is_any, is_beyond, is_unended, at_desk, at_seat, misplaced_at, due_number, is_stray, worlds, beyond, early, unended_count, asks_for}
 use Rattle.sws_engine.proofs.Balances.BalanceLemmas.{Balance}
 use Rattle.sws_engine.proofs.Balances.ConnBalanceLemmas.{held_none}
 use Rattle.sws_engine.proofs.Events.WaitingListsLemmas.{times_cons}
@@ -113,7 +113,7 @@ module _ {W L T G H : Type 0} (y : TalkWords T L G H) (x : WorldWords W L) (l : 
           ap (at_seat (λ k. bit ((becomes.colour.0 == i + 2) && (due_number y k == 9)))) is,
         );
     stray = ap (at_seat (λ k. is_stray k.stray)) is ∙ sym (ap (at_seat (λ k. is_stray k.stray)) was);
-    none_unended = puts_sum (unended total) (is_unended total) (λ h. refl) ∙ not_early;
+    none_unended = puts_sum (unended_count total) (is_unended total) (λ h. refl) ∙ not_early;
     not_unended = resting_none (is_unended total);
     late = inl (omega (arith, puts_sum early (λ h. false) (λ h. refl), held_never desk.resting, desk_was (λ d. bit d.last), desk_is (λ d. bit d.last), ap bit does.last));
     not_in_vain = desk_is (λ d. if_held (λ held. is_some d.waiting.items) d.resting) ∙ held_none (λ held. is_some after.waiting.items) after.resting does.resting;

@@ -18,7 +18,7 @@ use Rattle.sws_engine.specs.declared.place.Desk.{Desk}
 use Rattle.sws_engine.specs.declared.place.Role.TheVariants.{Polling}
 use Rattle.sws_engine.specs.Place.{PlaceState}
 use Rattle.sws_engine.specs.Handling.{Put, step_put, Asked, Answered, is_some, is_to_ask, resumed_one, onward, rest_of, Asks, RunsPoll}
-use Rattle.sws_engine.specs.RunStands.{Way, if_held, is_any, is_beyond, is_unended, at_desk, at_seat, misplaced_at, due_number, is_stray, worlds, beyond, early, unended, asks_for}
+use Rattle.sws_engine.specs.RunStands.{Way, if_held, is_any, is_beyond, is_unended, at_desk, at_seat, misplaced_at, due_number, is_stray, worlds, beyond, early, unended_count, asks_for}
 use Rattle.sws_engine.proofs.Balances.BalanceLemmas.{Balance}
 use Rattle.sws_engine.proofs.Balances.DeskBalanceLemmas.{held_some}
 use Rattle.sws_engine.proofs.Events.WaitingListsLemmas.{times_cons, count_answered, count_resuming}
@@ -59,7 +59,7 @@ module _ (W L : Type 0) where
     pub one : sum_by worlds (carried_by (onward {W = W} {L = L} last waiting held)) + if_held is_any (rest_of last waiting held None) ≡ 1
     pub beyond_is : (i : ℕ) → sum_by (beyond i) (carried_by (onward {W = W} {L = L} last waiting held)) + if_held (is_beyond i) (rest_of last waiting held None) ≡ bit (is_beyond i held)
     pub no_asks : (i n : ℕ) → ((n ≡ 1) ⊎ (3 ≤ n)) → sum_by (asks_for n i) (carried_by (onward {W = W} {L = L} last waiting held)) ≡ 0
-    pub none_early : (last ≡ true → is_unended total held ≡ false) → (sum_by (unended total) (carried_by (onward {W = W} {L = L} last waiting held)) ≡ 0) × (if_held (is_unended total) (rest_of last waiting held None) ≡ 0)
+    pub none_early : (last ≡ true → is_unended total held ≡ false) → (sum_by (unended_count total) (carried_by (onward {W = W} {L = L} last waiting held)) ≡ 0) × (if_held (is_unended total) (rest_of last waiting held None) ≡ 0)
     pub few : sum_by early (carried_by (onward {W = W} {L = L} last waiting held)) + bit last ≤ 1
     pub not_in_vain : if_held (λ h. is_some waiting) (rest_of last waiting held None) ≡ 0
 
@@ -247,7 +247,7 @@ module _ {W L T G H : Type 0} (y : TalkWords T L G H) (x : WorldWords W L) (l : 
           ap (at_seat (λ k. bit ((becomes.colour.0 == i + 2) && (due_number y k == 9)))) is,
         );
     stray = ap (at_seat (λ k. is_stray k.stray)) is ∙ sym (ap (at_seat (λ k. is_stray k.stray)) was);
-    none_unended = let none = (g.none_early ended).0 in omega (arith, puts_split (unended total), resumes_none W L (unended total) (λ j. refl) done.resumed, none);
+    none_unended = let none = (g.none_early ended).0 in omega (arith, puts_split (unended_count total), resumes_none W L (unended_count total) (λ j. refl) done.resumed, none);
     not_unended = rests_are (is_unended total) ∙ (g.none_early ended).1;
     late = inr (event_has is_any, desk_was (λ d. 1), let few = g.few in omega (arith, puts_split early, resumes_none W L early (λ j. refl) done.resumed, few, desk_is (λ d. bit d.last), ap bit does.last));
     not_in_vain = desk_is (λ d. if_held (λ h. is_some d.waiting.items) d.resting) ∙ ap (λ ws. if_held (λ h. is_some ws) after.resting) does.waiting ∙ ap (if_held (λ h. is_some done.waiting)) rest_is ∙ g.not_in_vain;

@@ -4,7 +4,7 @@ use Rattle.std.proofs.lemmas.Option.{same_Some}
 use Rattle.sws_link.specs.Exchanges.{Exchanges}
 use Rattle.sws_link.specs.Links.{LinkTells, IsFresh}
 use Rattle.sws_link.specs.Scripts.{Script}
-use Rattle.sws_link.specs.Worlds.{Coming, untouched}
+use Rattle.sws_link.specs.Worlds.{Coming, fresh_tells}
 use Rattle.sws_link.proofs.CountLemmas.{IsLater-same}
 use Rattle.sws_link.specs.declared.Link.{Ghosts as LinkWords}
 use Rattle.sws_link.specs.declared.world.World.{Ghosts as WorldWords}
@@ -15,7 +15,7 @@ use Rattle.sws_engine.specs.Loads.{IsComing, LinkStands}
 coming_fresh : (coming : Option (List Coming)) (i : ℕ) (told : Option LinkTells) → IsComing coming i told → IsFresh told
 coming_fresh None i told is = is
 coming_fresh (Some coming) i None is = tt
-coming_fresh (Some coming) i (Some tells) is = let same : tells ≡ untouched is.0 = same_Some tells (untouched is.0) is.2 in (ap (λ (t : LinkTells). t.taken) same, ap (λ (t : LinkTells). t.written) same)
+coming_fresh (Some coming) i (Some tells) is = let same : tells ≡ fresh_tells is.0 = same_Some tells (fresh_tells is.0) is.2 in (ap (λ (t : LinkTells). t.taken) same, ap (λ (t : LinkTells). t.written) same)
 
 fresh_told : (respond : List ℕ → List ℕ) (told : Option LinkTells) → IsFresh told → ServesTold respond told told unopened_view
 fresh_told respond None fresh = refl

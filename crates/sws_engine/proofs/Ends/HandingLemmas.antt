@@ -55,9 +55,6 @@ module _ {W L : Type 0} where
   world_more [] ys world = refl
   world_more (x ∷ xs) ys world = world_more xs ys (world_with_load x.1 world)
 
-  pub hand_none : (a : Left W L) → HandsOut [] a a
-  hand_none a = record { served = refl; world = refl; trails = refl }
-
   pub hand_more : (xs ys : List (Event × Option (Load W L))) (a b c : Left W L) → HandsOut xs a b → HandsOut ys b c → HandsOut (xs ++ ys) a c
   hand_more xs ys a b c one other = record {
     served = other.served ∙ ap (λ (l : List (Served L)). served_with ys l) one.served ∙ sym (served_more xs ys a.served.items);

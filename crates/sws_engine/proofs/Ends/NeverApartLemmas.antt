@@ -1,21 +1,15 @@
 -- What a run by steps leaves: nothing is ever amiss.
 use Rattle.std.proofs.Common.{◌≡◌, ℕ, ◌+◌, ◌≤◌, ◌<◌, Bool, true, false, true≢false, List, [], ◌++◌, Option, None, Some, length, map, refl, sym, ◌∙◌, ap, subst, arith, inl, inr}
-use Rattle.std.proofs.lemmas.List.{length-map}
 use Rattle.std.proofs.lemmas.Option.{slice_get_within}
 use Rattle.std.proofs.lemmas.Bool.Decides.{nat_tests}
 use Rattle.std.specs.List.{AllByRecursion}
 use Rattle.std.specs.Prelude.{slice_get, is_some, is_none, IsSome, option_map, not, nat_lt, ◌&&◌, ◌||◌}
-use Rattle.mely_event.specs.declared.colour.Colour.{Colour}
 use Rattle.mely_event.specs.declared.event.Event.{Event}
-use Rattle.mely_history.specs.History.{ran_of}
-use Rattle.mely_history.specs.Legal.{AreLegal}
 use Rattle.mely_history.specs.Setup.{colours_of}
-use Rattle.mely_history.specs.declared.entry.Entry.{Entry}
 use Rattle.mely_history.specs.declared.setup.Setup.{Setup}
 use Rattle.mely_history.specs.declared.shape.Shape.{Shape}
 use Rattle.mely_weave.proofs.Wholes.GatherLemmas.{get_there}
-use Rattle.mely_machine.specs.Rules.{Rules, rules_of}
-use Rattle.mely_weave.specs.Side.{shard_of}
+use Rattle.mely_machine.specs.Rules.{rules_of}
 use Rattle.mely_weave.specs.declared.draining.Drained.{Drained}
 use Rattle.mely_weave.specs.declared.draining.Drained.TheVariants as drained
 use Rattle.mely_weave.specs.declared.parts.WeaveParts.{WeaveParts}
@@ -40,11 +34,12 @@ use Rattle.sws_engine.specs.ServerRun.{server_rules}
 use Rattle.sws_engine.specs.RunFits.{RunFits}
 use Rattle.sws_engine.specs.declared.place.Seat.{Seat}
 use Rattle.sws_engine.specs.declared.place.Role.TheVariants.{Talking}
-use Rattle.sws_engine.specs.RunLeaves.{Talker, talkers, resting_in, ShowsSeat, StateTells, is_lacking, owed, AreWhole, VerdictIs}
+use Rattle.sws_engine.specs.RunLeaves.{Talker, talkers, resting_in, ShowsSeat, StateTells, is_lacking, links_owed, AreWhole, VerdictIs}
 use Rattle.sws_engine.specs.Handing.{served_with, world_with}
 use Rattle.sws_engine.specs.Conclusion.{is_whole, accepted_of, failed_of, ways_of, world_found, IsConcluded}
-use Rattle.sws_engine.specs.StepsLeave.{HasRun, histories_in}
-use Rattle.sws_engine.proofs.Ends.ConcludedLemmas.{from_map, whole_is, judged, served_many, conn_left, conn_follows, world_is_ours}
+use Rattle.sws_engine.specs.StepsLeave.{HasRun}
+use Rattle.sws_engine.proofs.Ends.RunLeftLemmas.{run_left, told_as as told_of}
+use Rattle.sws_engine.proofs.Ends.ConcludedLemmas.{whole_is, served_many, conn_follows}
 use Rattle.sws_engine.proofs.Ends.SeatsOfRunLemmas.{SeatsStand, seats_stand}
 
 -- where nothing is due, nothing is pending
@@ -85,7 +80,7 @@ module _ {W L T G H : Type 0} (y : TalkWords T L G H) (talker : Talker H W T) (s
       ∙ ap (λ o. (false || false) || is_some o) (shows.stray ∙ unstrayed)
 
 -- the links that were to be served were all accepted
-owed_below : (failed : Bool) (accepted total i : ℕ) → not failed && nat_lt accepted total ≡ false → i < owed failed accepted total → i < total → i < accepted
+owed_below : (failed : Bool) (accepted total i : ℕ) → not failed && nat_lt accepted total ≡ false → i < links_owed failed accepted total → i < total → i < accepted
 owed_below true accepted total i ended low under = low
 owed_below false accepted total i ended low under = let more : total ≤ accepted = not_less accepted total ended in omega (arith, more, under)
 
@@ -103,9 +98,6 @@ module _ {W L T G H : Type 0} (x : WorldWords W L) (l : LinkWords L) (y : TalkWo
 
   found_many : length is.found ≡ total
   found_many = is.shows.many ∙ seats.many
-
-  histories_are : histories_in x l y shape hall first ended ≡ map (λ history. history.items) parts.histories.items
-  histories_are = ap (λ v. map (λ history. history.items) v.items) is.histories
 
   -- where all was run, nothing is under way
   module _ (empty : how ≡ drained.Empty) (none_lost : parts.lost.items ≡ []) where
@@ -130,7 +122,7 @@ module _ {W L T G H : Type 0} (x : WorldWords W L) (l : LinkWords L) (y : TalkWo
         ∙ ap (λ (n : ℕ). not ends.held.failed && nat_lt n total) (is.accepted ∙ ap (λ (o : Option (WorldLoad W)). accepted_of o) world_is)
         ∙ ends.ended
 
-    all_whole : AreWhole ended.served.items (owed ended.failed ended.accepted total)
+    all_whole : AreWhole ended.served.items (links_owed ended.failed ended.accepted total)
     all_whole i s low at =
         let here : slice_get is.found i ≡ Some s = ap (λ (l : List (Served L)). slice_get l i) (sym served_are) ∙ at in
         let under : i < total = (let within = slice_get_within is.found i s here in omega (arith, within, found_many)) in
@@ -146,7 +138,7 @@ module _ {W L T G H : Type 0} (x : WorldWords W L) (l : LinkWords L) (y : TalkWo
     below_all : ended.failed ≡ false → (i : ℕ) → i < total → i < ends.held.accepted
     below_all fine i under =
         let accepted_same : ended.accepted ≡ ends.held.accepted = is.accepted ∙ ap (λ (o : Option (WorldLoad W)). accepted_of o) world_is in
-        let low : i < owed ended.failed ended.accepted total = subst (λ (b : Bool). i < owed b ended.accepted total) (sym fine) under in
+        let low : i < links_owed ended.failed ended.accepted total = subst (λ (b : Bool). i < links_owed b ended.accepted total) (sym fine) under in
         let below = owed_below ended.failed ended.accepted total i unended low under in
         omega (arith, below, accepted_same)
 
@@ -160,47 +152,24 @@ module _ {W L T G H : Type 0} (x : WorldWords W L) (l : LinkWords L) (y : TalkWo
   Told v = VerdictIs ended.served.items (is_whole how parts.lost.items) total (is_some ended.world) ended.accepted ended.failed v
 
   told_as : (v : Verdict) → ended.verdict ≡ v → Told v
-  told_as v same = subst Told same is.verdict
-
-  trail_is : (c : Colour) (history : List Entry) (trail : List Event) → slice_get (map (λ t. t.items) ended.trails.items) c.0 ≡ Some trail → slice_get (histories_in x l y shape hall first ended) (shard_of setup c) ≡ Some history → trail ≡ ran_of history c
-  trail_is c history trail at there =
-      let from = from_map (λ (p : PlaceState H W T). p.trail) parts.states.items c.0 trail (ap (λ (l : List (List Event)). slice_get l c.0) (sym is.trails) ∙ at) in
-      sym from.2 ∙ ran.trailed c from.0 history from.1 (ap (λ (l : List (List Entry)). slice_get l (shard_of setup c)) (sym histories_are) ∙ there)
+  told_as v same = told_of x l y shape setup hall first how parts ended rules colours ran.kept fits is tell v same
 
   -- where all was run and the world is sound, nothing is due on any connection
   is_shut : (empty : how ≡ drained.Empty) (none_lost : parts.lost.items ≡ []) → ended.failed ≡ false → (i : ℕ) → i < total → (place : PlaceState H W T) (seat : Seat T) → slice_get parts.states.items (i + 2) ≡ Some place → place.role ≡ Talking seat → due (y.view_of seat.talk) ≡ None
   is_shut empty none_lost fine i under place seat there talks = ((ends empty none_lost).conn i place seat under there talks).closed (below_all empty none_lost fine i under)
 
   pub has_run : HasRun x l y shape hall first ended
+  unfolding run_left
   has_run = record {
-    setup = setup;
-    rules = rules;
-    colours = colours;
-    how = how;
-    parts = parts;
+    left = run_left x l y shape setup hall first how parts ended rules colours ran.kept fits is tell;
     ran = ran;
-    fits = fits;
-    concluded = is;
-    legal = subst (λ (l : List (List Entry)). AreLegal setup l) (sym histories_are) ran.legal;
-    shards = ap length histories_are ∙ ran.shards ∙ ap (λ (r : Rules). r.shape.shards) rules;
-    drained = λ isnt shard history at.
-        let whole = judged ended.served.items (is_whole how parts.lost.items) (is_some ended.world) ended.failed total ended.accepted ended.verdict isnt is.verdict in
-        let run = whole_is how parts.lost.items whole.ran in
-        ran.drained run.0 shard history (ap (λ (l : List (List Entry)). slice_get l shard) (sym histories_are) ∙ at);
-    trailed = trail_is;
-    many_trails = sym (length-map ended.trails.items (λ t. t.items)) ∙ ap length is.trails ∙ length-map parts.states.items (λ (p : PlaceState H W T). p.trail) ∙ ran.many;
-    many_served = served_many x l y hall first how parts ended ran.many ran.placed ran.of_world fits is tell;
-    ok = λ same. (let told = told_as verdict.Ok same in (told.1, told.2, subst (λ (b : Bool). AreWhole ended.served.items (owed b ended.accepted total)) told.2 told.3, told.0.enough));
-    world = λ same. (let told = told_as verdict.World same in (told.1, told.2, subst (λ (b : Bool). AreWhole ended.served.items (owed b ended.accepted total)) told.2 told.3, told.0.enough));
-    conn = conn_left x l y hall first how parts ended ran.many ran.placed ran.of_world fits is tell;
     follows = λ same coming one script i s trail known at answers there run_of.
         let told = told_as verdict.Ok same in
         let run = whole_is how parts.lost.items told.0.ran in
-        let whole = subst (λ (b : Bool). AreWhole ended.served.items (owed b ended.accepted total)) told.2 told.3 in
+        let whole = subst (λ (b : Bool). AreWhole ended.served.items (links_owed b ended.accepted total)) told.2 told.3 in
         let many = served_many x l y hall first how parts ended ran.many ran.placed ran.of_world fits is tell in
         let under : i < total = (let within = slice_get_within ended.served.items i s there in omega (arith, within, many)) in
         conn_follows x l y hall first how parts ended ran.many ran.placed ran.of_world fits is tell (served_are run.0 run.1) i (λ place seat at talks nothing some. is_shut run.0 run.1 told.2 i under place seat at talks) coming one script s trail known at answers there run_of (whole i s under there) (told.0.enough i s there);
-    stands = world_is_ours x l y hall first how parts ended ran.many ran.placed ran.of_world fits is tell;
     never_apart = λ conn same.
         let told = told_as (verdict.Apart conn) same in
         let run = whole_is how parts.lost.items told.0.ran in

@@ -61,14 +61,16 @@ module _ {W L T G H : Type 0} (x : WorldWords W L) (y : TalkWords T L G H) (t : 
 
   pub run_parts : RunParts x y setup first ended histories states queued lost
   run_parts = record {
-    legal = subst (λ (s : Setup). AreLegal s histories) of_setup apart.legal;
-    shards = many_histories ∙ ap (λ (s : Setup). (shape_of s).shards) of_setup;
-    drained = λ empty. apart.drained (drained_is empty);
-    emptied = λ empty. apart.emptied (drained_is empty);
-    many = apart.many ∙ ap (λ (s : Setup). colours_of s) of_setup ∙ colours;
-    placed = placed_as y total states coloured stands.placed;
-    of_world = λ i place at. sym (first_is place) ∙ ap (λ (f : Frame H W). f.first) (apart.framed (record { 0 = i }) place at) ∙ first_is weave.given ∙ fact.framed;
-    trailed = λ c place history at there. sym (trail_is place) ∙ apart.trailed c place history at (ap (λ (s : Setup). slice_get histories (shard_of s c)) of_setup ∙ there);
+    kept = record {
+      legal = subst (λ (s : Setup). AreLegal s histories) of_setup apart.legal;
+      shards = many_histories ∙ ap (λ (s : Setup). (shape_of s).shards) of_setup;
+      drained = λ empty. apart.drained (drained_is empty);
+      emptied = λ empty. apart.emptied (drained_is empty);
+      many = apart.many ∙ ap (λ (s : Setup). colours_of s) of_setup ∙ colours;
+      placed = placed_as y total states coloured stands.placed;
+      of_world = λ i place at. sym (first_is place) ∙ ap (λ (f : Frame H W). f.first) (apart.framed (record { 0 = i }) place at) ∙ first_is weave.given ∙ fact.framed;
+      trailed = λ c place history at there. sym (trail_is place) ∙ apart.trailed c place history at (ap (λ (s : Setup). slice_get histories (shard_of s c)) of_setup ∙ there);
+    };
     stands = stands;
     ends = λ empty none place desk at role. run_ends y total states coloured (subst (λ (l : List (Way W L)). RunStands y total states l) (none_left empty none) stands) place desk at role;
   }

@@ -1,13 +1,11 @@
 -- What a run on threads leaves, of the parts of the weave that its fleet was closed into.
-use Rattle.std.proofs.Common.{◌≡◌, ℕ, ◌+◌, ◌<◌, Bool, false, List, [], ◌++◌, Option, Some, length, map, refl, sym, ◌∙◌, ap, subst, arith}
-use Rattle.std.proofs.lemmas.List.{length-map}
+use Rattle.std.proofs.Common.{◌≡◌, ℕ, ◌+◌, ◌<◌, Bool, false, List, [], ◌++◌, Option, length, map, refl, sym, ◌∙◌, ap, subst, arith}
 use Rattle.std.proofs.lemmas.Option.{slice_get_within}
 use Rattle.std.specs.Prelude.{slice_get, is_some}
 use Rattle.std.specs.List.{AllByRecursion}
 use Rattle.mely_event.specs.declared.colour.Colour.{Colour}
 use Rattle.mely_event.specs.declared.event.Event.{Event}
 use Rattle.mely_event.specs.declared.trail.Trail.{Ghosts as TrailWords}
-use Rattle.mely_history.specs.History.{ran_of}
 use Rattle.mely_history.specs.Legal.{AreLegal}
 use Rattle.mely_history.specs.Setup.{shape_of, colours_of}
 use Rattle.mely_history.specs.declared.entry.Entry.{Entry}
@@ -15,7 +13,7 @@ use Rattle.mely_history.specs.declared.setup.Setup.{Setup}
 use Rattle.mely_history.specs.declared.shape.Shape.{Shape}
 use Rattle.mely_weave.specs.Dealing.{AtEach}
 use Rattle.mely_weave.specs.Drains.{HistoriesAreDrained}
-use Rattle.mely_machine.specs.Rules.{Rules, rules_of}
+use Rattle.mely_machine.specs.Rules.{rules_of}
 use Rattle.mely_weave.specs.Side.{shard_of}
 use Rattle.mely_weave.specs.Weave.{WeaveState}
 use Rattle.mely_weave.specs.declared.draining.Drained.{Drained}
@@ -30,7 +28,6 @@ use Rattle.sws_conn.specs.declared.talk.Talk.{Ghosts as TalkWords}
 use Rattle.sws_conn.specs.Conn.{reported_by}
 use Rattle.sws_conn.specs.Talks.{due_after}
 use Rattle.sws_engine.specs.declared.ended.Ended.{Ended}
-use Rattle.sws_engine.specs.declared.ended.Verdict.{Verdict}
 use Rattle.sws_engine.specs.declared.ended.Verdict.TheVariants as verdict
 use Rattle.sws_engine.specs.declared.load.Load.{Load}
 use Rattle.sws_engine.specs.declared.place.Frame.{Frame}
@@ -41,12 +38,13 @@ use Rattle.sws_engine.specs.Invariant.{RoleStands, IsConsistent}
 use Rattle.sws_engine.specs.RunEnds.{IsPlacedAs}
 use Rattle.sws_engine.specs.ServerRun.{server_rules}
 use Rattle.sws_engine.specs.RunFits.{RunFits}
-use Rattle.sws_engine.specs.RunLeaves.{owed, AreWhole, VerdictIs, StateTells}
+use Rattle.sws_engine.specs.RunLeaves.{links_owed, AreWhole, VerdictIs, StateTells}
 use Rattle.sws_engine.specs.Handing.{served_with}
 use Rattle.sws_engine.specs.Conclusion.{is_whole, ways_of, IsConcluded}
-use Rattle.sws_engine.specs.StepsLeave.{histories_in}
-use Rattle.sws_engine.specs.ThreadsLeave.{PartsKept, HasRunThreads}
-use Rattle.sws_engine.proofs.Ends.ConcludedLemmas.{from_map, whole_is, judged, served_many, conn_left, conn_follows, world_is_ours}
+use Rattle.sws_engine.specs.PartsKept.{PartsKept}
+use Rattle.sws_engine.specs.ThreadsLeave.{HasRunThreads}
+use Rattle.sws_engine.proofs.Ends.RunLeftLemmas.{told_as, run_left}
+use Rattle.sws_engine.proofs.Ends.ConcludedLemmas.{whole_is, served_many, conn_follows}
 
 -- what a state keeps says which role it has
 module _ {W L T G H : Type 0} (x : WorldWords W L) (l : LinkWords L) (y : TalkWords T L G H) where
@@ -101,43 +99,18 @@ module _ {W L T G H : Type 0} (x : WorldWords W L) (l : LinkWords L) (y : TalkWo
   abbrev total : ℕ
   total = (x.tells first).total
 
-  histories_are : histories_in x l y shape hall first ended ≡ map (λ history. history.items) parts.histories.items
-  histories_are = ap (λ v. map (λ history. history.items) v.items) is.histories
-
-  told_as : (v : Verdict) → ended.verdict ≡ v → VerdictIs ended.served.items (is_whole how parts.lost.items) total (is_some ended.world) ended.accepted ended.failed v
-  told_as v same = subst (λ (w : Verdict). VerdictIs ended.served.items (is_whole how parts.lost.items) total (is_some ended.world) ended.accepted ended.failed w) same is.verdict
-
-  trail_is : (c : Colour) (history : List Entry) (trail : List Event) → slice_get (map (λ t. t.items) ended.trails.items) c.0 ≡ Some trail → slice_get (histories_in x l y shape hall first ended) (shard_of setup c) ≡ Some history → trail ≡ ran_of history c
-  trail_is c history trail at there =
-      let from = from_map (λ (p : PlaceState H W T). p.trail) parts.states.items c.0 trail (ap (λ (l : List (List Event)). slice_get l c.0) (sym is.trails) ∙ at) in
-      sym from.2 ∙ kept.trailed c from.0 history from.1 (ap (λ (l : List (List Entry)). slice_get l (shard_of setup c)) (sym histories_are) ∙ there)
+  told_well : ended.verdict ≡ verdict.Ok → VerdictIs ended.served.items (is_whole how parts.lost.items) total (is_some ended.world) ended.accepted ended.failed verdict.Ok
+  told_well same = told_as x l y shape setup hall first how parts ended rules colours kept fits is tell verdict.Ok same
 
   pub has_run_threads : HasRunThreads x l y shape hall first ended
+  unfolding run_left
   has_run_threads = record {
-    setup = setup;
-    rules = rules;
-    colours = colours;
-    how = how;
-    parts = parts;
+    left = run_left x l y shape setup hall first how parts ended rules colours kept fits is tell;
     kept = kept;
-    concluded = is;
-    fits = fits;
-    legal = subst (λ (l : List (List Entry)). AreLegal setup l) (sym histories_are) kept.legal;
-    shards = ap length histories_are ∙ kept.shards ∙ ap (λ (r : Rules). r.shape.shards) rules;
-    drained = λ isnt shard history at.
-        let whole = judged ended.served.items (is_whole how parts.lost.items) (is_some ended.world) ended.failed total ended.accepted ended.verdict isnt is.verdict in
-        let run = whole_is how parts.lost.items whole.ran in
-        kept.drained run.0 shard history (ap (λ (l : List (List Entry)). slice_get l shard) (sym histories_are) ∙ at);
-    trailed = trail_is;
-    many_trails = sym (length-map ended.trails.items (λ t. t.items)) ∙ ap length is.trails ∙ length-map parts.states.items (λ (p : PlaceState H W T). p.trail) ∙ kept.many;
-    many_served = served_many x l y hall first how parts ended kept.many kept.placed kept.of_world fits is tell;
-    ok = λ same. (let told = told_as verdict.Ok same in (told.1, told.2, subst (λ (b : Bool). AreWhole ended.served.items (owed b ended.accepted total)) told.2 told.3, told.0.enough));
-    world = λ same. (let told = told_as verdict.World same in (told.1, told.2, subst (λ (b : Bool). AreWhole ended.served.items (owed b ended.accepted total)) told.2 told.3, told.0.enough));
-    conn = conn_left x l y hall first how parts ended kept.many kept.placed kept.of_world fits is tell;
     follows = λ unkept same coming one script i s trail known at answers there run_of.
-        let told = told_as verdict.Ok same in
+        let told = told_well same in
         let run = whole_is how parts.lost.items told.0.ran in
-        let whole = subst (λ (b : Bool). AreWhole ended.served.items (owed b ended.accepted total)) told.2 told.3 in
+        let whole = subst (λ (b : Bool). AreWhole ended.served.items (links_owed b ended.accepted total)) told.2 told.3 in
         let many = served_many x l y hall first how parts ended kept.many kept.placed kept.of_world fits is tell in
         let under : i < total = (let within = slice_get_within ended.served.items i s there in omega (arith, within, many)) in
         let none_left : ways_of y total how parts ended ≡ [] = ap (λ (l : List (Event × Option (Load W L))). l ++ carried_by parts.lost.items) (kept.emptied run.0) ∙ ap (λ l. carried_by l) run.1 in
@@ -145,5 +118,4 @@ module _ {W L T G H : Type 0} (x : WorldWords W L) (l : LinkWords L) (y : TalkWo
         conn_follows x l y hall first how parts ended kept.many kept.placed kept.of_world fits is tell served_are i
         (λ place seat at talks nothing some. ap (λ (w : Bool). due_after (reported_by w (y.view_of seat.talk).pending)) (unkept seat.talk some) ∙ ap (λ (n : Next). due_after (reported_by false n)) nothing)
         coming one script s trail known at answers there run_of (whole i s under there) (told.0.enough i s there);
-    stands = world_is_ours x l y hall first how parts ended kept.many kept.placed kept.of_world fits is tell;
   }

@@ -19,7 +19,7 @@ use Rattle.sws_conn.specs.Path.{resume}
 use Rattle.sws_engine.specs.declared.load.WorldLoad.{WorldLoad}
 use Rattle.sws_engine.specs.declared.place.Desk.{Desk}
 use Rattle.sws_engine.specs.Loads.{WorldStands, PollFits, Fit}
-use Rattle.sws_engine.specs.Handling.{Put, step_put, Asked, Answered, Asks, is_to_ask, resuming, resumed_one, onward, rest_of, RunsPoll, woken_by, RunsWait}
+use Rattle.sws_engine.specs.Handling.{Put, step_put, Asked, Answered, Asks, is_to_ask, resume_first, resumed_one, onward, rest_of, RunsPoll, woken_by, RunsWait}
 use Rattle.sws_engine.specs.Counting.{bit, times}
 use Rattle.sws_engine.specs.Invariant.{DeskStands}
 use Rattle.sws_engine.proofs.Events.WaitingListsLemmas.{count_answered, count_resuming}
@@ -173,7 +173,7 @@ module _ {W L : Type 0} (x : WorldWords W L) (l : LinkWords L) (first : W) where
         (each_map (λ w. w < total) PutFits (λ i. step_put {W = W} {L = L} i resume) resume_fits (resumed_one asked).resumed resumed_below)
         (onward_fits asked.last (resumed_one asked).waiting refl))
 
-    resuming_few : (failed : Bool) (waiting : List ℕ) → length asked.resumed ≤ 1 → (failed ≡ true → asked.resumed ≡ []) → length (resuming failed waiting asked).resumed ≤ 1
+    resuming_few : (failed : Bool) (waiting : List ℕ) → length asked.resumed ≤ 1 → (failed ≡ true → asked.resumed ≡ []) → length (resume_first failed waiting asked).resumed ≤ 1
     resuming_few true [] few none = few
     resuming_few true (w ∷ ws) few none = let z = ap (λ (l : List ℕ). length (l ++ w ∷ [])) (none refl) in omega (arith, z)
     resuming_few false waiting few none = few

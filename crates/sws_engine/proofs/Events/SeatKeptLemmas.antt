@@ -39,10 +39,6 @@ module _ {W L T G H : Type 0} (x : WorldWords W L) (l : LinkWords L) (y : TalkWo
   abbrev total : ℕ
   total = (x.tells first).total
 
-  pub fresh_or_ran : (ran : List Handler) (talk : T) → RanBy x l y hall first i ran talk → IsFreshOrRan y talk
-  fresh_or_ran [] talk is = inl is
-  fresh_or_ran (step ∷ steps) talk is = inr (record { first = is.0; ran = step ∷ steps; is = is.2 })
-
   fresh_due : (talk : T) (step : Handler) → y.view_of talk ≡ unopened_view → due (y.view_of talk) ≡ Some step → (step ≡ open_link → ⊥) → ⊥
   fresh_due talk step fresh at apart = apart (sym (same_Some open_link step (sym (ap (λ (v : TalkView). due v) fresh) ∙ at)))
 

@@ -45,25 +45,3 @@ two_numbers h n b one other apart = elim (eqb_tells h n) [
   | inl same ↦ elim (eqb_tells h 3) [ inl three ↦ apart (sym same.1 ∙ three.1) | inr no_three ↦ absurd (true≢false (sym other ∙ no_three.0)) ]
   | inr not_n ↦ absurd (true≢false (sym (first_of (h == n) b one) ∙ not_n.0))
 ]
-
-due_opens : (conn : ℕ) (d : Option Handler) (event : Event) → is_due conn d event ≡ true → (event.handler == 3) ≡ true → d ≡ Some open_link
-due_opens conn None event due_is three = cc
-due_opens conn (Some open_link) event due_is three = refl
-due_opens conn (Some read_piece) event due_is three = absurd (two_numbers event.handler 4 (event.arg == conn) due_is three (λ e. omega (arith, e)))
-due_opens conn (Some parse) event due_is three = absurd (two_numbers event.handler 5 (event.arg == conn) due_is three (λ e. omega (arith, e)))
-due_opens conn (Some look) event due_is three = absurd (two_numbers event.handler 6 (event.arg == conn) due_is three (λ e. omega (arith, e)))
-due_opens conn (Some write_part) event due_is three = absurd (two_numbers event.handler 7 (event.arg == conn) due_is three (λ e. omega (arith, e)))
-due_opens conn (Some close) event due_is three = absurd (two_numbers event.handler 8 (event.arg == conn) due_is three (λ e. omega (arith, e)))
-due_opens conn (Some resume) event due_is three = absurd (two_numbers event.handler 9 (event.arg == conn) due_is three (λ e. omega (arith, e)))
-
-suits_link : (W : Type 0) {L : Type 0} (l : LinkWords L) (b : Bool) (link : L) → LoadSuits {W = W} l b (Some (load.Link link)) → b ≡ true
-suits_link W l true link is = refl
-suits_link W l false link is = absurd is
-
-suits_none : (W : Type 0) {L : Type 0} (l : LinkWords L) (b : Bool) → b ≡ true → LoadSuits {W = W} l b None → ⊥
-suits_none W l true three is = is
-suits_none W l false three is = cc
-
-suits_world : {W L : Type 0} (l : LinkWords L) (b : Bool) (held : WorldLoad W) → b ≡ true → LoadSuits l b (Some (load.World held)) → ⊥
-suits_world l true held three is = is
-suits_world l false held three is = cc

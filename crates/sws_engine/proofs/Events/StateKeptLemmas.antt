@@ -70,13 +70,6 @@ module _ {W L : Type 0} (x : WorldWords W L) (l : LinkWords L) (first : W) where
       let does2 = subst (λ (o : Option (Load W L)). RunsAccepting x l total (Some task.Accept) o puts) accept.carries does1 in
       accept_puts_fit x l first accept.held event.arg c accept.fit puts does2
 
-  pub accept_may : (c : Colour) (event : Event) (carried : Option (Load W L)) → c.0 ≡ 1 → Fit x l first c event carried → IfSome carried (MayAccept x.tells total)
-  accept_may c event carried one fit =
-      let accept = accept_fit x l first c event.arg (task_of event.handler) carried one fit in
-      let s = accept.fit.stands in
-      let more = accept.fit.more in
-      subst (λ (o : Option (Load W L)). IfSome o (MayAccept x.tells total)) (sym accept.carries) ((let a = s.accepted in let t = s.total in omega (arith, a, t, more)), more)
-
   -- ---- a connection
 
   open_link_fits : (c : Colour) (arg : ℕ) (which : Option Task) (link : L) → TaskFits x l first c arg which (Some (load.Link link)) → LinkStands x l first arg link

@@ -8,7 +8,7 @@ use Rattle.sws_engine.specs.Counting.{bit, times}
 use Rattle.sws_engine.specs.Waiting.{taken_off, TakenOff}
 use Rattle.sws_link.specs.declared.Polled.{Polled}
 use Rattle.sws_link.specs.declared.Polled.TheVariants as polled
-use Rattle.sws_engine.specs.Handling.{Asked, Answered, resuming}
+use Rattle.sws_engine.specs.Handling.{Asked, Answered, resume_first}
 use Rattle.std.proofs.lemmas.List.Sums.{sum_by-cons, sum_by_push}
 
 -- ---- how often one stands in a list
@@ -65,7 +65,7 @@ count_answered i waiting last (polled.Ready conn) asked is =
 count_answered i waiting last polled.Quiet asked is = omega (arith, ap (λ (a : Asked). times i a.waiting) is, ap (λ (a : Asked). times i a.resumed) is)
 count_answered i waiting last polled.Failed asked is = omega (arith, ap (λ (a : Asked). times i a.waiting) is, ap (λ (a : Asked). times i a.resumed) is)
 
-pub count_resuming : (i : ℕ) (failed : Bool) (waiting : List ℕ) (asked : Asked) → asked.waiting ≡ waiting → times i (resuming failed waiting asked).waiting + times i (resuming failed waiting asked).resumed ≡ times i asked.waiting + times i asked.resumed
+pub count_resuming : (i : ℕ) (failed : Bool) (waiting : List ℕ) (asked : Asked) → asked.waiting ≡ waiting → times i (resume_first failed waiting asked).waiting + times i (resume_first failed waiting asked).resumed ≡ times i asked.waiting + times i asked.resumed
 count_resuming i true [] asked is = refl
 count_resuming i true (w ∷ ws) asked is =
     let more = times_push i w asked.resumed in

@@ -15,7 +15,7 @@ use Rattle.mely_worker.specs.declared.app.App.{Ghosts as AppWords}
 use Rattle.sws_conn.specs.Path.{Handler}
 use Rattle.mely_machine.specs.Rules.{Rules, rules_of}
 use Rattle.mely_machine.specs.MachineRun.{RunsTo}
-use Rattle.mely_run.specs.Pieces.{Piece, kept, coming}
+use Rattle.mely_run.specs.Pieces.{Piece, state_piece, event_piece}
 use Rattle.mely_run.specs.Pieces.{kept_from}
 use Rattle.mely_run.specs.WholeRuns.{IsWholeRun}
 use Rattle.mely_run.proofs.Runs.WholeLemmas.{told_whole}
@@ -54,7 +54,7 @@ module _ {S P : Type 0} (IsPlace : S → Place → Type 0) (IsLoad : P → Load 
   kept_worlds : (n : ℕ) (states : List S) → AreFirstPlaces IsPlace n states → sum_by (worlds_of holds carries) (kept_from {S = S} {P = P} n states) ≡ 0
   kept_worlds n [] first = refl
   kept_worlds n (state ∷ states) first =
-      let cut = sum_by-cons (worlds_of holds carries) (kept {S = S} {P = P} (record { 0 = n }) state) (kept_from (n + 1) states) in
+      let cut = sum_by-cons (worlds_of holds carries) (state_piece {S = S} {P = P} (record { 0 = n }) state) (kept_from (n + 1) states) in
       let none = held state (first_place n) (head_place n state states first) ∙ no_world n in
       omega (arith, cut, none, kept_worlds (n + 1) states (tail_places n state states first))
 
@@ -62,14 +62,14 @@ module _ {S P : Type 0} (IsPlace : S → Place → Type 0) (IsLoad : P → Load 
   kept_below : (c n : ℕ) (states : List S) → c < n → sum_by (states_of c) (kept_from n states) ≡ 0
   kept_below c n [] low = refl
   kept_below c n (state ∷ states) low =
-      let cut = sum_by-cons (states_of c) (kept (record { 0 = n }) state) (kept_from (n + 1) states) in
+      let cut = sum_by-cons (states_of c) (state_piece (record { 0 = n }) state) (kept_from (n + 1) states) in
       let off = cond-false {A = ℕ} (eqb n c) 1 0 (ne_eqb n c (λ e. omega (arith, e, low))) in
       omega (arith, cut, off, kept_below c (n + 1) states (omega (arith, low)))
 
   kept_once : (c n : ℕ) (states : List S) → sum_by (states_of c) (kept_from n states) ≤ 1
   kept_once c n [] = omega arith
   kept_once c n (state ∷ states) =
-      let cut = sum_by-cons (states_of c) (kept (record { 0 = n }) state) (kept_from (n + 1) states) in
+      let cut = sum_by-cons (states_of c) (state_piece (record { 0 = n }) state) (kept_from (n + 1) states) in
       elim (cases_eq n c) [
         | inl e ↦
             let on = cond-true {A = ℕ} (eqb n c) 1 0 (eq-eqb n c e) in
@@ -81,19 +81,19 @@ module _ {S P : Type 0} (IsPlace : S → Place → Type 0) (IsLoad : P → Load 
 
   -- what is posted first has the world, of which no link was accepted
   pub first_agrees : (states : List S) (load : P) → AreFirstPlaces IsPlace 0 states → IsLoad load (world (record { accepted = 0; coming = whole }))
-      → Agrees IsPlace IsLoad holds carries whole (first_server whole) (coming (first_event (length whole)).0 (first_event (length whole)).1 (Some load) ∷ kept_from 0 states)
+      → Agrees IsPlace IsLoad holds carries whole (first_server whole) (event_piece (first_event (length whole)).0 (first_event (length whole)).1 (Some load) ∷ kept_from 0 states)
   first_agrees states load first load_is = record {
     many = refl;
-    each = All-from_recursion (PieceStands IsPlace IsLoad holds carries whole (first_server whole)) (coming (first_event (length whole)).0 (first_event (length whole)).1 (Some load) ∷ kept_from 0 states) (
+    each = All-from_recursion (PieceStands IsPlace IsLoad holds carries whole (first_server whole)) (event_piece (first_event (length whole)).0 (first_event (length whole)).1 (Some load) ∷ kept_from 0 states) (
       (Some (world (record { accepted = 0; coming = whole })), load_is, poll_stands (length whole) refl),
       kept_stand 0 states first,
     );
     one_world =
-        let cut = sum_by-cons (worlds_of holds carries) (coming {S = S} (first_event (length whole)).0 (first_event (length whole)).1 (Some load)) (kept_from 0 states) in
+        let cut = sum_by-cons (worlds_of holds carries) (event_piece {S = S} (first_event (length whole)).0 (first_event (length whole)).1 (Some load)) (kept_from 0 states) in
         let one = carriage load (world (record { accepted = 0; coming = whole })) load_is in
         omega (arith, cut, one, kept_worlds 0 states first);
     one_state = λ c.
-        let cut = sum_by-cons (states_of c) (coming (first_event (length whole)).0 (first_event (length whole)).1 (Some load)) (kept_from 0 states) in
+        let cut = sum_by-cons (states_of c) (event_piece (first_event (length whole)).0 (first_event (length whole)).1 (Some load)) (kept_from 0 states) in
         omega (arith, cut, kept_once c 0 states);
   }
     where

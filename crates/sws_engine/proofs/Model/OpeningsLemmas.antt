@@ -18,7 +18,7 @@ use Rattle.sws_steps.specs.declared.End.TheVariants as ending
 use Rattle.sws_steps.specs.declared.Next.{Next}
 use Rattle.sws_steps.specs.declared.Next.TheVariants as next
 use Rattle.sws_conn.specs.Step.{going_to, ending_as, still_waiting, has_all_input, room_of, after_read, after_parse, after_look, after_part, after_write, wait_limit}
-use Rattle.sws_conn.specs.Sound.{unopened}
+use Rattle.sws_conn.specs.Sound.{core_before_open}
 use Rattle.sws_steps.specs.Path.{IsPathFrom as IsPathBy}
 use Rattle.sws_conn.specs.Path.{Handler, open_link, read_piece, parse, look, write_part, resume, close, handler_of, Scripted, scripted_at, scripted_step, IsPathFrom, path_of}
 use Rattle.sws_conn.proofs.PathLemmas.{path_of-path}
@@ -108,12 +108,12 @@ path_opens : (site : SiteState) (script : Script) → IsWithinLimits site.files 
 unfolding IsPathBy
 path_opens site script limits = by_path (path_of site script) (path_of-path site script limits)
   where
-    by_path : (path : List Handler) → IsPathFrom (record { standing = unopened site; script = script }) path → (later : List Handler) × (path ≡ open_link ∷ later) × HasNoOpening later
+    by_path : (path : List Handler) → IsPathFrom (record { standing = core_before_open site; script = script }) path → (later : List Handler) × (path ≡ open_link ∷ later) × HasNoOpening later
     by_path [] from = let never : open_link ∷ [] ≡ [] = from in cc
     by_path (event ∷ later) from = (
       later,
       ap (λ (h : Handler). h ∷ later) (let e : open_link ∷ [] ≡ event ∷ [] = from.0 in let same : event ≡ open_link = cc in same),
-      path_opened (scripted_step (record { standing = unopened site; script = script })) later tt from.1,
+      path_opened (scripted_step (record { standing = core_before_open site; script = script })) later tt from.1,
     )
 
 -- the paths of scripts do

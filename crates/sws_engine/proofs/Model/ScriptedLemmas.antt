@@ -10,7 +10,7 @@ use Rattle.sws_site.specs.Limits.{IsWithinLimits}
 use Rattle.sws_conn.specs.Conn.{ConnCoreState}
 use Rattle.sws_steps.specs.declared.Next.TheVariants as next
 use Rattle.sws_conn.specs.Step.{after_parse}
-use Rattle.sws_conn.specs.Sound.{unopened}
+use Rattle.sws_conn.specs.Sound.{core_before_open}
 use Rattle.sws_steps.specs.Path.{IsPathFrom as IsPathBy}
 use Rattle.sws_conn.specs.Path.{Handler, close, IsPathFrom, path_of}
 use Rattle.sws_conn.proofs.PathLemmas.{path-unique, path_of-path}
@@ -42,10 +42,10 @@ nothing_cut =
 silent_path : (site : SiteState) → IsWithinLimits site.files → path_of site no_input ≡ silent
 unfolding IsPathBy
 silent_path site limits =
-    path-unique (record { standing = unopened site; script = no_input }) (path_of site no_input) silent (path_of-path site no_input limits) (refl, (refl, (refl, last)))
+    path-unique (record { standing = core_before_open site; script = no_input }) (path_of site no_input) silent (path_of-path site no_input limits) (refl, (refl, (refl, last)))
   where
     ended : ConnCoreState
-    ended = record (unopened site) { input_ended = true; pending = next.Parse }
+    ended = record (core_before_open site) { input_ended = true; pending = next.Parse }
 
     last : IsPathFrom (record { standing = after_parse ended (cut_of []); script = no_input }) (close ∷ [])
     last = subst (λ found. IsPathFrom (record { standing = after_parse ended found; script = no_input }) (close ∷ [])) (sym nothing_cut) (refl, refl)

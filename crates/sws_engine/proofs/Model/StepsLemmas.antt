@@ -33,7 +33,7 @@ use Rattle.sws_engine.specs.declared.place.Role.{Role}
 use Rattle.sws_engine.specs.declared.place.Role.TheVariants.{Polling, Accepting, Talking}
 use Rattle.sws_engine.specs.Place.{PlaceState}
 use Rattle.sws_engine.specs.RunParts.{RunParts}
-use Rattle.sws_engine.specs.RunLeaves.{Talker, talkers, is_out_of_memory, owed, AreWhole, VerdictIs}
+use Rattle.sws_engine.specs.RunLeaves.{Talker, talkers, is_out_of_memory, links_owed, AreWhole, VerdictIs}
 use Rattle.sws_engine.specs.Handing.{served_with}
 use Rattle.sws_engine.specs.Conclusion.{is_empty, is_whole, IsConcluded}
 use Rattle.sws_engine.specs.PathStates.{TellsPaths, is_memory, is_spoilt_role, is_spoilt}
@@ -84,7 +84,7 @@ module _ {W L T G H : Type 0} (x : WorldWords W L) (l : LinkWords L) (y : TalkWo
   seats = seats_stand total parts.states.items ran.many ran.placed
 
   all_whole : AreWhole ended.served.items total
-  all_whole = subst (λ (failed : Bool). AreWhole ended.served.items (owed failed ended.accepted total)) told.2 told.3
+  all_whole = subst (λ (failed : Bool). AreWhole ended.served.items (links_owed failed ended.accepted total)) told.2 told.3
 
   -- the end of a talk of these
   module _ (i : ℕ) (under : i < total) (place : PlaceState H W T) (seat : Seat T) (there : slice_get parts.states.items (i + 2) ≡ Some place) (talks : place.role ≡ Talking seat) where

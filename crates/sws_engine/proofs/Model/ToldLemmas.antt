@@ -13,10 +13,10 @@ use Rattle.mely_worker.specs.declared.app.App.{Ghosts as AppWords}
 use Rattle.sws_conn.specs.Path.{Handler}
 use Rattle.mely_machine.specs.Machine.{Acted}
 use Rattle.mely_run.specs.Corresponds.{without_loads}
-use Rattle.mely_run.specs.Pieces.{Piece, kept, coming, of_put, IsTold}
+use Rattle.mely_run.specs.Pieces.{Piece, state_piece, event_piece, of_put, IsTold}
 use Rattle.sws_engine.specs.Server.{Server, serve}
 use Rattle.sws_engine.specs.PathPlaces.{World, Load, world, link, Place, polling, accepting, talking, Put, Ran, runs_place, worlds_of_rest, worlds_of_place, worlds_of_load}
-use Rattle.sws_engine.specs.Agrees.{AreOpened, WorldStands, RestStands, PlaceStands, ComingStands, is_state_of, carried, worlds_of, PieceStands, Agrees}
+use Rattle.sws_engine.specs.Agrees.{AreOpened, WorldStands, RestStands, PlaceStands, ComingStands, is_state_of, worlds_in_load, worlds_of, PieceStands, Agrees}
 use Rattle.sws_engine.specs.PathStates.{AreLoads, ArePuts}
 use Rattle.sws_engine.specs.Placed.{IsPlaced}
 use Rattle.sws_engine.proofs.Model.HandlesLemmas.{bare, Handled, handle_is}
@@ -38,7 +38,7 @@ module _ {S P : Type 0} (IsPlace : S → Place → Type 0) (IsLoad : P → Load 
   abbrev worlds : Piece S P → ℕ
   worlds = worlds_of holds carries
 
-  carried_is : (load : Option P) (l : Option Load) → AreLoads IsLoad load l → carried carries load ≡ worlds_of_load l
+  carried_is : (load : Option P) (l : Option Load) → AreLoads IsLoad load l → worlds_in_load carries load ≡ worlds_of_load l
   carried_is None None is = refl
   carried_is (Some load) (Some l) is = carriage load l is
   carried_is None (Some l) is = elim is [ ]
@@ -135,15 +135,15 @@ module _ {S P : Type 0} (IsPlace : S → Place → Type 0) (IsLoad : P → Load 
 
   -- what is left stands after an event was run
   module _ (opened : AreOpened whole) (s : Server) (c : Colour) (event : Event) (load : Option P) (state after : S) (puts : List (Colour × Event × Option P)) (rest : List (Piece S P))
-      (agrees : Agrees IsPlace IsLoad holds carries whole s (kept c state ∷ coming c event load ∷ rest)) where
-    pub each : AllByRecursion (PieceStands IsPlace IsLoad holds carries whole s) (kept c state ∷ coming c event load ∷ rest)
-    each = recursion_from_All (PieceStands IsPlace IsLoad holds carries whole s) (kept c state ∷ coming c event load ∷ rest) agrees.each
+      (agrees : Agrees IsPlace IsLoad holds carries whole s (state_piece c state ∷ event_piece c event load ∷ rest)) where
+    pub each : AllByRecursion (PieceStands IsPlace IsLoad holds carries whole s) (state_piece c state ∷ event_piece c event load ∷ rest)
+    each = recursion_from_All (PieceStands IsPlace IsLoad holds carries whole s) (state_piece c state ∷ event_piece c event load ∷ rest) agrees.each
 
     module _ (place : Place) (is_place : IsPlace state place) (l : Option Load) (is_load : AreLoads IsLoad load l) where
-      parts : sum_by worlds (kept c state ∷ coming c event load ∷ rest) ≡ worlds_of_place place + (worlds_of_load l + sum_by worlds rest)
+      parts : sum_by worlds (state_piece c state ∷ event_piece c event load ∷ rest) ≡ worlds_of_place place + (worlds_of_load l + sum_by worlds rest)
       parts =
-          let one = sum_by-cons worlds (kept c state) (coming c event load ∷ rest) in
-          let two = sum_by-cons worlds (coming c event load) rest in
+          let one = sum_by-cons worlds (state_piece c state) (event_piece c event load ∷ rest) in
+          let two = sum_by-cons worlds (event_piece c event load) rest in
           let three = held state place is_place in
           let four = carried_is load l is_load in
           omega (arith, one, two, three, four)
@@ -165,8 +165,8 @@ module _ {S P : Type 0} (IsPlace : S → Place → Type 0) (IsLoad : P → Load 
       pub puts_told : without_loads puts ≡ acted.puts
       puts_told = bares puts ran.puts puts_are ∙ handled.puts
 
-      states_parts : (d : ℕ) → sum_by (states d) (kept c state ∷ coming c event load ∷ rest) ≡ cond {A = ℕ} (eqb c.0 d) 1 0 + sum_by (states d) rest
-      states_parts d = let one = sum_by-cons (states d) (kept c state) (coming c event load ∷ rest) in let two = sum_by-cons (states d) (coming c event load) rest in omega (arith, one, two)
+      states_parts : (d : ℕ) → sum_by (states d) (state_piece c state ∷ event_piece c event load ∷ rest) ≡ cond {A = ℕ} (eqb c.0 d) 1 0 + sum_by (states d) rest
+      states_parts d = let one = sum_by-cons (states d) (state_piece c state) (event_piece c event load ∷ rest) in let two = sum_by-cons (states d) (event_piece c event load) rest in omega (arith, one, two)
 
       none_there : sum_by (states c.0) rest ≡ 0
       none_there =
@@ -196,22 +196,22 @@ module _ {S P : Type 0} (IsPlace : S → Place → Type 0) (IsLoad : P → Load 
           (λ piece a b. (a, b)) (all_zero (states c.0) rest none_there) left_few)
           each.1.1
 
-      pub agrees_after : Agrees IsPlace IsLoad holds carries whole acted.becomes (kept c after ∷ (map of_put puts ++ rest))
+      pub agrees_after : Agrees IsPlace IsLoad holds carries whole acted.becomes (state_piece c after ∷ (map of_put puts ++ rest))
       agrees_after = record {
         many = handled.many ∙ agrees.many;
-        each = All-from_recursion (PieceStands IsPlace IsLoad holds carries whole acted.becomes) (kept c after ∷ (map of_put puts ++ rest)) (
+        each = All-from_recursion (PieceStands IsPlace IsLoad holds carries whole acted.becomes) (state_piece c after ∷ (map of_put puts ++ rest)) (
           (ran.place, place_is, handled.place),
           append_all (PieceStands IsPlace IsLoad holds carries whole acted.becomes) (map of_put puts) rest (shown_stand acted.becomes puts ran.puts puts_are handled.coming) rest_stands,
         );
         one_world =
-            let one = sum_by-cons worlds (kept c after) (map of_put puts ++ rest) in
+            let one = sum_by-cons worlds (state_piece c after) (map of_put puts ++ rest) in
             let two = sum_by-append worlds (map of_put puts) rest in
             let three = shown_worlds puts ran.puts puts_are in
             let four = held after ran.place place_is in
             let five = handled.worlds in
             omega (arith, one, two, three, four, five, few place is_place l is_load);
         one_state = λ d.
-            let one = sum_by-cons (states d) (kept c after) (map of_put puts ++ rest) in
+            let one = sum_by-cons (states d) (state_piece c after) (map of_put puts ++ rest) in
             let two = sum_by-append (states d) (map of_put puts) rest in
             let three = agrees.one_state d in
             omega (arith, one, two, no_states d puts, three, states_parts d);
@@ -227,27 +227,27 @@ server_told {S} {P} t fits y app frame IsPlace IsLoad holds carries spoilt whole
     one_state = λ c. let same = sum_by-IsPermutation (λ (piece : Piece S P). cond {A = ℕ} (is_state_of c piece) 1 0) some others order in let one = agrees.one_state c in omega (arith, same, one);
   };
   roomier = λ s c state room rest alike agrees.
-      let all = recursion_from_All (PieceStands IsPlace IsLoad holds carries whole s) (kept c state ∷ rest) agrees.each in
+      let all = recursion_from_All (PieceStands IsPlace IsLoad holds carries whole s) (state_piece c state ∷ rest) agrees.each in
       let is = all.0 in
       let now_is = placed.roomy state room is.0 alike is.1 in
       record {
         many = agrees.many;
-        each = All-from_recursion (PieceStands IsPlace IsLoad holds carries whole s) (kept c room ∷ rest) ((is.0, now_is, is.2), all.1);
+        each = All-from_recursion (PieceStands IsPlace IsLoad holds carries whole s) (state_piece c room ∷ rest) ((is.0, now_is, is.2), all.1);
         one_world =
             let one = agrees.one_world in
-            let was = sum_by-cons (worlds_of holds carries) (kept c state) rest in
-            let now = sum_by-cons (worlds_of holds carries) (kept c room) rest in
+            let was = sum_by-cons (worlds_of holds carries) (state_piece c state) rest in
+            let now = sum_by-cons (worlds_of holds carries) (state_piece c room) rest in
             let e = placed.held state is.0 is.1 in
             let f = placed.held room is.0 now_is in
             omega (arith, one, was, now, e, f);
         one_state = λ d.
             let one = agrees.one_state d in
-            let was = sum_by-cons (λ (piece : Piece S P). cond {A = ℕ} (is_state_of d piece) 1 0) (kept c state) rest in
-            let now = sum_by-cons (λ (piece : Piece S P). cond {A = ℕ} (is_state_of d piece) 1 0) (kept c room) rest in
+            let was = sum_by-cons (λ (piece : Piece S P). cond {A = ℕ} (is_state_of d piece) 1 0) (state_piece c state) rest in
+            let now = sum_by-cons (λ (piece : Piece S P). cond {A = ℕ} (is_state_of d piece) 1 0) (state_piece c room) rest in
             omega (arith, one, was, now);
       };
   runs = λ s c event load state after puts rest coloured framed fit agrees ran fine.
-      let all = recursion_from_All (PieceStands IsPlace IsLoad holds carries whole s) (kept c state ∷ coming c event load ∷ rest) agrees.each in
+      let all = recursion_from_All (PieceStands IsPlace IsLoad holds carries whole s) (state_piece c state ∷ event_piece c event load ∷ rest) agrees.each in
       let is = all.0 in
       let comes = all.1.0 in
       let does = placed.runs s state after event load puts is.0 comes.0 framed (subst (λ (d : Colour). fits frame d event load) (sym coloured) fit) is.1

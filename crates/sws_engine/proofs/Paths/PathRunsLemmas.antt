@@ -10,7 +10,7 @@ use Rattle.sws_link.specs.declared.Polled.{Polled}
 use Rattle.sws_link.specs.declared.Accepted.{Accepted}
 use Rattle.sws_link.specs.declared.Accepted.TheVariants as accepted
 use Rattle.sws_link.specs.Links.{LinkTells}
-use Rattle.sws_link.specs.Worlds.{Coming, untouched, TakesNext, Accepts, IsLink}
+use Rattle.sws_link.specs.Worlds.{Coming, fresh_tells, TakesNext, Accepts, IsLink}
 use Rattle.sws_conn.specs.declared.talk.Talk.{Ghosts as TalkWords}
 use Rattle.sws_conn.specs.Path.{Handler, open_link, resume}
 use Rattle.sws_conn.specs.Talks.{path_to_come}
@@ -196,7 +196,7 @@ module _ {W L T G H : Type 0} (x : WorldWords W L) (l : LinkWords L) (y : TalkWo
 
   -- ---- an accept
 
-  told_way : (told : Option LinkTells) (link : Coming) (way : List Handler) → told ≡ Some (untouched link) → option_map (y.path hall) link.answers ≡ Some way → path_to_come (y.path hall) told ≡ Some way
+  told_way : (told : Option LinkTells) (link : Coming) (way : List Handler) → told ≡ Some (fresh_tells link) → option_map (y.path hall) link.answers ≡ Some way → path_to_come (y.path hall) told ≡ Some way
   told_way told link way is same = ap (λ (o : Option LinkTells). path_to_come (y.path hall) o) is ∙ same
 
   open_at : (n : ℕ) → (path.talk n open_link).0 ≡ record { 0 = n + 2 }

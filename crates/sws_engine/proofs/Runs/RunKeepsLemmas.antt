@@ -23,7 +23,7 @@ use Rattle.sws_engine.specs.Tasks.{task_of, number_of_task}
 use Rattle.sws_engine.specs.Place.{PlaceState}
 use Rattle.sws_engine.specs.Loads.{Fit, at_first, world_of}
 use Rattle.sws_engine.specs.Handling.{Put, number_of, next_puts, is_due, conn_of, RunsDesk, RunsAccepting, RunsSeat, RunsRole, Runs}
-use Rattle.sws_engine.specs.RunStands.{Way, if_held, is_any, is_beyond, is_late, is_unended, at_desk, at_seat, misplaced_at, first_number, due_number, worlds, beyond, early, unended, asks_for, misplaced, desks, seats, rests, rests_beyond, rests_unended, is_last, waits_for, is_at, is_opened, RunStands}
+use Rattle.sws_engine.specs.RunStands.{Way, if_held, is_any, is_beyond, is_late, is_unended, at_desk, at_seat, misplaced_at, first_number, due_number, worlds, beyond, early, unended_count, asks_for, misplaced_count, desks, seats, rests, rests_beyond, rests_unended, is_last, waits_for, is_at, is_opened, RunStands}
 use Rattle.sws_engine.proofs.Balances.BalanceLemmas.{Balance, Swaps, sum_below, others, before_is, desk_alone, seat_alone, stands_after}
 use Rattle.sws_engine.proofs.Balances.ConnBalanceLemmas.{conn_balance}
 use Rattle.sws_engine.proofs.Balances.DeskBalanceLemmas.{wait_balance}
@@ -40,10 +40,6 @@ bit_zero : (b : Bool) → bit b ≡ 0 → b ≡ false
 bit_zero true none = absurd (omega (arith, none))
 bit_zero false none = refl
 
-and_right : (a b : Bool) → (a && b) ≡ true → b ≡ true
-and_right true b is = is
-and_right false b is = absurd (true≢false (sym is))
-
 below_bit : (b : Bool) → bit b ≤ 1
 below_bit true = omega arith
 below_bit false = omega arith
@@ -58,16 +54,6 @@ not_below a b is = grind (arith, nat_tests)
 below_any : {W : Type 0} (test : WorldLoad W → Bool) (held : Option (WorldLoad W)) → if_held test held ≤ if_held is_any held
 below_any test None = omega arith
 below_any test (Some held) = below_bit (test held)
-
-number_some : (d : Option Handler) → 1 ≤ first_number d → 3 ≤ first_number d
-number_some None some = absurd (omega (arith, some))
-number_some (Some open_link) some = omega arith
-number_some (Some read_piece) some = omega arith
-number_some (Some parse) some = omega arith
-number_some (Some look) some = omega arith
-number_some (Some write_part) some = omega arith
-number_some (Some resume) some = omega arith
-number_some (Some close) some = omega arith
 
 due_is : (i : ℕ) (d : Option Handler) (event : Event) → event.arg ≡ i → event.handler ≡ first_number d → 1 ≤ first_number d → is_due i d event ≡ true
 due_is i None event arg number some = absurd (omega (arith, some))
@@ -128,7 +114,7 @@ module _ {W L T G H : Type 0} (x : WorldWords W L) (l : LinkWords L) (y : TalkWo
       high : 2 ≤ s.colour.0
       high =
           let z = stands.placed in
-          let m = before misplaced in
+          let m = before misplaced_count in
           let r = ap (λ (role : Role W T). misplaced_at s.colour.0 role) was in
           let none : nat_lt s.colour.0 2 ≡ false = bit_zero (nat_lt s.colour.0 2) (omega (arith, z, m, r)) in
           not_below s.colour.0 2 none
@@ -218,7 +204,7 @@ module _ {W L T G H : Type 0} (x : WorldWords W L) (l : LinkWords L) (y : TalkWo
       low : s.colour.0 ≡ 0
       low =
           let z = stands.placed in
-          let m = before misplaced in
+          let m = before misplaced_count in
           let r = ap (λ (role : Role W T). misplaced_at s.colour.0 role) was in
           elim (eqb_tells s.colour.0 0) [ inl same ↦ same.1 | inr apart ↦ let q = ap (λ b. bit (not b)) apart.0 in absurd (omega (arith, z, m, r, q)) ]
 
@@ -245,13 +231,13 @@ module _ {W L T G H : Type 0} (x : WorldWords W L) (l : LinkWords L) (y : TalkWo
           let late = stands.late in
           let ended = stands.ended in
           let few = swaps.held early in
-          let unended_here = swaps.held (unended total) in
+          let unended_here = swaps.held (unended_count total) in
           let arg0 : e.0.arg ≡ 0 → desk.last ≡ false = λ zero_arg.
           let is_early : early e ≡ 1 = ap (if_held (λ h. not (is_late e.0))) carries ∙ ap (λ b. bit (not ((e.0.handler == 0) && b))) (ne_eqb e.0.arg 1 (λ same. omega (arith, same, zero_arg))) ∙ ap (λ h. bit (not ((h == 0) && false))) number in
           bit_zero desk.last (omega (arith, late, few, is_early, before is_last, desk_mine (λ d. bit d.last)))
           in
           let arg1 : e.0.arg ≡ 1 → is_unended total held ≡ false = λ one_more.
-          let is : unended total e ≡ bit (is_unended total held) = ap (if_held (λ h. is_late e.0 && is_unended total h)) carries ∙ ap (λ b. bit (((e.0.handler == 0) && b) && is_unended total held)) (eq-eqb e.0.arg 1 one_more) ∙ ap (λ h. bit (((h == 0) && true) && is_unended total held)) number in
+          let is : unended_count total e ≡ bit (is_unended total held) = ap (if_held (λ h. is_late e.0 && is_unended total h)) carries ∙ ap (λ b. bit (((e.0.handler == 0) && b) && is_unended total held)) (eq-eqb e.0.arg 1 one_more) ∙ ap (λ h. bit (((h == 0) && true) && is_unended total held)) number in
           bit_zero (is_unended total held) (omega (arith, ended, unended_here, is))
           in
           stands_after y total states after ways later s becomes e (carried_by puts) swaps stands (poll_balance y x l total s becomes desk next e held puts was is runs.colour number carries none_rests poll.fit.known arg0 arg1 does2)
@@ -284,7 +270,7 @@ module _ {W L T G H : Type 0} (x : WorldWords W L) (l : LinkWords L) (y : TalkWo
     accept_keeps was (Talking seat) is does = absurd does
     accept_keeps was Accepting is does =
         let z = stands.placed in
-        let m = before misplaced in
+        let m = before misplaced_count in
         let r = ap (λ (role : Role W T). misplaced_at s.colour.0 role) was in
         let one : s.colour.0 ≡ 1 = elim (eqb_tells s.colour.0 1) [ inl same ↦ same.1 | inr apart ↦ let q = ap (λ b. bit (not b)) apart.0 in absurd (omega (arith, z, m, r, q)) ] in
         let accept = accept_fit x l first s.colour e.0.arg (task_of e.0.handler) e.1 one fit in

@@ -18,7 +18,7 @@ use Rattle.sws_engine.specs.declared.place.Role.TheVariants.{Polling, Accepting,
 use Rattle.sws_engine.specs.Place.{PlaceState}
 use Rattle.sws_engine.specs.Handling.{is_some}
 use Rattle.sws_engine.specs.Fresh.{FreshRole, IsFreshPlace, AreFresh, IsFirstPlace, AreFirstPlaces, first_poll, first_load}
-use Rattle.sws_engine.specs.RunStands.{Way, if_held, is_any, is_beyond, is_unended, is_late, at_desk, at_seat, misplaced_at, first_number, due_number, is_stray, asks_for, misplaced, desks, seats, strays, is_at, is_opened, RunStands}
+use Rattle.sws_engine.specs.RunStands.{Way, if_held, is_any, is_beyond, is_unended, is_late, at_desk, at_seat, misplaced_at, first_number, due_number, is_stray, asks_for, misplaced_count, desks, seats, strays, is_at, is_opened, RunStands}
 use Rattle.sws_engine.specs.Counting.{bit, times}
 
 held_not : {W : Type 0} (test : WorldLoad W → Bool) (held : Option (WorldLoad W)) → held ≡ None → if_held test held ≡ 0
@@ -98,7 +98,7 @@ module _ {W L T G H : Type 0} (y : TalkWords T L G H) (first : W) where
 
       pub starts : RunStands {W = W} y total states (e0 ∷ [])
       starts = record {
-        placed = none misplaced (λ k s is_fresh. fresh_misplaced s.colour.0 k s.role is_fresh.colour is_fresh.role);
+        placed = none misplaced_count (λ k s is_fresh. fresh_misplaced s.colour.0 k s.role is_fresh.colour is_fresh.role);
         one_desk = one desks 0 (omega arith) (λ k s is_fresh. fresh_desks k s.role is_fresh.role);
         one_seat = λ i low. one (seats i) (i + 2) (omega (arith, low)) (λ k s is_fresh. fresh_seats i k s.colour.0 s.role is_fresh.colour is_fresh.role);
         one_world = omega (arith, none_at_desk (λ d. if_held is_any d.resting) (λ d a b c. held_not is_any d.resting c));

@@ -2,7 +2,7 @@
 use Rattle.std.specs.Prelude.{◌==◌}
 use Rattle.std.proofs.Common.{◌≡◌, ℕ, ◌+◌, ◌-◌, ◌<◌, Bool, true, false, List, [], ◌∷◌, ◌++◌, take, refl, sym, ap, ◌∙◌, arith, ne_eqb}
 use Rattle.std.proofs.lemmas.Bool.{eqb-true, eq-eqb}
-use Rattle.sws_steps.specs.Protocol.{Protocol, IsOrderly, Whole, TooLong, request, too_long, later_unless, followed}
+use Rattle.sws_steps.specs.Protocol.{Protocol, IsOrderly, Whole, TooLong, request, too_long, later_unless, answers_from}
 use Rattle.sws_steps.specs.ConnCore.{ConnCoreState}
 use Rattle.sws_steps.specs.Step.{is_last}
 
@@ -20,17 +20,17 @@ module _ {Hall Answer : Type 0} (p : Protocol Hall Answer) (orderly : IsOrderly 
 
   pub first-whole : (len : ℕ) (behind : List ℕ) → p.cut c.buffer ≡ Whole len
       → p.answers (p.answer_limit - c.answered) c.hall (take len c.buffer ++ behind)
-      ≡ followed p (p.answer c.hall (request (take len c.buffer)) (is_last p c)) (p.answers (p.answer_limit - (c.answered + 1)) c.hall behind)
+      ≡ answers_from p (p.answer c.hall (request (take len c.buffer)) (is_last p c)) (p.answers (p.answer_limit - (c.answered + 1)) c.hall behind)
   first-whole len behind is =
       let some = more in
       orderly.one_more (p.answer_limit - c.answered) c.hall c.buffer behind len (omega arith) is
-      ∙ ap (λ l. followed p (p.answer c.hall (request (take len c.buffer)) l) (p.answers (p.answer_limit - c.answered - 1) c.hall behind))
+      ∙ ap (λ l. answers_from p (p.answer c.hall (request (take len c.buffer)) l) (p.answers (p.answer_limit - c.answered - 1) c.hall behind))
       (is_last-left p.answer_limit c.answered more)
-      ∙ ap (λ n. followed p (p.answer c.hall (request (take len c.buffer)) (is_last p c)) (p.answers n c.hall behind)) one_less
+      ∙ ap (λ n. answers_from p (p.answer c.hall (request (take len c.buffer)) (is_last p c)) (p.answers n c.hall behind)) one_less
 
   pub first-refused : (behind : List ℕ) → p.cut c.buffer ≡ TooLong
       → p.answers (p.answer_limit - c.answered) c.hall (c.buffer ++ behind)
-      ≡ followed p (p.answer c.hall too_long (is_last p c)) (p.answers (p.answer_limit - (c.answered + 1)) c.hall behind)
+      ≡ answers_from p (p.answer c.hall too_long (is_last p c)) (p.answers (p.answer_limit - (c.answered + 1)) c.hall behind)
   first-refused behind is =
       let some = more in
       orderly.refused (p.answer_limit - c.answered) c.hall c.buffer behind (omega arith) is

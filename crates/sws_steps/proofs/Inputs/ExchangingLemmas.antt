@@ -14,7 +14,7 @@ use Rattle.sws_steps.specs.declared.End.TheVariants as ending
 use Rattle.sws_steps.specs.declared.Next.{Next}
 use Rattle.sws_steps.specs.declared.Next.TheVariants as next
 use Rattle.sws_steps.specs.ConnCore.{ConnCoreState, is_sent}
-use Rattle.sws_steps.specs.Step.{StepsFrom, going_to, ending_as, still_waiting, room_of, wait_limit, has_all_input, after_read, after_parse, answering, sending, is_last, after_look, after_part, after_write}
+use Rattle.sws_steps.specs.Step.{StepsFrom, going_to, ending_as, still_waiting, room_of, wait_limit, has_all_input, after_read, after_parse, after_answer, with_answer, is_last, after_look, after_part, after_write}
 
 -- so many more bytes were read and written
 record Counts {Hall : Type 0} (c d : ConnCoreState Hall) (reads writes : ℕ) : Type 0 where
@@ -61,8 +61,8 @@ module _ {Hall Answer : Type 0} (p : Protocol Hall Answer) (c : ConnCoreState Ha
   part-count s true true counts = record { read = counts.read; written = counts.written }
   part-count s true false counts = record { read = counts.read; written = counts.written }
 
-  answering-count : (answer : Answer) (rest : List ℕ) → Counts c (answering p c answer rest) 0 0
-  answering-count answer rest = part-count (sending p c answer rest) (p.is_empty answer) (p.closes answer)
+  answering-count : (answer : Answer) (rest : List ℕ) → Counts c (after_answer p c answer rest) 0 0
+  answering-count answer rest = part-count (with_answer p c answer rest) (p.is_empty answer) (p.closes answer)
       (record { read = sym (add-zero c.read); written = sym (add-zero c.written) })
 
   look-count : (cut : Cut) → Counts c (after_look p c cut) 0 0

@@ -3,7 +3,7 @@ use Rattle.std.specs.Prelude.{◌==◌}
 use Rattle.std.proofs.Common.{◌≡◌, ℕ, zero, suc, ◌-◌, Bool, true, false, List, [], ◌∷◌, ◌++◌, take, drop, refl, sym, ap, ◌∙◌, arith, append_assoc, append-nil, take-append-drop}
 use Rattle.std.proofs.lemmas.List.Concat.{flat_map-append}
 use Rattle.sws_link.specs.Contents.{IsPrefix}
-use Rattle.sws_steps.specs.Protocol.{Protocol, IsOrderly, Cut, Whole, TooLong, NotYet, request, too_long, later_unless, text_of, texts_of, followed}
+use Rattle.sws_steps.specs.Protocol.{Protocol, IsOrderly, Cut, Whole, TooLong, NotYet, request, too_long, later_unless, text_of, texts_of, answers_from}
 
 -- a list begins with another
 Begins : {A : Type 0} → List A → List A → Type 0
@@ -41,9 +41,9 @@ module _ {Hall Answer : Type 0} (p : Protocol Hall Answer) (orderly : IsOrderly 
       by_cut (Whole len) e later =
           let answer = p.answer hall (request (take len bytes)) (suc left == 1) in
           let less : suc left - 1 ≡ left = omega arith in
-          let at : (behind : List ℕ) → p.answers (suc left) hall (take len bytes ++ behind) ≡ followed p answer (p.answers left hall behind) =
-          (λ behind. orderly.one_more (suc left) hall bytes behind len (omega arith) e ∙ ap (λ n. followed p answer (p.answers n hall behind)) less) in
-          let first : p.answers (suc left) hall bytes ≡ followed p answer (p.answers left hall (drop len bytes)) =
+          let at : (behind : List ℕ) → p.answers (suc left) hall (take len bytes ++ behind) ≡ answers_from p answer (p.answers left hall behind) =
+          (λ behind. orderly.one_more (suc left) hall bytes behind len (omega arith) e ∙ ap (λ n. answers_from p answer (p.answers n hall behind)) less) in
+          let first : p.answers (suc left) hall bytes ≡ answers_from p answer (p.answers left hall (drop len bytes)) =
           ap (p.answers (suc left) hall) (sym (take-append-drop len bytes)) ∙ at (drop len bytes) in
           let begins = begins_followed answer (p.closes answer) (p.answers left hall (drop len bytes)) (p.answers left hall (drop len bytes ++ more)) (later len) in (
             begins.0,

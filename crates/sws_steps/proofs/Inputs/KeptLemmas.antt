@@ -14,7 +14,7 @@ use Rattle.sws_steps.specs.declared.End.TheVariants as ending
 use Rattle.sws_steps.specs.declared.Next.{Next}
 use Rattle.sws_steps.specs.declared.Next.TheVariants as next
 use Rattle.sws_steps.specs.ConnCore.{ConnCoreState, ConnState, is_sent}
-use Rattle.sws_steps.specs.Step.{StepsFrom, ReadsOnce, WritesOnce, ShutsOnce, going_to, ending_as, still_waiting, room_of, wait_limit, has_all_input, after_read, after_parse, answering, sending, is_last, after_look, after_part, after_write}
+use Rattle.sws_steps.specs.Step.{StepsFrom, ReadsOnce, WritesOnce, ShutsOnce, going_to, ending_as, still_waiting, room_of, wait_limit, has_all_input, after_read, after_parse, after_answer, with_answer, is_last, after_look, after_part, after_write}
 use Rattle.sws_steps.specs.Sound.{IsSound, IsReadyTo, IsToRead, IsToldBy, IsTold}
 use Rattle.sws_steps.specs.Serving.{IsAnswered, KeepsBy}
 use Rattle.sws_steps.proofs.Inputs.ServedLemmas.{answered-read}
@@ -131,8 +131,8 @@ module _ {Hall Answer L : Type 0} (p : Protocol Hall Answer) (orderly : IsOrderl
       part_end s true false none = inl none
 
       answering_end : (answer : Answer) (rest : List ℕ) → c.end ≡ None
-          → ((answering p c answer rest).end ≡ None) ⊎ ((answering p c answer rest).end ≡ Some ending.Done)
-      answering_end answer rest none = part_end (sending p c answer rest) (p.is_empty answer) (p.closes answer) none
+          → ((after_answer p c answer rest).end ≡ None) ⊎ ((after_answer p c answer rest).end ≡ Some ending.Done)
+      answering_end answer rest none = part_end (with_answer p c answer rest) (p.is_empty answer) (p.closes answer) none
 
       look_end : (cut : Cut) → c.end ≡ None → ((after_look p c cut).end ≡ None) ⊎ ((after_look p c cut).end ≡ Some ending.Done)
       look_end (Whole len) none = answering_end (p.answer c.hall (request (take len c.buffer)) (is_last p c)) (drop len c.buffer) none

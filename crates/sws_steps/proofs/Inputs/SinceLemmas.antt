@@ -15,7 +15,7 @@ use Rattle.sws_steps.specs.declared.End.TheVariants as ending
 use Rattle.sws_steps.specs.declared.Next.{Next}
 use Rattle.sws_steps.specs.declared.Next.TheVariants as next
 use Rattle.sws_steps.specs.ConnCore.{ConnCoreState, is_sent}
-use Rattle.sws_steps.specs.Step.{StepsFrom, ReadsOnce, WritesOnce, ShutsOnce, going_to, ending_as, still_waiting, room_of, wait_limit, has_all_input, after_read, after_parse, answering, sending, is_last, after_look, after_part, after_write}
+use Rattle.sws_steps.specs.Step.{StepsFrom, ReadsOnce, WritesOnce, ShutsOnce, going_to, ending_as, still_waiting, room_of, wait_limit, has_all_input, after_read, after_parse, after_answer, with_answer, is_last, after_look, after_part, after_write}
 use Rattle.sws_steps.specs.Sound.{IsReadyTo}
 use Rattle.sws_steps.specs.Serving.{RoseBy}
 
@@ -250,16 +250,16 @@ module _ {Hall Answer L : Type 0} (p : Protocol Hall Answer) (x : LinkWords L) (
       part_waits s true true = refl
       part_waits s true false = refl
 
-      answering_end : (answer : Answer) (rest : List ℕ) → (answering p c answer rest).end ≡ Some ending.Fault → c.end ≡ Some ending.Fault
-      answering_end answer rest f = part_end (sending p c answer rest) (p.is_empty answer) (p.closes answer) f
+      answering_end : (answer : Answer) (rest : List ℕ) → (after_answer p c answer rest).end ≡ Some ending.Fault → c.end ≡ Some ending.Fault
+      answering_end answer rest f = part_end (with_answer p c answer rest) (p.is_empty answer) (p.closes answer) f
 
       look_end : (cut : Cut) → (after_look p c cut).end ≡ Some ending.Fault → c.end ≡ Some ending.Fault
       look_end (Whole len) f = answering_end (p.answer c.hall (request (take len c.buffer)) (is_last p c)) (drop len c.buffer) f
       look_end TooLong f = answering_end (p.answer c.hall too_long (is_last p c)) [] f
       look_end NotYet f = f
 
-      answering_waits : (answer : Answer) (rest : List ℕ) → (answering p c answer rest).waits ≡ c.waits
-      answering_waits answer rest = part_waits (sending p c answer rest) (p.is_empty answer) (p.closes answer)
+      answering_waits : (answer : Answer) (rest : List ℕ) → (after_answer p c answer rest).waits ≡ c.waits
+      answering_waits answer rest = part_waits (with_answer p c answer rest) (p.is_empty answer) (p.closes answer)
 
       look_waits : (cut : Cut) → (after_look p c cut).waits ≡ c.waits
       look_waits (Whole len) = answering_waits (p.answer c.hall (request (take len c.buffer)) (is_last p c)) (drop len c.buffer)

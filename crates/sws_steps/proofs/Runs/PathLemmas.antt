@@ -15,8 +15,8 @@ use Rattle.sws_steps.specs.declared.End.{End}
 use Rattle.sws_steps.specs.declared.End.TheVariants as ending
 use Rattle.sws_steps.specs.declared.Next.{Next}
 use Rattle.sws_steps.specs.declared.Next.TheVariants as next
-use Rattle.sws_steps.specs.Step.{StepsFrom, going_to, ending_as, still_waiting, room_of, wait_limit, has_all_input, after_read, after_parse, answering, sending, is_last, after_look, after_part, after_write}
-use Rattle.sws_steps.specs.Sound.{unopened, IsSound, IsReadyTo, IsLinked, IsEnded}
+use Rattle.sws_steps.specs.Step.{StepsFrom, going_to, ending_as, still_waiting, room_of, wait_limit, has_all_input, after_read, after_parse, after_answer, with_answer, is_last, after_look, after_part, after_write}
+use Rattle.sws_steps.specs.Sound.{core_before_open, IsSound, IsReadyTo, IsLinked, IsEnded}
 use Rattle.sws_steps.specs.Outcome.{UnlessMemory}
 use Rattle.sws_steps.specs.Path.{Handler, open_link, read_piece, parse, look, write_part, resume, close, handler_of, event_of, Scripted, scripted_at, scripted_step, IsPathFrom, events, rank_of, steps_left, rest_of_path, path_of, path_by, rest_by, answers_to_come, told_by_link, path_told, rest_told, TakesOff, TakesEvent, HasNoEvents, Follows, FollowsBy, FollowsTold, FollowsScript}
 use Rattle.sws_steps.proofs.Inputs.PartLemmas.{something-front}
@@ -108,7 +108,7 @@ module _ {Hall Answer : Type 0} (p : Protocol Hall Answer) (orderly : IsOrderly 
   step-at : (c : Scripted Hall) (pending : Next) → c.standing.pending ≡ pending → scripted_step p c ≡ scripted_at p pending c
   step-at c pending e = ap (λ stage. scripted_at p stage c) e
 
-  pub opened-ready : (hall : Hall) → Ready p (going_to (unopened hall) next.Read)
+  pub opened-ready : (hall : Hall) → Ready p (going_to (core_before_open hall) next.Read)
   opened-ready hall = record {
     between = record { nothing = refl; goes_on = refl; more = orderly.some_answers; no_end = refl; patient = lit< tt };
     not_yet = orderly.nothing;
@@ -280,8 +280,8 @@ module _ {Hall Answer : Type 0} (p : Protocol Hall Answer) (orderly : IsOrderly 
   stays-part c true true going e = cc
   stays-part c true false going e = cc
 
-  stays-answering : (c : ConnCoreState Hall) (answer : Answer) (rest : List ℕ) → (answering p c answer rest).pending ≢ next.Nothing
-  stays-answering c answer rest = stays-part (sending p c answer rest) (p.is_empty answer) (p.closes answer) (λ e. cc)
+  stays-answering : (c : ConnCoreState Hall) (answer : Answer) (rest : List ℕ) → (after_answer p c answer rest).pending ≢ next.Nothing
+  stays-answering c answer rest = stays-part (with_answer p c answer rest) (p.is_empty answer) (p.closes answer) (λ e. cc)
 
   stays-look : (c : ConnCoreState Hall) (cut : Cut) → c.pending ≢ next.Nothing → (after_look p c cut).pending ≢ next.Nothing
   stays-look c (Whole len) going e = stays-answering c (p.answer c.hall (request (take len c.buffer)) (is_last p c)) (drop len c.buffer) e
@@ -369,26 +369,26 @@ module _ {Hall Answer : Type 0} (p : Protocol Hall Answer) (orderly : IsOrderly 
   events-step more c = ap (λ n. events p n c) (let next : more + 1 ≡ suc more = omega arith in next)
 
   -- the opening comes first
-  pub path_of-open : (hall : Hall) (script : Script) → path_of p hall script ≡ open_link ∷ rest_of_path p (going_to (unopened hall) next.Read) script
+  pub path_of-open : (hall : Hall) (script : Script) → path_of p hall script ≡ open_link ∷ rest_of_path p (going_to (core_before_open hall) next.Read) script
   path_of-open hall script =
-      ap (λ n. events p n (record { standing = unopened hall; script = script }))
-      (let one : steps_left p (unopened hall) ≡ steps_left p (going_to (unopened hall) next.Read) + 1 = omega arith in one)
-      ∙ events-step (steps_left p (going_to (unopened hall) next.Read)) (record { standing = unopened hall; script = script })
+      ap (λ n. events p n (record { standing = core_before_open hall; script = script }))
+      (let one : steps_left p (core_before_open hall) ≡ steps_left p (going_to (core_before_open hall) next.Read) + 1 = omega arith in one)
+      ∙ events-step (steps_left p (going_to (core_before_open hall) next.Read)) (record { standing = core_before_open hall; script = script })
 
-  pub path_of-path : (hall : Hall) (script : Script) → p.IsHall hall → IsPathFrom p (record { standing = unopened hall; script = script }) (path_of p hall script)
-  path_of-path hall script limits = rest-path (unopened hall) script limits refl
+  pub path_of-path : (hall : Hall) (script : Script) → p.IsHall hall → IsPathFrom p (record { standing = core_before_open hall; script = script }) (path_of p hall script)
+  path_of-path hall script limits = rest-path (core_before_open hall) script limits refl
 
   -- and the close last
   pub path_of-close : (hall : Hall) (script : Script) → p.IsHall hall → (before : List Handler) × (path_of p hall script ≡ before ++ close ∷ [])
   path_of-close hall script limits =
-      path-close (record { standing = unopened hall; script = script }) refl (λ e. cc) (path_of p hall script) (path_of-path hall script limits)
+      path-close (record { standing = core_before_open hall; script = script }) refl (λ e. cc) (path_of p hall script) (path_of-path hall script limits)
 
   -- an example: the link is not ready once, and then at its end
   pub path_of-pause : (hall : Hall) (step cut : Option ℕ) → p.IsHall hall
       → path_of p hall (record { items = wait 1 ∷ []; step = step; cut = cut }) ≡ open_link ∷ read_piece ∷ resume ∷ parse ∷ close ∷ []
   unfolding IsPathFrom
   path_of-pause hall step cut limits =
-      path-unique (record { standing = unopened hall; script = script }) (path_of p hall script) (open_link ∷ read_piece ∷ resume ∷ parse ∷ close ∷ [])
+      path-unique (record { standing = core_before_open hall; script = script }) (path_of p hall script) (open_link ∷ read_piece ∷ resume ∷ parse ∷ close ∷ [])
       (path_of-path hall script limits)
       (refl, (refl, (refl, (refl, last))))
     where
@@ -396,7 +396,7 @@ module _ {Hall Answer : Type 0} (p : Protocol Hall Answer) (orderly : IsOrderly 
       script = record { items = wait 1 ∷ []; step = step; cut = cut }
 
       ended : ConnCoreState Hall
-      ended = record (unopened hall) { input_ended = true; pending = next.Parse }
+      ended = record (core_before_open hall) { input_ended = true; pending = next.Parse }
 
       last : IsPathFrom p (record { standing = after_parse p ended (p.cut []); script = record script { items = [] } }) (close ∷ [])
       last = subst (λ found. IsPathFrom p (record { standing = after_parse p ended found; script = record script { items = [] } }) (close ∷ [])) (sym orderly.nothing) (refl, refl)
@@ -476,13 +476,13 @@ module _ {Hall Answer : Type 0} (p : Protocol Hall Answer) (orderly : IsOrderly 
             events-none (steps_left p conn.standing) (record { standing = conn.standing; script = script }) pending (ended_at conn.standing sound.ready pending)
 
   -- where there is no link yet, nothing has happened
-  pub not_opened : {L : Type 0} (c : ConnCoreState Hall) (link : Option L) → Ready p c → IsLinked c.pending link → false ≡ is_some link → c ≡ unopened c.hall
+  pub not_opened : {L : Type 0} (c : ConnCoreState Hall) (link : Option L) → Ready p c → IsLinked c.pending link → false ≡ is_some link → c ≡ core_before_open c.hall
   not_opened {L = L} c link ready linked none = by_pending c.pending ready linked
     where
       no : (link : Option L) → false ≡ is_some link → IsSome link → ⊥
       no link none some = let e : false ≡ true = none ∙ some in cc
 
-      by_pending : (pending : Next) → IsReadyTo p pending c → IsLinked pending link → c ≡ unopened c.hall
+      by_pending : (pending : Next) → IsReadyTo p pending c → IsLinked pending link → c ≡ core_before_open c.hall
       by_pending next.Open ready linked = ready
       by_pending next.Read ready linked = absurd (no link none linked)
       by_pending next.Parse ready linked = absurd (no link none linked)
@@ -499,9 +499,9 @@ module _ {Hall Answer : Type 0} (p : Protocol Hall Answer) (orderly : IsOrderly 
       subst (λ s. TakesOff (open_link ∷ []) (path_told p c.hall (x.tells link)) (rest_told p x (record { standing = going_to s next.Read; link = Some link })))
       (sym (not_opened c before ready linked none)) (by_script c.hall (answers_to_come (x.tells link)))
     where
-      by_script : (hall : Hall) (script : Option Script) → TakesOff (open_link ∷ []) (path_by p hall script) (rest_by p (going_to (unopened hall) next.Read) script)
+      by_script : (hall : Hall) (script : Option Script) → TakesOff (open_link ∷ []) (path_by p hall script) (rest_by p (going_to (core_before_open hall) next.Read) script)
       by_script hall None = refl
-      by_script hall (Some script) = (rest_of_path p (going_to (unopened hall) next.Read) script, refl, path_of-open hall script)
+      by_script hall (Some script) = (rest_of_path p (going_to (core_before_open hall) next.Read) script, refl, path_of-open hall script)
 
   -- ---- along a run
 

@@ -12,11 +12,11 @@ use Rattle.sws_steps.specs.declared.End.TheVariants as ending
 use Rattle.sws_steps.specs.declared.Next.{Next}
 use Rattle.sws_steps.specs.declared.Next.TheVariants as next
 use Rattle.sws_steps.specs.Step.{Steps, going_to}
-use Rattle.sws_steps.specs.Sound.{unopened, IsSound, IsShutAtEnd, IsTold, IsReadyTo}
+use Rattle.sws_steps.specs.Sound.{core_before_open, IsSound, IsShutAtEnd, IsTold, IsReadyTo}
 use Rattle.sws_steps.specs.Outcome.{Outcome, UnlessMemory}
 use Rattle.sws_steps.specs.RestOutcome.{HeadsFor, HeadsForLink}
 use Rattle.sws_steps.specs.Path.{Handler, open_link, read_piece, parse, look, write_part, resume, close, handler_of, event_of, path_by, path_told, rest_by, rest_told, answers_to_come, rest_of_path, TakesOff, HasNoEvents}
-use Rattle.sws_steps.specs.Run.{opened, RunsBy, IsWhole, HasRun, HasEnded, EndsRun}
+use Rattle.sws_steps.specs.Run.{conn_at_open, RunsBy, IsWhole, HasRun, HasEnded, EndsRun}
 use Rattle.sws_steps.proofs.Steps.SoundLemmas.{step_sound, step_linked}
 use Rattle.sws_steps.proofs.Steps.RestOutcomeLemmas.{heads_step, ends_as}
 use Rattle.sws_steps.proofs.Steps.HallLemmas.{step_hall}
@@ -31,14 +31,14 @@ module _ {Hall Answer L : Type 0} (p : Protocol Hall Answer) (x : LinkWords L) (
   pub record Kept (conn : ConnState Hall L) : Type 0 where
     pub sound : IsSound p x conn
     pub linked : IsSome conn.link
-    pub heads : (o : Outcome) → HeadsFor p (x.tells first) (going_to (unopened hall) next.Read) o → HeadsForLink p x conn.link conn.standing o
+    pub heads : (o : Outcome) → HeadsFor p (x.tells first) (going_to (core_before_open hall) next.Read) o → HeadsForLink p x conn.link conn.standing o
     pub since : SinceLink x first conn.standing conn.link
     pub exchanged : ExchangedLink x first conn.standing conn.link
     pub hall_is : conn.standing.hall ≡ hall
 
 module _ {Hall Answer : Type 0} (p : Protocol Hall Answer) (orderly : IsOrderly p) where
   -- a connection that waits for its link
-  pub unopened-sound : {L : Type 0} (x : LinkWords L) (hall : Hall) → p.IsHall hall → IsSound p x (record { standing = unopened hall; link = None })
+  pub unopened-sound : {L : Type 0} (x : LinkWords L) (hall : Hall) → p.IsHall hall → IsSound p x (record { standing = core_before_open hall; link = None })
   unopened-sound x hall limits = record {
     taken = [];
     sent = [];
@@ -129,7 +129,7 @@ module _ {Hall Answer : Type 0} (p : Protocol Hall Answer) (orderly : IsOrderly 
     module _ (hall : Hall) (first : L) where
       -- ---- the opened connection
 
-      opened-sound : p.IsHall hall → IsFresh (x.tells first) → x.is_shut first ≡ false → IsSound p x (opened hall first)
+      opened-sound : p.IsHall hall → IsFresh (x.tells first) → x.is_shut first ≡ false → IsSound p x (conn_at_open hall first)
       opened-sound limits fresh not_shut = record {
         taken = [];
         sent = [];
@@ -153,11 +153,11 @@ module _ {Hall Answer : Type 0} (p : Protocol Hall Answer) (orderly : IsOrderly 
         told = by_tells (x.tells first) fresh;
       }
         where
-          by_tells : (tells : Option LinkTells) → IsFresh tells → IsTold (going_to (unopened hall) next.Read) tells [] []
+          by_tells : (tells : Option LinkTells) → IsFresh tells → IsTold (going_to (core_before_open hall) next.Read) tells [] []
           by_tells None fresh = tt
           by_tells (Some tells) fresh = (
             fresh.0,
-            record { front = []; is = fresh.1; prefix = (front_of (unopened hall).parts, refl); none = λ u. refl },
+            record { front = []; is = fresh.1; prefix = (front_of (core_before_open hall).parts, refl); none = λ u. refl },
             λ ended. absurd (let no : false ≡ true = ended in cc),
           )
 
@@ -167,37 +167,37 @@ module _ {Hall Answer : Type 0} (p : Protocol Hall Answer) (orderly : IsOrderly 
           → IsSound p x (record { standing = going_to before.standing next.Read; link = Some first })
       opens-sound before same sound none fresh not_shut =
           let limits : p.IsHall hall = subst p.IsHall same sound.course.limits in
-          let is : before.standing ≡ unopened hall =
-          not_opened p orderly before.standing before.link sound.ready sound.linked none ∙ ap unopened same in
+          let is : before.standing ≡ core_before_open hall =
+          not_opened p orderly before.standing before.link sound.ready sound.linked none ∙ ap core_before_open same in
           subst (λ (c : ConnCoreState Hall). IsSound p x (record { standing = going_to c next.Read; link = Some first })) (sym is) (opened-sound limits fresh not_shut)
 
-      opened-off : RunsOff (path_told p hall (x.tells first)) (open_link ∷ []) (opened hall first)
+      opened-off : RunsOff (path_told p hall (x.tells first)) (open_link ∷ []) (conn_at_open hall first)
       opened-off = by_script (answers_to_come (x.tells first))
         where
-          by_script : (script : Option Script) → TakesOff (open_link ∷ []) (path_by p hall script) (rest_by p (going_to (unopened hall) next.Read) script)
+          by_script : (script : Option Script) → TakesOff (open_link ∷ []) (path_by p hall script) (rest_by p (going_to (core_before_open hall) next.Read) script)
           by_script None = refl
-          by_script (Some script) = (rest_of_path p (going_to (unopened hall) next.Read) script, refl, path_of-open p orderly hall script)
+          by_script (Some script) = (rest_of_path p (going_to (core_before_open hall) next.Read) script, refl, path_of-open p orderly hall script)
 
       -- ---- at every moment
 
       pub run-sound : (trail : List Handler) (conn : ConnState Hall L) → HasRun p x hall first trail conn → IsSound p x conn
       run-sound trail conn run =
           runs-keep (IsSound p x) (λ before after steps sound. step_sound p orderly x before.standing after.standing before.link after.link sound steps)
-          trail (opened hall first) conn run.runs (opened-sound run.limits run.fresh run.not_shut)
+          trail (conn_at_open hall first) conn run.runs (opened-sound run.limits run.fresh run.not_shut)
 
       pub run-path : (trail : List Handler) (conn : ConnState Hall L) → HasRun p x hall first trail conn
           → UnlessMemory conn.standing.end (TakesOff (open_link ∷ trail) (path_told p hall (x.tells first)) (rest_told p x conn))
       run-path trail conn run =
-          off-run (path_told p hall (x.tells first)) trail (open_link ∷ []) (opened hall first) conn run.runs (opened-sound run.limits run.fresh run.not_shut) opened-off
+          off-run (path_told p hall (x.tells first)) trail (open_link ∷ []) (conn_at_open hall first) conn run.runs (opened-sound run.limits run.fresh run.not_shut) opened-off
 
-      pub run-start : p.IsHall hall → IsFresh (x.tells first) → x.is_shut first ≡ false → HasRun p x hall first [] (opened hall first)
+      pub run-start : p.IsHall hall → IsFresh (x.tells first) → x.is_shut first ≡ false → HasRun p x hall first [] (conn_at_open hall first)
       unfolding RunsBy
       run-start limits fresh not_shut = record { limits = limits; fresh = fresh; not_shut = not_shut; runs = refl }
 
       pub run-on : (trail : List Handler) (event : Handler) (before after : ConnState Hall L) → HasRun p x hall first trail before
           → event_of before.standing ≡ event ∷ [] → Steps p x before after → HasRun p x hall first (trail ++ event ∷ []) after
       run-on trail event before after run e steps =
-          record { limits = run.limits; fresh = run.fresh; not_shut = run.not_shut; runs = runs-more trail event (opened hall first) before after run.runs e steps }
+          record { limits = run.limits; fresh = run.fresh; not_shut = run.not_shut; runs = runs-more trail event (conn_at_open hall first) before after run.runs e steps }
 
       -- ---- at the end
 
@@ -212,12 +212,12 @@ module _ {Hall Answer : Type 0} (p : Protocol Hall Answer) (orderly : IsOrderly 
       }
 
       pub run-kept : (trail : List Handler) (conn : ConnState Hall L) → HasRun p x hall first trail conn → Kept p x hall first conn
-      run-kept trail conn run = runs-keep (Kept p x hall first) keeps trail (opened hall first) conn run.runs (record {
+      run-kept trail conn run = runs-keep (Kept p x hall first) keeps trail (conn_at_open hall first) conn run.runs (record {
         sound = opened-sound run.limits run.fresh run.not_shut;
         linked = refl;
         heads = λ o h. h;
-        since = since-opened x first (going_to (unopened hall) next.Read) refl refl;
-        exchanged = exchanged-opened x first (going_to (unopened hall) next.Read) refl refl;
+        since = since-opened x first (going_to (core_before_open hall) next.Read) refl refl;
+        exchanged = exchanged-opened x first (going_to (core_before_open hall) next.Read) refl refl;
         hall_is = refl;
       })
 

@@ -3,7 +3,7 @@ use Rattle.std.proofs.Common.{◌≡◌, ℕ, zero, suc, ◌<◌, true, false, L
 use Rattle.sws_link.specs.Scripts.{Script, piece}
 use Rattle.sws_steps.specs.declared.End.TheVariants as ending
 use Rattle.sws_steps.specs.Protocol.{Protocol, IsOrderly, Cut, Whole, TooLong, NotYet, texts_of}
-use Rattle.sws_steps.specs.Sound.{unopened}
+use Rattle.sws_steps.specs.Sound.{core_before_open}
 use Rattle.sws_steps.specs.Outcome.{outcome_of}
 use Rattle.sws_steps.specs.Path.{open_link, read_piece, parse, look, close, IsPathFrom, path_of}
 use Rattle.sws_steps.proofs.Runs.PathLemmas.{path-unique, path_of-path}
@@ -87,7 +87,7 @@ one_byte = record { items = piece (7 ∷ []) ∷ []; step = None; cut = None }
 -- the close follows the look at once, and nothing is written
 silent-path : path_of silent silence one_byte ≡ open_link ∷ read_piece ∷ parse ∷ look ∷ close ∷ []
 unfolding IsPathFrom
-silent-path = path-unique silent silent-orderly (record { standing = unopened silence; script = one_byte })
+silent-path = path-unique silent silent-orderly (record { standing = core_before_open silence; script = one_byte })
     (path_of silent silence one_byte) (open_link ∷ read_piece ∷ parse ∷ look ∷ close ∷ [])
     (path_of-path silent silent-orderly silence one_byte tt) (refl, (refl, (refl, (refl, (refl, refl)))))
 

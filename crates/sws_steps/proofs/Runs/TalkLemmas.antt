@@ -13,14 +13,14 @@ use Rattle.sws_steps.specs.declared.End.TheVariants as ending
 use Rattle.sws_steps.specs.declared.Next.{Next}
 use Rattle.sws_steps.specs.declared.Next.TheVariants as next
 use Rattle.sws_steps.specs.ConnCore.{ConnCoreState, ConnState, reported_by, end_at, is_waiting}
-use Rattle.sws_steps.specs.Step.{Steps, StepsFrom, Opens, OpensAt}
+use Rattle.sws_steps.specs.Step.{Steps, Opens, OpensAt}
 use Rattle.sws_steps.specs.Sound.{IsSound, IsReadyTo, IsEnded, IsTold}
 use Rattle.sws_steps.specs.Outcome.{outcome_of, UnlessMemory}
 use Rattle.sws_steps.specs.Path.{Handler, open_link, read_piece, parse, look, write_part, resume, close, handler_of, event_of, path_of, path_by, path_told, rest_by, rest_told, rest_of_path, answers_to_come, told_by_link, TakesOff, HasNoEvents, scripted_step}
 use Rattle.sws_steps.specs.Run.{HasRun, RunsBy}
 use Rattle.sws_steps.specs.RestOutcome.{HeadsForLink}
 use Rattle.sws_steps.specs.Serving.{EndsAs, EndsByScript, RoseBy}
-use Rattle.sws_steps.specs.Talks.{OpensTalk, OpensBy, due, due_after, HasNoStep, Consumes, ServesTold, ComesTo, HasServed, ServesNow, path_to_come, BeginsWith, IsDue}
+use Rattle.sws_steps.specs.Talks.{OpensTalk, OpensBy, due, due_after, Consumes, ServesTold, ComesTo, HasServed, ServesNow, path_to_come, BeginsWith, IsDue}
 use Rattle.sws_steps.specs.Talks.{talk_view, HasRunOpen}
 use Rattle.sws_steps.proofs.Steps.HallLemmas.{step_hall}
 use Rattle.sws_steps.proofs.Inputs.SinceLemmas.{Since, SinceLink, SameInput}
@@ -111,24 +111,6 @@ module _ {Hall Answer : Type 0} (p : Protocol Hall Answer) (orderly : IsOrderly 
         by_link (Some there) kept = kept
 
     -- ---- a step
-
-    pub nothing-done : (before after : ConnState Hall L) → HasNoStep before.standing.pending → Steps p x before after → after ≡ before
-    nothing-done before after none steps = by_pending before.standing.pending none steps
-      where
-        both : (after.standing ≡ before.standing) × (after.link ≡ before.link) → after ≡ before
-        both (standing, link) =
-            let made : ConnCoreState Hall → Option L → ConnState Hall L = (λ s l. record { standing = s; link = l }) in
-            ap (λ s. made s after.link) standing ∙ ap (made before.standing) link
-
-        by_pending : (pending : Next) → HasNoStep pending → StepsFrom p x before.standing after.standing pending before.link after.link → after ≡ before
-        by_pending next.Open none steps = both steps
-        by_pending next.Read none steps = absurd none
-        by_pending next.Parse none steps = absurd none
-        by_pending next.Look none steps = absurd none
-        by_pending next.Write none steps = absurd none
-        by_pending next.Wait none steps = absurd none
-        by_pending next.Close none steps = absurd none
-        by_pending next.Nothing none steps = both steps
 
     pub open-run-on : (first : L) (trail : List Handler) (event : Handler) (before after : ConnState Hall L) → HasRunOpen p x first trail before
         → due (talk_view before.standing) ≡ Some event → Steps p x before after → HasRunOpen p x first (trail ++ event ∷ []) after

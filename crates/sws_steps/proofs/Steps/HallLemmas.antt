@@ -12,7 +12,7 @@ use Rattle.sws_steps.specs.declared.End.TheVariants as ending
 use Rattle.sws_steps.specs.declared.Next.{Next}
 use Rattle.sws_steps.specs.declared.Next.TheVariants as next
 use Rattle.sws_steps.specs.ConnCore.{ConnCoreState, is_sent}
-use Rattle.sws_steps.specs.Step.{StepsFrom, going_to, ending_as, still_waiting, wait_limit, has_all_input, after_read, after_parse, answering, sending, is_last, after_look, after_part, after_write}
+use Rattle.sws_steps.specs.Step.{StepsFrom, going_to, ending_as, still_waiting, wait_limit, has_all_input, after_read, after_parse, after_answer, with_answer, is_last, after_look, after_part, after_write}
 
 module _ {Hall Answer : Type 0} (p : Protocol Hall Answer) where
   waits_hall : (c : ConnCoreState Hall) (all : Bool) → (still_waiting c all).hall ≡ c.hall
@@ -39,8 +39,8 @@ module _ {Hall Answer : Type 0} (p : Protocol Hall Answer) where
   part_hall c true true = refl
   part_hall c true false = refl
 
-  answering_hall : (c : ConnCoreState Hall) (answer : Answer) (rest : List ℕ) → (answering p c answer rest).hall ≡ c.hall
-  answering_hall c answer rest = part_hall (sending p c answer rest) (p.is_empty answer) (p.closes answer)
+  answering_hall : (c : ConnCoreState Hall) (answer : Answer) (rest : List ℕ) → (after_answer p c answer rest).hall ≡ c.hall
+  answering_hall c answer rest = part_hall (with_answer p c answer rest) (p.is_empty answer) (p.closes answer)
 
   pub look_hall : (c : ConnCoreState Hall) (cut : Cut) → (after_look p c cut).hall ≡ c.hall
   look_hall c (Whole len) = answering_hall c (p.answer c.hall (request (take len c.buffer)) (is_last p c)) (drop len c.buffer)

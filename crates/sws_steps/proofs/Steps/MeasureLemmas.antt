@@ -14,7 +14,7 @@ use Rattle.sws_steps.specs.ConnCore.{is_sent, ConnCoreState}
 use Rattle.sws_steps.specs.declared.End.TheVariants as ending
 use Rattle.sws_steps.specs.declared.Next.{Next}
 use Rattle.sws_steps.specs.declared.Next.TheVariants as next
-use Rattle.sws_steps.specs.Step.{StepsFrom, ReadsOnce, WritesOnce, ShutsOnce, OverLink, going_to, ending_as, still_waiting, room_of, wait_limit, has_all_input, after_read, after_parse, answering, sending, is_last, after_look, after_part, after_write}
+use Rattle.sws_steps.specs.Step.{StepsFrom, ReadsOnce, WritesOnce, ShutsOnce, OverLink, going_to, ending_as, still_waiting, room_of, wait_limit, has_all_input, after_read, after_parse, after_answer, with_answer, is_last, after_look, after_part, after_write}
 use Rattle.sws_steps.specs.Sound.{IsReadyTo, IsToRead, IsToLook, IsToWrite}
 use Rattle.sws_steps.specs.Path.{steps_left, rank_of, input_left}
 use Rattle.sws_steps.proofs.Inputs.PartLemmas.{sent-rest}
@@ -70,13 +70,13 @@ module _ {Hall Answer : Type 0} (p : Protocol Hall Answer) (orderly : IsOrderly 
       two : rank_of c.pending ≡ 2
       two = ap rank_of e
 
-      answered : (answer : Answer) (rest : List ℕ) → length (text_of p answer) ≤ p.text_limit → steps_left p (answering p c answer rest) < steps_left p c
+      answered : (answer : Answer) (rest : List ℕ) → length (text_of p answer) ≤ p.text_limit → steps_left p (after_answer p c answer rest) < steps_left p c
       answered answer rest few = by_bytes (p.is_empty answer) (p.closes answer)
         where
           one : (p.answer_limit - c.answered) * (p.text_limit + 1) ≡ (p.answer_limit - (c.answered + 1)) * (p.text_limit + 1) + (p.text_limit + 1)
           one = share p.answer_limit c.answered p.text_limit ready.between.more
 
-          by_bytes : (empty closes : Bool) → steps_left p (after_part empty closes (sending p c answer rest)) < steps_left p c
+          by_bytes : (empty closes : Bool) → steps_left p (after_part empty closes (with_answer p c answer rest)) < steps_left p c
           by_bytes false closes = let t = two in omega (arith, one)
           by_bytes true true = let t = two in omega (arith, one)
           by_bytes true false = let t = two in omega (arith, one)

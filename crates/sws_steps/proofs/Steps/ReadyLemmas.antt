@@ -12,7 +12,7 @@ use Rattle.sws_steps.specs.ConnCore.{is_sent, ConnCoreState}
 use Rattle.sws_steps.specs.declared.End.{End}
 use Rattle.sws_steps.specs.declared.End.TheVariants as ending
 use Rattle.sws_steps.specs.declared.Next.TheVariants as next
-use Rattle.sws_steps.specs.Step.{going_to, ending_as, still_waiting, wait_limit, has_all_input, after_read, after_parse, answering, sending, is_last, after_look, after_part, after_write}
+use Rattle.sws_steps.specs.Step.{going_to, ending_as, still_waiting, wait_limit, has_all_input, after_read, after_parse, after_answer, with_answer, is_last, after_look, after_part, after_write}
 use Rattle.sws_steps.specs.Sound.{IsReadyTo, IsEnded, IsBetween, IsToRead, IsToLook, IsToWrite}
 
 -- what is known where the connection stands so
@@ -80,11 +80,11 @@ module _ {Hall Answer : Type 0} (p : Protocol Hall Answer) (orderly : IsOrderly 
           absurd (let g : false ≡ true = e ∙ eq-eqb (c.answered + 1) p.answer_limit all in cc)
 
   -- an answer is written, or it closes and has no bytes
-  pub answering-ready : (c : ConnCoreState Hall) (asked : Asked) (rest : List ℕ) → IsBetween p c → Ready p (answering p c (p.answer c.hall asked (is_last p c)) rest)
+  pub answering-ready : (c : ConnCoreState Hall) (asked : Asked) (rest : List ℕ) → IsBetween p c → Ready p (after_answer p c (p.answer c.hall asked (is_last p c)) rest)
   answering-ready c asked rest between = by_bytes (p.is_empty (p.answer c.hall asked (is_last p c))) (p.closes (p.answer c.hall asked (is_last p c))) refl refl
     where
       by_bytes : (empty closes : Bool) → empty ≡ p.is_empty (p.answer c.hall asked (is_last p c)) → closes ≡ p.closes (p.answer c.hall asked (is_last p c))
-          → Ready p (after_part empty closes (sending p c (p.answer c.hall asked (is_last p c)) rest))
+          → Ready p (after_part empty closes (with_answer p c (p.answer c.hall asked (is_last p c)) rest))
       by_bytes false closes e f = record {
         something = sym (e ∙ orderly.empty_is c.hall asked (is_last p c));
         more = λ goes_on. more-answers c asked (is_last p c) refl between goes_on;

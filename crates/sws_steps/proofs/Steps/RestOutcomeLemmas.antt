@@ -7,17 +7,17 @@ use Rattle.sws_link.specs.declared.LinkRead.TheVariants as read
 use Rattle.sws_link.specs.declared.LinkWrite.{LinkWrite}
 use Rattle.sws_link.specs.declared.LinkWrite.TheVariants as write
 use Rattle.sws_link.specs.Links.{IsFresh, LinkTells, LinkTakes, LinkPuts, given_by, ReadsAs, WritesAs, IsExact, IsWriteWithin, written_by}
-use Rattle.sws_link.specs.Scripts.{Script, Item, read_of, write_of, write_by, write_count, within, within_step, lowered}
+use Rattle.sws_link.specs.Scripts.{Script, Item, read_of, write_of, write_by, write_count, within, within_step, left_of_limit}
 use Rattle.sws_parts.specs.Parts.{front_of, unsent_bytes, after_sending}
-use Rattle.sws_steps.specs.Protocol.{Protocol, IsOrderly, Cut, Whole, TooLong, NotYet, Asked, request, too_long, later_unless, texts_of, followed, is_closed}
+use Rattle.sws_steps.specs.Protocol.{Protocol, IsOrderly, Cut, Whole, TooLong, NotYet, Asked, request, too_long, later_unless, texts_of, answers_from, is_closed}
 use Rattle.sws_steps.specs.ConnCore.{is_sent, ConnCoreState}
 use Rattle.sws_steps.specs.declared.End.{End}
 use Rattle.sws_steps.specs.declared.End.TheVariants as ending
 use Rattle.sws_steps.specs.declared.Next.{Next}
 use Rattle.sws_steps.specs.declared.Next.TheVariants as next
-use Rattle.sws_steps.specs.Step.{StepsFrom, ReadsOnce, WritesOnce, ShutsOnce, OverLink, going_to, ending_as, still_waiting, room_of, wait_limit, after_read, after_parse, answering, sending, is_last, after_look, after_part, after_wrote, after_write}
-use Rattle.sws_steps.specs.Sound.{unopened, IsReadyTo, IsBetween, IsToParse, IsToRead, IsToLook, IsToWrite}
-use Rattle.sws_steps.specs.Outcome.{Outcome, outcome_of, Input, Stop, at_end, at_limit, at_fault, at_pause, stopped, input_from, limited, cut_off, end_of, UnlessMemory}
+use Rattle.sws_steps.specs.Step.{StepsFrom, ReadsOnce, WritesOnce, ShutsOnce, OverLink, going_to, ending_as, still_waiting, room_of, wait_limit, after_read, after_parse, after_answer, with_answer, is_last, after_look, after_part, after_wrote, after_write}
+use Rattle.sws_steps.specs.Sound.{core_before_open, IsReadyTo, IsBetween, IsToParse, IsToRead, IsToLook, IsToWrite}
+use Rattle.sws_steps.specs.Outcome.{Outcome, outcome_of, Input, Stop, at_end, at_limit, at_fault, at_pause, empty_input, input_from, limit_input, cut_off, end_of, UnlessMemory}
 use Rattle.sws_steps.specs.RestOutcome.{ahead, rest_outcome, heading_by, input_by, input_to_come, waits_at, with_written, HeadsFor, HeadsForLink, HeadsByScript}
 use Rattle.sws_steps.specs.Serving.{EndsByScript, EndsAs}
 use Rattle.sws_steps.proofs.Inputs.PartLemmas.{sent-rest, nothing-rest, something-rest}
@@ -42,25 +42,25 @@ within_step-less (Some zero) count = omega arith
 within_step-less (Some (suc more)) count = omega arith
 
 wrote_script : (script now : Script) (size count : ℕ) → write.Wrote count ≡ (write_of script size).answer → now ≡ (write_of script size).script
-    → (now ≡ record script { cut = lowered script.cut count }) × FitsCut script.cut count
+    → (now ≡ record script { cut = left_of_limit script.cut count }) × FitsCut script.cut count
 unfolding FitsCut
 wrote_script script now size count answer is = by_cut script.cut refl answer is
   where
     by_cut : (cut : Option ℕ) → cut ≡ script.cut → write.Wrote count ≡ (write_by cut script size).answer → now ≡ (write_by cut script size).script
-        → (now ≡ record script { cut = lowered script.cut count }) × FitsCut script.cut count
+        → (now ≡ record script { cut = left_of_limit script.cut count }) × FitsCut script.cut count
     by_cut None e answer is =
         let same : count ≡ write_count script size = cc in
-        (is ∙ ap (λ n. record script { cut = lowered script.cut n }) (sym same), subst (λ o. FitsCut o count) e tt)
+        (is ∙ ap (λ n. record script { cut = left_of_limit script.cut n }) (sym same), subst (λ o. FitsCut o count) e tt)
     by_cut (Some zero) e answer is = cc
     by_cut (Some (suc limit)) e answer is =
         let same : count ≡ write_count script size = cc in
         let count_is : count ≡ within_step script.step (within (Some (suc limit)) size) = same ∙ ap (λ o. within_step script.step (within o size)) (sym e) in
         let less = within_step-less script.step (within (Some (suc limit)) size) in
-        (is ∙ ap (λ n. record script { cut = lowered script.cut n }) (sym same), subst (λ o. FitsCut o count) e (omega arith))
+        (is ∙ ap (λ n. record script { cut = left_of_limit script.cut n }) (sym same), subst (λ o. FitsCut o count) e (omega arith))
 
 -- what was written counts against the cut
 cut_off-append : (cut : Option ℕ) (front rest : List ℕ) (count : ℕ) (end : End) → count ≡ length front → FitsCut cut count
-    → with_written front (cut_off (lowered cut count) rest end) ≡ cut_off cut (front ++ rest) end
+    → with_written front (cut_off (left_of_limit cut count) rest end) ≡ cut_off cut (front ++ rest) end
 unfolding FitsCut
 cut_off-append None front rest count end long fits = refl
 cut_off-append (Some limit) front rest count end long fits = by_limit (nat_lt (limit - count) (length rest)) refl
@@ -110,14 +110,14 @@ module _ {Hall Answer : Type 0} (p : Protocol Hall Answer) (orderly : IsOrderly 
 
   -- the input that comes before a read
   input-read : (c : ConnCoreState Hall) (script : Script) → c.pending ≡ next.Read → c.input_ended ≡ false
-      → input_to_come p c script ≡ limited (p.input_limit - c.read) (input_from c.waits script.items)
+      → input_to_come p c script ≡ limit_input (p.input_limit - c.read) (input_from c.waits script.items)
   input-read c script pending goes_on =
-      ap (λ stage. limited (p.input_limit - c.read) (input_by c.input_ended (waits_at stage c.waits) script)) pending
-      ∙ ap (λ e. limited (p.input_limit - c.read) (input_by e c.waits script)) goes_on
+      ap (λ stage. limit_input (p.input_limit - c.read) (input_by c.input_ended (waits_at stage c.waits) script)) pending
+      ∙ ap (λ e. limit_input (p.input_limit - c.read) (input_by e c.waits script)) goes_on
 
   -- where the input stops at once, all ends as the stop says
   ahead-stopped : (c : ConnCoreState Hall) (cut : Option ℕ) (stop : Stop) → IsBetween p c → p.cut c.buffer ≡ NotYet
-      → ahead p c cut (stopped stop) ≡ record { bytes = []; end = end_of false stop }
+      → ahead p c cut (empty_input stop) ≡ record { bytes = []; end = end_of false stop }
   ahead-stopped c cut stop between not_yet =
       let none : later_unless c.closes (p.answers (p.answer_limit - c.answered) c.hall (c.buffer ++ [])) ≡ [] =
       ap (λ t. later_unless t (p.answers (p.answer_limit - c.answered) c.hall (c.buffer ++ []))) between.goes_on
@@ -141,44 +141,44 @@ module _ {Hall Answer : Type 0} (p : Protocol Hall Answer) (orderly : IsOrderly 
       let fits : length bytes ≤ p.input_limit - c.read = omega (arith, length-take count into) in
       let less : p.input_limit - (c.read + count) ≡ p.input_limit - c.read - length bytes = omega arith in
       heading-no_end (after_read c (read.Took count) into) now between.no_end
-      ∙ ap (λ (s : Script). ahead p (after_read c (read.Took count) into) s.cut (limited (p.input_limit - (c.read + count)) (input_by c.input_ended 0 s))) is
-      ∙ ap (λ e. ahead p (after_read c (read.Took count) into) script.cut (limited (p.input_limit - (c.read + count)) (input_by e 0 (record script { items = items })))) ready.goes_on
-      ∙ ap (λ n. ahead p (after_read c (read.Took count) into) script.cut (limited n (input_from 0 items))) less
+      ∙ ap (λ (s : Script). ahead p (after_read c (read.Took count) into) s.cut (limit_input (p.input_limit - (c.read + count)) (input_by c.input_ended 0 s))) is
+      ∙ ap (λ e. ahead p (after_read c (read.Took count) into) script.cut (limit_input (p.input_limit - (c.read + count)) (input_by e 0 (record script { items = items })))) ready.goes_on
+      ∙ ap (λ n. ahead p (after_read c (read.Took count) into) script.cut (limit_input n (input_from 0 items))) less
       ∙ ap (λ b. let later = later_unless c.closes (p.answers (p.answer_limit - c.answered) c.hall b) in
-      cut_off script.cut (unsent_bytes c.parts ++ texts_of p later) (end_of (c.closes || is_closed p later) (limited (p.input_limit - c.read - length bytes) (input_from 0 items)).stop))
-      (append_assoc c.buffer bytes (limited (p.input_limit - c.read - length bytes) (input_from 0 items)).bytes)
+      cut_off script.cut (unsent_bytes c.parts ++ texts_of p later) (end_of (c.closes || is_closed p later) (limit_input (p.input_limit - c.read - length bytes) (input_from 0 items)).stop))
+      (append_assoc c.buffer bytes (limit_input (p.input_limit - c.read - length bytes) (input_from 0 items)).bytes)
       ∙ ap (ahead p c script.cut) (sym (limited-preceded (p.input_limit - c.read) bytes (input_from 0 items) fits))
-      ∙ ap (λ i. ahead p c script.cut (limited (p.input_limit - c.read) i)) (sym gives.0)
+      ∙ ap (λ i. ahead p c script.cut (limit_input (p.input_limit - c.read) i)) (sym gives.0)
       ∙ ap (ahead p c script.cut) (sym (input-read c script pending ready.goes_on))
       ∙ sym (heading-no_end c script between.no_end)
   read_heading c script read.End into items pending ready gives size now is =
       let between = ready.between in
       heading-no_end (after_read c read.End into) now between.no_end
-      ∙ ap (λ (s : Script). ahead p c s.cut (limited (p.input_limit - c.read) (stopped at_end))) is
-      ∙ ap (λ i. ahead p c script.cut (limited (p.input_limit - c.read) i)) (sym gives)
+      ∙ ap (λ (s : Script). ahead p c s.cut (limit_input (p.input_limit - c.read) (empty_input at_end))) is
+      ∙ ap (λ i. ahead p c script.cut (limit_input (p.input_limit - c.read) i)) (sym gives)
       ∙ ap (ahead p c script.cut) (sym (input-read c script pending ready.goes_on))
       ∙ sym (heading-no_end c script between.no_end)
   read_heading c script read.Failed into items pending ready gives size now is =
       let room = ready.room in
       sym (ap (ahead p c script.cut) (input-read c script pending ready.goes_on
-      ∙ ap (limited (p.input_limit - c.read)) gives ∙ limited-stopped (p.input_limit - c.read) at_fault (omega arith))
+      ∙ ap (limit_input (p.input_limit - c.read)) gives ∙ limited-stopped (p.input_limit - c.read) at_fault (omega arith))
       ∙ ahead-stopped c script.cut at_fault ready.between ready.not_yet)
       ∙ sym (heading-no_end c script ready.between.no_end)
   read_heading c script read.NotReady into items pending ready gives size now is = by_limit (nat_le wait_limit (c.waits + 1)) gives
     where
-      by_limit : (all : Bool) → input_from c.waits script.items ≡ (if all then stopped at_pause else input_from (c.waits + 1) items)
+      by_limit : (all : Bool) → input_from c.waits script.items ≡ (if all then empty_input at_pause else input_from (c.waits + 1) items)
           → rest_outcome p (still_waiting c all) now ≡ rest_outcome p c script
       by_limit true gives =
           let room = ready.room in
           sym (ap (ahead p c script.cut) (input-read c script pending ready.goes_on
-          ∙ ap (limited (p.input_limit - c.read)) gives ∙ limited-stopped (p.input_limit - c.read) at_pause (omega arith))
+          ∙ ap (limit_input (p.input_limit - c.read)) gives ∙ limited-stopped (p.input_limit - c.read) at_pause (omega arith))
           ∙ ahead-stopped c script.cut at_pause ready.between ready.not_yet)
           ∙ sym (heading-no_end c script ready.between.no_end)
       by_limit false gives =
           heading-no_end (still_waiting c false) now ready.between.no_end
           ∙ ap (λ (s : Script). ahead p c s.cut (input_to_come p (still_waiting c false) s)) is
           ∙ ap (ahead p c script.cut) (input-read (still_waiting c false) (record script { items = items }) pending ready.goes_on
-          ∙ ap (limited (p.input_limit - c.read)) (sym gives) ∙ sym (input-read c script pending ready.goes_on))
+          ∙ ap (limit_input (p.input_limit - c.read)) (sym gives) ∙ sym (input-read c script pending ready.goes_on))
           ∙ sym (heading-no_end c script ready.between.no_end)
 
   -- ---- a look into the buffer
@@ -193,10 +193,10 @@ module _ {Hall Answer : Type 0} (p : Protocol Hall Answer) (orderly : IsOrderly 
       moved : (stage : Next) → waits_at stage c.waits ≡ 0 → rest_outcome p (going_to c stage) script ≡ rest_outcome p c script
       moved stage none =
           heading-no_end (going_to c stage) script between.no_end
-          ∙ ap (λ w. ahead p c script.cut (limited (p.input_limit - c.read) (input_by c.input_ended w script))) (none ∙ sym (ap (λ stage. waits_at stage c.waits) pending))
+          ∙ ap (λ w. ahead p c script.cut (limit_input (p.input_limit - c.read) (input_by c.input_ended w script))) (none ∙ sym (ap (λ stage. waits_at stage c.waits) pending))
           ∙ sym (heading-no_end c script between.no_end)
 
-      done : (stop : Stop) → end_of false stop ≡ ending.Done → p.cut c.buffer ≡ NotYet → input_to_come p c script ≡ stopped stop
+      done : (stop : Stop) → end_of false stop ≡ ending.Done → p.cut c.buffer ≡ NotYet → input_to_come p c script ≡ empty_input stop
           → rest_outcome p (ending_as c ending.Done) script ≡ rest_outcome p c script
       done stop is_done not_yet is = sym (
           heading-no_end c script between.no_end ∙ ap (ahead p c script.cut) is ∙ ahead-stopped c script.cut stop between not_yet
@@ -211,14 +211,14 @@ module _ {Hall Answer : Type 0} (p : Protocol Hall Answer) (orderly : IsOrderly 
 
           all : rest_outcome p (ending_as c ending.Done) script ≡ rest_outcome p c script
           all = done at_limit refl (sym none)
-              (ap (λ n. limited n (input_by c.input_ended (waits_at c.pending c.waits) script)) left ∙ limited-zero (input_by c.input_ended (waits_at c.pending c.waits) script))
+              (ap (λ n. limit_input n (input_by c.input_ended (waits_at c.pending c.waits) script)) left ∙ limited-zero (input_by c.input_ended (waits_at c.pending c.waits) script))
 
           by_ended : (ended : Bool) → rest_outcome p (if ended || true then ending_as c ending.Done else going_to c next.Read) script ≡ rest_outcome p c script
           by_ended true = all
           by_ended false = all
       by_input true false e f none = done at_end refl (sym none)
           (let lt = leb-false p.input_limit c.read (sym f) in
-          ap (λ t. limited (p.input_limit - c.read) (input_by t (waits_at c.pending c.waits) script)) (sym e) ∙ limited-stopped (p.input_limit - c.read) at_end (omega arith))
+          ap (λ t. limit_input (p.input_limit - c.read) (input_by t (waits_at c.pending c.waits) script)) (sym e) ∙ limited-stopped (p.input_limit - c.read) at_end (omega arith))
       by_input false false e f none = moved next.Read ready.no_waits
 
       by_cut : (cut : Cut) → cut ≡ p.cut c.buffer → rest_outcome p (after_parse p c cut) script ≡ rest_outcome p c script
@@ -240,15 +240,15 @@ module _ {Hall Answer : Type 0} (p : Protocol Hall Answer) (orderly : IsOrderly 
   -- an answer comes first of what is ahead
   ahead-answer : (c : ConnCoreState Hall) (cut : Option ℕ) (answer : Answer) (rest : List ℕ) (input : Input) → IsBetween p c
       → p.answers (p.answer_limit - c.answered) c.hall (c.buffer ++ input.bytes)
-      ≡ followed p answer (p.answers (p.answer_limit - (c.answered + 1)) c.hall (rest ++ input.bytes))
-      → ahead p (sending p c answer rest) cut input ≡ ahead p c cut input
+      ≡ answers_from p answer (p.answers (p.answer_limit - (c.answered + 1)) c.hall (rest ++ input.bytes))
+      → ahead p (with_answer p c answer rest) cut input ≡ ahead p c cut input
   ahead-answer c cut answer rest input between first =
       let later = p.answers (p.answer_limit - (c.answered + 1)) c.hall (rest ++ input.bytes) in
-      let all : later_unless c.closes (p.answers (p.answer_limit - c.answered) c.hall (c.buffer ++ input.bytes)) ≡ followed p answer later =
+      let all : later_unless c.closes (p.answers (p.answer_limit - c.answered) c.hall (c.buffer ++ input.bytes)) ≡ answers_from p answer later =
       ap (λ t. later_unless t (p.answers (p.answer_limit - c.answered) c.hall (c.buffer ++ input.bytes))) between.goes_on ∙ first in
       ap (λ o. cut_off cut o (end_of (p.closes answer || is_closed p (later_unless (p.closes answer) later)) input.stop)) refl
-      ∙ ap (λ r. cut_off cut (r ++ texts_of p (followed p answer later)) (end_of (false || is_closed p (followed p answer later)) input.stop)) (sym (nothing-rest c.parts between.nothing))
-      ∙ ap (λ t. cut_off cut (unsent_bytes c.parts ++ texts_of p (followed p answer later)) (end_of (t || is_closed p (followed p answer later)) input.stop)) (sym between.goes_on)
+      ∙ ap (λ r. cut_off cut (r ++ texts_of p (answers_from p answer later)) (end_of (false || is_closed p (answers_from p answer later)) input.stop)) (sym (nothing-rest c.parts between.nothing))
+      ∙ ap (λ t. cut_off cut (unsent_bytes c.parts ++ texts_of p (answers_from p answer later)) (end_of (t || is_closed p (answers_from p answer later)) input.stop)) (sym between.goes_on)
       ∙ ap (λ (l : List Answer). cut_off cut (unsent_bytes c.parts ++ texts_of p l) (end_of (c.closes || is_closed p l) input.stop)) (sym all)
 
   look_heading : (c : ConnCoreState Hall) (script : Script) → c.pending ≡ next.Look → IsToLook p c → rest_outcome p (after_look p c (p.cut c.buffer)) script ≡ rest_outcome p c script
@@ -258,38 +258,38 @@ module _ {Hall Answer : Type 0} (p : Protocol Hall Answer) (orderly : IsOrderly 
       between = ready.between
 
       input : Input
-      input = limited (p.input_limit - c.read) (input_by c.input_ended 0 script)
+      input = limit_input (p.input_limit - c.read) (input_by c.input_ended 0 script)
 
       same_input : input_to_come p c script ≡ input
-      same_input = ap (λ stage. limited (p.input_limit - c.read) (input_by c.input_ended (waits_at stage c.waits) script)) pending
+      same_input = ap (λ stage. limit_input (p.input_limit - c.read) (input_by c.input_ended (waits_at stage c.waits) script)) pending
 
       -- whatever is next
       answered : (asked : Asked) (rest : List ℕ)
           → p.answers (p.answer_limit - c.answered) c.hall (c.buffer ++ input.bytes)
-          ≡ followed p (p.answer c.hall asked (is_last p c)) (p.answers (p.answer_limit - (c.answered + 1)) c.hall (rest ++ input.bytes))
-          → rest_outcome p (answering p c (p.answer c.hall asked (is_last p c)) rest) script ≡ rest_outcome p c script
+          ≡ answers_from p (p.answer c.hall asked (is_last p c)) (p.answers (p.answer_limit - (c.answered + 1)) c.hall (rest ++ input.bytes))
+          → rest_outcome p (after_answer p c (p.answer c.hall asked (is_last p c)) rest) script ≡ rest_outcome p c script
       answered asked rest first =
           by_bytes (p.is_empty (p.answer c.hall asked (is_last p c))) (p.closes (p.answer c.hall asked (is_last p c))) refl refl
         where
-          same : ahead p (sending p c (p.answer c.hall asked (is_last p c)) rest) script.cut input ≡ rest_outcome p c script
+          same : ahead p (with_answer p c (p.answer c.hall asked (is_last p c)) rest) script.cut input ≡ rest_outcome p c script
           same = ahead-answer c script.cut (p.answer c.hall asked (is_last p c)) rest input between first
               ∙ ap (ahead p c script.cut) (sym same_input)
               ∙ sym (heading-no_end c script between.no_end)
 
           goes_on : (stage : Next) → waits_at stage c.waits ≡ 0
-              → rest_outcome p (record (sending p c (p.answer c.hall asked (is_last p c)) rest) { pending = stage }) script ≡ rest_outcome p c script
+              → rest_outcome p (record (with_answer p c (p.answer c.hall asked (is_last p c)) rest) { pending = stage }) script ≡ rest_outcome p c script
           goes_on stage none =
-              heading-no_end (record (sending p c (p.answer c.hall asked (is_last p c)) rest) { pending = stage }) script between.no_end
-              ∙ ap (λ w. ahead p (sending p c (p.answer c.hall asked (is_last p c)) rest) script.cut
-              (limited (p.input_limit - c.read) (input_by c.input_ended w script))) none
+              heading-no_end (record (with_answer p c (p.answer c.hall asked (is_last p c)) rest) { pending = stage }) script between.no_end
+              ∙ ap (λ w. ahead p (with_answer p c (p.answer c.hall asked (is_last p c)) rest) script.cut
+              (limit_input (p.input_limit - c.read) (input_by c.input_ended w script))) none
               ∙ same
 
           by_bytes : (empty closes : Bool) → empty ≡ p.is_empty (p.answer c.hall asked (is_last p c)) → closes ≡ p.closes (p.answer c.hall asked (is_last p c))
-              → rest_outcome p (after_part empty closes (sending p c (p.answer c.hall asked (is_last p c)) rest)) script ≡ rest_outcome p c script
+              → rest_outcome p (after_part empty closes (with_answer p c (p.answer c.hall asked (is_last p c)) rest)) script ≡ rest_outcome p c script
           by_bytes false closes e f = goes_on next.Write refl
           by_bytes true false e f = goes_on next.Parse refl
           by_bytes true true e f =
-              sym (ahead-sent (sending p c (p.answer c.hall asked (is_last p c)) rest) script.cut input
+              sym (ahead-sent (with_answer p c (p.answer c.hall asked (is_last p c)) rest) script.cut input
               (sym (e ∙ orderly.empty_is c.hall asked (is_last p c))) (sym f))
               ∙ same
 
@@ -305,7 +305,7 @@ module _ {Hall Answer : Type 0} (p : Protocol Hall Answer) (orderly : IsOrderly 
 
   -- some of the parts moves from what is ahead to what was written
   ahead-wrote : (c : ConnCoreState Hall) (cut : Option ℕ) (count : ℕ) (input : Input) → count ≤ length (front_of c.parts) → FitsCut cut count
-      → with_written (take count (front_of c.parts)) (ahead p (record c { parts = after_sending count c.parts }) (lowered cut count) input) ≡ ahead p c cut input
+      → with_written (take count (front_of c.parts)) (ahead p (record c { parts = after_sending count c.parts }) (left_of_limit cut count) input) ≡ ahead p c cut input
   ahead-wrote c cut count input le fits =
       let later = later_unless c.closes (p.answers (p.answer_limit - c.answered) c.hall (c.buffer ++ input.bytes)) in
       let end = end_of (c.closes || is_closed p later) input.stop in
@@ -315,7 +315,7 @@ module _ {Hall Answer : Type 0} (p : Protocol Hall Answer) (orderly : IsOrderly 
       ∙ ap (λ r. r ++ texts_of p later) (sent-rest c.parts count le))
 
   wrote_heading : (c : ConnCoreState Hall) (script now : Script) (count : ℕ) → c.pending ≡ next.Write → IsToWrite p c → count ≤ length (front_of c.parts)
-      → FitsCut script.cut count → now ≡ record script { cut = lowered script.cut count }
+      → FitsCut script.cut count → now ≡ record script { cut = left_of_limit script.cut count }
       → with_written (take count (front_of c.parts)) (rest_outcome p (after_wrote c (after_sending count c.parts) count) now) ≡ rest_outcome p c script
   wrote_heading c script now count pending ready le fits is = by_rest (is_sent (after_sending count c.parts)) c.closes refl refl
     where
@@ -323,26 +323,26 @@ module _ {Hall Answer : Type 0} (p : Protocol Hall Answer) (orderly : IsOrderly 
       front = take count (front_of c.parts)
 
       input : Input
-      input = limited (p.input_limit - c.read) (input_by c.input_ended 0 script)
+      input = limit_input (p.input_limit - c.read) (input_by c.input_ended 0 script)
 
       same_input : input_to_come p c script ≡ input
-      same_input = ap (λ stage. limited (p.input_limit - c.read) (input_by c.input_ended (waits_at stage c.waits) script)) pending
+      same_input = ap (λ stage. limit_input (p.input_limit - c.read) (input_by c.input_ended (waits_at stage c.waits) script)) pending
 
       goes_on : (stage : Next) → waits_at stage 0 ≡ 0
           → with_written front (rest_outcome p (record c { parts = after_sending count c.parts; written = c.written + count; waits = 0; pending = stage }) now) ≡ rest_outcome p c script
       goes_on stage none =
           ap (with_written front) (
           heading-no_end (record c { parts = after_sending count c.parts; written = c.written + count; waits = 0; pending = stage }) now ready.no_end
-          ∙ ap (λ (s : Script). ahead p (record c { parts = after_sending count c.parts }) s.cut (limited (p.input_limit - c.read) (input_by c.input_ended (waits_at stage 0) s))) is
-          ∙ ap (λ w. ahead p (record c { parts = after_sending count c.parts }) (lowered script.cut count)
-          (limited (p.input_limit - c.read) (input_by c.input_ended w (record script { cut = lowered script.cut count })))) none
-          ∙ ap (ahead p (record c { parts = after_sending count c.parts }) (lowered script.cut count)) (by_ended c.input_ended))
+          ∙ ap (λ (s : Script). ahead p (record c { parts = after_sending count c.parts }) s.cut (limit_input (p.input_limit - c.read) (input_by c.input_ended (waits_at stage 0) s))) is
+          ∙ ap (λ w. ahead p (record c { parts = after_sending count c.parts }) (left_of_limit script.cut count)
+          (limit_input (p.input_limit - c.read) (input_by c.input_ended w (record script { cut = left_of_limit script.cut count })))) none
+          ∙ ap (ahead p (record c { parts = after_sending count c.parts }) (left_of_limit script.cut count)) (by_ended c.input_ended))
           ∙ ahead-wrote c script.cut count input le fits
           ∙ ap (ahead p c script.cut) (sym same_input)
           ∙ sym (heading-no_end c script ready.no_end)
         where
-          by_ended : (ended : Bool) → limited (p.input_limit - c.read) (input_by ended 0 (record script { cut = lowered script.cut count }))
-              ≡ limited (p.input_limit - c.read) (input_by ended 0 script)
+          by_ended : (ended : Bool) → limit_input (p.input_limit - c.read) (input_by ended 0 (record script { cut = left_of_limit script.cut count }))
+              ≡ limit_input (p.input_limit - c.read) (input_by ended 0 script)
           by_ended true = refl
           by_ended false = refl
 
@@ -351,8 +351,8 @@ module _ {Hall Answer : Type 0} (p : Protocol Hall Answer) (orderly : IsOrderly 
       by_rest false closes e f = goes_on c.pending (ap (λ stage. waits_at stage 0) pending)
       by_rest true false e f = goes_on next.Parse refl
       by_rest true true e f =
-          let all : ahead p (record c { parts = after_sending count c.parts }) (lowered script.cut count) input ≡ record { bytes = []; end = ending.Done } =
-          ahead-sent (record c { parts = after_sending count c.parts }) (lowered script.cut count) input (sym e) (sym f) in
+          let all : ahead p (record c { parts = after_sending count c.parts }) (left_of_limit script.cut count) input ≡ record { bytes = []; end = ending.Done } =
+          ahead-sent (record c { parts = after_sending count c.parts }) (left_of_limit script.cut count) input (sym e) (sym f) in
           ap (with_written front) (sym all)
           ∙ ahead-wrote c script.cut count input le fits
           ∙ ap (ahead p c script.cut) (sym same_input)
@@ -514,12 +514,12 @@ module _ {Hall Answer : Type 0} (p : Protocol Hall Answer) (orderly : IsOrderly 
   -- ---- the start and the end
 
   -- a connection that was opened comes to the outcome
-  pub heading-opened : (hall : Hall) (script : Script) → rest_outcome p (going_to (unopened hall) next.Read) script ≡ outcome_of p hall script
+  pub heading-opened : (hall : Hall) (script : Script) → rest_outcome p (going_to (core_before_open hall) next.Read) script ≡ outcome_of p hall script
   heading-opened hall script =
-      let input = limited p.input_limit (input_from 0 script.items) in
+      let input = limit_input p.input_limit (input_from 0 script.items) in
       let given : p.answers_to hall input.bytes ≡ p.answers p.answer_limit hall input.bytes =
       orderly.all hall input.bytes ∙ ap (p.answers p.answer_limit hall) (take_all p.input_limit input.bytes (limited-few p.input_limit (input_from 0 script.items))) in
-      ap (λ n. ahead p (going_to (unopened hall) next.Read) script.cut (limited n (input_from 0 script.items))) (let whole : p.input_limit - 0 ≡ p.input_limit = omega arith in whole)
+      ap (λ n. ahead p (going_to (core_before_open hall) next.Read) script.cut (limit_input n (input_from 0 script.items))) (let whole : p.input_limit - 0 ≡ p.input_limit = omega arith in whole)
       ∙ ap (λ n. cut_off script.cut (texts_of p (p.answers n hall input.bytes)) (end_of (is_closed p (p.answers n hall input.bytes)) input.stop))
       (let whole : p.answer_limit - 0 ≡ p.answer_limit = omega arith in whole)
       ∙ ap (λ given. cut_off script.cut (texts_of p given) (end_of (is_closed p given) input.stop)) (sym given)
@@ -551,14 +551,14 @@ module _ {Hall Answer : Type 0} (p : Protocol Hall Answer) (orderly : IsOrderly 
 
   -- a link that tells its answers to come, and of which nothing was written
   pub heads_start : (hall : Hall) (tells : LinkTells) (script : Script) → tells.to_come ≡ Some script → tells.written ≡ []
-      → HeadsFor p (Some tells) (going_to (unopened hall) next.Read) (outcome_of p hall script)
+      → HeadsFor p (Some tells) (going_to (core_before_open hall) next.Read) (outcome_of p hall script)
   heads_start hall tells script to_come none =
-      subst (λ s. HeadsByScript p s tells.written (going_to (unopened hall) next.Read) (outcome_of p hall script)) (sym to_come)
-      (ap (λ w. with_written w (rest_outcome p (going_to (unopened hall) next.Read) script)) none ∙ heading-opened hall script)
+      subst (λ s. HeadsByScript p s tells.written (going_to (core_before_open hall) next.Read) (outcome_of p hall script)) (sym to_come)
+      (ap (λ w. with_written w (rest_outcome p (going_to (core_before_open hall) next.Read) script)) none ∙ heading-opened hall script)
 
   -- a connection that comes to the outcome from the start comes to it at the end
   pub ends_as : (hall : Hall) (first now : Option LinkTells) (c : ConnCoreState Hall) (end : End) → IsFresh first → c.end ≡ Some end
-      → ((o : Outcome) → HeadsFor p first (going_to (unopened hall) next.Read) o → HeadsFor p now c o) → EndsAs p hall first now end
+      → ((o : Outcome) → HeadsFor p first (going_to (core_before_open hall) next.Read) o → HeadsFor p now c o) → EndsAs p hall first now end
   ends_as hall None now c end fresh is heads = tt
   ends_as hall (Some tells) now c end fresh is heads = by_script tells.to_come refl
     where

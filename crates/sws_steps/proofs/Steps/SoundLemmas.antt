@@ -10,13 +10,13 @@ use Rattle.sws_link.specs.declared.LinkWrite.TheVariants as write
 use Rattle.sws_link.specs.Contents.{IsPrefix}
 use Rattle.sws_link.specs.Links.{LinkTells, LinkTakes, LinkPuts, Reads, Writes, given_by, IsWritten}
 use Rattle.sws_parts.specs.Parts.{front_of, unsent_bytes, after_sending}
-use Rattle.sws_steps.specs.Protocol.{Protocol, IsOrderly, Cut, Whole, TooLong, NotYet, Asked, request, too_long, later_unless, text_of, texts_of, followed, is_closed}
+use Rattle.sws_steps.specs.Protocol.{Protocol, IsOrderly, Cut, Whole, TooLong, NotYet, Asked, request, too_long, later_unless, text_of, texts_of, answers_from, is_closed}
 use Rattle.sws_steps.specs.ConnCore.{is_sent, ConnCoreState}
 use Rattle.sws_steps.specs.declared.End.{End}
 use Rattle.sws_steps.specs.declared.End.TheVariants as ending
 use Rattle.sws_steps.specs.declared.Next.{Next}
 use Rattle.sws_steps.specs.declared.Next.TheVariants as next
-use Rattle.sws_steps.specs.Step.{StepsFrom, ReadsOnce, WritesOnce, ShutsOnce, OverLink, going_to, ending_as, still_waiting, room_of, wait_limit, has_all_input, after_read, after_parse, answering, sending, is_last, after_look, after_part, after_write}
+use Rattle.sws_steps.specs.Step.{StepsFrom, ReadsOnce, WritesOnce, ShutsOnce, OverLink, going_to, ending_as, still_waiting, room_of, wait_limit, has_all_input, after_read, after_parse, after_answer, with_answer, is_last, after_look, after_part, after_write}
 use Rattle.sws_steps.specs.Sound.{IsSound, IsShutAtEnd, is_over, IsEnded, Progress, IsToldBy, IsTold, IsUncut, IsReadyTo, IsLinked, IsBetween, IsToRead, IsToLook, IsToWrite}
 use Rattle.sws_steps.proofs.Inputs.PartLemmas.{sent-rest, nothing-rest}
 use Rattle.sws_steps.proofs.Inputs.AnswerLemmas.{first-whole, first-refused}
@@ -101,9 +101,9 @@ module _ {Hall Answer : Type 0} (p : Protocol Hall Answer) (orderly : IsOrderly 
   -- one more request was answered: the bytes of it left the buffer, and it is answered first, whatever comes behind it
   course_answered : (c : ConnCoreState Hall) (taken sent head rest : List ℕ) (answer : Answer) → IsBetween p c → c.buffer ≡ head ++ rest
       → ((more : List ℕ) → p.answers (p.answer_limit - c.answered) c.hall (head ++ more)
-      ≡ followed p answer (p.answers (p.answer_limit - (c.answered + 1)) c.hall more))
+      ≡ answers_from p answer (p.answers (p.answer_limit - (c.answered + 1)) c.hall more))
       → length (text_of p answer) ≤ p.text_limit
-      → Progress p c taken sent → Progress p (sending p c answer rest) taken sent
+      → Progress p c taken sent → Progress p (with_answer p c answer rest) taken sent
   course_answered c taken sent head rest answer between split first few k = record {
     consumed = k.consumed ++ head;
     given = k.given ++ answer ∷ [];
@@ -274,48 +274,48 @@ module _ {Hall Answer : Type 0} (p : Protocol Hall Answer) (orderly : IsOrderly 
         not_over = ap is_over (sym pending)
 
         -- what follows from a course that goes on with an answer, whatever is next
-        sent : (asked : Asked) (rest : List ℕ) → Progress p (sending p c (p.answer c.hall asked (is_last p c)) rest) s.taken s.sent
+        sent : (asked : Asked) (rest : List ℕ) → Progress p (with_answer p c (p.answer c.hall asked (is_last p c)) rest) s.taken s.sent
             → (pending : Next) (end : Option End)
-            → IsReadyTo p pending (record (sending p c (p.answer c.hall asked (is_last p c)) rest) { pending = pending; end = end })
+            → IsReadyTo p pending (record (with_answer p c (p.answer c.hall asked (is_last p c)) rest) { pending = pending; end = end })
             → IsLinked pending link → is_over pending ≡ false
-            → IsSoundAt p x (record (sending p c (p.answer c.hall asked (is_last p c)) rest) { pending = pending; end = end }) link
+            → IsSoundAt p x (record (with_answer p c (p.answer c.hall asked (is_last p c)) rest) { pending = pending; end = end }) link
         sent asked rest course pending end ready linked over = record {
           taken = s.taken;
           sent = s.sent;
           ready = ready;
           linked = linked;
           shut = shut_on c.pending pending link (over ∙ not_over) s.shut;
-          course = course_goes_on (sending p c (p.answer c.hall asked (is_last p c)) rest) s.taken s.sent pending end c.waits c.input_ended course;
+          course = course_goes_on (with_answer p c (p.answer c.hall asked (is_last p c)) rest) s.taken s.sent pending end c.waits c.input_ended course;
           told = by_link link s.told;
         }
           where
             by_tells : (tells : Option LinkTells) → IsTold c tells s.taken s.sent
-                → IsTold (record (sending p c (p.answer c.hall asked (is_last p c)) rest) { pending = pending; end = end }) tells s.taken s.sent
+                → IsTold (record (with_answer p c (p.answer c.hall asked (is_last p c)) rest) { pending = pending; end = end }) tells s.taken s.sent
             by_tells None told = tt
             by_tells (Some tells) told = (
               told.0,
               record {
                 front = [];
                 is = told_sent c tells s.taken s.sent look.between.no_end told ∙ sym (append-nil s.sent);
-                prefix = (front_of (sending p c (p.answer c.hall asked (is_last p c)) rest).parts, refl);
+                prefix = (front_of (with_answer p c (p.answer c.hall asked (is_last p c)) rest).parts, refl);
                 none = λ u. refl;
               },
               told.2,
             )
 
             by_link : (link : Option L) → IsToldBy x c link s.taken s.sent
-                → IsToldBy x (record (sending p c (p.answer c.hall asked (is_last p c)) rest) { pending = pending; end = end }) link s.taken s.sent
+                → IsToldBy x (record (with_answer p c (p.answer c.hall asked (is_last p c)) rest) { pending = pending; end = end }) link s.taken s.sent
             by_link None told = told
             by_link (Some l) told = by_tells (x.tells l) told
 
-        answered : (asked : Asked) (rest : List ℕ) → Progress p (sending p c (p.answer c.hall asked (is_last p c)) rest) s.taken s.sent
-            → IsSoundAt p x (answering p c (p.answer c.hall asked (is_last p c)) rest) link
+        answered : (asked : Asked) (rest : List ℕ) → Progress p (with_answer p c (p.answer c.hall asked (is_last p c)) rest) s.taken s.sent
+            → IsSoundAt p x (after_answer p c (p.answer c.hall asked (is_last p c)) rest) link
         answered asked rest course =
             by_bytes (p.is_empty (p.answer c.hall asked (is_last p c))) (p.closes (p.answer c.hall asked (is_last p c)))
             (answering-ready p orderly c asked rest look.between)
           where
-            by_bytes : (empty closes : Bool) → Ready p (after_part empty closes (sending p c (p.answer c.hall asked (is_last p c)) rest))
-                → IsSoundAt p x (after_part empty closes (sending p c (p.answer c.hall asked (is_last p c)) rest)) link
+            by_bytes : (empty closes : Bool) → Ready p (after_part empty closes (with_answer p c (p.answer c.hall asked (is_last p c)) rest))
+                → IsSoundAt p x (after_part empty closes (with_answer p c (p.answer c.hall asked (is_last p c)) rest)) link
             by_bytes false closes ready = sent asked rest course next.Write c.end ready some refl
             by_bytes true true ready = sent asked rest course next.Close (Some ending.Done) ready some refl
             by_bytes true false ready = sent asked rest course next.Parse c.end ready some refl

@@ -1,27 +1,31 @@
-use Rattle.std.proofs.Common.{◌≡◌, ◌+◌, ◌*◌, ◌-◌, ◌∙◌, sym, ap, subst, get_or, length, take, arith, rules, length-take}
+use Rattle.std.proofs.Common.{◌≡◌, ℕ, ◌+◌, ◌*◌, ◌-◌, ◌^◌, ◌<◌, ◌∙◌, List, sym, ap, subst, get_or, length, take, lit<, arith, rules, length-take}
 use Rattle.std.proofs.lemmas.List.{take_all}
 use Rattle.std.proofs.lemmas.Int.Digits.{digits_value_more, digits_more}
 use Rattle.std.specs.Char.{IsAsciiDigit, IsNotAsciiDigit}
 use Rattle.std.specs.Fmt.{decimal}
 use Rattle.std.specs.Str.Parse.{digits_value, AllDigits}
-use Rattle.mely_check.proofs.NumberLemmas.{AreDigits, value_of, no_number, no_digit, value_small, decimal_value, digit_is}
+use Rattle.sws_text.proofs.NumberLemmas.{AreDigits, value_of, no_number, no_digit, value_small, decimal_value, digit_is}
 use Rattle.mely_check.proofs.reading.digits_value.Goals as goal
 use Rattle.mely_check.proofs.reading.digits_value.Goals.{then-is_empty-via-then-is_empty, then-is_empty-via-else-is_empty+then-word-gt-MAX_DIGITS, else-word-gt1-via-then-word-gt1+else-word-eq48, else-word-gt1-via-else-word-gt1}
 
+-- a word that has not the digits of such a number is none
+none : (word : List ℕ) (n : ℕ) → (AreDigits 20 word → ⊥) → word ≡ decimal n → n < 2 ^ 64 → ⊥
+none word n not is small = no_number 20 word n not is (lit< tt) (omega arith) (omega arith)
+
 pub returns-then-is_empty : goal.returns-then-is_empty
-returns-then-is_empty c n = no_number c.args.word.now n (λ are.
+returns-then-is_empty c n = none c.args.word.now n (λ are.
     elim c.then-is_empty.branch [
       | then-is_empty-via-then-is_empty w ↦ let some = are.some in let none : length c.args.word.now ≡ 0 = search rules in omega arith
       | then-is_empty-via-else-is_empty+then-word-gt-MAX_DIGITS w ↦ let few = are.few in omega arith
     ])
 
 pub returns-then-word-eq48 : goal.returns-then-word-eq48
-returns-then-word-eq48 c n = no_number c.args.word.now n (λ are. let one = are.no_zero c.if-word-eq48.true in omega arith)
+returns-then-word-eq48 c n = none c.args.word.now n (λ are. let one = are.no_zero c.if-word-eq48.true in omega arith)
 
 pub returns-then-not-is_ascii_digit : goal.returns-then-not-is_ascii_digit
 returns-then-not-is_ascii_digit c n =
     let not : IsNotAsciiDigit (get_or c.args.word.now c.loop-digit.digit-index 0) = search rules in
-    no_number c.args.word.now n (no_digit c.args.word.now c.loop-digit.digit-index c.loop-digit-test.true not)
+    none c.args.word.now n (no_digit c.args.word.now c.loop-digit.digit-index c.loop-digit-test.true not)
 
 pub overflow_mul-value : goal.overflow_mul-value
 overflow_mul-value c =
@@ -48,7 +52,7 @@ loop-digit-preserved c =
 pub returns : goal.returns
 returns c =
     let whole : take c.loop-digit.digit-index c.args.word.now ≡ c.args.word.now = take_all c.loop-digit.digit-index c.args.word.now (omega arith) in
-    let are : AreDigits c.args.word.now = record {
+    let are : AreDigits 20 c.args.word.now = record {
       some = let empty : (length c.args.word.now ≡ 0) → ⊥ = search rules in omega arith;
       few = omega arith;
       digits = subst (AllDigits 10) whole c.loop-digit.invariant.digits;

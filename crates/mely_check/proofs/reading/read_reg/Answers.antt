@@ -1,5 +1,5 @@
 use Rattle.std.proofs.Common.{[], ◌∷◌, ◌++◌, ◌<◌, arith}
-use Rattle.sws_report.specs.Numbers.{spaced}
+use Rattle.sws_report.specs.Numbers.{space_number}
 use Rattle.mely_check.proofs.ReadingLemmas.{second_is, last_is, reg_behind}
 use Rattle.mely_check.proofs.reading.read_reg.Goals as goal
 
@@ -10,8 +10,8 @@ returns-in_err-handler c =
     let read = c.in_ok-colour.ensures in
     let low : 32 < 48 = omega arith in
     let handler = fit.1 in
-    c.in_err-handler.ensures event.handler (spaced event.arg ++ (spaced by ++ 10 ∷ [])) (omega arith) low
-    (second_is c.args.text.now c.in_ok-colour.rest.now (spaced event.arg ++ (spaced by ++ 10 ∷ [])) c.in_ok-colour.colour colour.0 event.handler read.0 fit.0 read.1 read.2
+    c.in_err-handler.ensures event.handler (space_number event.arg ++ (space_number by ++ 10 ∷ [])) (omega arith) low
+    (second_is c.args.text.now c.in_ok-colour.rest.now (space_number event.arg ++ (space_number by ++ 10 ∷ [])) c.in_ok-colour.colour colour.0 event.handler read.0 fit.0 read.1 read.2
     (reg_behind c.args.text.now colour event by is)))
 
 pub returns-in_err-arg : goal.returns-in_err-arg
@@ -23,6 +23,6 @@ returns-in_err-arg c =
     let low : 32 < 48 = omega arith in
     let handler = fit.1 in
     c.in_err-arg.ensures event.arg by fit.2 fit.3
-    (last_is c.in_ok-colour.rest.now c.in_ok-handler.rest.now (spaced event.arg ++ (spaced by ++ 10 ∷ [])) c.in_ok-handler.handler event.handler 255 next.0 (omega arith) (omega arith) next.1 low next.2
-    (second_is c.args.text.now c.in_ok-colour.rest.now (spaced event.arg ++ (spaced by ++ 10 ∷ [])) c.in_ok-colour.colour colour.0 event.handler read.0 fit.0 read.1 read.2
+    (last_is c.in_ok-colour.rest.now c.in_ok-handler.rest.now (space_number event.arg ++ (space_number by ++ 10 ∷ [])) c.in_ok-handler.handler event.handler 255 next.0 (omega arith) (omega arith) next.1 low next.2
+    (second_is c.args.text.now c.in_ok-colour.rest.now (space_number event.arg ++ (space_number by ++ 10 ∷ [])) c.in_ok-colour.colour colour.0 event.handler read.0 fit.0 read.1 read.2
     (reg_behind c.args.text.now colour event by is))))

@@ -1,5 +1,5 @@
 use Rattle.std.proofs.Common.{[], ◌∷◌, ◌++◌}
-use Rattle.sws_report.specs.Numbers.{spaced}
+use Rattle.sws_report.specs.Numbers.{space_number}
 use Rattle.mely_check.proofs.ReadingLemmas.{second_is}
 use Rattle.mely_check.proofs.reading.three.Goals as goal
 
@@ -9,4 +9,4 @@ returns-in_err-second c =
     (λ a b d few_a few_b few_d is.
     let read = c.in_ok-first.ensures in
     c.in_err-second.ensures b d few_b few_d
-    (second_is c.args.text.now c.in_ok-first.rest.now (spaced d ++ 10 ∷ []) c.in_ok-first.first a b read.0 few_a read.1 read.2 is))
+    (second_is c.args.text.now c.in_ok-first.rest.now (space_number d ++ 10 ∷ []) c.in_ok-first.first a b read.0 few_a read.1 read.2 is))

@@ -1,4 +1,4 @@
-use Rattle.std.proofs.Common.{◌≡◌, ◌≤◌, ◌<◌, ◌+◌, ◌++◌, ◌∷◌, [], Some, length, ap, ◌∙◌, sym, subst, arith}
+use Rattle.std.proofs.Common.{◌≡◌, ◌≤◌, ◌++◌, ◌∷◌, [], Some, length, take, drop, ap, ◌∙◌, sym, subst, arith}
 use Rattle.std.specs.Prelude.{slice_get}
 use Rattle.mely_history.specs.declared.setup.Setup.{Setup}
 use Rattle.mely_history.specs.Setup.{shape_of, colours_of}
@@ -9,60 +9,54 @@ use Rattle.mely_fleet.specs.Frames.{shard_frame}
 use Rattle.mely_fleet.specs.Seats.{IsOutsider}
 use Rattle.mely_fleet.proofs.CrewLemmas.{there_of, the_only, refilled, gathered_frame}
 use Rattle.mely_fleet.proofs.crew.run_crew.Goals as goal
+use Rattle.mely_fleet.proofs.crew.run_crew.Goals.{In-Ok, After-push_reserved, After-close_home-weave}
 
-pub post-requires-clause-fits : goal.post-requires-clause-fits
-post-requires-clause-fits g c =
+-- what holds of the setup and the frame of each first state holds of the fleet's
+of_fleet : (g : _) (c : In-Ok g) (Has : Setup → _ → Type 0) → ((state : _) → slice_get c.args.states.items 0 ≡ Some state → Has c.args.setup.now (g.S.Trail.frame_of state)) → Has c.in-Ok.crew.fleet.setup (frame_in (shard_frame g.S.Trail.frame_of) c.in-Ok.crew.fleet)
+of_fleet g c Has first =
     let some : 1 ≤ colours_of c.args.setup.now = c.args.setup.now.colours_in.0 in
     let all = c.requires.first.all in
     let state = there_of c.args.states.items 0 (omega (arith, some, all)) in
-    let framed = c.in-Ok.ensures.framed state.0 state.1 in
-    subst (λ (k : Setup). FitsSetup g.S.Fits.fits_under k (frame_in (shard_frame g.S.Trail.frame_of) c.in-Ok.crew.fleet) c.args.begin) (sym c.in-Ok.ensures.of_setup)
-    (subst (λ f. FitsSetup g.S.Fits.fits_under c.args.setup.now f c.args.begin) framed (c.requires.fits state.0 state.1))
+    subst (λ (k : Setup). Has k (frame_in (shard_frame g.S.Trail.frame_of) c.in-Ok.crew.fleet)) (sym c.in-Ok.ensures.of_setup)
+    (subst (Has c.args.setup.now) (c.in-Ok.ensures.framed state.0 state.1) (first state.0 state.1))
+
+pub post-requires-clause-fits : goal.post-requires-clause-fits
+post-requires-clause-fits g c = of_fleet g (goal.at.post-requires-clause-fits g c).In-Ok (λ k f. FitsSetup g.S.Fits.fits_under k f c.args.begin) c.requires.fits
 
 pub work_all-requires-clause-seats : goal.work_all-requires-clause-seats
 work_all-requires-clause-seats g c = λ _ _ k own there. c.in-Ok.ensures.seats k own (ap (λ l. slice_get l k) (sym c.deref_mut.ensures.value) ∙ there)
 
 pub work_all-requires-clause-served : goal.work_all-requires-clause-served
-work_all-requires-clause-served g c = λ _ _.
-    let some : 1 ≤ colours_of c.args.setup.now = c.args.setup.now.colours_in.0 in
-    let all = c.requires.first.all in
-    let state = there_of c.args.states.items 0 (omega (arith, some, all)) in
-    let framed = c.in-Ok.ensures.framed state.0 state.1 in
-    subst (λ (k : Setup). AppServes g.A.App k (frame_in (shard_frame g.S.Trail.frame_of) c.in-Ok.crew.fleet) c.args.app.now) (sym c.in-Ok.ensures.of_setup)
-    (subst (λ f. AppServes g.A.App c.args.setup.now f c.args.app.now) framed (c.requires.served state.0 state.1))
+work_all-requires-clause-served g c = λ _ _. of_fleet g (goal.at.work_all-requires-clause-served g c).In-Ok (λ k f. AppServes g.A.App k f c.args.app.now) c.requires.served
 
-pub close_home-weave-requires-clause-cores : goal.close_home-weave-requires-clause-cores
-close_home-weave-requires-clause-cores g c =
-    let seats_are = refilled c.work_all.new.seats c.in-Ok.crew.seats.items c.in-Ok.crew.seats.len c.in-Ok.crew.seats.ok.0 (c.work_all.auto.seats ∙ ap length c.deref_mut.ensures.value) in
-    let many = ap length seats_are ∙ c.work_all.auto.seats ∙ ap length c.deref_mut.ensures.value ∙ c.in-Ok.ensures.cores in
-    many ∙ ap (λ (k : Setup). (shape_of k).cores) (sym c.in-Ok.ensures.of_setup)
+-- the seats are those that came back from the threads
+seats_are : (g : _) (c : After-push_reserved g) → take c.in-Ok.crew.seats.len (c.work_all.new.seats ++ drop (length c.work_all.new.seats) c.in-Ok.crew.seats.items) ≡ c.work_all.new.seats
+seats_are g c = refilled c.work_all.new.seats c.in-Ok.crew.seats.items c.in-Ok.crew.seats.len c.in-Ok.crew.seats.ok.0 (c.work_all.auto.seats ∙ ap length c.deref_mut.ensures.value)
 
-pub close_home-weave-requires-clause-all : goal.close_home-weave-requires-clause-all
-close_home-weave-requires-clause-all g c =
-    let seats_are = refilled c.work_all.new.seats c.in-Ok.crew.seats.items c.in-Ok.crew.seats.len c.in-Ok.crew.seats.ok.0 (c.work_all.auto.seats ∙ ap length c.deref_mut.ensures.value) in
-    let many = ap length seats_are ∙ c.work_all.auto.seats ∙ ap length c.deref_mut.ensures.value ∙ c.in-Ok.ensures.cores in
-    let one = ap length (c.push_reserved.ensures.items ∙ ap (λ l. l ++ c.post.new.passes ∷ []) c.in-Ok.ensures.outsiders.0) in
-    let callers = c.in-Ok.ensures.callers in
-    omega (arith, many, one, callers)
+-- one for each core
+seat_count : (g : _) (c : After-push_reserved g) → length (take c.in-Ok.crew.seats.len (c.work_all.new.seats ++ drop (length c.work_all.new.seats) c.in-Ok.crew.seats.items)) ≡ (shape_of c.args.setup.now).cores
+seat_count g c = ap length (seats_are g c) ∙ c.work_all.auto.seats ∙ ap length c.deref_mut.ensures.value ∙ c.in-Ok.ensures.cores
 
-pub close_home-weave-requires-clause-seats : goal.close_home-weave-requires-clause-seats
-close_home-weave-requires-clause-seats g c = λ place seat at.
-    let seats_are = refilled c.work_all.new.seats c.in-Ok.crew.seats.items c.in-Ok.crew.seats.len c.in-Ok.crew.seats.ok.0 (c.work_all.auto.seats ∙ ap length c.deref_mut.ensures.value) in
-    c.work_all.ensures place seat (ap (λ l. slice_get l place) (sym seats_are) ∙ at)
-
-pub close_home-weave-requires-clause-outsiders : goal.close_home-weave-requires-clause-outsiders
-close_home-weave-requires-clause-outsiders g c = λ place own at.
+pub close_home-weave-requires-clause-home : goal.close_home-weave-requires-clause-home
+close_home-weave-requires-clause-home g c =
     let one = c.push_reserved.ensures.items ∙ ap (λ l. l ++ c.post.new.passes ∷ []) c.in-Ok.ensures.outsiders.0 in
-    let is = the_only c.post.new.passes own place (ap (λ l. slice_get l place) (sym one) ∙ at) in
-    let was = c.in-Ok.ensures.outside in
-    let same = c.in_default-post.ensures.same in
-    let beyond = was.outside in
-    subst (λ p. IsOutsider (shard_frame g.S.Trail.frame_of) c.in-Ok.crew.fleet p) is (record { passes = c.in_default-post.ensures.passes; outside = omega (arith, same, beyond) })
+    let many = seat_count g c in
+    record {
+      of_setup = c.in-Ok.ensures.room.0 ∙ sym c.in-Ok.ensures.of_setup;
+      of_passes = c.in-Ok.ensures.room.1 ∙ sym c.in-Ok.ensures.callers;
+      cores = many ∙ ap (λ (k : Setup). (shape_of k).cores) (sym c.in-Ok.ensures.of_setup);
+      all = let single = ap length one in let callers = c.in-Ok.ensures.callers in omega (arith, many, single, callers);
+      seats = λ place seat at. c.work_all.ensures place seat (ap (λ l. slice_get l place) (sym (seats_are g c)) ∙ at);
+      outsiders = λ place own at.
+          let is = the_only c.post.new.passes own place (ap (λ l. slice_get l place) (sym one) ∙ at) in
+          let same = c.in_default-post.ensures.same in
+          let beyond = c.in-Ok.ensures.outside.outside in
+          subst (λ p. IsOutsider (shard_frame g.S.Trail.frame_of) c.in-Ok.crew.fleet p) is (record { passes = c.in_default-post.ensures.passes; outside = omega (arith, same, beyond) });
+    }
 
 pub close_home-weave-requires-clause-callers_room : goal.close_home-weave-requires-clause-callers_room
 close_home-weave-requires-clause-callers_room g c =
-    let seats_are = refilled c.work_all.new.seats c.in-Ok.crew.seats.items c.in-Ok.crew.seats.len c.in-Ok.crew.seats.ok.0 (c.work_all.auto.seats ∙ ap length c.deref_mut.ensures.value) in
-    let many = ap length seats_are ∙ c.work_all.auto.seats ∙ ap length c.deref_mut.ensures.value ∙ c.in-Ok.ensures.cores in
+    let many = seat_count g c in
     let len = c.push_reserved.ensures.len in
     let cap = c.push_reserved.ensures.capacity in
     let none = c.in-Ok.crew.outsiders.ok.0 ∙ ap length c.in-Ok.ensures.outsiders.0 in
@@ -71,33 +65,30 @@ close_home-weave-requires-clause-callers_room g c =
 
 pub close_home-weave-requires-clause-rested_room : goal.close_home-weave-requires-clause-rested_room
 close_home-weave-requires-clause-rested_room g c =
-    let seats_are = refilled c.work_all.new.seats c.in-Ok.crew.seats.items c.in-Ok.crew.seats.len c.in-Ok.crew.seats.ok.0 (c.work_all.auto.seats ∙ ap length c.deref_mut.ensures.value) in
-    let many = ap length seats_are ∙ c.work_all.auto.seats ∙ ap length c.deref_mut.ensures.value ∙ c.in-Ok.ensures.cores in
+    let many = seat_count g c in
     let room = c.in-Ok.ensures.rested.1 in
     omega (arith, many, room)
 
 pub close_home-weave-requires-clause-workers_room : goal.close_home-weave-requires-clause-workers_room
 close_home-weave-requires-clause-workers_room g c =
-    let seats_are = refilled c.work_all.new.seats c.in-Ok.crew.seats.items c.in-Ok.crew.seats.len c.in-Ok.crew.seats.ok.0 (c.work_all.auto.seats ∙ ap length c.deref_mut.ensures.value) in
-    let many = ap length seats_are ∙ c.work_all.auto.seats ∙ ap length c.deref_mut.ensures.value ∙ c.in-Ok.ensures.cores in
+    let many = seat_count g c in
     let room = c.in-Ok.ensures.workers.1 in
     omega (arith, many, room)
 
+-- the weave has the frame of the fleet
+weave_framed : (g : _) (c : After-close_home-weave g) → g.S.Trail.frame_of c.close_home-weave.result.given ≡ frame_in (shard_frame g.S.Trail.frame_of) c.in-Ok.crew.fleet
+weave_framed g c =
+    let closed = c.close_home-weave.ensures.home.closed in
+    gathered_frame g.S.Trail g.S.Fits.fits_under c.close_home-weave.result c.in-Ok.crew.fleet.setup (frame_in (shard_frame g.S.Trail.frame_of) c.in-Ok.crew.fleet) closed.stands closed.shards
+
 pub drain-drained-requires : goal.drain-drained-requires
 drain-drained-requires g c =
-    let some : 1 ≤ colours_of c.args.setup.now = c.args.setup.now.colours_in.0 in
-    let all = c.requires.first.all in
-    let state = there_of c.args.states.items 0 (omega (arith, some, all)) in
-    let framed = c.in-Ok.ensures.framed state.0 state.1 in
-    let weave = c.close_home-weave.result in
-    let frame = gathered_frame g.S.Trail g.S.Fits.fits_under weave c.in-Ok.crew.fleet.setup (frame_in (shard_frame g.S.Trail.frame_of) c.in-Ok.crew.fleet) c.close_home-weave.ensures.stands c.close_home-weave.ensures.shards in
+    let at = goal.at.drain-drained-requires g c in
+    let served = of_fleet g at.In-Ok (λ k f. AppServes g.A.App k f c.args.app.now) c.requires.served in
     record {
-      served = subst (λ (k : Setup). AppServes g.A.App k (g.S.Trail.frame_of weave.given) c.args.app.now) (sym (c.close_home-weave.ensures.setup ∙ c.in-Ok.ensures.of_setup))
-          (subst (λ f. AppServes g.A.App c.args.setup.now f c.args.app.now) (framed ∙ sym frame) (c.requires.served state.0 state.1));
+      served = subst (λ (k : Setup). AppServes g.A.App k (g.S.Trail.frame_of c.close_home-weave.result.given) c.args.app.now) (sym c.close_home-weave.ensures.home.closed.setup)
+          (subst (λ f. AppServes g.A.App c.in-Ok.crew.fleet.setup f c.args.app.now) (sym (weave_framed g at.After-close_home-weave)) served);
     }
 
 pub returns-clause-framed : goal.returns-clause-framed
-returns-clause-framed g c = λ state at.
-    let weave = c.close_home-weave.result in
-    let frame = gathered_frame g.S.Trail g.S.Fits.fits_under weave c.in-Ok.crew.fleet.setup (frame_in (shard_frame g.S.Trail.frame_of) c.in-Ok.crew.fleet) c.close_home-weave.ensures.stands c.close_home-weave.ensures.shards in
-    ap g.S.Trail.frame_of c.drain-drained.ensures.same.given ∙ frame ∙ sym (c.in-Ok.ensures.framed state at)
+returns-clause-framed g c = λ state at. ap g.S.Trail.frame_of c.drain-drained.ensures.same.given ∙ weave_framed g (goal.at.returns-clause-framed g c).After-close_home-weave ∙ sym (c.in-Ok.ensures.framed state at)

@@ -13,9 +13,9 @@ pub load_new_seat-seat-requires : goal.load_new_seat-seat-requires
 load_new_seat-seat-requires g c = (c.requires.size, sits_at g.V.Kept.history_of g.V.Kept.pass_of g.V.Kept.frame_of _ _ _)
 
 pub join_seat-requires : goal.join_seat-requires
-join_seat-requires g c = let l = c.loop-pass.invariant in let is = c.in-Some.ensures.items in let left = c.pop.new.self.items in
+join_seat-requires g c = let l = c.loop-pass.invariant in let is = c.in-Some.ensures.items in let left = c.pop.new.self.items in let size = c.requires.size in
     let h = c.requires.each _ _ (l.left (length left) c.in-Some.pass (ap (λ m. get_elem? m (length left)) is ∙ at_last left c.in-Some.pass (length left) refl)) in
-    (l.table, h.0, h.1.1, c.requires.size, joins_at g.V.Kept.history_of g.V.Kept.pass_of g.V.Kept.frame_of _ _ _ _ c.loop-pass.seat.me c.in-Some.pass.place.me l.out h.1.0)
+    (l.table, h.0, h.1.1, omega arith, joins_at g.V.Kept.history_of g.V.Kept.pass_of g.V.Kept.frame_of _ _ _ _ c.loop-pass.seat.me c.in-Some.pass.place.me l.out h.1.0)
 
 pub loop-pass-preserved : goal.loop-pass-preserved
 loop-pass-preserved g c = let l = c.loop-pass.invariant in let is = c.in-Some.ensures.items in let e = c.join_seat.ensures in let left = c.pop.new.self.items in let pass = c.in-Some.pass in

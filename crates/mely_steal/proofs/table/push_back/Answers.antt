@@ -1,5 +1,5 @@
 use Rattle.std.proofs.Common.{◌≡◌, ◌+◌, ◌++◌, ◌∷◌, [], arith, refl, sym, ap, ◌∙◌, inl, inr}
-use Rattle.mely_steal.specs.Links.{list_at, listed, IsStrung, MovesOnly}
+use Rattle.mely_steal.specs.Links.{list_at, places_of, IsStrung, MovesOnly}
 use Rattle.mely_steal.proofs.TableLemmas.{length-strung, last-strung, strung-push, spares-frame}
 use Rattle.mely_steal.proofs.table.push_back.Goals as goal
 
@@ -32,7 +32,7 @@ moved c =
     let one = c.set_after.ensures in
     record { long = one.long ∙ all.moves.long; here = one.lists c.args.place ∙ all.moves.here; others = λ y ne. one.lists y ∙ all.moves.others y ne }
 
-pushed : (c : goal.After-ends-else-ends-eq0-1) → (listed c.set_after.new.links (record { first = c.args.ends.now.first; last = c.args.place; len = c.args.ends.now.len + 1 }) ≡ listed c.args.links.now c.args.ends.now ++ c.args.place ∷ [])
+pushed : (c : goal.After-ends-else-ends-eq0-1) → (places_of c.set_after.new.links (record { first = c.args.ends.now.first; last = c.args.place; len = c.args.ends.now.len + 1 }) ≡ places_of c.args.links.now c.args.ends.now ++ c.args.place ∷ [])
     × IsStrung c.args.list c.set_after.new.links (record { first = c.args.ends.now.first; last = c.args.place; len = c.args.ends.now.len + 1 })
 pushed c =
     let e = c.args.ends.now in

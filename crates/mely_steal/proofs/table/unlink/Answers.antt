@@ -1,6 +1,6 @@
 use Rattle.std.proofs.Common.{◌≡◌, ◌-◌, true, cond, eqb, refl, sym, ap, subst, ◌∙◌}
 use Rattle.mely_steal.specs.declared.links.Ends.{Ends}
-use Rattle.mely_steal.specs.Links.{list_at, before_at, after_at, listed, is_in, dropped, IsStrung}
+use Rattle.mely_steal.specs.Links.{list_at, before_at, after_at, places_of, is_in, without_place, IsStrung}
 use Rattle.mely_steal.proofs.TableLemmas.{Unlinks, ends_without, in-own, strung-unlink, unlink-spares, before-strung, after-strung}
 use Rattle.mely_steal.proofs.table.unlink.Goals as goal
 
@@ -32,7 +32,7 @@ unlinks c =
       near = λ y h. three.befores y ∙ (two.others y (rw ended h) ∙ one.befores y);
     }
 
-whole : (c : goal.After-ends-1) → (listed c.set_list.new.links (record { first = c.join_before.new.ends.first; last = c.join_before.new.ends.last; len = c.join_before.new.ends.len - 1 }) ≡ dropped c.args.place (listed c.args.links.now c.args.ends.now))
+whole : (c : goal.After-ends-1) → (places_of c.set_list.new.links (record { first = c.join_before.new.ends.first; last = c.join_before.new.ends.last; len = c.join_before.new.ends.len - 1 }) ≡ without_place c.args.place (places_of c.args.links.now c.args.ends.now))
     × IsStrung (list_at c.args.links.now c.args.place) c.set_list.new.links (record { first = c.join_before.new.ends.first; last = c.join_before.new.ends.last; len = c.join_before.new.ends.len - 1 })
 whole c =
     let L = c.args.links.now in
@@ -42,7 +42,7 @@ whole c =
     let shut : Ends → Ends = λ z. record { first = z.first; last = z.last; len = z.len - 1 } in
     let ended : Ends → Ends = λ z. record { first = z.first; last = cond (eqb z.last place) (before_at L place) z.last; len = z.len } in
     let now : shut c.join_before.new.ends ≡ ends_without L place e = ap shut c.join_before.ensures.last ∙ ap (λ z. shut (ended z)) c.join_behind.ensures.first in
-    let Holds : Ends → Type 0 = λ z. (listed c.set_list.new.links z ≡ dropped place (listed L e)) × IsStrung (list_at L place) c.set_list.new.links z in
+    let Holds : Ends → Type 0 = λ z. (places_of c.set_list.new.links z ≡ without_place place (places_of L e)) × IsStrung (list_at L place) c.set_list.new.links z in
     subst Holds (sym now) (strung-unlink (list_at L place) L c.set_list.new.links e.first e.last e.len place c.requires.strung c.requires.number there (unlinks c))
 
 pub returns-clause-listed : goal.returns-clause-listed

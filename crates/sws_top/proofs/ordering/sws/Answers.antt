@@ -1,7 +1,7 @@
 use Rattle.std.specs.Prelude.{map, string_bytes}
 use Rattle.std.proofs.Common.{◌≡◌, ◌∙◌, inr, sym, subst}
 use Rattle.sws_words.specs.Orders.{Order}
-use Rattle.sws_words.specs.Told.{told}
+use Rattle.sws_words.specs.Told.{order_view}
 use Rattle.sws_top.specs.Causes.{IsSound}
 use Rattle.sws_top.specs.Hands.{hands}
 use Rattle.sws_top.proofs.CauseLemmas.{causes_of, done_of}
@@ -10,18 +10,18 @@ use Rattle.sws_top.proofs.ordering.sws.Goals as goal
 
 pub run-requires-clause-range : goal.run-requires-clause-range
 run-requires-clause-range g c = λ _ _.
-    order_in_range (map string_bytes c.args.words.now) (told c.in-Ok.order) c.in-Ok.ensures.read
+    order_in_range (map string_bytes c.args.words.now) (order_view c.in-Ok.order) c.in-Ok.ensures.read
 
 pub returns-in-Ok-clause-causes : goal.returns-in-Ok-clause-causes
 returns-in-Ok-clause-causes g c =
     let before = hands c.args.folder.now c.args.source.now c.args.out.now in
     let now = hands c.run.new.folder c.run.new.source c.run.new.out in
-    causes_of g.F.Folder g.R.Source g.W.World g.W.Link.Link g.O.Sink _ before now c.args.world c.run.result (told c.in-Ok.order) (inr c.run.ensures.ran)
+    causes_of g.F.Folder g.R.Source g.W.World g.W.Link.Link g.O.Sink _ before now c.args.world c.run.result (order_view c.in-Ok.order) (inr c.run.ensures.ran)
 
 pub returns-in-Ok-clause-complete : goal.returns-in-Ok-clause-complete
 returns-in-Ok-clause-complete g c = λ order is sound nothing.
     let before = hands c.args.folder.now c.args.source.now c.args.out.now in
     let now = hands c.run.new.folder c.run.new.source c.run.new.out in
-    let same : order ≡ told c.in-Ok.order = (let read = c.in-Ok.ensures.read in cc) in
-    done_of g.F.Folder g.R.Source g.W.World g.W.Link.Link g.O.Sink _ before now c.args.world c.run.result (told c.in-Ok.order) (inr c.run.ensures.ran)
+    let same : order ≡ order_view c.in-Ok.order = (let read = c.in-Ok.ensures.read in cc) in
+    done_of g.F.Folder g.R.Source g.W.World g.W.Link.Link g.O.Sink _ before now c.args.world c.run.result (order_view c.in-Ok.order) (inr c.run.ensures.ran)
     (subst (λ (k : Order). IsSound g.F.Folder g.R.Source g.W.World g.O.Sink before now c.args.world c.run.result k) same sound) nothing

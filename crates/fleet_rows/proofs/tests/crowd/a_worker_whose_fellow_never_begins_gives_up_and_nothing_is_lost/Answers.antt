@@ -35,9 +35,27 @@ part-requires-clause-callers g c = λ n caller at.
     let third : length c.act_all-3.new.callers ≡ c.in_ok-callers.callers.len = c.act_all-3.ensures.many ∙ ap length c.deref_mut-3.ensures.value ∙ ap length second ∙ again in
     c.act_all-3.ensures.callers n caller (ap (λ l. slice_get l n) (sym (written_back c.act_all-3.new.callers _ c.in_ok-callers.callers.len third)) ∙ at)
 
-pub close_seats-requires-clause-seats : goal.close_seats-requires-clause-seats
-close_seats-requires-clause-seats g c = λ n seat at.
-    let within = slice_get_within c.part.new.callers.items n seat at in
-    let cores = c.in_ok-outside.ensures.cores in
-    let same = ap (λ s. (shape_of s).cores) c.in_ok-fleet.ensures.of_setup in
-    caller_seat (λ s. tt) (λ f c e l. Unit {0}) c.in_ok-fleet.fleet n seat.passes seat.worker (c.part.ensures.callers n seat at) (omega (arith, within, cores, same))
+pub close_seats-requires : goal.close_seats-requires
+close_seats-requires g c =
+    let many = c.act_all.ensures.many in
+    let lent = ap length c.deref_mut.ensures.value in
+    let counted = c.in_ok-callers.callers.ok in
+    let same : length c.act_all.new.callers ≡ c.in_ok-callers.callers.len = omega (arith, many, lent, counted) in
+    let first = written_back c.act_all.new.callers c.in_ok-callers.callers.items c.in_ok-callers.callers.len same in
+    let again : length c.act_all-2.new.callers ≡ c.in_ok-callers.callers.len = c.act_all-2.ensures.many ∙ ap length c.deref_mut-2.ensures.value ∙ ap length first ∙ same in
+    let second = written_back c.act_all-2.new.callers _ c.in_ok-callers.callers.len again in
+    let third : length c.act_all-3.new.callers ≡ c.in_ok-callers.callers.len = c.act_all-3.ensures.many ∙ ap length c.deref_mut-3.ensures.value ∙ ap length second ∙ again in
+    let cores = ap (λ s. (shape_of s).cores) (sym c.in_ok-fleet.ensures.of_setup) in
+    record {
+      home = record {
+        of_setup = c.in_ok-room.ensures.setup ∙ sym c.in_ok-fleet.ensures.of_setup;
+        of_passes = c.in_ok-room.ensures.passes ∙ sym c.in_ok-fleet.ensures.of_count;
+        cores = c.in_ok-outside.ensures.cores ∙ cores;
+        all = c.in_ok-outside.ensures.all ∙ ap length (written_back c.act_all-3.new.callers _ c.in_ok-callers.callers.len third) ∙ third ∙ c.in_ok-callers.callers.ok.0 ∙ c.in_ok-callers.ensures.many ∙ c.in_ok-fleet.ensures.many ∙ sym c.in_ok-fleet.ensures.of_count;
+        seats = λ n seat at.
+            let within = slice_get_within c.part.new.callers.items n seat at in
+            let low = c.in_ok-outside.ensures.cores in
+            caller_seat (λ s. tt) (λ f c e l. Unit {0}) c.in_ok-fleet.fleet n seat.passes seat.worker (c.part.ensures.callers n seat at) (omega (arith, within, low, cores));
+        outsiders = c.in_ok-outside.ensures.outside;
+      };
+    }

@@ -1,7 +1,7 @@
 use Rattle.std.proofs.Common.{◌≡◌, ◌<◌, ◌≤◌, ℕ, List, Some, All, refl, sym, ap, subst, ◌∙◌}
 use Rattle.std.proofs.lemmas.Bool.{true≢false}
 use Rattle.mely_steal.specs.Marks.{mark_of, without}
-use Rattle.mely_steal.specs.Links.{dropped}
+use Rattle.mely_steal.specs.Links.{without_place}
 use Rattle.mely_steal.specs.ColourList.{ColourListState}
 use Rattle.mely_steal.proofs.StealLemmas.{pick_of-none}
 use Rattle.mely_core.specs.CoreQueue.{CoreQueueState, HoldTogether, chain_of}
@@ -25,7 +25,7 @@ left c =
     let q = c.self.inside in
     let colour = c.in_ok-picked.picked.colour in
     let done = leave-holds q.chain.list q.worthy c.pick.new.self colour c.self.invariant.0 c.in_ok-picked.ensures.told c.in_ok-picked.ensures.worthy in
-    let list : c.remove.new.self.list ≡ dropped colour.0 q.chain.list = ap (λ (x : ColourListState). x.list) c.remove.ensures.after in
+    let list : c.remove.new.self.list ≡ without_place colour.0 q.chain.list = ap (λ (x : ColourListState). x.list) c.remove.ensures.after in
     let Done : List ℕ → Type 0 = λ xs. (chain_of xs c.pick.new.self ≡ record (chain_of q.chain.list q.worthy) { chain = without colour (marks_by q.worthy.told q.chain.list); worthy = without colour (chain_of q.chain.list q.worthy).worthy })
     × HoldTogether (chain_of xs c.pick.new.self) in
     subst Done (sym list) done

@@ -1,7 +1,7 @@
 use Rattle.std.proofs.Common.{◌≡◌, ◌∷◌, [], ℕ, List, sym, ap, subst, ◌∙◌}
 use Rattle.mely_event.specs.declared.mark.Mark.{Mark}
 use Rattle.mely_steal.specs.Marks.{without}
-use Rattle.mely_steal.specs.Links.{dropped}
+use Rattle.mely_steal.specs.Links.{without_place}
 use Rattle.mely_steal.specs.ColourList.{ColourListState}
 use Rattle.mely_steal.specs.StealTable.{worthy_of, mark_in}
 use Rattle.mely_core.specs.CoreQueue.{CoreQueueState, HoldTogether, chain_of}
@@ -23,7 +23,7 @@ left c =
     let q = c.self.inside in
     let colour = c.in_ok-colour.colour in
     let done = leave-holds q.chain.list q.worthy c.remove-2.new.self colour c.self.invariant.0 c.remove-2.ensures.told c.remove-2.ensures.worthy in
-    let list : c.remove.new.self.list ≡ dropped colour.0 q.chain.list = ap (λ (x : ColourListState). x.list) c.remove.ensures.after in
+    let list : c.remove.new.self.list ≡ without_place colour.0 q.chain.list = ap (λ (x : ColourListState). x.list) c.remove.ensures.after in
     let Done : List ℕ → Type 0 = λ xs. (chain_of xs c.remove-2.new.self ≡ record (chain_of q.chain.list q.worthy) { chain = without colour (marks_by q.worthy.told q.chain.list); worthy = without colour (chain_of q.chain.list q.worthy).worthy })
     × HoldTogether (chain_of xs c.remove-2.new.self) in
     subst Done (sym list) done
@@ -35,14 +35,14 @@ pub returns-clause-front : goal.returns-clause-front
 returns-clause-front c =
     let q = c.self.inside in
     let colour = c.in_ok-colour.colour in
-    let list : c.remove.new.self.list ≡ dropped colour.0 q.chain.list = ap (λ (x : ColourListState). x.list) c.remove.ensures.after in
-    let front : marks_by q.worthy.told q.chain.list ≡ mark_in q.worthy.told colour.0 ∷ marks_by q.worthy.told (dropped colour.0 q.chain.list) =
+    let list : c.remove.new.self.list ≡ without_place colour.0 q.chain.list = ap (λ (x : ColourListState). x.list) c.remove.ensures.after in
+    let front : marks_by q.worthy.told q.chain.list ≡ mark_in q.worthy.told colour.0 ∷ marks_by q.worthy.told (without_place colour.0 q.chain.list) =
     front-holds q.worthy.told q.chain.list c.first.result colour c.self.invariant.0.apart c.in_ok-colour.was c.first.ensures.value in
-    let rest : marks_by q.worthy.told (dropped colour.0 q.chain.list) ≡ marks_by c.remove-2.new.self.told c.remove.new.self.list =
-    ap (λ t. marks_by t (dropped colour.0 q.chain.list)) (sym c.remove-2.ensures.told) ∙ ap (marks_by c.remove-2.new.self.told) (sym list) in
+    let rest : marks_by q.worthy.told (without_place colour.0 q.chain.list) ≡ marks_by c.remove-2.new.self.told c.remove.new.self.list =
+    ap (λ t. marks_by t (without_place colour.0 q.chain.list)) (sym c.remove-2.ensures.told) ∙ ap (marks_by c.remove-2.new.self.told) (sym list) in
     let Front : CoreQueueState → Type 0 = λ v. v.chain ≡ c.mark-mark.result ∷ marks_by c.remove-2.new.self.told c.remove.new.self.list in
     subst Front c.self.view_is
-    (front ∙ (ap (λ k. k ∷ marks_by q.worthy.told (dropped colour.0 q.chain.list)) (sym c.mark-mark.ensures.value) ∙ ap (λ ys. c.mark-mark.result ∷ ys) rest))
+    (front ∙ (ap (λ k. k ∷ marks_by q.worthy.told (without_place colour.0 q.chain.list)) (sym c.mark-mark.ensures.value) ∙ ap (λ ys. c.mark-mark.result ∷ ys) rest))
 
 pub returns-clause-rest : goal.returns-clause-rest
 returns-clause-rest c =

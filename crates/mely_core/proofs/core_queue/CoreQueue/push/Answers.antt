@@ -1,7 +1,7 @@
 use Rattle.std.proofs.Common.{◌≡◌, ◌<◌, ◌∷◌, ◌++◌, None, List, ℕ, [], arith, sym, ap, subst, ◌∙◌}
 use Rattle.std.proofs.lemmas.Grind.{common_steps}
 use Rattle.mely_steal.specs.Marks.{mark_of}
-use Rattle.mely_steal.specs.StealQueue.{entered}
+use Rattle.mely_steal.specs.StealQueue.{after_entry}
 use Rattle.mely_steal.specs.ColourList.{ColourListState}
 use Rattle.mely_core.specs.CoreQueue.{CoreQueueState, HoldTogether, chain_of}
 use Rattle.mely_core.proofs.ChainLemmas.{marks_by, none-out, push-holds}
@@ -15,7 +15,7 @@ push-requires-clause-absent c =
 
 pushed : (c : goal.After-enter) → (chain_of c.push.new.self.list c.enter.new.self ≡ record (chain_of c.self.inside.chain.list c.self.inside.worthy) {
   chain = marks_by c.self.inside.worthy.told c.self.inside.chain.list ++ c.args.mark ∷ [];
-  worthy = entered c.self.inside.worthy.cost c.self.inside.worthy.pinned c.args.mark (chain_of c.self.inside.chain.list c.self.inside.worthy).worthy;
+  worthy = after_entry c.self.inside.worthy.cost c.self.inside.worthy.pinned c.args.mark (chain_of c.self.inside.chain.list c.self.inside.worthy).worthy;
 }) × HoldTogether (chain_of c.push.new.self.list c.enter.new.self)
 pushed c =
     let q = c.self.inside in
@@ -24,7 +24,7 @@ pushed c =
     let Below : CoreQueueState → Type 0 = λ v. m.colour.0 < v.colours in
     let done = push-holds q.chain.list q.worthy c.enter.new.self m c.self.invariant.0 (subst Below (sym c.self.view_is) c.requires) none c.enter.ensures.told c.enter.ensures.worthy in
     let list : c.push.new.self.list ≡ q.chain.list ++ m.colour.0 ∷ [] = ap (λ (x : ColourListState). x.list) c.push.ensures.after in
-    let Done : List ℕ → Type 0 = λ xs. (chain_of xs c.enter.new.self ≡ record (chain_of q.chain.list q.worthy) { chain = marks_by q.worthy.told q.chain.list ++ m ∷ []; worthy = entered q.worthy.cost q.worthy.pinned m (chain_of q.chain.list q.worthy).worthy })
+    let Done : List ℕ → Type 0 = λ xs. (chain_of xs c.enter.new.self ≡ record (chain_of q.chain.list q.worthy) { chain = marks_by q.worthy.told q.chain.list ++ m ∷ []; worthy = after_entry q.worthy.cost q.worthy.pinned m (chain_of q.chain.list q.worthy).worthy })
     × HoldTogether (chain_of xs c.enter.new.self) in
     subst Done (sym list) done
 
@@ -34,7 +34,7 @@ invariant_of-self c = ((pushed c).1, ap (λ (x : ColourListState). x.colours) c.
 pub returns-clause-ok : goal.returns-clause-ok
 returns-clause-ok c =
     let m = c.args.mark in
-    let Pushed : CoreQueueState → Type 0 = λ v. chain_of c.push.new.self.list c.enter.new.self ≡ record v { chain = v.chain ++ m ∷ []; worthy = entered v.cost v.pinned m v.worthy } in
+    let Pushed : CoreQueueState → Type 0 = λ v. chain_of c.push.new.self.list c.enter.new.self ≡ record v { chain = v.chain ++ m ∷ []; worthy = after_entry v.cost v.pinned m v.worthy } in
     subst Pushed c.self.view_is (pushed c).0
 
 pub returns-clause-together : goal.returns-clause-together

@@ -1,10 +1,10 @@
 use Rattle.std.proofs.Common.{◌≡◌, ◌<◌, Some, Option, None, MatchOption, max, eqb, sym, ap, subst, ◌∙◌}
 use Rattle.std.proofs.lemmas.Bool.{cond-true, eq-eqb}
 use Rattle.mely_event.specs.declared.mark.Mark.{Mark}
-use Rattle.mely_steal.specs.Marks.{mark_of, replaced}
-use Rattle.mely_steal.specs.StealQueue.{changed}
+use Rattle.mely_steal.specs.Marks.{mark_of, after_replacement}
+use Rattle.mely_steal.specs.StealQueue.{after_mark_change}
 use Rattle.mely_steal.proofs.MarkLemmas.{mark_of-same, mark_of-colour}
-use Rattle.mely_core.specs.CoreQueue.{CoreQueueState, HoldTogether, chain_of, raised, told_of}
+use Rattle.mely_core.specs.CoreQueue.{CoreQueueState, HoldTogether, chain_of, after_report, told_of}
 use Rattle.mely_core.proofs.ChainLemmas.{marks_by, told-holds}
 use Rattle.mely_core.proofs.core_queue.CoreQueue.retell.Goals as goal
 
@@ -15,8 +15,8 @@ change-requires c =
     subst Below (sym c.self.view_is) (rw same c.requires)
 
 holds : (c : goal.After-change) → (chain_of c.self.inside.chain.list c.change.new.self ≡ record (chain_of c.self.inside.chain.list c.self.inside.worthy) {
-  chain = replaced (record { colour = c.in-Some.mark.colour; started = c.in-Some.mark.started; worth = c.max.result }) (marks_by c.self.inside.worthy.told c.self.inside.chain.list);
-  worthy = changed c.self.inside.worthy.cost c.self.inside.worthy.pinned (record { colour = c.in-Some.mark.colour; started = c.in-Some.mark.started; worth = c.max.result }) (chain_of c.self.inside.chain.list c.self.inside.worthy).worthy;
+  chain = after_replacement (record { colour = c.in-Some.mark.colour; started = c.in-Some.mark.started; worth = c.max.result }) (marks_by c.self.inside.worthy.told c.self.inside.chain.list);
+  worthy = after_mark_change c.self.inside.worthy.cost c.self.inside.worthy.pinned (record { colour = c.in-Some.mark.colour; started = c.in-Some.mark.started; worth = c.max.result }) (chain_of c.self.inside.chain.list c.self.inside.worthy).worthy;
 }) × HoldTogether (chain_of c.self.inside.chain.list c.change.new.self)
 holds c =
     let q = c.self.inside in
@@ -37,11 +37,11 @@ returns-in-Some-clause-told c =
     let now = chain_of c.self.inside.chain.list c.change.new.self in
     let told : Mark = record { colour = mark.colour; started = mark.started; worth = c.max.result } in
     let is : told_of c.args.colour c.args.started c.args.worth c.args.self.now.chain ≡ Some told =
-    ap (raised c.args.started c.args.worth) (sym c.in-Some.ensures)
+    ap (after_report c.args.started c.args.worth) (sym c.in-Some.ensures)
     ∙ (cond-true (eqb mark.started c.args.started) (Some (record mark { worth = max mark.worth c.args.worth })) None (eq-eqb mark.started c.args.started c.if-mark-started.true)
     ∙ ap (λ w. Some (record mark { worth = w })) (sym c.max.ensures)) in
-    let Told : CoreQueueState → Type 0 = λ v. now ≡ record v { chain = replaced told v.chain; worthy = changed v.cost v.pinned told v.worthy } in
-    let At : Option Mark → Type 0 = λ o. MatchOption o (now ≡ c.args.self.now) (λ m. now ≡ record c.args.self.now { chain = replaced m c.args.self.now.chain; worthy = changed c.args.self.now.cost c.args.self.now.pinned m c.args.self.now.worthy }) in
+    let Told : CoreQueueState → Type 0 = λ v. now ≡ record v { chain = after_replacement told v.chain; worthy = after_mark_change v.cost v.pinned told v.worthy } in
+    let At : Option Mark → Type 0 = λ o. MatchOption o (now ≡ c.args.self.now) (λ m. now ≡ record c.args.self.now { chain = after_replacement m c.args.self.now.chain; worthy = after_mark_change c.args.self.now.cost c.args.self.now.pinned m c.args.self.now.worthy }) in
     subst At (sym is) (subst Told c.self.view_is (holds c).0)
 
 pub returns-in-Some-clause-together : goal.returns-in-Some-clause-together

@@ -9,4 +9,4 @@ work-worked-requires-clause-may g c =
 pub returns-clause-seat : goal.returns-clause-seat
 returns-clause-seat g c =
     seat_back g.S.Trail g.S.Fits.fits_under c.args.self.now c.args.seat.now.passes c.work-worked.new.passes c.args.seat.now.worker c.in-Some.rested c.rest.result c.wake-worker.result c.work-worked.new.worker c.requires.seat (sym c.take.ensures.value ∙ c.in-Some.is) c.wake-worker.ensures
-    c.work-worked.ensures.passes c.work-worked.ensures.number c.work-worked.ensures.may c.work-worked.ensures.worker c.work-worked.ensures.free c.work-worked.ensures.works c.rest.ensures
+    c.work-worked.ensures.worked c.work-worked.ensures.free c.rest.ensures

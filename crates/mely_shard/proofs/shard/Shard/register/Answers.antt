@@ -56,6 +56,12 @@ pushed g c =
       room = rw c.push_reserved.ensures.capacity (omega (arith, same, room));
     }
 
+pub index_mut-requires : goal.index_mut-requires
+index_mut-requires g c =
+    let own = rw (← c.self.view_is) at c.requires.own in
+    let there = c.self.invariant.0.whole c.args.colour.0 own.there own.here in
+    rw c.place_of-place.ensures (omega (arith, there, c.self.inside.cells.ok.0))
+
 pub register-requires : goal.register-requires
 register-requires g c =
     let f = found g (goal.at.register-requires g c).After-index_mut in

@@ -95,7 +95,7 @@ pushed g c =
     let same = ap length c.make_room.ensures.same in
     let room = c.in-Ok.ensures.room in
     record {
-      history = c.push_reserved.ensures.items ∙ ap (λ es. es ++ Steal c.args.colour c.index_mut-cell.result.now.owner c.args.to ∷ []) c.make_room.ensures.same;
+      history = rw (c.push_reserved.ensures.items, c.steal-stolen.ensures.reply, c.make_room.ensures.same) refl;
       room = rw c.push_reserved.ensures.capacity (omega (arith, same, room));
     }
 
@@ -105,7 +105,7 @@ invariant_of-self-2 g c =
     let p = pushed g c in
     let core = rw (← c.self.view_is) at c.requires.core in
     let ready = rw c.in_default.is at a.refuses in
-    rw (p.history, c.place_of-place.ensures)
+    rw (p.history, c.steal-stolen.ensures.cell, c.place_of-place.ensures)
     ((kept_stolen c.self.invariant.0 c.args.colour a.free c.args.to (most_of (vec_capacity c.push_reserved.new.self)) c.index_mut-cell.result.now a.there a.here a.is core ready p.room (omega arith)).1, has_room_set _ _ _ _ _ _ _ c.self.invariant.1, c.self.invariant.2)
 
 pub returns-clause-ok : goal.returns-clause-ok
@@ -118,14 +118,14 @@ returns-clause-ok g c =
     let ready = rw c.in_default.is at a.refuses in
     let stolen = kept_stolen c.self.invariant.0 c.args.colour a.free c.args.to (most_of (vec_capacity c.push_reserved.new.self)) cell a.there a.here a.is core ready p.room (omega arith) in
     let next = account-own c.self.inside.setup c.self.inside.history.items (Steal c.args.colour cell.owner c.args.to) c.args.colour refl in
-    rw (← c.self.view_is) (record {
+    rw (← c.self.view_is, c.steal-stolen.ensures.reply) (record {
       allowed = stolen.0;
       same_setup = refl;
       same_shard = refl;
       history = p.history;
-      lanes = map-set_same lane_of cells c.place_of-place.result _ cell (ap lane_of c.index_mut-cell.ensures.value);
-      started = rw p.history (c.started-started.ensures ∙ a.stands.started ∙ ap (λ (s : ColourAccount). s.begun) (sym next));
-      left = rw p.history (c.time_left-worth.ensures ∙ ap sum a.stands.weights ∙ sum-map (weight c.self.inside.setup) (queued_of c.self.inside.history.items c.args.colour) ∙ ap (λ (s : ColourAccount). sum_by (weight c.self.inside.setup) (drop s.begun s.registered)) (sym next));
+      lanes = map-set_same lane_of cells c.place_of-place.result _ cell (ap lane_of c.steal-stolen.ensures.cell ∙ ap lane_of c.index_mut-cell.ensures.value);
+      started = rw p.history (a.stands.started ∙ ap (λ (s : ColourAccount). s.begun) (sym next));
+      left = rw p.history (ap sum a.stands.weights ∙ sum-map (weight c.self.inside.setup) (queued_of c.self.inside.history.items c.args.colour) ∙ ap (λ (s : ColourAccount). sum_by (weight c.self.inside.setup) (drop s.begun s.registered)) (sym next));
     })
 
 pub returns-clause-kept : goal.returns-clause-kept
@@ -134,4 +134,4 @@ returns-clause-kept g c = kept_contents (invariant_of-self-2 g c).0
 pub returns-clause-frame : goal.returns-clause-frame
 returns-clause-frame g c =
     let cell = c.index_mut-cell.result.now in
-    rw (← c.self.view_is) (record { same_setup = refl; same_shard = refl; same_givens = givens_set c.self.inside.cells.items _ _ cell (ap (λ b. b.given.value) c.index_mut-cell.ensures.value) })
+    rw (← c.self.view_is) (record { same_setup = refl; same_shard = refl; same_givens = givens_set c.self.inside.cells.items _ c.steal-stolen.new.self cell (ap (λ b. b.given.value) c.steal-stolen.ensures.cell ∙ ap (λ b. b.given.value) c.index_mut-cell.ensures.value) })

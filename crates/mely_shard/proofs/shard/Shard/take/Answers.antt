@@ -6,7 +6,7 @@ use Rattle.mely_history.specs.Setup.{shape_of, colours_of}
 use Rattle.mely_history.specs.ColourAccount.{account_of}
 use Rattle.mely_history.specs.Legal.{MayTake}
 use Rattle.mely_history.specs.declared.entry.Entry.TheVariants.{Take}
-use Rattle.mely_queue.specs.ColourQueue.{taken}
+use Rattle.mely_queue.specs.ColourQueue.{after_take}
 use Rattle.mely_queue.specs.Turn.{EachFits}
 use Rattle.mely_shard.specs.Invariant.{CellStands, IsKeptShard, lane_of, most_of}
 use Rattle.mely_shard.proofs.RegisterLemmas.{kept_with_room, cell_there, lane_there}
@@ -55,7 +55,7 @@ record Pushed (g : _) (c : After-push_reserved g) : Type 0 where
   pub first : c.count-count.result ≡ min c.batch-batch.result (length c.index_mut-cell.result.now.queue.events)
   pub counted : c.in-Ok-take.turn.count ≡ min c.batch-batch.result (length c.index_mut-cell.result.now.queue.events)
   pub whole : c.count-count.result ≡ min (shape_of c.self.inside.setup).batch (length c.index_mut-cell.result.now.queue.events)
-  pub after : c.take.new.self ≡ record c.index_mut-cell.result.now { queue = taken c.index_mut-cell.result.now.queue c.count-count.result; home = None; core = c.args.core; count = c.count-count.result }
+  pub after : c.take.new.self ≡ record c.index_mut-cell.result.now { queue = after_take c.index_mut-cell.result.now.queue c.count-count.result; home = None; core = c.args.core; count = c.count-count.result }
   pub history : c.push_reserved.new.self.items ≡ c.self.inside.history.items ++ Take c.args.colour c.args.core c.count-count.result ∷ []
   pub allowed : MayTake c.self.inside.setup c.self.inside.history.items c.args.colour c.args.core c.count-count.result
   pub kept : IsKeptShard g.S.Trail g.S.Fits.fits_under c.self.inside.setup c.self.inside.shard (c.self.inside.history.items ++ Take c.args.colour c.args.core c.count-count.result ∷ []) (set c.self.inside.cells.items (c.args.colour.0 / (shape_of c.self.inside.setup).shards) c.take.new.self) (c.self.inside.running + 1) (most_of (vec_capacity c.push_reserved.new.self))
@@ -70,7 +70,7 @@ pushed g c there here is ready =
     let n = c.count-count.result in
     let first : n ≡ min c.batch-batch.result (length cell.queue.events) = c.count-count.ensures ∙ ap (λ t. t.count) takes.made in
     let whole : n ≡ min (shape_of c.self.inside.setup).batch (length cell.queue.events) = first ∙ ap (λ b. min b (length cell.queue.events)) c.batch-batch.ensures.value in
-    let after : c.take.new.self ≡ record cell { queue = taken cell.queue n; home = None; core = c.args.core; count = n } = rw first takes.left in
+    let after : c.take.new.self ≡ record cell { queue = after_take cell.queue n; home = None; core = c.args.core; count = n } = rw first takes.left in
     let same = ap length c.make_room.ensures.same in
     let room = c.in-Ok.ensures.room in
     let roomy : length c.self.inside.history.items + 2 + c.self.inside.running ≤ most_of (vec_capacity c.push_reserved.new.self) = rw c.push_reserved.ensures.capacity (omega (arith, same, room)) in

@@ -2,7 +2,7 @@ use Rattle.std.proofs.Common.{◌≡◌, ◌<◌, ◌+◌, ◌-◌, ◌∷◌, �
 use Rattle.std.specs.Vec.{with_items}
 use Rattle.std.proofs.lemmas.List.{with_items_is}
 use Rattle.mely_steal.specs.declared.links.Link.{Link}
-use Rattle.mely_steal.specs.Links.{list_at, listed, SparesOthers, MovesOnly}
+use Rattle.mely_steal.specs.Links.{list_at, places_of, SparesOthers, MovesOnly}
 use Rattle.mely_steal.specs.Entering.{Ranked, Ranking, class_in, entries_of, StandInOrder}
 use Rattle.mely_steal.proofs.OrderLemmas.{class-from, class-is, enter-stands, list_of}
 use Rattle.mely_steal.proofs.classes.Classes.enter.Goals as goal
@@ -41,7 +41,7 @@ entered c =
     let Same : List Link → Type 0 = λ l. entries_of l ends O ≡ entries_of l ends c.deref_mut.result.now in
     let same : entries_of L ends O ≡ entries_of L ends N = subst Same c.deref.ensures.value c.next_number-number.ensures.same ∙ ap (entries_of L ends) c.deref_mut.ensures.value in
     let begins : c.deref_mut-2.result.now ≡ L = c.deref_mut-2.ensures.value in
-    let Listed : List Link → Type 0 = λ l. listed M now ≡ list_of l ends k ++ colour ∷ [] in
+    let Listed : List Link → Type 0 = λ l. places_of M now ≡ list_of l ends k ++ colour ∷ [] in
     let Spares : List Link → Type 0 = λ l. SparesOthers k l M in
     let Moves : List Link → Type 0 = λ l. MovesOnly colour k l M in
     let done = enter-stands L M ends O next k colour now (subst Stands c.deref.ensures.value c.next_number-number.ensures.stand) (class-from k c.requires.class.0 c.requires.class.1) within off

@@ -2,7 +2,7 @@ use Rattle.std.proofs.Common.{◌≡◌, ◌<◌, ◌-◌, ℕ, List, length, ge
 use Rattle.std.specs.Vec.{with_items}
 use Rattle.std.proofs.lemmas.List.{get_or_read, with_items_is}
 use Rattle.mely_steal.specs.declared.links.Link.{Link}
-use Rattle.mely_steal.specs.Links.{unlinked, list_at, listed, dropped, IsStrung, SparesOthers, MovesOnly}
+use Rattle.mely_steal.specs.Links.{unlinked, list_at, places_of, without_place, IsStrung, SparesOthers, MovesOnly}
 use Rattle.mely_steal.specs.Entering.{Ranked, Ranking, gone, entries_of, StandInOrder}
 use Rattle.mely_steal.proofs.OrderLemmas.{IsClass, class-cases, class-is, has-none, gone-absent, leave-stands, list_of}
 use Rattle.mely_steal.proofs.classes.Classes.remove.Goals as goal
@@ -41,7 +41,7 @@ left c =
     let isk : IsClass k = elim (class-cases k (let le = s.classes colour in rw (sym at) le)) [ inl none ↦ absurd (c.if-class-eq0.false none) | inr is ↦ is ] in
     let begins : c.deref_mut.result.now ≡ L = c.deref_mut.ensures.value in
     let now = c.unlink.new.ends in
-    let Listed : List Link → Type 0 = λ l. listed M now ≡ dropped colour (list_of l ends k) in
+    let Listed : List Link → Type 0 = λ l. places_of M now ≡ without_place colour (list_of l ends k) in
     let Strung : List Link → Type 0 = λ l. IsStrung (list_at l colour) M now in
     let Numbered : ℕ → Type 0 = λ n. IsStrung n M now in
     let Spares : List Link → Type 0 = λ l. SparesOthers (list_at l colour) l M in

@@ -3,7 +3,7 @@ use Rattle.std.proofs.lemmas.Grind.{common_steps}
 use Rattle.std.proofs.lemmas.List.{get_or_read}
 use Rattle.std.proofs.lemmas.Option.{slice_get_past}
 use Rattle.mely_steal.specs.declared.links.Link.{Link}
-use Rattle.mely_steal.specs.Links.{unlinked, after_at, listed}
+use Rattle.mely_steal.specs.Links.{unlinked, after_at, places_of}
 use Rattle.mely_steal.specs.ColourList.{ColourListState}
 use Rattle.mely_steal.proofs.LinkLemmas.{walked, walked-more, walked-at, length-followed}
 use Rattle.mely_steal.proofs.TableLemmas.{walked-below}
@@ -14,9 +14,9 @@ returns-then-place-self-clause-value c =
     let L = c.self.inside.links.items in
     let e = c.self.inside.ends in
     let long = length-followed (after_at L) e.len e.first in
-    let short : length (listed L e) ≤ c.args.place = let le = c.if-place-self.true in omega arith in
+    let short : length (places_of L e) ≤ c.args.place = let le = c.if-place-self.true in omega arith in
     let Past : ColourListState → Type 0 = λ v. None ≡ slice_get v.list c.args.place in
-    subst Past c.self.view_is (sym (slice_get_past (listed L e) c.args.place short))
+    subst Past c.self.view_is (sym (slice_get_past (places_of L e) c.args.place short))
 
 pub index-requires : goal.index-requires
 index-requires c =

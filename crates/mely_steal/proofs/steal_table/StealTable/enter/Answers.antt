@@ -1,6 +1,6 @@
 use Rattle.std.proofs.Common.{◌≡◌, ◌<◌, List, None, sym, ap, subst, ◌∙◌}
 use Rattle.mely_steal.specs.Marks.{mark_of}
-use Rattle.mely_steal.specs.StealQueue.{entered}
+use Rattle.mely_steal.specs.StealQueue.{after_entry}
 use Rattle.mely_steal.specs.Entering.{Ranking, Ranked, joined_by}
 use Rattle.mely_steal.specs.StealTable.{StealTableState, AreStealable, marks_of, worthy_of}
 use Rattle.mely_steal.proofs.TableMarksLemmas.{absent-has, class-none}
@@ -14,7 +14,7 @@ add_to-requires-clause-absent c =
     class-none c.args.mark.colour.0 g (absent-has c.self.inside.marks c.args.mark.colour g (subst Absent (sym c.self.view_is) c.requires.absent))
 
 -- what stands once the colour entered
-settled : (c : goal.After-add_to) → (marks_of c.set.new.self c.add_to.new.classes.entries ≡ entered c.self.inside.cost c.self.inside.pinned c.args.mark (marks_of c.self.inside.marks c.self.inside.classes.entries))
+settled : (c : goal.After-add_to) → (marks_of c.set.new.self c.add_to.new.classes.entries ≡ after_entry c.self.inside.cost c.self.inside.pinned c.args.mark (marks_of c.self.inside.marks c.self.inside.classes.entries))
     × AreStealable (record { told = c.set.new.self; entries = c.add_to.new.classes.entries; colours = c.self.inside.colours; cost = c.self.inside.cost; pinned = c.self.inside.pinned })
 settled c =
     let t = c.self.inside in
@@ -26,7 +26,7 @@ settled c =
     (absent-has t.marks m.colour t.classes.entries none) none in
     let is : c.add_to.new.classes.entries ≡ joined_by (stealing_class t.cost t.pinned m) m.colour.0 t.classes.entries =
     ap (λ (r : Ranking). r.entries) c.add_to.ensures ∙ ap (λ k. joined_by k m.colour.0 t.classes.entries) c.stealing_class-class.ensures in
-    let Done : List Ranked → Type 0 = λ g. (marks_of c.set.new.self g ≡ entered t.cost t.pinned m (marks_of t.marks t.classes.entries))
+    let Done : List Ranked → Type 0 = λ g. (marks_of c.set.new.self g ≡ after_entry t.cost t.pinned m (marks_of t.marks t.classes.entries))
     × AreStealable (record { told = c.set.new.self; entries = g; colours = t.colours; cost = t.cost; pinned = t.pinned }) in
     subst Done (sym is) done
 
@@ -37,7 +37,7 @@ pub returns-clause-worthy : goal.returns-clause-worthy
 returns-clause-worthy c =
     let t = c.self.inside in
     let Entered : StealTableState → Type 0 = λ v. worthy_of (record { told = c.set.new.self; entries = c.add_to.new.classes.entries; colours = t.colours; cost = t.cost; pinned = t.pinned })
-    ≡ record { marks = entered v.cost v.pinned c.args.mark (marks_of v.told v.entries); colours = v.colours; cost = v.cost; pinned = v.pinned } in
+    ≡ record { marks = after_entry v.cost v.pinned c.args.mark (marks_of v.told v.entries); colours = v.colours; cost = v.cost; pinned = v.pinned } in
     subst Entered c.self.view_is (λ i. record { marks = (settled c).0 i; colours = t.colours; cost = t.cost; pinned = t.pinned })
 
 pub returns-clause-stealable : goal.returns-clause-stealable

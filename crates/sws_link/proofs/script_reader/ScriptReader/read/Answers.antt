@@ -1,7 +1,7 @@
 use Rattle.std.proofs.Common.{◌≡◌, ◌+◌, ◌++◌, ◌∷◌, take, drop, length, sym, ap, ◌∙◌, subst, arith, map}
 use Rattle.sws_link.specs.Scripts.{ItemRead, read_of}
 use Rattle.sws_link.specs.LinkItems.{item_of, all_bytes}
-use Rattle.sws_link.specs.ScriptReader.{left_of, given_of, shortened, IsUsed}
+use Rattle.sws_link.specs.ScriptReader.{left_of, given_of, rest_of_item, IsUsed}
 use Rattle.sws_link.specs.Links.{given_by}
 use Rattle.sws_link.proofs.ScriptReaderLemmas.{drop_at, take_at_item, used_within, passed_read, passed_taken, played_taken, read_as, IsUsed-zero}
 use Rattle.sws_link.proofs.script_reader.ScriptReader.read.Goals as goal
@@ -18,7 +18,7 @@ said : (c : In-Some) → drop c.items.self-inside.at (map item_of c.items.self-i
     → read_of (length c.args.into.now) c.args.self.now.items ≡ record {
       answer = c.in-Some.answer;
       bytes = given_by c.in-Some.answer c.play.new.into;
-      items = shortened c.in-Some.used (item_of c.index.result.now) ∷ drop (c.items.self-inside.at + 1) (map item_of c.items.self-inside.items.items);
+      items = rest_of_item c.in-Some.used (item_of c.index.result.now) ∷ drop (c.items.self-inside.at + 1) (map item_of c.items.self-inside.items.items);
     }
 said c first =
     read_as c.items.self-inside.used (length c.items.into) (length c.args.into.now) _ _ (item_of c.index.result.now) c.in-Some.answer c.in-Some.used c.play.new.into

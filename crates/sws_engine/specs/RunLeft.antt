@@ -1,0 +1,85 @@
+-- What every run of the server leaves, over a weave or on threads.
+use Rattle.std.specs.Prelude.{◌≡◌, ◌≢◌, ◌+◌, ℕ, false, true, List, map, Some, IsSome, length, slice_get}
+use Rattle.mely_event.specs.declared.colour.Colour.{Colour}
+use Rattle.mely_event.specs.declared.event.Event.{Event}
+use Rattle.mely_history.specs.History.{ran_of}
+use Rattle.mely_history.specs.Legal.{AreLegal, IsDrained}
+use Rattle.mely_history.specs.Setup.{colours_of}
+use Rattle.mely_history.specs.declared.entry.Entry.{Entry}
+use Rattle.mely_history.specs.declared.setup.Setup.{Setup}
+use Rattle.mely_history.specs.declared.shape.Shape.{Shape}
+use Rattle.mely_machine.specs.Rules.{rules_of}
+use Rattle.mely_weave.specs.Side.{shard_of}
+use Rattle.mely_weave.specs.declared.draining.Drained.{Drained}
+use Rattle.mely_weave.specs.declared.parts.WeaveParts.{WeaveParts}
+use Rattle.sws_link.specs.declared.Link.{Ghosts as LinkWords}
+use Rattle.sws_link.specs.declared.world.World.{Ghosts as WorldWords}
+use Rattle.sws_link.specs.Scripts.{Script}
+use Rattle.sws_link.specs.Worlds.{Coming}
+use Rattle.sws_conn.specs.declared.talk.Talk.{Ghosts as TalkWords}
+use Rattle.sws_engine.specs.declared.ended.Served.{Served}
+use Rattle.sws_engine.specs.declared.ended.Ended.{Ended}
+use Rattle.sws_engine.specs.declared.ended.Verdict.TheVariants as verdict
+use Rattle.sws_engine.specs.declared.load.Load.{Load}
+use Rattle.sws_engine.specs.ConnFollows.{ConnFollows}
+use Rattle.sws_engine.specs.ConnLeft.{ConnLeft}
+use Rattle.sws_engine.specs.Loads.{WorldStands}
+use Rattle.sws_engine.specs.Place.{PlaceState}
+use Rattle.sws_engine.specs.RunLeaves.{AreWhole, NoneOutOfMemory}
+use Rattle.sws_engine.specs.ServerRun.{server_rules}
+use Rattle.sws_engine.specs.RunFits.{RunFits}
+use Rattle.sws_engine.specs.Conclusion.{IsConcluded}
+
+-- of a link that is known to answer by a script: at Ok its connection has run its path, and came to its outcome
+module _ {W L T G H : Type 0} (x : WorldWords W L) (l : LinkWords L) (y : TalkWords T L G H) (hall : H) (first : W) (ended : Ended W L) where
+  abbrev pub AllFollow : Type 0
+  AllFollow = (coming : List Coming) (one : Coming) (script : Script) (i : ℕ) (s : Served L)
+      (trail : List Event) → (x.tells first).coming ≡ Some coming → slice_get coming i ≡ Some one
+      → one.answers ≡ Some script
+      → slice_get ended.served.items i ≡ Some s
+      → slice_get (map (λ t. t.items) ended.trails.items) (i + 2) ≡ Some trail
+      → ConnFollows l y hall i script trail s
+
+module _ {W L T G H : Type 0} (x : WorldWords W L) (l : LinkWords L) (y : TalkWords T L G H) (shape : Shape) (hall : H) (first : W) (ended : Ended W L) where
+  abbrev pub histories_in : List (List Entry)
+  histories_in = map (λ history. history.items) ended.histories.items
+
+  -- by the shape, over the world that was handed in
+  pub record RunLeft : Type 0 where
+    pub setup : Setup
+    -- of the shape, with the server's handlers, and its first colour pinned
+    pub rules : rules_of setup ≡ server_rules shape
+    pub colours : colours_of setup ≡ (x.tells first).total + 2
+    -- what the weave came to, and its parts
+    pub how : Drained
+    pub parts : WeaveParts (PlaceState H W T) (Load W L)
+    pub fits : RunFits x l first hall parts.states.items
+        (map (λ events. events.items) parts.queued.items) parts.lost.items
+    -- the verdict is exactly what these show
+    pub concluded : IsConcluded y (x.tells first).total how parts ended
+    -- the histories, one for each shard, are legal, and drained unless memory was refused; each colour's trail is what was run of it
+    pub legal : AreLegal setup histories_in
+    pub shards : length histories_in ≡ shape.shards
+    pub drained : ended.verdict ≢ verdict.Memory → (shard : ℕ) (history : List Entry)
+        → slice_get histories_in shard ≡ Some history → IsDrained history
+    pub trailed : (c : Colour) (history trail : List _)
+        → slice_get (map (λ t. t.items) ended.trails.items) c.0 ≡ Some trail
+        → slice_get histories_in (shard_of setup c) ≡ Some history → trail ≡ ran_of history c
+    pub many_trails : length ended.trails.items ≡ (x.tells first).total + 2
+    -- there is a member for each link; at Ok the world is there and each has its link, an end, and no stray event, and at World so have those that were accepted
+    pub many_served : length ended.served.items ≡ (x.tells first).total
+    pub ok : ended.verdict ≡ verdict.Ok → IsSome ended.world × (ended.failed ≡ false)
+        × AreWhole ended.served.items (x.tells first).total × NoneOutOfMemory ended.served.items
+    pub world : ended.verdict ≡ verdict.World → IsSome ended.world × (ended.failed ≡ true)
+        × AreWhole ended.served.items ended.accepted × NoneOutOfMemory ended.served.items
+    -- a connection has the link of its number, as it was served
+    pub conn : (i : ℕ) (s : Served L) (trail : List Event) → slice_get ended.served.items i ≡ Some s
+        → slice_get (map (λ t. t.items) ended.trails.items) (i + 2) ≡ Some trail
+        → ConnLeft x l y hall first i trail s
+    -- the world is the one that was handed in: it has its port, gave so many links, failed only where its count of faults rose, and never where it is scripted
+    pub stands : (world : W) → ended.world ≡ Some world
+        → WorldStands x l first (record {
+          world = world;
+          accepted = ended.accepted;
+          failed = ended.failed;
+        })
