@@ -200,10 +200,12 @@ def texts(folder, peers):
             print(f"| a {what} of {size:.0f} MB | {name} | {seen[name][0] * 1000:.0f} ms |")
 
 
-def clocked(words):
-    """Seconds by the clock that a run of a program takes."""
+def clocked(commands):
+    """Seconds by the clock until programs that are started together have all ended."""
     start = time.monotonic()
-    subprocess.run(words, stdout=subprocess.DEVNULL, check=True)
+    children = [subprocess.Popen(words, stdout=subprocess.DEVNULL) for words in commands]
+    if any(child.wait() != 0 for child in children):
+        sys.exit(f"measure: one of {commands} failed")
     return time.monotonic() - start
 
 
@@ -239,17 +241,26 @@ def wakes(folder, programs):
 
 def speedup(programs):
     """How much faster 2, 3 and 4 workers are than one, by the clock, with handlers of about 10 us and 1 us, over 1, 8 and 64 shards:
-    events that are passed on to a colour that is drawn, and events that stay on theirs."""
-    for way, (rounds, passes) in itertools.product(("drawn", "stay"), ((62_000, 500), (5_000, 2000))):
+    events that are passed on to a colour that is drawn, and events that stay on theirs. A run of one worker takes about two seconds,
+    beside which the start of the threads and the colours that end last don't count."""
+    for way, (rounds, passes) in itertools.product(("drawn", "stay"), ((62_000, 3_000), (5_000, 20_000))):
         for shards in (1, 8, 64):
             for name, program in programs.items():
                 least = {}
                 for workers in (1, 2, 3, 4):
                     words = [program, str(workers), str(shards), "64", str(passes), str(rounds), "10"]
-                    least[workers] = min(clocked(words + ["stay"] * (way == "stay")) for _ in range(3))
+                    least[workers] = min(clocked([words + ["stay"] * (way == "stay")]) for _ in range(3))
                 micros = least[1] / (64 * (passes + 1)) * 1e6
                 times = ", ".join(f"{least[1] / least[workers]:.2f}" for workers in (2, 3, 4))
                 print(f"| 2, 3 and 4 workers, events of {micros:.1f} us ({way}), {shards} shards | {name} | {times} times as fast |")
+
+
+def bound(program):
+    """What the processors give programs that share nothing: how much faster four runs of one worker end at once than one by one."""
+    words = [program, "1", "1", "64", "1000", "62000", "10"]
+    alone = min(clocked([words]) for _ in range(3))
+    together = min(clocked([words] * 4) for _ in range(3))
+    print(f"| four runs of one worker at once, events of 10 us | fleet | {4 * alone / together:.2f} times as fast as in turn |")
 
 
 def fleet(folder, peer):
@@ -257,6 +268,7 @@ def fleet(folder, peer):
     programs = {"fleet": FLEET, "peer": peer}
     events(folder, programs)
     wakes(folder, programs)
+    bound(FLEET)
     speedup(programs)
 
 
