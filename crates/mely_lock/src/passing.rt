@@ -50,9 +50,10 @@ impl<V: Kept> Ticketed<V> {
         ensures entered { IfSome result (λ x.
             Enters V.history_of V.pass_of V.frame_of place.old.me x place.new.me) }
     {
-        for _ in 0..SPINS {
-            // A look is cheaper than a try that is refused, which takes the word's line of memory from who is inside.
-            if self.room.shared.peek(INSIDE) == 0 {
+        for look in 0..SPINS {
+            // Mostly nobody is inside, so the first try is made without a look. From then on a look comes first: it is cheaper than
+            // a try that is refused, which takes the word's line of memory from who is inside.
+            if look == 0 || self.room.shared.peek(INSIDE) == 0 {
                 if let Some(value) = self.try_enter(place, number) {
                     return Some(value);
                 }
