@@ -39,7 +39,6 @@ struct Fleet {
     rounds: u32,
     batch: usize,
     stays: bool,
-    ran: AtomicU64,
 }
 
 fn next(seed: u32) -> u32 {
@@ -80,7 +79,7 @@ impl Fleet {
     }
 
     /// Takes a batch of a colour, runs it and finishes.
-    fn turn(&self, core: usize, colour: u16) {
+    fn turn(&self, core: usize, colour: u16, ran: &mut u64) {
         let (shard, place) = self.place(colour);
         let (events, mut seed) = {
             let mut shard = self.shards[shard].lock().expect("no thread panics");
@@ -93,6 +92,7 @@ impl Fleet {
             (found.queue.drain(..count).collect::<Vec<u16>>(), found.seed)
         };
         let count = events.len() as u64;
+        *ran += count;
         for arg in events {
             seed = next(seed);
             for _ in 0..self.rounds {
@@ -110,7 +110,6 @@ impl Fleet {
             found.seed = seed;
             found.queue.len() as u64
         };
-        self.ran.fetch_add(count, SeqCst);
         if self.unfinished.fetch_sub(count, SeqCst) == count {
             self.ring();
         }
@@ -135,10 +134,10 @@ impl Fleet {
     }
 
     /// Looks at the own chain, and then at the others. Whether there was something to do.
-    fn hunt(&self, core: usize) -> bool {
+    fn hunt(&self, core: usize, ran: &mut u64) -> bool {
         let own = self.chains[core].lock().expect("no thread panics").pop_front();
         if let Some(mark) = own {
-            self.turn(core, mark.colour);
+            self.turn(core, mark.colour, ran);
             return true;
         }
         for step in 1..self.chains.len() {
@@ -155,11 +154,13 @@ impl Fleet {
         false
     }
 
-    fn work(&self, core: usize) {
+    /// The work of one core, which answers how many events it ran.
+    fn work(&self, core: usize) -> u64 {
+        let mut ran = 0;
         let mut missed = 0;
         let mut seen = None;
         loop {
-            if self.hunt(core) {
+            if self.hunt(core, &mut ran) {
                 missed = 0;
                 if seen.take().is_some() {
                     self.sleepers.fetch_sub(1, SeqCst);
@@ -171,7 +172,7 @@ impl Fleet {
                     self.sleepers.fetch_sub(1, SeqCst);
                 }
                 self.ring();
-                return;
+                return ran;
             }
             missed += 1;
             if missed < HUNTS {
@@ -217,16 +218,14 @@ fn main() {
         rounds: words[4],
         batch: words[5] as usize,
         stays,
-        ran: AtomicU64::new(0),
     };
     for colour in 0..colours {
         fleet.post(colour, passes);
     }
-    thread::scope(|scope| {
-        for core in 0..workers {
-            let fleet = &fleet;
-            scope.spawn(move || fleet.work(core));
-        }
+    let fleet = &fleet;
+    let ran: u64 = thread::scope(|scope| {
+        let crew: Vec<_> = (0..workers).map(|core| scope.spawn(move || fleet.work(core))).collect();
+        crew.into_iter().map(|worker| worker.join().expect("no thread panics")).sum()
     });
-    println!("{} events ran", fleet.ran.load(SeqCst));
+    println!("{ran} events ran");
 }

@@ -76,29 +76,38 @@ fn post_all<R: Wait>(
     true
 }
 
-/// The work of one core, in its thread. How it ended; nothing for want of memory.
+/// The work of one core, in its thread, with an app of its own: a count that the workers shared would be a line of memory that each
+/// event takes from another core. How it ended, and `ran` has the handlers that it ran besides; nothing for want of memory.
 fn work_one<R: Wait>(
     rt: &R,
     alloc: Global,
     fleet: &Fleet<Tally, u8>,
     setup: &Setup,
     passes: &mut Passes<Tally, u8>,
-    app: &Passing,
+    order: &Order,
+    ran: &AtomicU64,
 ) -> Option<Worked>
-    requires { MayWorkHere (shard_frame ⟦<Tally as Trail>⟧.frame_of) app.now.colours setup.now
+    requires { MayWorkHere (shard_frame ⟦<Tally as Trail>⟧.frame_of) order.now.colours setup.now
         fleet.now passes.old }
 {
     let core = passes.number();
     if core >= setup.cores() {
         return None;
     }
-    let Ok(order) = victims(alloc, core, setup.cores(), setup.group()) else {
+    let Ok(victims) = victims(alloc, core, setup.cores(), setup.group()) else {
         return None;
     };
-    let Ok(mut worker) = Worker::new(alloc, core, order, setup.batch()) else {
+    let Ok(mut worker) = Worker::new(alloc, core, victims, setup.batch()) else {
         return None;
     };
-    let worked = fleet.work(rt, &mut worker, passes, app, &OpenGate);
+    let app = Passing {
+        colours: order.colours,
+        stays: order.stays,
+        rounds: order.rounds,
+        ran: AtomicU64::new(0),
+    };
+    let worked = fleet.work(rt, &mut worker, passes, &app, &OpenGate);
+    ran.fetch_add(app.ran.load(Ordering::SeqCst), Ordering::SeqCst);
     let lost = worker.into_lost();
     drop(lost);
     Some(worked)
@@ -111,9 +120,10 @@ fn work_all<R: Threads + Wait + Sync>(
     fleet: &Fleet<Tally, u8>,
     setup: &Setup,
     seats: &mut [Passes<Tally, u8>],
-    app: &Passing,
+    order: &Order,
+    ran: &AtomicU64,
 )
-    requires shaped { IsLoop app.now.colours setup.now }
+    requires shaped { IsLoop order.now.colours setup.now }
     requires of_setup { fleet.now.setup ≡ setup.now }
     requires seats { AreSeats (shard_frame ⟦<Tally as Trail>⟧.frame_of) fleet.now seats.old }
 {
@@ -126,10 +136,10 @@ fn work_all<R: Threads + Wait + Sync>(
         seats,
         threads,
         &|_, own: &mut Passes<Tally, u8>|
-            requires { MayWorkHere (shard_frame (λ s. tt)) app.now.colours
+            requires { MayWorkHere (shard_frame (λ s. tt)) order.now.colours
                 setup.now fleet.now own.now }
         {
-            drop(work_one(rt, alloc, fleet, setup, own, app));
+            drop(work_one(rt, alloc, fleet, setup, own, order, ran));
         },
     );
 }
@@ -143,16 +153,11 @@ pub fn run<R: Threads + Wait + Sync>(rt: &R, alloc: Global, order: &Order) -> Op
         return None;
     };
     let mut outside = passes.pop()?;
-    let app = Passing {
-        colours: order.colours,
-        stays: order.stays,
-        rounds: order.rounds,
-        ran: AtomicU64::new(0),
-    };
+    let ran = AtomicU64::new(0);
     let is_posted = post_all(rt, &fleet, &mut outside, order.colours, order.passes);
-    work_all(rt, alloc, &fleet, &setup, &mut passes, &app);
+    work_all(rt, alloc, &fleet, &setup, &mut passes, order, &ran);
     if !is_posted {
         return None;
     }
-    Some(app.ran.load(Ordering::SeqCst))
+    Some(ran.load(Ordering::SeqCst))
 }

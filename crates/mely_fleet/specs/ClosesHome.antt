@@ -36,8 +36,8 @@ pub record IsClosedInto {S P F : Type 0} {g : _} (t : TrailWords S F) (fits : F 
   pub setup : weave.setup ≡ fleet.setup
   pub histories : AtEach (λ k has. IsClosedOver fleet.passes k callers has.history) weave.shards
   pub left : AtEach (λ k has. IsLeftByOthers fleet.setup k callers has.history) weave.shards
-  pub shards : AtEach (λ k has. MayGatherShard t fleet.setup (frame_in (shard_frame t.frame_of) fleet)
-      k has) weave.shards
+  pub shards : AtEach (λ k has. MayGatherShard t fleet.setup
+      (frame_in (shard_frame t.frame_of) fleet) k has) weave.shards
   pub chains : AreChainedAnew weave.setup weave.shards weave.chains
   pub stands : StandsWell t fits weave
 

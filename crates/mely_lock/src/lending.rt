@@ -10,8 +10,8 @@ use mely_event::Kept;
 impl<V: Kept> Held<'_, V> {
     /// The value, which may be changed. What stands behind the reference when the borrow ends is what is held.
     pub fn value(&mut self) -> &mut V
-        ensures* writes_back { sem 𝓛 (Lends (the_row (record { mir = named 1; lft = [] }) V.row V.Note.row
-            V.Frame.row V.Kept) V.row self.entry result (λ value.
+        ensures* writes_back { sem 𝓛 (Lends (the_row (record { mir = named 1; lft = [] })
+            V.row V.Note.row V.Frame.row V.Kept) V.row self.entry result (λ value.
             record self.old { value = value })) }
         ensures value { result.now ≡ self.old.value }
     {

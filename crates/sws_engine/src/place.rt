@@ -63,7 +63,8 @@ impl<W: World, T: Talk<W::Link>> Model for Place<W, T> {
 
     ghost view = { λ place. state_of T.contents_of place };
 
-    ghost invariant = { λ place. IsConsistent W.World W.Link.Link T.Talk (state_of T.contents_of place) };
+    ghost invariant = { λ place.
+        IsConsistent W.World W.Link.Link T.Talk (state_of T.contents_of place) };
 }
 
 impl<W: World, T: Talk<W::Link>> Trail for Place<W, T> {
