@@ -1,13 +1,13 @@
-pub mod ListLemmas
-pub mod WatchLemmas
-pub mod HearingLemmas
-pub mod ReadingLemmas
-pub mod WalkLemmas
-pub mod LineLemmas
-pub mod StepLemmas
-pub mod JudgeLemmas
-pub mod BeginLemmas
-pub mod OutsideLemmas
-pub mod ReaderLemmas
-pub mod ExactLemmas
-pub mod EndLemmas
+mod ListLemmas
+mod WatchLemmas
+mod HearingLemmas
+mod ReadingLemmas
+mod WalkLemmas
+mod LineLemmas
+mod StepLemmas
+mod JudgeLemmas
+mod BeginLemmas
+mod OutsideLemmas
+mod ReaderLemmas
+mod ExactLemmas
+mod EndLemmas

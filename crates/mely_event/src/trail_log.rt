@@ -62,7 +62,7 @@ use std::marker::Model;
 /// }
 /// ```
 ///
-/// What else it has may be several fields: `rest_of` is then a pair of them.
+/// What else it has may be several fields: the second function of `AreAlike` then gives a pair of them.
 ///
 /// Contracts see its colour, its events, and for how many further events it has room.
 #[derive(Debug, Drop)]

@@ -1,12 +1,12 @@
-pub mod KeepLemmas
-pub mod Rows
+mod KeepLemmas
+mod Rows
 pub mod SideLemmas
-pub mod WorkLemmas
-pub mod WorkedLemmas
+mod WorkLemmas
+mod WorkedLemmas
 pub mod OpeningLemmas
 mod ClosingRows
 mod ClosingLemmas
 mod GatherClosedLemmas
 pub mod SeatLemmas
 mod CallLemmas
-pub mod CrewLemmas
+mod CrewLemmas

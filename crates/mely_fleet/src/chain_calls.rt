@@ -88,7 +88,8 @@ pub(crate) fn retell_at<R: Wait>(
     requires colour { colour.0 < (first_value lock.now).has.colours }
     ensures pass { HasLeft chain_frame lock.now pass.old pass.new }
     ensures does { IsOnChain pass.old.number (front pass.old) (front pass.new)
-        (RetellsAt (chain_frame (first_value lock.now)) pass.old.number colour started worth result) }
+        (RetellsAt (chain_frame (first_value lock.now)) pass.old.number
+        colour started worth result) }
 {
     let by = pass.number();
     let mut held = enter_with_room(rt, lock, pass);

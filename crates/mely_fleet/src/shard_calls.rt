@@ -3,7 +3,8 @@ ghost use Rattle.std.specs.Prelude.{◌≡◌, ◌<◌, ◌↔◌, [], IsTrue};
 ghost use Rattle.mely_history.specs.Legal.{MayRegister, IsDrained};
 ghost use Rattle.mely_history.specs.Owing.{IsOwed};
 ghost use Rattle.mely_history.specs.Setup.{shape_of};
-ghost use Rattle.mely_lock.specs.Words.{first_value, front, IsPassOf, IsOutside};
+ghost use Rattle.mely_lock.specs.Words.{first_value, front};
+ghost use Rattle.mely_fleet.specs.Rows.{MayEnter, HasLeft};
 ghost use Rattle.mely_fleet.specs.Frames.{shard_frame, IsColourOf};
 ghost use Rattle.mely_fleet.specs.Calls.{RegistersAt, TakesAt, FinishesAt, StealsAt, LooksAt, IsSeen};
 
@@ -23,12 +24,11 @@ pub(crate) fn register_at<S: Fits<P>, P, R: Wait>(
     event: Event,
     load: Option<P>,
 ) -> Result<Registered, Unregistered<P>>
-    requires pass { IsPassOf (shard_frame S.frame_of) lock.now pass.old × IsOutside pass.old }
+    requires pass { MayEnter (shard_frame S.frame_of) lock.now pass.old }
     requires own { IsColourOf (shard_frame S.frame_of (first_value lock.now)) colour }
     requires may { MayRegister (first_value lock.now).has.setup colour event }
     requires fit { S.fits_under (S.frame_of (first_value lock.now).sample) colour event load }
-    ensures pass { IsPassOf (shard_frame S.frame_of) lock.now pass.new × IsOutside pass.new
-        × (pass.new.number ≡ pass.old.number) }
+    ensures pass { HasLeft (shard_frame S.frame_of) lock.now pass.old pass.new }
     ensures seen { IsSeen (first_value lock.now).has.setup pass.old.number
         (front pass.old) (front pass.new)
         (RegistersAt (first_value lock.now).has.setup pass.old.number colour event load result) }
@@ -47,10 +47,9 @@ pub(crate) fn take_at<S: Fits<P>, P, R: Wait>(
     pass: &mut Pass<KeptShard<S, P>>,
     colour: Colour,
 ) -> Result<Turn<S, P>, NoTake>
-    requires pass { IsPassOf (shard_frame S.frame_of) lock.now pass.old × IsOutside pass.old }
+    requires pass { MayEnter (shard_frame S.frame_of) lock.now pass.old }
     requires own { IsColourOf (shard_frame S.frame_of (first_value lock.now)) colour }
-    ensures pass { IsPassOf (shard_frame S.frame_of) lock.now pass.new × IsOutside pass.new
-        × (pass.new.number ≡ pass.old.number) }
+    ensures pass { HasLeft (shard_frame S.frame_of) lock.now pass.old pass.new }
     ensures seen { IsSeen (first_value lock.now).has.setup pass.old.number
         (front pass.old) (front pass.new)
         (TakesAt S.Trail S.fits_under (first_value lock.now).has.setup
@@ -70,18 +69,18 @@ pub(crate) fn finish_at<S: Fits<P> + Drop, P: Drop, R: Wait>(
     pass: &mut Pass<KeptShard<S, P>>,
     turn: Turn<S, P>,
 ) -> After
-    requires pass { IsPassOf (shard_frame S.frame_of) lock.now pass.old × IsOutside pass.old }
+    requires pass { MayEnter (shard_frame S.frame_of) lock.now pass.old }
     requires own { IsColourOf (shard_frame S.frame_of (first_value lock.now)) turn.colour }
     requires spent { turn.events ≡ [] }
     requires owed { IsOwed pass.old.number (front pass.old)
         turn.colour turn.core turn.count (S.trail_of turn.state) }
     requires coloured { S.colour_of turn.state ≡ turn.colour }
     requires framed { S.frame_of turn.state ≡ S.frame_of (first_value lock.now).sample }
-    ensures pass { IsPassOf (shard_frame S.frame_of) lock.now pass.new × IsOutside pass.new
-        × (pass.new.number ≡ pass.old.number) }
+    ensures pass { HasLeft (shard_frame S.frame_of) lock.now pass.old pass.new }
     ensures seen { IsSeen (first_value lock.now).has.setup pass.old.number
         (front pass.old) (front pass.new)
-        (FinishesAt (first_value lock.now).has.setup pass.old.number turn.colour turn.count result) }
+        (FinishesAt (first_value lock.now).has.setup pass.old.number
+        turn.colour turn.count result) }
 {
     let mut held = lock.enter(rt, pass);
     let answer = held.value().finish(turn);
@@ -96,11 +95,10 @@ pub(crate) fn steal_at<S: Fits<P>, P, R: Wait>(
     pass: &mut Pass<KeptShard<S, P>>,
     colour: Colour,
 ) -> Result<Stolen, NoSteal>
-    requires pass { IsPassOf (shard_frame S.frame_of) lock.now pass.old × IsOutside pass.old }
+    requires pass { MayEnter (shard_frame S.frame_of) lock.now pass.old }
     requires own { IsColourOf (shard_frame S.frame_of (first_value lock.now)) colour }
     requires core { pass.old.number < (shape_of (first_value lock.now).has.setup).cores }
-    ensures pass { IsPassOf (shard_frame S.frame_of) lock.now pass.new × IsOutside pass.new
-        × (pass.new.number ≡ pass.old.number) }
+    ensures pass { HasLeft (shard_frame S.frame_of) lock.now pass.old pass.new }
     ensures seen { IsSeen (first_value lock.now).has.setup pass.old.number
         (front pass.old) (front pass.new)
         (StealsAt (first_value lock.now).has.setup pass.old.number colour result) }
@@ -119,9 +117,8 @@ pub(crate) fn reserve_at<S: Fits<P>, P, R: Wait>(
     pass: &mut Pass<KeptShard<S, P>>,
     entries: usize,
 ) -> Result<(), Memory>
-    requires pass { IsPassOf (shard_frame S.frame_of) lock.now pass.old × IsOutside pass.old }
-    ensures pass { IsPassOf (shard_frame S.frame_of) lock.now pass.new × IsOutside pass.new
-        × (pass.new.number ≡ pass.old.number) }
+    requires pass { MayEnter (shard_frame S.frame_of) lock.now pass.old }
+    ensures pass { HasLeft (shard_frame S.frame_of) lock.now pass.old pass.new }
     ensures seen { IsSeen (first_value lock.now).has.setup pass.old.number
         (front pass.old) (front pass.new)
         LooksAt }
@@ -138,9 +135,8 @@ pub(crate) fn look_at<S: Fits<P>, P, R: Wait>(
     lock: &Ticketed<KeptShard<S, P>>,
     pass: &mut Pass<KeptShard<S, P>>,
 ) -> bool
-    requires pass { IsPassOf (shard_frame S.frame_of) lock.now pass.old × IsOutside pass.old }
-    ensures pass { IsPassOf (shard_frame S.frame_of) lock.now pass.new × IsOutside pass.new
-        × (pass.new.number ≡ pass.old.number) }
+    requires pass { MayEnter (shard_frame S.frame_of) lock.now pass.old }
+    ensures pass { HasLeft (shard_frame S.frame_of) lock.now pass.old pass.new }
     ensures seen { IsSeen (first_value lock.now).has.setup pass.old.number
         (front pass.old) (front pass.new)
         LooksAt }

@@ -1,4 +1,4 @@
-pub mod SeenLemmas
+mod SeenLemmas
 mod ListsLemmas
 mod ClaimsLemmas
 mod KeepsLemmas

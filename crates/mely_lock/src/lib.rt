@@ -25,7 +25,7 @@
 //! # Sleeping
 //!
 //! A pass that finds another inside looks again for a while, and then sleeps until somebody leaves. Beside the words of the rule
-//! stands a count of sleepers, under no part of it: a pass raises it before it looks for the last time, and whoever leaves looks at
+//! stands a count of sleepers, under no part of it: a pass raises it before it tries for the last time, and whoever leaves looks at
 //! it once the word says that nobody is inside. All these steps are sequentially consistent, so either the pass sees that nobody is
 //! inside and doesn't sleep, or who leaves sees it counted and makes the system's call that wakes a sleeper. Where nobody sleeps,
 //! entering and leaving make no system call. No contract says any of this: a lock that woke nobody would meet them all.

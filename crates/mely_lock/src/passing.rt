@@ -16,8 +16,8 @@ use std::sync::atomic::Ordering;
 /// The greatest number that the word `INSIDE` can have.
 const LAST_TICKET: u64 = 65_536;
 
-/// How often a pass looks whether nobody is inside before it sleeps. So many looks take about as long as falling asleep and
-/// being woken.
+/// How often a pass tries to come in, or looks whether it could, before it sleeps. So many looks take about as long as falling asleep
+/// and being woken.
 const SPINS: u32 = 100;
 
 impl<V: Kept> Ticketed<V> {
@@ -81,7 +81,7 @@ impl<V: Kept> Ticketed<V> {
             place.old.me result place.new.me }
     {
         for _ in rt.forever() {
-            // It is counted before it looks: who leaves after the look finds it counted, and wakes it.
+            // It is counted before it tries again: who leaves after the try finds it counted, and wakes it.
             self.sleepers.fetch_add(1, Ordering::SeqCst);
             let entered = self.try_enter(place, number);
             if entered.is_none() {

@@ -1,4 +1,4 @@
 pub mod Lists
-pub mod Lines
-pub mod Pieces
+mod Lines
+mod Pieces
 pub mod Runs

@@ -1,4 +1,4 @@
--- Within the crate: what the cell of one colour answers, in its own fields. Callers see it by the words of Contents.
+-- Within the crate: what the cell of one colour answers, in its own fields. Callers see it by the words of ShardState.
 use Rattle.std.specs.Prelude.{◌≡◌, ◌≤◌, ◌==◌, ℕ, Bool, Option, None, Some, length, min, take, sum, ◌&&◌, is_some, is_none, nat_lt, if◌then◌else◌}
 use Rattle.mely_event.specs.declared.colour.Colour.{Colour}
 use Rattle.mely_event.specs.declared.trail.Trail.{Ghosts as TrailWords}

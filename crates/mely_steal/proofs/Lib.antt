@@ -1,9 +1,9 @@
 pub mod MarkLemmas
 pub mod StealLemmas
 pub mod LinkLemmas
-pub mod TableLemmas
+mod TableLemmas
 pub mod EnterLemmas
-pub mod OrderLemmas
-pub mod TableMarksLemmas
-pub mod StealableLemmas
-pub mod RenumberLemmas
+mod OrderLemmas
+mod TableMarksLemmas
+mod StealableLemmas
+mod RenumberLemmas

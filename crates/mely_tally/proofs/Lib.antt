@@ -1,10 +1,10 @@
 pub mod SumsLemmas
-pub mod DealtLemmas
-pub mod ByColourLemmas
-pub mod FlowsLemmas
+mod DealtLemmas
+mod ByColourLemmas
+mod FlowsLemmas
 pub mod TallyLemmas
-pub mod PostTalliesLemmas
-pub mod WholeLemmas
+mod PostTalliesLemmas
+mod WholeLemmas
 pub mod CarryingLemmas
-pub mod ConservedLemmas
+mod ConservedLemmas
 mod PartsFittingLemmas

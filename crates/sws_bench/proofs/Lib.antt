@@ -1,8 +1,8 @@
-pub mod ListLemmas
-pub mod FileLemmas
-pub mod PieceLemmas
-pub mod ConnLemmas
-pub mod InputLemmas
-pub mod OutcomeLemmas
-pub mod SummaryLemmas
-pub mod WriteLemmas
+mod ListLemmas
+mod FileLemmas
+mod PieceLemmas
+mod ConnLemmas
+mod InputLemmas
+mod OutcomeLemmas
+mod SummaryLemmas
+mod WriteLemmas

@@ -8,6 +8,7 @@
 //! sws replay FOLDER [..] [--journal] [--schedule] the connections of a script on standard input, and what each is sent
 //! sws serve FOLDER --port P --connections N [..]  so many connections to a TCP port, and then a summary
 //! sws bench N NUMBER [..]                         so many connections of a generated script, and then a summary
+//! sws check --connections N [..]                  the journal of a run on standard input, and what is wrong with it
 //! ```
 #![tactic(auto)]
 

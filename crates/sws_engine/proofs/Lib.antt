@@ -1,6 +1,6 @@
-pub mod Events
-pub mod Ends
-pub mod Paths
+mod Events
+mod Ends
+mod Paths
 mod Balances
 mod Runs
 mod Model

@@ -1,6 +1,6 @@
-//! `sws answer FOLDER [--date SECONDS]`: the responses to the bytes of standard input, out of the files below a folder.
+//! The command `sws`: `answer`, `replay`, `serve`, `bench` and `check`, as [`sws_command`] lists them.
 //!
-//! The program is [`sws_command::command`]: the top call on the machine's folder, standard input and standard output.
+//! The program is [`sws_command::command`]: the top call on the machine's folder, standard input, standard output and sockets.
 #![tactic(auto)]
 
 use std::process::ExitCode;

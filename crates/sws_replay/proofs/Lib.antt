@@ -1,4 +1,4 @@
-pub mod InputLemmas
-pub mod WorldLemmas
-pub mod RunLemmas
-pub mod TextLemmas
+mod InputLemmas
+mod WorldLemmas
+mod RunLemmas
+mod TextLemmas

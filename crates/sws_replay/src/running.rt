@@ -71,7 +71,8 @@ pub fn run_steps<R: Wait>(
     requires count { sum_by (λ part. part.1) schedule.now < 2 ^ 64 }
     ensures ran { IfOk result (λ ended. RunsWell site.now shape.now conns.now ended) }
     ensures scheduled { IfOk result (λ ended.
-        IsServerRun shape.now site.now (map script_of conns.now) schedule.now (histories_of ended)) }
+        IsServerRun shape.now site.now (map script_of conns.now) schedule.now
+        (histories_of ended)) }
     ensures refused { IfErr result (λ fault. fault ≡ RunFault.Memory) }
 {
     let world = make_world(alloc, conns)?;

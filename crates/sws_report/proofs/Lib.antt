@@ -1,3 +1,3 @@
 pub mod PieceLemmas
 pub mod UniqueJournalLemmas
-pub mod SummaryLemmas
+mod SummaryLemmas

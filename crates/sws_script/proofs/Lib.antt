@@ -1,13 +1,13 @@
-pub mod WordLemmas
-pub mod LineLemmas
-pub mod ReadingLemmas
-pub mod OrderLemmas
-pub mod PlaceLemmas
-pub mod SplitLemmas
-pub mod StandingLemmas
-pub mod PrintLemmas
-pub mod PrintedLemmas
+mod WordLemmas
+mod LineLemmas
+mod ReadingLemmas
+mod OrderLemmas
+mod PlaceLemmas
+mod SplitLemmas
+mod StandingLemmas
+mod PrintLemmas
+mod PrintedLemmas
 pub mod AnswerLemmas
-pub mod ScriptedLemmas
-pub mod ShortLemmas
-pub mod WorldLemmas
+mod ScriptedLemmas
+mod ShortLemmas
+mod WorldLemmas

@@ -15,6 +15,9 @@ use sws_link::{Folder, Got, NextFile};
 /// The most files of a site.
 const MAX_FILES: u32 = 4096;
 
+/// The most bytes of a file's name.
+const MAX_NAME: usize = 1024;
+
 /// The most bytes of all their contents.
 const MAX_BYTES: usize = 268435456;
 
@@ -106,7 +109,7 @@ fn next_file<F: Folder>(
     ensures cause { HasCause (F.faults folder.old) (F.faults folder.new) (result
         ≡ Err SiteFault.Fault) }
 {
-    let mut name = [0u8; 1024];
+    let mut name = [0u8; MAX_NAME];
     let len = match folder.next(&mut name) {
         NextFile::File { len } => len,
         NextFile::End => return Ok(None),

@@ -1,7 +1,7 @@
-pub mod SignLemmas
+mod SignLemmas
 pub mod TextLemmas
 pub mod WrittenLemmas
 pub mod LengthLemmas
-pub mod ShownLemmas
-pub mod PlainLemmas
+mod ShownLemmas
+mod PlainLemmas
 pub mod NumberLemmas

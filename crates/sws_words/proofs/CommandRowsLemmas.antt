@@ -14,8 +14,8 @@ use Rattle.sws_words.specs.Commands.{option_rule}
 use Rattle.sws_words.specs.Grammar.{Given, Known, is_among, given_of, each_once, has_bundle, places, value_of}
 use Rattle.sws_words.specs.Orders.{only_place, shape_in, shape_of, shape_options}
 use Rattle.sws_words.specs.Orders as orders
-use Rattle.sws_words.proofs.ClapWalkLemmas.{IsPlace, and_false}
-use Rattle.sws_words.proofs.ClapGrammarLemmas.{IsOption}
+use Rattle.sws_words.proofs.Clap.ClapWalkLemmas.{IsPlace, and_false}
+use Rattle.sws_words.proofs.Clap.ClapGrammarLemmas.{IsOption}
 use Rattle.sws_words.proofs.GivenRows.{AddsValue, AllKnown, AreOthers, first_option, first_place, fits, given_first, one_more, place_value, rows_of}
 use Rattle.sws_words.proofs.SameLemmas.{ap₅}
 use Rattle.sws_words.proofs.TakenLemmas.{bundle_gives_none, checked}

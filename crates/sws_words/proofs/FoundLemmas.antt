@@ -10,8 +10,8 @@ use Rattle.clap.specs.declared.builder.value_parser.Reading.TheVariants.{AsWritt
 use Rattle.clap.specs.declared.error.kind.ErrorKind.TheVariants as kind
 use Rattle.clap.specs.declared.parser.matches.ValueSource.TheVariants.{DefaultValue}
 use Rattle.sws_words.specs.Grammar.{Given, Known, place, option, flag, is_among, given_by, given_of, each_once, places, has_flag}
-use Rattle.sws_words.proofs.ClapStepLemmas.{idle_at}
-use Rattle.sws_words.proofs.ClapWalkLemmas.{unless, clap_rows, add_all}
+use Rattle.sws_words.proofs.Clap.ClapStepLemmas.{idle_at}
+use Rattle.sws_words.proofs.Clap.ClapWalkLemmas.{unless, clap_rows, add_all}
 use Rattle.sws_words.proofs.GivenRows.{AllKnown, AreOthers, at_end, fits, given_row, other_name, rows_of, same_name}
 use Rattle.sws_words.proofs.TakenLemmas.{TakeDefaults, all_known, alone, checked, taken}
 

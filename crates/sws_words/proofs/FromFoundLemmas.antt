@@ -17,14 +17,14 @@ use Rattle.sws_words.specs.Orders.{Order, answer, replay, serve, bench, answer_b
 use Rattle.sws_words.specs.Orders as orders
 use Rattle.sws_words.specs.declared.order.WordFault.{WordFault}
 use Rattle.sws_words.specs.declared.order.WordFault.TheVariants.{Usage}
-use Rattle.sws_words.proofs.ClapWalkLemmas.{unless}
+use Rattle.sws_words.proofs.Clap.ClapWalkLemmas.{unless}
 use Rattle.sws_words.proofs.CommandRowsLemmas.{shape_at}
 use Rattle.sws_words.proofs.SameLemmas.{ap₃, ap₅}
-use Rattle.sws_words.proofs.AnswerLemmas.{answer_order, answer_at, answer_bundle}
-use Rattle.sws_words.proofs.ReplayLemmas.{replay_order, replay_at, replay_bundle, replay_flags, flag_of, flag_got}
-use Rattle.sws_words.proofs.ServeLemmas.{serve_order, serve_at, serve_bundle}
-use Rattle.sws_words.proofs.BenchLemmas.{bench_order, bench_at, bench_bundle}
-use Rattle.sws_words.proofs.CheckLemmas.{check_order, check_at, check_bundle}
+use Rattle.sws_words.proofs.EachCommand.AnswerLemmas.{answer_order, answer_at, answer_bundle}
+use Rattle.sws_words.proofs.EachCommand.ReplayLemmas.{replay_order, replay_at, replay_bundle, replay_flags, flag_of, flag_got}
+use Rattle.sws_words.proofs.EachCommand.ServeLemmas.{serve_order, serve_at, serve_bundle}
+use Rattle.sws_words.proofs.EachCommand.BenchLemmas.{bench_order, bench_at, bench_bundle}
+use Rattle.sws_words.proofs.EachCommand.CheckLemmas.{check_order, check_at, check_bundle}
 
 -- what is so whatever the fault is
 pub of_any_fault : {T P : Type 0} (r : Result T WordFault) → P → IfErr r (λ fault. fault ≡ Usage → P)
@@ -147,10 +147,10 @@ replay_found app words f journal schedule is clear taken rows on off on_s off_s 
     let found : rows_of f ≡ matches_of replay_app words = rows ∙ ap (λ a. matches_of a words) is in
     let texts = replay_flags words clear same in
     let j : flag_of (one_of (codes "journal") (rows_of f)) ≡ journal =
-    flag_got journal (one_of (codes "journal") (rows_of f)) (ap (λ r. Rattle.sws_words.proofs.ReplayLemmas.is_flag_text (one_of (codes "journal") r)) found ∙ texts.0)
+    flag_got journal (one_of (codes "journal") (rows_of f)) (ap (λ r. Rattle.sws_words.proofs.EachCommand.ReplayLemmas.is_flag_text (one_of (codes "journal") r)) found ∙ texts.0)
     (λ e. on (one_text-rows f (codes "journal") ∙ e)) (λ e. off (one_text-rows f (codes "journal") ∙ e)) in
     let t : flag_of (one_of (codes "schedule") (rows_of f)) ≡ schedule =
-    flag_got schedule (one_of (codes "schedule") (rows_of f)) (ap (λ r. Rattle.sws_words.proofs.ReplayLemmas.is_flag_text (one_of (codes "schedule") r)) found ∙ texts.1)
+    flag_got schedule (one_of (codes "schedule") (rows_of f)) (ap (λ r. Rattle.sws_words.proofs.EachCommand.ReplayLemmas.is_flag_text (one_of (codes "schedule") r)) found ∙ texts.1)
     (λ e. on_s (one_text-rows f (codes "schedule") ∙ e)) (λ e. off_s (one_text-rows f (codes "schedule") ∙ e)) in
     taken_order replay_at app replay_app words f is (replay_order words clear) taken rows
     ∙ ap₅ replay_parts (sym (first_value-rows f (codes "folder"))) (shape_rows f) (ap date_in (sym (first_value-rows f (codes "date")))) j t

@@ -14,7 +14,7 @@ use Rattle.clap.specs.Faults.{repeat_fault}
 use Rattle.clap.specs.declared.builder.value_parser.Reading.TheVariants.{AsWritten}
 use Rattle.clap.specs.declared.parser.matches.ValueSource.TheVariants.{CommandLine}
 use Rattle.sws_words.specs.Grammar.{Given, Known, place, option, flag, is_among, is_named, each_once, places, value_of}
-use Rattle.sws_words.proofs.ClapWalkLemmas.{unless, add, add_all, none_added, no_rule}
+use Rattle.sws_words.proofs.Clap.ClapWalkLemmas.{unless, add, add_all, none_added, no_rule}
 
 -- ---- one more row
 

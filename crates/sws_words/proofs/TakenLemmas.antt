@@ -8,9 +8,9 @@ use Rattle.clap.specs.Simple.{App, Shape, entered}
 use Rattle.clap.specs.Kinds.{Kinds, or_else}
 use Rattle.clap.specs.Faults.{walk_fault, settle_fault, default_fault, defaults_fault, given_default_fault, check_fault, entered_fault, built_fault}
 use Rattle.sws_words.specs.Grammar.{Given, Known, place, option, flag, is_among, given_by, by_name, with_value, before, looks_like_option, is_bundle, has_bundle}
-use Rattle.sws_words.proofs.ClapStepLemmas.{idle_at}
-use Rattle.sws_words.proofs.ClapWalkLemmas.{unless, clap_rows}
-use Rattle.sws_words.proofs.ClapEndLemmas.{rows_of_walk}
+use Rattle.sws_words.proofs.Clap.ClapStepLemmas.{idle_at}
+use Rattle.sws_words.proofs.Clap.ClapWalkLemmas.{unless, clap_rows}
+use Rattle.sws_words.proofs.Clap.ClapEndLemmas.{rows_of_walk}
 use Rattle.sws_words.proofs.GivenRows.{IsKnown, AllKnown}
 
 -- ---- what is given is known

@@ -11,10 +11,10 @@ use Rattle.sws_words.specs.Commands.{replay_app, place_rule, option_rule, flag_r
 use Rattle.sws_words.specs.Grammar.{Given, is_among, given_by, given_of, each_once, places, value_of, has_flag, has_bundle}
 use Rattle.sws_words.specs.Orders.{Order, replay, replay_by, replay_known, date_in, shape_of}
 use Rattle.sws_words.specs.Orders as orders
-use Rattle.sws_words.proofs.ClapWalkLemmas.{IsPlace, unless, clap_rows, add_all}
-use Rattle.sws_words.proofs.ClapStepLemmas.{idle_at}
-use Rattle.sws_words.proofs.ClapGrammarLemmas.{IsFlag, reads_alike}
-use Rattle.sws_words.proofs.ClapEndLemmas.{clear}
+use Rattle.sws_words.proofs.Clap.ClapWalkLemmas.{IsPlace, unless, clap_rows, add_all}
+use Rattle.sws_words.proofs.Clap.ClapStepLemmas.{idle_at}
+use Rattle.sws_words.proofs.Clap.ClapGrammarLemmas.{IsFlag, reads_alike}
+use Rattle.sws_words.proofs.Clap.ClapEndLemmas.{clear}
 use Rattle.sws_words.proofs.GivenRows.{AddsFlag, AllKnown, HasPlaces, fits, one_more, rows_given, rows_of}
 use Rattle.sws_words.proofs.TakenLemmas.{TakeDefaults, checked}
 use Rattle.sws_words.proofs.FoundLemmas.{command_reads, defaults_leave, each_named, first_flag, flag_default, flag_text, none_named, row_at, rows_once}

@@ -10,8 +10,8 @@ use Rattle.clap.specs.Faults.{turn_fault, settle_fault, use_fault, react_fault}
 use Rattle.clap.specs.declared.error.kind.ErrorKind.TheVariants as kind
 use Rattle.sws_words.specs.Grammar.{Given, Known, place, given_by, is_among, looks_like_option, before, by_name}
 use Rattle.sws_words.specs.Grammar as grammar
-use Rattle.sws_words.proofs.ClapStepLemmas.{idle_at, awaiting_at, attached, attached-fault, awaits, flagged, dashes, plain, gets, or_else_nil}
-use Rattle.sws_words.proofs.ClapWalkLemmas.{unless, ends, clap_rows, add, add_all, none_added, fault_first, no_rule, IsPlace, trailing_at, placed, after_dashes, placed-ends, and_false}
+use Rattle.sws_words.proofs.Clap.ClapStepLemmas.{idle_at, awaiting_at, attached, attached-fault, awaits, flagged, dashes, plain, gets, or_else_nil}
+use Rattle.sws_words.proofs.Clap.ClapWalkLemmas.{unless, ends, clap_rows, add, add_all, none_added, fault_first, no_rule, IsPlace, trailing_at, placed, after_dashes, placed-ends, and_false}
 
 -- an option of the command
 pub record IsOption (c : List Rule) (name : Text) : Type 0 where

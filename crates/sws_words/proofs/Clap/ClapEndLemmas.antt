@@ -8,8 +8,8 @@ use Rattle.clap.specs.Simple.{Shape}
 use Rattle.clap.specs.Kinds.{Kinds, or_else}
 use Rattle.clap.specs.Faults.{walk_fault, settle_fault, turn_fault}
 use Rattle.sws_words.specs.Grammar.{is_bundle, has_bundle}
-use Rattle.sws_words.proofs.ClapWalkLemmas.{unless, clap_rows, and_false}
-use Rattle.sws_words.proofs.ClapGrammarLemmas.{IsNamed, IsBare, IsDashes, Clear}
+use Rattle.sws_words.proofs.Clap.ClapWalkLemmas.{unless, clap_rows, and_false}
+use Rattle.sws_words.proofs.Clap.ClapGrammarLemmas.{IsNamed, IsBare, IsDashes, Clear}
 
 -- the faults of the walk and of the last settling, and the rows there, are those of `clap_rows`
 pub rows_of_walk : (s : Shape) (w : Walk) (words : List Text)

@@ -8,10 +8,10 @@ use Rattle.sws_words.specs.Commands.{check_app}
 use Rattle.sws_words.specs.Grammar.{Given, is_among, given_by, given_of, each_once, places, value_of, has_bundle}
 use Rattle.sws_words.specs.Orders.{Order, check_by, check_known, shape_of, within}
 use Rattle.sws_words.specs.Orders as orders
-use Rattle.sws_words.proofs.ClapWalkLemmas.{IsPlace, unless, clap_rows, add_all}
-use Rattle.sws_words.proofs.ClapStepLemmas.{idle_at}
-use Rattle.sws_words.proofs.ClapGrammarLemmas.{IsFlag, reads_alike}
-use Rattle.sws_words.proofs.ClapEndLemmas.{clear}
+use Rattle.sws_words.proofs.Clap.ClapWalkLemmas.{IsPlace, unless, clap_rows, add_all}
+use Rattle.sws_words.proofs.Clap.ClapStepLemmas.{idle_at}
+use Rattle.sws_words.proofs.Clap.ClapGrammarLemmas.{IsFlag, reads_alike}
+use Rattle.sws_words.proofs.Clap.ClapEndLemmas.{clear}
 use Rattle.sws_words.proofs.GivenRows.{AddsFlag, AllKnown, HasPlaces, rows_given, rows_of}
 use Rattle.sws_words.proofs.TakenLemmas.{TakeDefaults, checked}
 use Rattle.sws_words.proofs.FoundLemmas.{checked_by, command_reads, each_named, none_named, rows_once}

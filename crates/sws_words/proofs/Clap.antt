@@ -1,0 +1,4 @@
+pub mod ClapStepLemmas
+pub mod ClapWalkLemmas
+pub mod ClapGrammarLemmas
+pub mod ClapEndLemmas

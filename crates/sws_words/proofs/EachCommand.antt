@@ -1,0 +1,5 @@
+pub mod AnswerLemmas
+pub mod ReplayLemmas
+pub mod ServeLemmas
+pub mod BenchLemmas
+pub mod CheckLemmas
