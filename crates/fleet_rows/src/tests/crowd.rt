@@ -173,7 +173,7 @@ fn act_all<R: Threads + Wait + Sync>(
     rt: &R,
     fleet: &Fleet<Tally, u8>,
     setup: &Setup,
-    callers: &mut [Seat<Tally, u8>],
+    callers: &mut Vec<Seat<Tally, u8>>,
     run: &Run,
     who: Who,
 )
@@ -181,10 +181,12 @@ fn act_all<R: Threads + Wait + Sync>(
     requires colours { run.now.app.colours ≡ colours_of setup.now }
     requires row { IsRow (shape_of setup.now).cores (colours_of setup.now) setup.now }
     requires callers { AtEach (λ n caller. IsCaller ⟦<Tally as Trail>⟧.frame_of
-        ⟦<Tally as Fits<u8>>⟧.fits_under fleet.now n caller.passes caller.worker) callers.old }
-    ensures many { length callers.new ≡ length callers.old }
+        ⟦<Tally as Fits<u8>>⟧.fits_under fleet.now n caller.passes caller.worker)
+        callers.old.items }
+    ensures many { length callers.new.items ≡ length callers.old.items }
     ensures callers { AtEach (λ n caller. IsCaller ⟦<Tally as Trail>⟧.frame_of
-        ⟦<Tally as Fits<u8>>⟧.fits_under fleet.now n caller.passes caller.worker) callers.new }
+        ⟦<Tally as Fits<u8>>⟧.fits_under fleet.now n caller.passes caller.worker)
+        callers.new.items }
 {
     let threads = callers.len();
     if threads == 0 {

@@ -7,32 +7,54 @@ use Rattle.sws_top.specs.declared.faults.TopFault.TheVariants.{ReadFault, WriteF
 use Rattle.sws_top.specs.Faults.{ended_by}
 use Rattle.sws_top.specs.Pipes.{pipe_tells, GoesOn}
 use Rattle.sws_top.proofs.AnswerLemmas.{nothing_done}
-use Rattle.sws_top.proofs.EndLemmas.{never_idle, kept_still, fault_kept, causes, read_kept, answered_over, answers_as}
+use Rattle.sws_top.proofs.EndLemmas.{KeptAs, never_idle, kept_still, fault_kept, causes, read_kept, answered_over, answers_as}
 use Rattle.sws_top.proofs.answering.serve.Goals as goal
+use Rattle.sws_top.proofs.answering.serve.Goals.{In-Ok}
+
+-- what the link keeps over the run, by the way in which it failed
+abbrev Since : (g : _) (c : In-Ok g) → Option Way → Type 0
+Since g c way =
+    let before = c.args.pipe in
+    let now = c.in-Ok.pipe in
+    (now.source.ghost_name ≡ before.source.ghost_name) × (now.out.ghost_name ≡ before.out.ghost_name)
+    × (now.first_source.now.value ≡ before.first_source.now.value) × (now.first_out.now.value ≡ before.first_out.now.value)
+    × GoesOn way (g.R.Source.faults before.source.now) (g.R.Source.faults now.source.now) (g.O.Sink.faults before.out.now) (g.O.Sink.faults now.out.now) now.fault
+
+-- all that was taken has been answered
+abbrev Answers : (g : _) (c : In-Ok g) → Type 0
+Answers g c =
+    let now = c.in-Ok.pipe in
+    IsAnswered c.args.site.now (pipe_tells (g.R.Source.left now.first_source.now.value) (g.R.Source.left now.source.now) (g.O.Sink.written now.first_out.now.value) (g.O.Sink.written now.out.now))
+
+kept : (g : _) (c : In-Ok g) → KeptAs (Since g c) (Answers g c) c.in-Ok.end
+kept g c = c.in-Ok.ensures.kept (
+  refl,
+  refl,
+  refl,
+  refl,
+  (refl, refl),
+)
+
+-- whose fault the link kept, by the counts of its two ends
+caused : (g : _) (c : In-Ok g) → let before = c.args.pipe in let now = c.in-Ok.pipe in let fault = ended_by c.in-Ok.end now.fault in
+    HasCause (g.R.Source.faults before.source.now) (g.R.Source.faults now.source.now) (fault ≡ Some ReadFault)
+    × HasCause (g.O.Sink.faults before.out.now) (g.O.Sink.faults now.out.now) (fault ≡ Some WriteFault)
+caused g c =
+    let before = c.args.pipe in
+    let now = c.in-Ok.pipe in
+    causes (Since g c) (Answers g c) now.fault (g.R.Source.faults before.source.now) (g.R.Source.faults now.source.now) (g.O.Sink.faults before.out.now) (g.O.Sink.faults now.out.now) (λ way since. since.4) c.in-Ok.end (kept g c)
 
 pub returns-in-Ok-clause-answered : goal.returns-in-Ok-clause-answered
 returns-in-Ok-clause-answered g c =
+    let ok = (goal.at.returns-in-Ok-clause-answered g c).In-Ok in
     let before = c.args.pipe in
     let now = c.in-Ok.pipe in
+    let after = c.with_fault.result in
     let end = c.in-Ok.end in
     let left = g.R.Source.left in
     let written = g.O.Sink.written in
     let source = g.R.Source.faults in
     let sink = g.O.Sink.faults in
-    let Since : Option Way → Type 0 = λ way.
-    (now.source.ghost_name ≡ before.source.ghost_name) × (now.out.ghost_name ≡ before.out.ghost_name)
-    × (now.first_source.now.value ≡ before.first_source.now.value) × (now.first_out.now.value ≡ before.first_out.now.value)
-    × GoesOn way (source before.source.now) (source now.source.now) (sink before.out.now) (sink now.out.now) now.fault in
-    let Answers : Type 0 =
-    IsAnswered c.args.site.now (pipe_tells (left now.first_source.now.value) (left now.source.now) (written now.first_out.now.value) (written now.out.now)) in
-    let kept = c.in-Ok.ensures.kept (
-      refl,
-      refl,
-      refl,
-      refl,
-      (refl, refl),
-    ) in
-    let after = c.with_fault.result in
     answers_as c.args.site.now (left before.source.now) (written before.out.now) (left now.source.now) (left after.source.now)
     (written now.out.now) (written after.out.now) c.fault_at-fault.result after.fault
     (ap left c.with_fault.ensures.source) (ap written c.with_fault.ensures.out) c.with_fault.ensures.fault
@@ -40,68 +62,30 @@ returns-in-Ok-clause-answered g c =
     (left before.first_source.now.value) (written before.first_out.now.value) (left now.first_source.now.value) (written now.first_out.now.value)
     end now.fault c.fault_at-fault.result
     (ap left c.requires.source) (ap written c.requires.out)
-    (kept_still Since Answers (left now.first_source.now.value ≡ left before.first_source.now.value) end kept (λ way since. ap left since.2) ∙ ap left c.requires.source)
-    (kept_still Since Answers (written now.first_out.now.value ≡ written before.first_out.now.value) end kept (λ way since. ap written since.3) ∙ ap written c.requires.out)
+    (kept_still (Since g ok) (Answers g ok) (left now.first_source.now.value ≡ left before.first_source.now.value) end (kept g ok) (λ way since. ap left since.2) ∙ ap left c.requires.source)
+    (kept_still (Since g ok) (Answers g ok) (written now.first_out.now.value ≡ written before.first_out.now.value) end (kept g ok) (λ way since. ap written since.3) ∙ ap written c.requires.out)
     (never_idle end c.in-Ok.ensures.idle)
-    (fault_kept Since Answers now.fault (source before.source.now) (source now.source.now) (sink before.out.now) (sink now.out.now) (λ way since. since.4) end kept)
+    (fault_kept (Since g ok) (Answers g ok) now.fault (source before.source.now) (source now.source.now) (sink before.out.now) (sink now.out.now) (λ way since. since.4) end (kept g ok))
     now.written
     c.in-Ok.ensures.serves
-    (λ faulty. read_kept Since Answers now.fault (source before.source.now) (source now.source.now) (sink before.out.now) (sink now.out.now) (λ way since. since.4) end kept faulty)
+    (λ faulty. read_kept (Since g ok) (Answers g ok) now.fault (source before.source.now) (source now.source.now) (sink before.out.now) (sink now.out.now) (λ way since. since.4) end (kept g ok) faulty)
     c.fault_at-fault.ensures)
 
 pub returns-in-Ok-clause-read_cause : goal.returns-in-Ok-clause-read_cause
 returns-in-Ok-clause-read_cause g c =
-    let before = c.args.pipe in
-    let now = c.in-Ok.pipe in
-    let end = c.in-Ok.end in
-    let left = g.R.Source.left in
-    let written = g.O.Sink.written in
-    let source = g.R.Source.faults in
-    let sink = g.O.Sink.faults in
-    let Since : Option Way → Type 0 = λ way.
-    (now.source.ghost_name ≡ before.source.ghost_name) × (now.out.ghost_name ≡ before.out.ghost_name)
-    × (now.first_source.now.value ≡ before.first_source.now.value) × (now.first_out.now.value ≡ before.first_out.now.value)
-    × GoesOn way (source before.source.now) (source now.source.now) (sink before.out.now) (sink now.out.now) now.fault in
-    let Answers : Type 0 =
-    IsAnswered c.args.site.now (pipe_tells (left now.first_source.now.value) (left now.source.now) (written now.first_out.now.value) (written now.out.now)) in
-    let kept = c.in-Ok.ensures.kept (
-      refl,
-      refl,
-      refl,
-      refl,
-      (refl, refl),
-    ) in
-    let cause = (causes Since Answers now.fault (source before.source.now) (source now.source.now) (sink before.out.now) (sink now.out.now) (λ way since. since.4) end kept).0 in
-    let ended : c.with_fault.result.fault ≡ ended_by end now.fault = c.with_fault.ensures.fault ∙ c.fault_at-fault.ensures in
-    subst (λ count. HasCause (source before.source.now) count (c.with_fault.result.fault ≡ Some ReadFault)) (ap source (sym c.with_fault.ensures.source))
-    (subst (λ (fault : Option TopFault). HasCause (source before.source.now) (source now.source.now) (fault ≡ Some ReadFault)) (sym ended) cause)
+    let cause = (caused g (goal.at.returns-in-Ok-clause-read_cause g c).In-Ok).0 in
+    let ended : c.with_fault.result.fault ≡ ended_by c.in-Ok.end c.in-Ok.pipe.fault = c.with_fault.ensures.fault ∙ c.fault_at-fault.ensures in
+    let count = g.R.Source.faults in
+    subst (λ now. HasCause (count c.args.pipe.source.now) now (c.with_fault.result.fault ≡ Some ReadFault)) (ap count (sym c.with_fault.ensures.source))
+    (subst (λ (fault : Option TopFault). HasCause (count c.args.pipe.source.now) (count c.in-Ok.pipe.source.now) (fault ≡ Some ReadFault)) (sym ended) cause)
 
 pub returns-in-Ok-clause-write_cause : goal.returns-in-Ok-clause-write_cause
 returns-in-Ok-clause-write_cause g c =
-    let before = c.args.pipe in
-    let now = c.in-Ok.pipe in
-    let end = c.in-Ok.end in
-    let left = g.R.Source.left in
-    let written = g.O.Sink.written in
-    let source = g.R.Source.faults in
-    let sink = g.O.Sink.faults in
-    let Since : Option Way → Type 0 = λ way.
-    (now.source.ghost_name ≡ before.source.ghost_name) × (now.out.ghost_name ≡ before.out.ghost_name)
-    × (now.first_source.now.value ≡ before.first_source.now.value) × (now.first_out.now.value ≡ before.first_out.now.value)
-    × GoesOn way (source before.source.now) (source now.source.now) (sink before.out.now) (sink now.out.now) now.fault in
-    let Answers : Type 0 =
-    IsAnswered c.args.site.now (pipe_tells (left now.first_source.now.value) (left now.source.now) (written now.first_out.now.value) (written now.out.now)) in
-    let kept = c.in-Ok.ensures.kept (
-      refl,
-      refl,
-      refl,
-      refl,
-      (refl, refl),
-    ) in
-    let cause = (causes Since Answers now.fault (source before.source.now) (source now.source.now) (sink before.out.now) (sink now.out.now) (λ way since. since.4) end kept).1 in
-    let ended : c.with_fault.result.fault ≡ ended_by end now.fault = c.with_fault.ensures.fault ∙ c.fault_at-fault.ensures in
-    subst (λ count. HasCause (sink before.out.now) count (c.with_fault.result.fault ≡ Some WriteFault)) (ap sink (sym c.with_fault.ensures.out))
-    (subst (λ (fault : Option TopFault). HasCause (sink before.out.now) (sink now.out.now) (fault ≡ Some WriteFault)) (sym ended) cause)
+    let cause = (caused g (goal.at.returns-in-Ok-clause-write_cause g c).In-Ok).1 in
+    let ended : c.with_fault.result.fault ≡ ended_by c.in-Ok.end c.in-Ok.pipe.fault = c.with_fault.ensures.fault ∙ c.fault_at-fault.ensures in
+    let count = g.O.Sink.faults in
+    subst (λ now. HasCause (count c.args.pipe.out.now) now (c.with_fault.result.fault ≡ Some WriteFault)) (ap count (sym c.with_fault.ensures.out))
+    (subst (λ (fault : Option TopFault). HasCause (count c.args.pipe.out.now) (count c.in-Ok.pipe.out.now) (fault ≡ Some WriteFault)) (sym ended) cause)
 
 pub returns-in-Err-clause-answered : goal.returns-in-Err-clause-answered
 returns-in-Err-clause-answered g c =
