@@ -1,14 +1,11 @@
 -- Runs that an independent model of the runtime made at random, of small machines: the histories and the marks after posts and a schedule, and the histories after a drain.
-use Rattle.std.specs.Prelude.{◌≡◌, ℕ, zero, suc, ◌+◌, ◌%◌, Bool, true, false, List, [], ◌∷◌, fold, map}
+use Rattle.std.specs.Prelude.{◌≡◌, ℕ, zero, suc, ◌+◌, ◌%◌, true, false, List, [], ◌∷◌, fold, map}
 use Rattle.mely_event.specs.declared.colour.Colour.{Colour}
 use Rattle.mely_event.specs.declared.event.Event.{Event}
 use Rattle.mely_event.specs.declared.mark.Mark.{Mark}
-use Rattle.mely_history.specs.declared.shape.Shape.{Shape}
-use Rattle.mely_history.specs.declared.entry.Entry.{Entry}
 use Rattle.mely_history.specs.declared.entry.Entry.TheVariants.{Reg, Take, Fin, Steal}
 use Rattle.mely_machine.specs.Rules.{Rules}
-use Rattle.mely_machine.specs.Listing.{Listed}
-use Rattle.mely_machine.specs.Machine.{Acted, Acts, Machine}
+use Rattle.mely_machine.specs.Machine.{Acts, Machine}
 use Rattle.mely_machine.specs.MachineRun.{first_machine, post, steps, rounds, is_quiet, spelled_out}
 
 abbrev pub col : ℕ → Colour

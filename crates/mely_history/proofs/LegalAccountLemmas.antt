@@ -1,15 +1,14 @@
 -- What a legal history says of each colour.
-use Rattle.std.proofs.Common.{◌≡◌, ℕ, ◌+◌, ◌-◌, ◌<◌, ◌≤◌, ◌%◌, ◌⊎◌, List, [], ◌∷◌, ◌++◌, Some, length, take, min, refl, sym, ◌∙◌, ap, subst, arith, inl, inr, ⊎_elim, length-append, length-drop}
+use Rattle.std.proofs.Common.{◌≡◌, ℕ, ◌+◌, ◌-◌, ◌<◌, ◌≤◌, ◌%◌, ◌⊎◌, List, [], ◌∷◌, ◌++◌, Some, length, min, refl, sym, ap, subst, arith, inl, inr, ⊎_elim, length-append, length-drop}
 use Rattle.std.proofs.lemmas.Bool.{cases_eq}
-use Rattle.std.proofs.Math.Seq.{take-length}
 use Rattle.mely_event.specs.declared.colour.Colour.{Colour}
 use Rattle.mely_history.specs.declared.setup.Setup.{Setup}
 use Rattle.mely_history.specs.Setup.{shape_of}
 use Rattle.mely_history.specs.declared.entry.Entry.{Entry}
 use Rattle.mely_history.specs.declared.entry.Entry.TheVariants.{Reg, Take, Fin, Steal}
 use Rattle.mely_history.specs.Entries.{colour_of}
-use Rattle.mely_history.specs.History.{registered_of, begun_of, ended_of, queued_of, owner_of, ran_of, IsRunning}
-use Rattle.mely_history.specs.Legal.{IsAllowed, IsLegal, IsDrainedOf}
+use Rattle.mely_history.specs.History.{registered_of, begun_of, ended_of, queued_of, owner_of, IsRunning}
+use Rattle.mely_history.specs.Legal.{IsAllowed, IsLegal}
 use Rattle.mely_history.specs.ColourAccount.{ColourAccount, account_of, next_account}
 use Rattle.mely_history.proofs.ColourAccountLemmas.{account-own, account-other}
 use Rattle.mely_history.proofs.LegalLemmas.{over_legal}

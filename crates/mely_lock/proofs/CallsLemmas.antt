@@ -5,7 +5,7 @@ use mathlib.Core.Option.{some}
 use lib.ListN.{get_elem?}
 use prog.Atomic.{either}
 use Rattle.atomic_table.specs.Table as table
-use Rattle.atomic_table.specs.Table.{State, Allows, Splits, Joins, Final, Seen, rest}
+use Rattle.atomic_table.specs.Table.{State, Allows, Splits, Joins, rest}
 use Rattle.atomic_table.proofs.Lists.{at_longer, at_last}
 use Rattle.mely_lock.specs.declared.claim.Claim.{Claim}
 use Rattle.mely_lock.specs.declared.seat_knowledge.SeatKnowledge.{SeatKnowledge}

@@ -12,7 +12,7 @@ use Rattle.mely_history.specs.ColourAccount.{ColourAccount, account_of}
 use Rattle.mely_history.proofs.ColourAccountLemmas.{account-with, account_with}
 use Rattle.mely_history.proofs.LegalAccountLemmas.{begun_within}
 use Rattle.mely_queue.specs.Turn.{TurnState, EachFits}
-use Rattle.mely_shard.specs.Shard.{ShardState, IsOwn, KeepsFrame, TurnStands}
+use Rattle.mely_shard.specs.Shard.{ShardState, KeepsFrame, TurnStands}
 
 module _ {S P F : Type 0} {t : TrailWords S F} {fits : F → Colour → Event → Option P → Type 0} {old new : ShardState S P} {turn : TurnState S P} (stays : KeepsFrame old new) where
   -- a turn stands where the history is the same

@@ -1,7 +1,6 @@
 -- The shards and the chains of a runtime, as they are reached from the side of one core.
-use Rattle.std.specs.Prelude.{◌==◌, ◌&&◌, ◌%◌, nat_lt, ℕ, Bool, List, [], Option, None, Some, length, drop, sum_by, slice_get}
+use Rattle.std.specs.Prelude.{◌==◌, ◌&&◌, nat_lt, ℕ, Bool, List, [], Option, None, Some, length, drop, sum_by, slice_get}
 use Rattle.mely_event.specs.declared.colour.Colour.{Colour}
-use Rattle.mely_history.specs.Setup.{shape_of}
 pub use Rattle.mely_history.specs.Setup.{shard_of}
 use Rattle.mely_history.specs.History.{weight}
 use Rattle.mely_history.specs.ColourAccount.{ColourAccount, account_of}

@@ -1,5 +1,5 @@
 -- What follows a registration.
-use Rattle.std.specs.Prelude.{ℕ, ◌≡◌, Bool, true, Result, is_ok}
+use Rattle.std.specs.Prelude.{◌≡◌, Bool, true, Result, is_ok}
 use Rattle.mely_event.specs.declared.colour.Colour.{Colour}
 use Rattle.mely_event.specs.declared.there.There.{There}
 use Rattle.mely_history.specs.declared.setup.Setup.{Setup}

@@ -1,5 +1,5 @@
 -- What a step by the worker's rule asks of the worker's parts, and what it does to them.
-use Rattle.std.specs.Prelude.{◌≡◌, Option}
+use Rattle.std.specs.Prelude.{Option}
 use Rattle.mely_event.specs.declared.colour.Colour.{Colour}
 use Rattle.mely_event.specs.declared.event.Event.{Event}
 use Rattle.mely_event.specs.declared.trail.Trail.{Ghosts as TrailWords}

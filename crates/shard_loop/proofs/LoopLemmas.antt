@@ -1,14 +1,10 @@
 -- What the calls of the loop need.
-use Rattle.std.proofs.Common.{◌≡◌, ℕ, ◌+◌, ◌%◌, ◌<◌, ◌≤◌, List, [], ◌∷◌, ◌++◌, Some, length, get_or, refl, sym, ◌∙◌, ap, subst, arith, ⊎_elim, length-append}
+use Rattle.std.proofs.Common.{◌≡◌, ℕ, ◌+◌, ◌<◌, ◌≤◌, List, [], ◌∷◌, ◌++◌, Some, length, get_or, refl, sym, ◌∙◌, ap, subst, arith, ⊎_elim, length-append}
 use Rattle.std.proofs.Math.ListN.{get_or-append}
 use Rattle.std.proofs.Math.Seq.{get_or-append_seam}
 use Rattle.std.proofs.lemmas.Bool.{cases_lt}
 use Rattle.std.proofs.lemmas.Option.{slice_get_within, slice_get-get_or, get_or_from_slice_get}
-use Rattle.mely_event.specs.HandlerTable.{rows_of}
-use Rattle.mely_history.specs.Setup.{shape_of, colours_of, handlers_of}
-use Rattle.mely_history.specs.Legal.{MayRegister}
-use Rattle.mely_shard.specs.Shard.{ShardState, IsOwn, KeepsFrame}
-use Rattle.shard_loop.specs.Loops.{IsLoop, AreBlankBelow}
+use Rattle.shard_loop.specs.Loops.{AreBlankBelow}
 use Rattle.mely_event.specs.TrailLog.{TrailLogState}
 
 -- no state at first

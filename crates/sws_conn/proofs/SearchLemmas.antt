@@ -1,5 +1,5 @@
 -- A search over bytes that grow.
-use Rattle.std.proofs.Common.{◌≡◌, ◌≢◌, ◌⊎◌, inl, inr, ℕ, ◌<◌, ◌≤◌, Bool, false, List, [], ◌++◌, length, take, drop, refl, sym, ap, ◌∙◌, subst, arith, length-append, length-take, take_all, take-append-drop}
+use Rattle.std.proofs.Common.{◌≡◌, ◌≢◌, ◌⊎◌, inl, inr, ℕ, ◌<◌, ◌≤◌, List, [], ◌++◌, length, take, drop, refl, sym, ap, ◌∙◌, subst, arith, length-append, length-take, take_all, take-append-drop}
 use Rattle.std.proofs.lemmas.List.{take-append-le, take-take, take_rest}
 use Rattle.std.specs.List.{slice_range}
 use Rattle.sws_request.specs.declared.cuts.Cut.{Cut}
@@ -9,7 +9,7 @@ use Rattle.sws_request.specs.Head.{head_limit}
 use Rattle.sws_request.specs.Cuts.{lines_of, cut_of}
 use Rattle.sws_request.specs.Scans.{StandsFor, whole_lines}
 use Rattle.sws_request.proofs.CutLemmas.{cut_of-append}
-use Rattle.sws_request.proofs.SearchLemmas.{has_feed, StandsFor-short, StandsFor-front, StandsFor-quiet, cut_of-searched}
+use Rattle.sws_request.proofs.SearchLemmas.{StandsFor-short, StandsFor-front, StandsFor-quiet, cut_of-searched}
 use Rattle.sws_conn.specs.declared.buffer.Buffer.TheInside.{Inside}
 use Rattle.sws_conn.specs.Searches.{StopsIn, StopsAt, IsSearchedFor, IsSearched, IsQuiet, IsLookedAt}
 

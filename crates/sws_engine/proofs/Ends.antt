@@ -1,4 +1,3 @@
-pub mod ServedLemmas
 pub mod PartedLemmas
 pub mod LeftLemmas
 pub mod HandingLemmas

@@ -1,22 +1,18 @@
 -- What a run of a scripted world has served.
-use Rattle.std.proofs.Common.{◌≡◌, ◌≢◌, ℕ, zero, suc, ◌+◌, ◌<◌, Bool, true, false, true≢false, List, [], ◌∷◌, Option, None, Some, length, map, refl, sym, ap, ◌∙◌, subst, arith, inl, inr}
+use Rattle.std.proofs.Common.{◌≡◌, ◌≢◌, ℕ, ◌+◌, ◌<◌, true, false, true≢false, List, Option, None, Some, length, map, refl, sym, ap, ◌∙◌, subst, arith, inl, inr}
 use Rattle.std.specs.Prelude.{slice_get, option_map, IsSome, IsTrue}
-use Rattle.std.proofs.lemmas.List.{length-map}
 use Rattle.std.proofs.lemmas.Option.{same_Some, slice_get-map, slice_get_within}
 use Rattle.mely_event.specs.declared.colour.Colour.{Colour}
 use Rattle.mely_event.specs.declared.event.Event.{Event}
 use Rattle.mely_history.specs.History.{ran_of}
-use Rattle.mely_history.specs.Legal.{AreLegal, IsDrained}
-use Rattle.mely_history.specs.Setup.{colours_of}
 use Rattle.mely_history.specs.declared.entry.Entry.{Entry}
 use Rattle.mely_history.specs.declared.setup.Setup.{Setup}
 use Rattle.mely_history.specs.declared.shape.Shape.{Shape}
-use Rattle.mely_machine.specs.Rules.{rules_of}
 use Rattle.mely_weave.proofs.Wholes.GatherLemmas.{get_there}
 use Rattle.mely_weave.specs.Side.{shard_of}
 use Rattle.sws_conn.specs.Outcome.{Outcome, outcome_of}
 use Rattle.sws_conn.specs.Path.{Handler, path_of}
-use Rattle.sws_conn.specs.Talks.{TalkView, HasServed, ServesLink, ServesTold}
+use Rattle.sws_conn.specs.Talks.{TalkView, ServesLink, ServesTold}
 use Rattle.sws_steps.specs.declared.End.{End}
 use Rattle.sws_steps.specs.declared.End.TheVariants.{Memory}
 use Rattle.sws_conn.specs.declared.talk.Talk.{Ghosts as TalkWords}
@@ -24,14 +20,12 @@ use Rattle.sws_engine.specs.ConnFollows.{ConnFollows}
 use Rattle.sws_engine.specs.ConnLeft.{LinkLeft, ConnLeft}
 use Rattle.sws_engine.specs.Invariant.{event_for}
 use Rattle.sws_engine.specs.Loads.{IsComing, LinkStands, WorldStands}
-use Rattle.sws_engine.specs.RunLeaves.{is_out_of_memory, AreWhole, NoneOutOfMemory}
-use Rattle.sws_engine.specs.ServerRun.{server_rules}
+use Rattle.sws_engine.specs.RunLeaves.{is_out_of_memory, NoneOutOfMemory}
 use Rattle.sws_engine.specs.RunLeft.{RunLeft, AllFollow}
-use Rattle.sws_engine.specs.StepsLeave.{HasNotBegun, HasRun, StepsLeave}
-use Rattle.sws_engine.specs.ThreadsLeave.{IsUnkept, HasRunThreads, ThreadsLeave}
+use Rattle.sws_engine.specs.StepsLeave.{StepsLeave}
+use Rattle.sws_engine.specs.ThreadsLeave.{IsUnkept, ThreadsLeave}
 use Rattle.sws_engine.specs.declared.ended.Ended.{Ended}
 use Rattle.sws_engine.specs.declared.ended.Served.{Served}
-use Rattle.sws_engine.specs.declared.ended.Verdict.{Verdict}
 use Rattle.sws_engine.specs.declared.ended.Verdict.TheVariants as verdict
 use Rattle.sws_link.specs.Links.{LinkTells}
 use Rattle.sws_link.specs.MemLinks.{wire_tells, mem_link_tells}
@@ -44,7 +38,7 @@ use Rattle.sws_link.specs.declared.world.World.{Ghosts as WorldWords}
 use Rattle.sws_script.specs.Scripted.{coming_of, script_of, told_of}
 use Rattle.sws_script.specs.declared.input.ScriptConn.{ScriptConn}
 use Rattle.sws_site.specs.Site.{SiteState}
-use Rattle.sws_replay.specs.Histories.{colour_for, AreServed}
+use Rattle.sws_replay.specs.Histories.{colour_for}
 use Rattle.sws_replay.specs.Runs.{IsServedAlone, ServesAll, histories_of, RunsWell}
 use Rattle.sws_replay.specs.Transcripts.{alone}
 

@@ -1,30 +1,26 @@
 -- What is written of a run.
-use Rattle.std.proofs.Common.{◌≡◌, ◌≢◌, ℕ, zero, suc, ◌+◌, ◌<◌, Bool, true, false, true≢false, List, [], ◌∷◌, ◌++◌, Option, None, Some, Result, Ok, Err, length, map, drop, get_or, drop-cons, refl, sym, ap, ◌∙◌, subst, arith, inl, inr, append-nil}
+use Rattle.std.proofs.Common.{◌≡◌, ◌≢◌, ℕ, zero, suc, ◌+◌, ◌<◌, Bool, true, false, true≢false, List, [], ◌∷◌, ◌++◌, Option, None, Some, Result, length, map, drop, get_or, drop-cons, refl, sym, ap, ◌∙◌, subst, arith, inr}
 use Rattle.std.specs.Prelude.{slice_get}
 use Rattle.std.specs.List.{AllByRecursion}
-use Rattle.mely_history.specs.declared.entry.Entry.{Entry}
 use Rattle.mely_history.specs.declared.shape.Shape.{Shape}
 use Rattle.sws_steps.specs.declared.End.{End}
 use Rattle.sws_engine.specs.ServerRun.{IsServerRun}
 use Rattle.sws_engine.specs.declared.ended.Ended.{Ended}
 use Rattle.sws_engine.specs.declared.ended.Served.{Served}
-use Rattle.sws_link.specs.Contents.{IsPrefix, Puts}
+use Rattle.sws_link.specs.Contents.{Puts}
 use Rattle.sws_link.specs.Counts.{Count, HasCause}
-use Rattle.sws_link.proofs.ContentLemmas.{Puts-nil}
-use Rattle.sws_link.proofs.CountLemmas.{HasCause-as, HasCause-none}
 use Rattle.sws_link.specs.MemLink.{MemLinkState}
 use Rattle.sws_link.specs.MemWorld.{MemWorldState}
 use Rattle.sws_link.specs.declared.Put.{Put}
 use Rattle.sws_link.specs.declared.Put.TheVariants as put
 use Rattle.sws_report.specs.Journal.{journal}
 use Rattle.sws_report.specs.Transcript.{transcript, transcript_from, conn_text}
-use Rattle.sws_report.proofs.PieceLemmas.{Going, Going-none, Going-moved, Going-written, Going-stopped, Going-ended, Going-cause}
+use Rattle.sws_report.proofs.PieceLemmas.{Going, Going-moved, Going-written, Going-stopped, Going-cause}
 use Rattle.sws_script.specs.Scripted.{script_of}
 use Rattle.sws_script.specs.declared.input.Input.{Input}
 use Rattle.sws_script.specs.declared.input.ScriptConn.{ScriptConn}
 use Rattle.sws_site.specs.Site.{SiteState}
 use Rattle.sws_replay.specs.declared.fault.RunFault.{RunFault}
-use Rattle.sws_replay.specs.declared.fault.RunFault.TheVariants.{Write, Memory}
 use Rattle.sws_replay.specs.Replays.{IsReplay, IsScheduledReplay, WritesOne, result_of}
 use Rattle.sws_replay.specs.Runs.{IsServedAlone, ServesAll, histories_of, RunsWell}
 use Rattle.sws_replay.specs.Showing.{IsShowable, shown_end, shown_bytes, shown_of}

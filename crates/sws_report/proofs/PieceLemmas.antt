@@ -1,11 +1,11 @@
 -- A text that is written piece by piece.
 use Rattle.std.proofs.Common.{◌≡◌, ◌≢◌, ℕ, ◌<◌, List, [], ◌++◌, length, Option, refl, sym, ap, ◌∙◌, subst, arith, append_assoc, append-nil, length-append}
 use Rattle.sws_link.specs.declared.Put.{Put}
-use Rattle.sws_link.specs.declared.Put.TheVariants.{Done, Failed, Memory}
+use Rattle.sws_link.specs.declared.Put.TheVariants.{Done, Failed}
 use Rattle.sws_link.specs.Counts.{Count, HasCause}
 use Rattle.sws_link.specs.Contents.{Puts}
-use Rattle.sws_link.proofs.ContentLemmas.{Puts-nil, Puts-nothing, Puts-then, Puts-stop}
-use Rattle.sws_link.proofs.CountLemmas.{HasCause-as, HasCause-none}
+use Rattle.sws_link.proofs.ContentLemmas.{Puts-nil, Puts-then, Puts-stop}
+use Rattle.sws_link.proofs.CountLemmas.{HasCause-as}
 
 -- so far a front of the whole was written, and no write failed; behind it are the piece and what is left
 pub record Going (before now : Option (List ℕ)) (faults_before faults_now : Count) (piece left whole : List ℕ) : Type 0 where

@@ -1,7 +1,6 @@
 -- A view of what was parsed, and one field of it.
-use Rattle.std.proofs.Common.{◌≡◌, ℕ, ◌<◌, ◌≤◌, List, length, take, map, get_or, Some, option_map, slice_get, sym, ap, subst, ◌∙◌, arith, length-take, get_or-take}
+use Rattle.std.proofs.Common.{◌≡◌, ℕ, ◌<◌, ◌≤◌, List, length, take, map, get_or, Some, slice_get, sym, ap, subst, ◌∙◌, arith, length-take}
 use Rattle.std.proofs.lemmas.List.{length-map}
-use Rattle.std.proofs.lemmas.Option.{slice_get-map, slice_get-get_or}
 use Rattle.httparse.specs.declared.spans.HeaderSpan.{HeaderSpan}
 use Rattle.httparse.specs.Spans.{span_bytes, header_bytes, IsHeaderWithin}
 use Rattle.sws_request.specs.declared.request.RequestView.TheInside.{Inside}
@@ -9,8 +8,7 @@ use Rattle.httparse.specs.Grammar.{ReadsRequest}
 use Rattle.httparse.specs.declared.spans.RequestSpans.{RequestSpans}
 use Rattle.httparse.specs.Spans.{IsRequestOf, name_and_value}
 use Rattle.std.proofs.lemmas.List.{drop_all}
-use Rattle.sws_request.specs.Request.{Request, SaysRequest, field_limit}
-use Rattle.sws_request.specs.View.{state_of, IsInside}
+use Rattle.sws_request.specs.Request.{SaysRequest, field_limit}
 
 -- the i-th field of a view is that of its i-th spans
 pub record IsFieldAt (view : Inside) (fields : List (List ℕ × List ℕ)) (i : ℕ) (d : HeaderSpan) : Type 0 where

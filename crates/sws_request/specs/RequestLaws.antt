@@ -8,7 +8,7 @@ use Rattle.std.proofs.lemmas.List.Concat.{flat_map-append}
 use Rattle.std.proofs.lemmas.Str.{IsUtf8-from_is_utf8, is_utf8-from_IsUtf8}
 use Rattle.httparse.specs.Grammar.{is_token_byte, is_uri_byte, is_value_byte, AllPass, LineEnd, crlf, lf, print_end, print_blank, print_version, Field, print_field, IsField, print_section, RequestHead, IsRequestHead, ReadsRequest}
 use Rattle.httparse.specs.Pieces.{Piece, Begins, Then, Stops, is_newline, Newline, Blank, Word, Method, Target, Version, Text, FieldLine, Section, RequestStart}
-use Rattle.httparse.proofs.PieceLemmas.{IsDeterministic, Then_deterministic, space_ends_token, colon_ends_token, newline_not_stopped, Newline_deterministic, Blank_deterministic, Method_deterministic, Target_deterministic, Version_deterministic, Name_deterministic, Text_deterministic, print_field-append, FieldLine_parts, FieldLine_deterministic, Stops-FieldLine, Stops_token, Section_line, Section_skip, RequestStart_deterministic, Section_deterministic, Stops_value}
+use Rattle.httparse.proofs.PieceLemmas.{IsDeterministic, space_ends_token, colon_ends_token, newline_not_stopped, Newline_deterministic, Blank_deterministic, Method_deterministic, Target_deterministic, Version_deterministic, Name_deterministic, print_field-append, FieldLine_parts, Stops_token, Section_line, Section_skip, RequestStart_deterministic, Stops_value}
 use Rattle.httparse.proofs.GrammarLemmas.{request_tree, request_head, print_request-append, request_pieces, request_from_pieces, request_unique}
 use Rattle.sws_request.specs.Head.{join_lines, IsEmptyLine}
 use Rattle.sws_request.specs.Request.{Request, BeginsEmpty, SaysRequest, IsRequest, IsNoRequest, said_by, field_limit}

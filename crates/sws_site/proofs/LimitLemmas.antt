@@ -1,5 +1,5 @@
 -- The first limit that files meet.
-use Rattle.std.proofs.Common.{◌≡◌, ℕ, ◌+◌, ◌<◌, ◌≤◌, List, [], ◌∷◌, ◌++◌, length, Option, Some, None, zero, suc, refl, sym, ap, subst, ◌∙◌, arith, append_assoc, append-nil, length-append, Bool, true, false, lt-ltb, le-ltb, ltb-true, ltb-false}
+use Rattle.std.proofs.Common.{◌≡◌, ℕ, ◌+◌, ◌<◌, ◌≤◌, List, [], ◌∷◌, ◌++◌, length, Option, Some, None, zero, suc, refl, ap, ◌∙◌, arith, length-append, Bool, true, false, lt-ltb, le-ltb, ltb-true, ltb-false}
 use Rattle.std.proofs.lemmas.List.Sums.{sum_by-append}
 use Rattle.std.proofs.lemmas.List.Elements.{All-append}
 use Rattle.std.specs.Prelude.{nat_lt, if◌then◌else◌, All}

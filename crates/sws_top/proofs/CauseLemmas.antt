@@ -1,13 +1,13 @@
 -- What follows of a run, whatever its order: the cause of its fault, and that without a cause all was done.
 use Rattle.std.specs.Prelude.{Ok, Err, is_some}
-use Rattle.std.proofs.Common.{◌≡◌, ◌≢◌, ◌⊎◌, inl, inr, ℕ, ◌≤◌, Bool, false, true, List, length, Option, Some, None, IsSome, refl, sym, ap, ◌∙◌, subst, Result}
+use Rattle.std.proofs.Common.{◌≡◌, ◌≢◌, ◌⊎◌, inl, inr, ℕ, Bool, List, Option, Some, None, IsSome, refl, sym, ap, ◌∙◌, subst, Result}
 use Rattle.mely_check.specs.Verdicts.{Accepts, IsAcceptance}
 use Rattle.mely_check.specs.declared.fault.CheckFault.{CheckFault}
 use Rattle.mely_check.specs.declared.fault.CheckFault.TheVariants as check_fault
 use Rattle.mely_check.specs.declared.report.Report.{Report}
 use Rattle.mely_history.specs.declared.setup.Setup.{Setup}
 use Rattle.mely_history.specs.declared.shape.Shape.{Shape}
-use Rattle.sws_link.proofs.CountLemmas.{HasCause-none, HasCause-as, IsLater-same}
+use Rattle.sws_link.proofs.CountLemmas.{HasCause-none, HasCause-as}
 use Rattle.sws_link.specs.Counts.{Count, Rose, HasCause}
 use Rattle.sws_link.specs.Told.{FolderTells}
 use Rattle.sws_link.specs.Worlds.{Listens}
@@ -25,9 +25,8 @@ use Rattle.sws_engine.specs.declared.ended.Verdict.TheVariants as verdict
 use Rattle.sws_replay.specs.declared.fault.RunFault.{RunFault}
 use Rattle.sws_replay.specs.declared.fault.RunFault.TheVariants as run_fault
 use Rattle.sws_script.proofs.AnswerLemmas.{no_fault, no_many}
-use Rattle.sws_script.specs.Grammar.{Spells, IsCause, conn_limit}
+use Rattle.sws_script.specs.Grammar.{IsCause}
 use Rattle.sws_script.specs.declared.fault.ScriptFault.TheVariants as script_fault
-use Rattle.sws_script.specs.declared.input.Input.{Input}
 use Rattle.sws_site.proofs.LimitLemmas.{limit_of-none}
 use Rattle.sws_site.specs.Limits.{limit_of}
 use Rattle.sws_site.specs.Site.{SiteState}
@@ -37,9 +36,9 @@ use Rattle.sws_top.specs.declared.faults.TopFault.{TopFault}
 use Rattle.sws_top.specs.declared.faults.TopFault.TheVariants.{Usage, BadScript, ReadFault, WriteFault, WorldFault, Memory, SiteFull, TooMany, BadJournal, NotLegal, NotDrained, Apart}
 use Rattle.sws_top.specs.declared.outcomes.Outcome.{Outcome}
 use Rattle.sws_top.specs.Answered.{AnswersInput}
-use Rattle.sws_top.specs.Causes.{TellsInput, IsLast, HasLost, HasCauses, IsSound, NothingFailed, IsDone}
+use Rattle.sws_top.specs.Causes.{TellsInput, HasLost, HasCauses, IsSound, NothingFailed, IsDone}
 use Rattle.sws_top.specs.Checked.{IsServerSetup, TellsDrainedRun, report_text}
-use Rattle.sws_top.specs.Faults.{refusal_of, run_fault_of, ended_with, EndsAnswering}
+use Rattle.sws_top.specs.Faults.{refusal_of, ended_with, EndsAnswering}
 use Rattle.sws_top.specs.Hands.{Hands}
 use Rattle.sws_top.specs.Ran.{IsUntouched, Ran, RanAs}
 use Rattle.sws_top.specs.RanAnswer.{RanAnswer}
@@ -48,8 +47,8 @@ use Rattle.sws_top.specs.RanReplay.{RanReplay, IsReplayText}
 use Rattle.sws_top.specs.RanServe.{IsBack, LacksWorld, EndsBy, HasServed, RanServe}
 use Rattle.sws_bench.specs.BenchSummary.{bench_summary}
 use Rattle.sws_top.specs.Ranges.{run_shape}
-use Rattle.sws_top.specs.Scripts.{LacksInput, HasNoInput, RunsOnInput}
-use Rattle.sws_top.specs.Sites.{LacksSite, HasNoSite, RunsOnSite, TellsWithinLimits}
+use Rattle.sws_top.specs.Scripts.{LacksInput, HasNoInput}
+use Rattle.sws_top.specs.Sites.{LacksSite, HasNoSite, TellsWithinLimits}
 use Rattle.sws_top.specs.Texts.{WritesText}
 
 -- ---- one object after another

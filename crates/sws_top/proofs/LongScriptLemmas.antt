@@ -1,12 +1,10 @@
 -- Where a text is longer than a script may be, it goes wrong at the same line whatever stands behind it.
 use Rattle.std.specs.Prelude.{codes}
 use Rattle.std.specs.List.{onto_first}
-use Rattle.std.proofs.Common.{◌≡◌, ◌⊎◌, ℕ, zero, suc, ◌+◌, ◌<◌, ◌≤◌, min, Bool, true, false, cond, eqb, List, [], ◌∷◌, ◌++◌, length, take, refl, sym, ◌∙◌, ap, subst, arith, length-append}
-use Rattle.std.proofs.lemmas.List.{length-take}
-use Rattle.sws_script.specs.Grammar.{byte_limit, conn_limit, lines_of, size_of, conns_in, Spells, Begin, MayStand, IsFirstOutside, IsFirstTooMany, IsCause}
+use Rattle.std.proofs.Common.{◌≡◌, ℕ, zero, suc, ◌+◌, ◌<◌, ◌≤◌, Bool, true, false, cond, eqb, List, [], ◌∷◌, ◌++◌, length, take, refl, sym, ◌∙◌, ap, subst, arith, length-append}
+use Rattle.sws_script.specs.Grammar.{byte_limit, conn_limit, lines_of, size_of, conns_in, Begin, MayStand, IsFirstOutside, IsFirstTooMany, IsCause}
 use Rattle.sws_script.specs.declared.fault.ScriptFault.{ScriptFault}
 use Rattle.sws_script.specs.declared.fault.ScriptFault.TheVariants.{Bad, TooMany, Memory}
-use Rattle.sws_script.specs.declared.input.Input.{Input}
 use Rattle.sws_script.proofs.AnswerLemmas.{MayStand-earlier}
 
 -- so many lines stand in front of both lists, and are the same

@@ -1,9 +1,9 @@
 -- The orders of words are within their ranges.
-use Rattle.std.specs.Prelude.{if◌then◌else◌, option_and_then, option_map, IfSome}
+use Rattle.std.specs.Prelude.{if◌then◌else◌, option_and_then, option_map}
 use Rattle.std.specs.Str.{bytes_eq}
-use Rattle.std.proofs.Common.{◌≡◌, ℕ, ◌≤◌, ◌&&◌, nat_le, Bool, true, false, cond, List, [], ◌∷◌, Option, Some, None, refl, sym, ◌∙◌, ap, subst, codes, arith, leb-true}
+use Rattle.std.proofs.Common.{◌≡◌, ℕ, ◌≤◌, ◌&&◌, nat_le, Bool, true, false, List, [], ◌∷◌, Option, Some, None, refl, subst, codes, arith, leb-true}
 use Rattle.sws_words.specs.Grammar.{Text, Given, given_of, places, value_of, has_flag}
-use Rattle.sws_words.specs.Orders.{Order, Shape, answer, replay, serve, bench, check, within, or_default, optional, number_in, shape_in, shape_of, date_in, date_of, only_place, two_places, order_of, answer_by, answer_known, replay_by, replay_known, serve_by, serve_known, bench_by, bench_known, check_in, check_by, check_known}
+use Rattle.sws_words.specs.Orders.{Order, Shape, answer, replay, serve, bench, check, within, or_default, number_in, shape_in, shape_of, date_in, date_of, only_place, two_places, order_of, answer_by, answer_known, replay_by, replay_known, serve_by, serve_known, bench_by, bench_known, check_in, check_by, check_known}
 use Rattle.sws_top.specs.Ranges.{IsBetween, IsDate, IsShape, IsInRange}
 use Rattle.sws_site.specs.Site.{last_second}
 

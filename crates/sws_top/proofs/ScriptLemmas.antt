@@ -1,19 +1,15 @@
 -- What was read of a script, and what it says.
-use Rattle.std.specs.Prelude.{Ok, Err}
-use Rattle.std.proofs.Common.{◌≡◌, ◌⊎◌, inl, inr, ℕ, ◌+◌, ◌<◌, ◌≤◌, Bool, take, List, [], ◌∷◌, ◌++◌, length, Option, Some, None, refl, sym, ap, ◌∙◌, subst, arith, length-append, append-nil, append_assoc}
-use Rattle.sws_link.specs.Counts.{Rose, IsLater, HasCause}
+use Rattle.std.proofs.Common.{◌≡◌, inl, inr, ℕ, ◌+◌, Bool, take, List, ◌++◌, Option, Some, None, sym, ap, ◌∙◌, subst, append_assoc}
+use Rattle.sws_link.specs.Counts.{IsLater}
 use Rattle.sws_link.proofs.CountLemmas.{IsLater-same}
 use Rattle.sws_link.specs.Contents.{Takes}
 use Rattle.sws_link.specs.declared.Got.TheVariants as got
 use Rattle.sws_link.specs.declared.Source.{Ghosts as SourceWords}
-use Rattle.sws_script.specs.Grammar.{byte_limit, conn_limit, Spells, IsCause}
+use Rattle.sws_script.specs.Grammar.{IsCause}
 use Rattle.sws_script.specs.declared.fault.ScriptFault.{ScriptFault}
 use Rattle.sws_script.specs.declared.fault.ScriptFault.TheVariants as script_fault
-use Rattle.sws_script.specs.declared.input.Input.{Input}
-use Rattle.sws_top.specs.declared.faults.TopFault.{TopFault}
-use Rattle.sws_top.specs.declared.faults.TopFault.TheVariants.{BadScript, ReadFault, Memory, TooMany}
 use Rattle.sws_top.specs.Faults.{script_fault_of}
-use Rattle.sws_top.specs.Scripts.{IsReadOf, IsTextRead, StopsReading, IsInputRead, LacksInput, HasNoInput}
+use Rattle.sws_top.specs.Scripts.{IsReadOf, IsTextRead, LacksInput, HasNoInput}
 use Rattle.sws_top.proofs.LongScriptLemmas.{cause_of_front}
 
 module _ {R : Type 0} (r : SourceWords R) (schedule : Bool) (cores : ℕ) (source now : R) (read : List ℕ) (was_read : IsTextRead r source now read) where

@@ -1,11 +1,10 @@
 -- What `serve` may call, and what it leaves.
-use Rattle.std.specs.Prelude.{Ok, Err, is_some}
+use Rattle.std.specs.Prelude.{Err, is_some}
 use Rattle.std.specs.List.{fold, cons_option, AllByRecursion, slice_get}
-use Rattle.std.proofs.Common.{◌≡◌, ◌≢◌, ◌⊎◌, inl, inr, ℕ, zero, suc, ◌+◌, ◌*◌, ◌<◌, ◌≤◌, ◌^◌, ◌&&◌, min, nat_le, Bool, true, false, List, [], ◌∷◌, ◌++◌, length, map, Option, Some, None, IsSome, refl, sym, ap, ◌∙◌, subst, arith, le-leb, append-nil}
+use Rattle.std.proofs.Common.{◌≡◌, ◌≢◌, ◌⊎◌, inl, inr, ℕ, zero, suc, ◌+◌, ◌*◌, ◌<◌, ◌≤◌, false, List, [], ◌∷◌, ◌++◌, length, map, Option, Some, None, IsSome, refl, sym, ap, ◌∙◌, subst, arith, append-nil}
 use Rattle.std.specs.Prelude.{sum_by}
 use Rattle.std.proofs.Math.Nat.{mul-suc}
 use Rattle.std.proofs.lemmas.Option.{slice_get_within}
-use Rattle.mely_history.specs.Setup.{first_out_of_range, is_between}
 use Rattle.mely_history.specs.declared.shape.Shape.{Shape}
 use Rattle.sws_link.proofs.CountLemmas.{HasCause-as}
 use Rattle.sws_link.specs.Contents.{Puts}
@@ -26,13 +25,12 @@ use Rattle.sws_engine.specs.declared.ended.Ended.{Ended}
 use Rattle.sws_engine.specs.declared.ended.Served.{Served}
 use Rattle.sws_engine.specs.declared.ended.Verdict.TheVariants as verdict
 use Rattle.sws_replay.specs.Replays.{WritesOne, result_of}
-use Rattle.sws_replay.specs.declared.fault.RunFault.TheVariants.{Write, Memory as NoMemory}
+use Rattle.sws_replay.specs.declared.fault.RunFault.TheVariants.{Write}
 use Rattle.sws_report.specs.Summary.{summary}
 use Rattle.sws_site.specs.Site.{SiteState}
 use Rattle.sws_top.specs.declared.outcomes.Outcome.{Outcome}
 use Rattle.sws_top.specs.Faults.{put_fault_of, ended_with}
 use Rattle.sws_top.specs.RanServe.{ends_of, summary_of, CanSumUp, EndsBy, HasServed}
-use Rattle.sws_top.specs.Ranges.{IsRunShape}
 use Rattle.sws_top.specs.Texts.{WritesText}
 
 -- ---- what may be called

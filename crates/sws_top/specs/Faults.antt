@@ -1,5 +1,5 @@
 -- How a run ends.
-use Rattle.std.specs.Prelude.{◌≡◌, ℕ, Option, Some, None, Result, Ok, Err, ⊤}
+use Rattle.std.specs.Prelude.{ℕ, Option, Some, None, Result, Ok, Err, ⊤}
 use Rattle.sws_link.specs.declared.Put.{Put}
 use Rattle.sws_link.specs.declared.Put.TheVariants as put
 use Rattle.sws_steps.specs.declared.End.{End}

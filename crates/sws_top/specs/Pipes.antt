@@ -1,5 +1,5 @@
 -- A source and a sink as one link, which began with what each of them told then.
-use Rattle.std.specs.Prelude.{false, ◌≡◌, ℕ, ◌+◌, ◌-◌, ◌||◌, List, [], ◌++◌, length, take, drop, Option, Some, None, option_map, option_and_then, ⊤}
+use Rattle.std.specs.Prelude.{false, ◌≡◌, ℕ, ◌+◌, ◌-◌, ◌||◌, List, [], ◌++◌, length, take, drop, Option, Some, None, option_map, option_and_then}
 use Rattle.sws_link.specs.Counts.{Count, Rose, IsLater}
 use Rattle.sws_link.specs.Contents.{Puts}
 use Rattle.sws_link.specs.Links.{LinkTells, Way, reading, writing}

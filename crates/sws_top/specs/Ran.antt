@@ -1,5 +1,5 @@
 -- What a run did, by its order.
-use Rattle.std.specs.Prelude.{◌≡◌, ◌⊎◌, Option, Some}
+use Rattle.std.specs.Prelude.{◌≡◌, ◌⊎◌, Some}
 use Rattle.sws_link.specs.declared.Folder.{Ghosts as FolderWords}
 use Rattle.sws_link.specs.declared.Source.{Ghosts as SourceWords}
 use Rattle.sws_link.specs.declared.Link.{Ghosts as LinkWords}

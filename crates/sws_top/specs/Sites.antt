@@ -1,5 +1,5 @@
 -- The site of a run: the folder that the words name, its files, and its limits.
-use Rattle.std.specs.Prelude.{◌≡◌, ◌⊎◌, ℕ, List, Option, Some, None, Result, Ok, Err, ⊤}
+use Rattle.std.specs.Prelude.{◌≡◌, ◌⊎◌, ℕ, List, Option, Some, None, Result, Ok, Err}
 use Rattle.sws_link.specs.Counts.{Rose, IsLater}
 use Rattle.sws_link.specs.Told.{FolderTells}
 use Rattle.sws_link.specs.declared.Folder.{Ghosts as FolderWords}

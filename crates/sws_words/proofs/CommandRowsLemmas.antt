@@ -12,7 +12,7 @@ use Rattle.clap.specs.Faults.{check_fault}
 use Rattle.clap.specs.declared.error.kind.ErrorKind.TheVariants as kind
 use Rattle.sws_words.specs.Commands.{option_rule}
 use Rattle.sws_words.specs.Grammar.{Given, Known, is_among, given_of, each_once, has_bundle, places, value_of}
-use Rattle.sws_words.specs.Orders.{only_place, shape_in, shape_of, shape_options}
+use Rattle.sws_words.specs.Orders.{only_place, shape_in, shape_of}
 use Rattle.sws_words.specs.Orders as orders
 use Rattle.sws_words.proofs.Clap.ClapWalkLemmas.{IsPlace, and_false}
 use Rattle.sws_words.proofs.Clap.ClapGrammarLemmas.{IsOption}

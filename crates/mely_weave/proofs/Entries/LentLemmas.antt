@@ -1,5 +1,5 @@
 -- What is said of a side that is lent, by what it shows.
-use Rattle.std.proofs.Common.{ℕ, Bool, List, Option, ap, Result, Ok, Err}
+use Rattle.std.proofs.Common.{ℕ, List, Option, Result, Ok, Err}
 use Rattle.std.specs.Prelude.{IfOk}
 use Rattle.mely_event.specs.declared.colour.Colour.{Colour}
 use Rattle.mely_event.specs.declared.event.Event.{Event}
@@ -9,10 +9,7 @@ use Rattle.mely_queue.specs.Turn.{TurnState}
 use Rattle.mely_worker.specs.declared.access.Access.{Ghosts as AccessWords}
 use Rattle.mely_worker.specs.declared.app.App.{Ghosts as AppWords}
 use Rattle.mely_worker.specs.declared.made.Made.{Made}
-use Rattle.mely_worker.specs.declared.delivery.Delivery.{Delivery}
-use Rattle.mely_worker.specs.declared.delivery.Delivery.TheVariants.{Nothing, PushMark, Report}
 use Rattle.mely_worker.specs.Access.{IsTaken, IsSpent}
-use Rattle.mely_worker.specs.Delivery.{Delivers}
 use Rattle.mely_worker.specs.Step.{Steps}
 use Rattle.mely_worker.specs.Worker.{WorkerState}
 use Rattle.mely_worker.proofs.ViewsLemmas.{steps_under}

@@ -18,7 +18,7 @@ use Rattle.sws_engine.specs.declared.place.Seat.{Seat}
 use Rattle.sws_engine.specs.Loads.{LinkStands, Fit}
 use Rattle.sws_engine.specs.Handling.{Put, number_of, next_puts, is_due, stray_of, Stepped, RunsSeat}
 use Rattle.sws_engine.specs.Invariant.{event_for, RanBy, TrailIs, SeatStands}
-use Rattle.sws_engine.specs.Seating.{HasRunSome, IsFreshOrRan}
+use Rattle.sws_engine.specs.Seating.{HasRunSome}
 
 and_both : (a b : Bool) → (a && b) ≡ true → (a ≡ true) × (b ≡ true)
 and_both true b is = (refl, is)

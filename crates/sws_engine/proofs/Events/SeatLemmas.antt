@@ -1,18 +1,13 @@
 -- The due event of a connection.
-use Rattle.std.proofs.Common.{◌≡◌, ℕ, Bool, true, false, true≢false, inl, inr, arith, Option, Some, None, IsSome, refl, sym, ◌∙◌, ap}
+use Rattle.std.proofs.Common.{◌≡◌, ℕ, Bool, true, false, true≢false, inl, inr, Option, Some, None, IsSome, refl, sym, ◌∙◌}
 use Rattle.std.proofs.lemmas.Bool.Decides.{eqb_tells}
 use Rattle.std.specs.Prelude.{◌==◌, ◌&&◌}
-use Rattle.mely_event.specs.declared.event.Event.{Event}
-use Rattle.sws_link.specs.declared.Link.{Ghosts as LinkWords}
-use Rattle.sws_engine.specs.declared.load.WorldLoad.{WorldLoad}
 use Rattle.sws_engine.specs.declared.load.Load.TheVariants as load
-use Rattle.sws_engine.specs.Handling.{is_due}
-use Rattle.sws_engine.specs.Seating.{LoadSuits}
 use Rattle.sws_steps.specs.declared.Next.{Next}
 use Rattle.sws_steps.specs.declared.Next.TheVariants as next
-use Rattle.sws_conn.specs.Path.{Handler, open_link, read_piece, parse, look, write_part, resume, close}
+use Rattle.sws_conn.specs.Path.{Handler, open_link}
 use Rattle.sws_conn.specs.Conn.{reported_by}
-use Rattle.sws_conn.specs.Talks.{TalkView, unopened_view, ServesNow, due, due_after}
+use Rattle.sws_conn.specs.Talks.{TalkView, ServesNow, due, due_after}
 
 opening_at : (waiting : Bool) (pending : Next) → due_after (reported_by waiting pending) ≡ Some open_link → pending ≡ next.Open
 opening_at true pending is = cc

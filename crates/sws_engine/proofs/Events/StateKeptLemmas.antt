@@ -1,6 +1,5 @@
 -- What every event that fits keeps of the state of its colour, and that what it puts fits.
 use Rattle.std.proofs.Common.{◌≡◌, ℕ, ◌+◌, ◌≤◌, ◌<◌, Option, Some, None, List, [], ◌∷◌, ◌++◌, length, refl, sym, ◌∙◌, ap, subst, arith, inl, inr}
-use Rattle.std.specs.Prelude.{IfSome}
 use Rattle.std.specs.List.{AllByRecursion}
 use Rattle.mely_event.specs.declared.colour.Colour.{Colour}
 use Rattle.mely_event.specs.declared.event.Event.{Event}
@@ -22,7 +21,6 @@ use Rattle.sws_engine.specs.Place.{PlaceState}
 use Rattle.sws_engine.specs.Tasks.{task_of}
 use Rattle.sws_engine.specs.Loads.{LinkStands, TaskFits, Fit}
 use Rattle.sws_engine.specs.Handling.{Put, is_due, conn_of, RunsDesk, RunsAccepting, RunsSeat}
-use Rattle.sws_engine.specs.Polling.{MayAccept}
 use Rattle.sws_engine.specs.Invariant.{DeskStands, SeatStands, RoleStands}
 use Rattle.sws_engine.specs.Seating.{HasRunSome}
 use Rattle.sws_engine.proofs.Events.FitLemmas.{conn_fit, desk_fit, accept_fit}

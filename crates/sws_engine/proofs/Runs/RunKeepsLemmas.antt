@@ -9,7 +9,6 @@ use Rattle.sws_link.specs.declared.Link.{Ghosts as LinkWords}
 use Rattle.sws_link.specs.declared.world.World.{Ghosts as WorldWords}
 use Rattle.sws_conn.specs.declared.talk.Talk.{Ghosts as TalkWords}
 use Rattle.sws_conn.specs.Path.{Handler}
-use Rattle.sws_conn.specs.Path.{open_link, read_piece, parse, look, write_part, resume, close}
 use Rattle.sws_conn.specs.Talks.{due}
 use Rattle.sws_engine.specs.declared.load.Load.{Load}
 use Rattle.sws_engine.specs.declared.load.WorldLoad.{WorldLoad}

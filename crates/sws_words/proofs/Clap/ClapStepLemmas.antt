@@ -1,6 +1,5 @@
 -- What `clap` makes of one word of each kind, as a step of its walk and as the fault of that step.
 use Rattle.std.proofs.Common.{◌≡◌, ℕ, true, false, List, [], ◌∷◌, Some, None, refl}
-use Rattle.std.specs.Option.{is_some}
 use Rattle.std.specs.Str.{bytes_eq}
 use Rattle.clap.specs.Lexer.{long_of, short_of}
 use Rattle.clap.specs.Walk.{Held, Rule, Text, Walk, idle, option, walked, reacted, settled, pushed, arg_by_long, arg_by_id, arg_by_index, takes_values, most_values, pending_count, to_positional, to_positional}

@@ -6,7 +6,7 @@ use Rattle.clap.specs.Simple.{Shape}
 use Rattle.clap.specs.Kinds.{Kinds}
 use Rattle.clap.specs.Faults.{turn_fault, settle_fault, use_fault}
 use Rattle.clap.specs.declared.error.kind.ErrorKind.TheVariants as kind
-use Rattle.sws_words.specs.Grammar.{Given, Known, place, given_by, is_among, looks_like_option, before, by_name}
+use Rattle.sws_words.specs.Grammar.{Given, place}
 use Rattle.sws_words.specs.Grammar as grammar
 
 -- the value, where there is no fault

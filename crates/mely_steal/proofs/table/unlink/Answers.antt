@@ -1,6 +1,6 @@
-use Rattle.std.proofs.Common.{◌≡◌, ◌-◌, true, cond, eqb, refl, sym, ap, subst, ◌∙◌}
+use Rattle.std.proofs.Common.{◌≡◌, ◌-◌, cond, eqb, refl, sym, ap, subst, ◌∙◌}
 use Rattle.mely_steal.specs.declared.links.Ends.{Ends}
-use Rattle.mely_steal.specs.Links.{list_at, before_at, after_at, places_of, is_in, without_place, IsStrung}
+use Rattle.mely_steal.specs.Links.{list_at, before_at, after_at, places_of, without_place, IsStrung}
 use Rattle.mely_steal.proofs.TableLemmas.{Unlinks, ends_without, in-own, strung-unlink, unlink-spares, before-strung, after-strung}
 use Rattle.mely_steal.proofs.table.unlink.Goals as goal
 

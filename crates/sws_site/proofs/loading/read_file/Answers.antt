@@ -1,9 +1,9 @@
-use Rattle.std.proofs.Common.{◌≡◌, ℕ, Result, Ok, Err, Vec, Global, refl, sym, subst, ◌∙◌}
+use Rattle.std.proofs.Common.{◌≡◌, ℕ, Result, Ok, Err, Vec, Global, refl, ◌∙◌}
 use Rattle.std.specs.declared.alloc.AllocError.{AllocError}
 use Rattle.sws_link.specs.declared.Got.{Got}
 use Rattle.sws_link.specs.declared.Got.TheVariants.{Failed, End}
 use Rattle.sws_site.specs.declared.site_faults.SiteFault.TheVariants.{Fault}
-use Rattle.sws_link.proofs.CountLemmas.{HasCause-as, HasCause-none}
+use Rattle.sws_link.proofs.CountLemmas.{HasCause-none}
 use Rattle.sws_site.proofs.LoadLemmas.{HasRead-nil}
 use Rattle.sws_site.proofs.loading.read_file.Goals as goal
 

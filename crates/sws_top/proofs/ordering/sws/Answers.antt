@@ -1,5 +1,5 @@
 use Rattle.std.specs.Prelude.{map, string_bytes}
-use Rattle.std.proofs.Common.{◌≡◌, ◌∙◌, inr, sym, subst}
+use Rattle.std.proofs.Common.{◌≡◌, inr, subst}
 use Rattle.sws_words.specs.Orders.{Order}
 use Rattle.sws_words.specs.Told.{order_view}
 use Rattle.sws_top.specs.Causes.{IsSound}

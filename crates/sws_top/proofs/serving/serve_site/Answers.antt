@@ -1,4 +1,4 @@
-use Rattle.std.proofs.Common.{◌≡◌, List, Option, inr, sym, subst}
+use Rattle.std.proofs.Common.{List, Option, inr, sym, subst}
 use Rattle.sws_engine.specs.declared.ended.Served.{Served}
 use Rattle.sws_top.specs.declared.faults.TopFault.{TopFault}
 use Rattle.sws_top.specs.RanServe.{CanSumUp, EndsBy}
