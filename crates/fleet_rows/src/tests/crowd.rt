@@ -236,7 +236,9 @@ fn part(
         let Some(caller) = callers.pop() else {
             unreachable!()
         };
-        outside.push_reserved(caller.passes);
+        let SeatOf { passes, worker } = caller;
+        drop(worker);
+        outside.push_reserved(passes);
     }
     Ok(outside)
 }
