@@ -9,7 +9,7 @@ use std::alloc::Global;
 const COST: u32 = 20;
 
 /// The most marks that a chain can have, one a colour.
-pub const MOST: u32 = 65_536;
+pub const MAX_MARKS: u32 = 65_536;
 
 /// Which call is made.
 #[derive(Clone, Copy)]
@@ -36,7 +36,7 @@ impl Call {
 
 /// A chain with a mark of each colour; their worths go through all classes.
 fn filled(alloc: Global, marks: u32) -> Result<CoreQueue, Memory>
-    requires { marks ≤ MOST }
+    requires { marks ≤ MAX_MARKS }
     ensures { IfOk result (λ queue. queue.colours ≡ marks) }
 {
     let mut queue = CoreQueue::new(alloc, marks, COST, 0)?;
@@ -75,7 +75,7 @@ fn turn_over(queue: &mut CoreQueue, call: Call) -> bool
 
 /// Makes the call so many times on a chain of so many marks, and answers how often it found a mark.
 pub fn make(alloc: Global, call: Call, marks: u32, count: u32) -> Result<u32, Memory>
-    requires { marks ≤ MOST }
+    requires { marks ≤ MAX_MARKS }
 {
     let mut queue = filled(alloc, marks)?;
     let mut made = 0u32;
@@ -92,7 +92,7 @@ pub fn make(alloc: Global, call: Call, marks: u32, count: u32) -> Result<u32, Me
 /// Tells of the next colour in turn, with the worth that its mark has; whether there is one.
 fn tell(queue: &mut CoreQueue, marks: u32, number: u32) -> bool
     requires colours { queue.old.colours ≡ marks }
-    requires most { marks ≤ MOST }
+    requires most { marks ≤ MAX_MARKS }
     ensures { queue.new.colours ≡ queue.old.colours }
 {
     if marks == 0 {

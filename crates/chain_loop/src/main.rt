@@ -9,18 +9,18 @@ ghost use Rattle.std.specs.Prelude.{◌≤◌, IfSome};
 
 mod calls;
 
-use calls::{Call, MOST};
+use calls::{Call, MAX_MARKS};
 use std::process::ExitCode;
 use std::{env, io};
 
 /// The call, the number of marks, and how often the call is made.
 fn order(rt: &HostRuntime) -> Option<(Call, u32, u32)>
-    ensures { IfSome result (λ order. order.1 ≤ MOST) }
+    ensures { IfSome result (λ order. order.1 ≤ MAX_MARKS) }
 {
     let mut words = env::args(rt).ok()?.skip(1);
     let call = Call::of(words.next()?.as_str())?;
     let marks = words.next()?.as_str().parse::<u32>().ok()?;
-    if marks > MOST {
+    if marks > MAX_MARKS {
         return None;
     }
     let count = words.next()?.as_str().parse::<u32>().ok()?;

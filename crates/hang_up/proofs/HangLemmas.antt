@@ -21,7 +21,7 @@ use Rattle.sws_conn.specs.Path.{Handler, open_link, close, answers_to_come, Take
 use Rattle.sws_conn.specs.Serving.{RoseBy}
 use Rattle.sws_conn.specs.Sound.{is_over, IsShutAtEnd}
 use Rattle.sws_conn.specs.Talks.{due, due_after, ServesTold, ComesTo, HasServed, ServesNow, path_to_come, BeginsWith, IsDue}
-use Rattle.hang_up.specs.HangUp.{WaitingState, HangUpState, waiting_at_first, is_waiting_by, hang_view, after_wait, after_read, ReadsOnce, ShutsOnce, StepsFrom, IsReadyTo, IsLinked, IsSound, Progress, course_after, try_of, after_try, course_from, whole_course, hang_outcome, hang_path, hang_responses, known_or_idle, course_at, course_of, rest_left, HasTaken, HasTakenTold, Follows, FollowsTold, HasRunOver, HasRunBy, HasRun}
+use Rattle.hang_up.specs.HangUp.{WaitingState, HangUpState, waiting_at_first, is_waiting_by, hang_view, after_wait, after_read, ReadsOnce, ShutsOnce, StepsFrom, IsReadyTo, IsLinked, IsSound, Progress, progress_after, try_of, after_try, progress_from, whole_progress, hang_outcome, hang_path, hang_responses, known_or_idle, progress_at, progress_of, known_rest, HasTaken, HasTakenTold, Follows, FollowsTold, HasRunOver, HasRunBy, HasRun}
 
 -- ---- small facts
 
@@ -86,27 +86,27 @@ taken-told (Some first) (Some before) after s d answer into size fits takes is (
       },
     )
 
--- ---- what is left of the course
+-- ---- what is left
 
-course-next : (more waits : ℕ) (items : List Item) (n : ℕ) → n ≡ suc more
-    → course_from n waits items
-    ≡ after_try (try_of waits) (course_after (read_of 16 items).answer (nat_le 30 (waits + 1)) (course_from more (waits + 1) (read_of 16 items).items))
-unfolding course_from
-course-next more waits items n e = ap (λ k. course_from k waits items) e
+progress-next : (more waits : ℕ) (items : List Item) (n : ℕ) → n ≡ suc more
+    → progress_from n waits items
+    ≡ after_try (try_of waits) (progress_after (read_of 16 items).answer (nat_le 30 (waits + 1)) (progress_from more (waits + 1) (read_of 16 items).items))
+unfolding progress_from
+progress-next more waits items n e = ap (λ k. progress_from k waits items) e
 
--- a read that isn't the last try leaves the course that stands behind it
-read-course : (s : WaitingState) (answer : LinkRead) (items : List Item) → s.pending ≡ next.Read → s.end ≡ None
-    → course_at (after_read s answer).pending (after_read s answer) items
-    ≡ course_after answer (nat_le 30 (s.waits + 1)) (course_from (30 - (s.waits + 1)) (s.waits + 1) items)
-read-course s (read.Took count) items pending none = refl
-read-course s read.End items pending none = refl
-read-course s read.NotReady items pending none = by_wait (nat_le 30 (s.waits + 1))
+-- a read that isn't the last try leaves what stands behind it
+read-progress : (s : WaitingState) (answer : LinkRead) (items : List Item) → s.pending ≡ next.Read → s.end ≡ None
+    → progress_at (after_read s answer).pending (after_read s answer) items
+    ≡ progress_after answer (nat_le 30 (s.waits + 1)) (progress_from (30 - (s.waits + 1)) (s.waits + 1) items)
+read-progress s (read.Took count) items pending none = refl
+read-progress s read.End items pending none = refl
+read-progress s read.NotReady items pending none = by_wait (nat_le 30 (s.waits + 1))
   where
-    by_wait : (last : Bool) → course_at (after_wait last s).pending (after_wait last s) items
-        ≡ course_after read.NotReady last (course_from (30 - (s.waits + 1)) (s.waits + 1) items)
+    by_wait : (last : Bool) → progress_at (after_wait last s).pending (after_wait last s) items
+        ≡ progress_after read.NotReady last (progress_from (30 - (s.waits + 1)) (s.waits + 1) items)
     by_wait true = refl
-    by_wait false = ap (λ p. course_at p (record s { waits = s.waits + 1 }) items) pending
-read-course s read.Failed items pending none = refl
+    by_wait false = ap (λ p. progress_at p (record s { waits = s.waits + 1 }) items) pending
+read-progress s read.Failed items pending none = refl
 
 follows-read : (first before after : Option Script) (trail : List Handler) (s d : WaitingState) (answer : LinkRead) (into : List ℕ)
     → s.pending ≡ next.Read → s.end ≡ None → s.waits < 30 → d ≡ after_read s answer → ReadsAs before 16 answer into after
@@ -117,19 +117,19 @@ follows-read (Some script) (Some before) after trail s d answer into pending non
     let before_is : left ≡ before = (let e : Some before ≡ Some left = same in cc) in
     let said = read_of 16 before.items in
     let now : Script = record before { items = said.items } in
-    let later = course_from (30 - (s.waits + 1)) (s.waits + 1) said.items in
-    let course : course_of s before ≡ after_try (try_of s.waits) (course_after said.answer (nat_le 30 (s.waits + 1)) later) =
-    ap (λ p. course_at p s before.items) pending
-    ∙ course-next (30 - (s.waits + 1)) s.waits before.items (30 - s.waits) (let n : 30 - s.waits ≡ suc (30 - (s.waits + 1)) = omega arith in n) in
-    let behind : course_of d now ≡ course_after said.answer (nat_le 30 (s.waits + 1)) later =
-    ap (λ (e : WaitingState). course_at e.pending e said.items) is ∙ read-course s answer said.items pending none
-    ∙ ap (λ a. course_after a (nat_le 30 (s.waits + 1)) later) reads.0 in
-    let all : course_of s before ≡ after_try (try_of s.waits) (course_of d now) = course ∙ ap (after_try (try_of s.waits)) (sym behind) in
+    let later = progress_from (30 - (s.waits + 1)) (s.waits + 1) said.items in
+    let progress : progress_of s before ≡ after_try (try_of s.waits) (progress_after said.answer (nat_le 30 (s.waits + 1)) later) =
+    ap (λ p. progress_at p s before.items) pending
+    ∙ progress-next (30 - (s.waits + 1)) s.waits before.items (30 - s.waits) (let n : 30 - s.waits ≡ suc (30 - (s.waits + 1)) = omega arith in n) in
+    let behind : progress_of d now ≡ progress_after said.answer (nat_le 30 (s.waits + 1)) later =
+    ap (λ (e : WaitingState). progress_at e.pending e said.items) is ∙ read-progress s answer said.items pending none
+    ∙ ap (λ a. progress_after a (nat_le 30 (s.waits + 1)) later) reads.0 in
+    let all : progress_of s before ≡ after_try (try_of s.waits) (progress_of d now) = progress ∙ ap (after_try (try_of s.waits)) (sym behind) in
     let was : Follows script before trail s = subst (λ (l : Script). Follows script l trail s) before_is follows in (
       now,
       reads.2,
       record {
-        events = was.events ∙ ap (λ (c : Progress). trail ++ c.events) all ∙ sym (append_assoc trail (try_of s.waits ∷ []) (course_of d now).events);
+        events = was.events ∙ ap (λ (c : Progress). trail ++ c.events) all ∙ sym (append_assoc trail (try_of s.waits ∷ []) (progress_of d now).events);
         end = ap (λ (c : Progress). c.end) (sym all) ∙ was.end;
       },
     )
@@ -381,13 +381,13 @@ module _ {L : Type 0} (x : LinkWords L) where
       → FollowsTold first now trail s → FollowsTold first now (trail ++ close ∷ []) (record s { pending = next.Nothing })
   follows-shut None now trail s pending told = told
   follows-shut (Some script) now trail s pending (left, same, follows) =
-      let course : course_of s left ≡ after_try close (course_of (record s { pending = next.Nothing }) left) =
-      ap (λ p. course_at p s left.items) pending in (
+      let progress : progress_of s left ≡ after_try close (progress_of (record s { pending = next.Nothing }) left) =
+      ap (λ p. progress_at p s left.items) pending in (
         left,
         same,
         record {
-          events = follows.events ∙ ap (λ (c : Progress). trail ++ c.events) course ∙ sym (append_assoc trail (close ∷ []) []);
-          end = ap (λ (c : Progress). c.end) (sym course) ∙ follows.end;
+          events = follows.events ∙ ap (λ (c : Progress). trail ++ c.events) progress ∙ sym (append_assoc trail (close ∷ []) []);
+          end = ap (λ (c : Progress). c.end) (sym progress) ∙ follows.end;
         },
       )
 
@@ -517,12 +517,12 @@ module _ {L : Type 0} (x : LinkWords L) where
       by_script : (script : Option Script) → FollowsTold script (answers_to_come now) trail s
           → ComesTo (option_map (hang_outcome tt) script) now end
       by_script None follows = tt
-      by_script (Some script) (left, same, course) =
-          unless (Some end) ((tells : LinkTells) × (now ≡ Some tells) × (tells.written ≡ []) × (end ≡ (whole_course script).end)) (
+      by_script (Some script) (left, same, progress) =
+          unless (Some end) ((tells : LinkTells) × (now ≡ Some tells) × (tells.written ≡ []) × (end ≡ (whole_progress script).end)) (
             tells,
             now_is,
             taken.written,
-            sym (ap known_or_idle is) ∙ sym (ap (λ p. (course_at p s left.items).end) pending) ∙ course.end,
+            sym (ap known_or_idle is) ∙ sym (ap (λ p. (progress_at p s left.items).end) pending) ∙ progress.end,
           )
 
   pub run-serves : (first : L) (trail : List Handler) (talk : HangUpState L) → HasRun x first trail talk
@@ -546,41 +546,41 @@ module _ {L : Type 0} (x : LinkWords L) where
       }
 
   pub run-path : (first : L) (trail : List Handler) (talk : HangUpState L) → HasRun x first trail talk
-      → UnlessMemory talk.standing.end (TakesOff trail (path_to_come (hang_path tt) (x.tells first)) (rest_left x talk))
+      → UnlessMemory talk.standing.end (TakesOff trail (path_to_come (hang_path tt) (x.tells first)) (known_rest x talk))
   run-path first trail talk run = by_link talk.link run
     where
       s : WaitingState
       s = talk.standing
 
       by_script : (script now : Option Script) → FollowsTold script now trail talk.standing
-          → TakesOff trail (option_map (hang_path tt) script) (option_map (λ (left : Script). (course_of talk.standing left).events) now)
-      by_script None now none = ap (option_map (λ (left : Script). (course_of talk.standing left).events)) none
+          → TakesOff trail (option_map (hang_path tt) script) (option_map (λ (left : Script). (progress_of talk.standing left).events) now)
+      by_script None now none = ap (option_map (λ (left : Script). (progress_of talk.standing left).events)) none
       by_script (Some script) now (left, is, follows) =
-          ((course_of talk.standing left).events, ap (option_map (λ (l : Script). (course_of talk.standing l).events)) is, follows.events)
+          ((progress_of talk.standing left).events, ap (option_map (λ (l : Script). (progress_of talk.standing l).events)) is, follows.events)
 
       by_link : (link : Option L) → HasRunBy x first trail talk.standing link
           → UnlessMemory talk.standing.end (TakesOff trail (path_to_come (hang_path tt) (x.tells first))
-          (rest_left x (record { standing = talk.standing; link = link })))
+          (known_rest x (record { standing = talk.standing; link = link })))
       by_link None run = absurd run
       by_link (Some now) run = unless talk.standing.end (TakesOff trail (path_to_come (hang_path tt) (x.tells first))
-          (rest_left x (record { standing = talk.standing; link = Some now })))
+          (known_rest x (record { standing = talk.standing; link = Some now })))
           (by_script (answers_to_come (x.tells first)) (answers_to_come (x.tells now)) run.follows)
 
   pub run-due : (first : L) (trail : List Handler) (talk : HangUpState L) → HasRun x first trail talk
-      → IsDue (due (hang_view talk.standing)) (rest_left x talk)
+      → IsDue (due (hang_view talk.standing)) (known_rest x talk)
   run-due first trail talk run = by_link talk.link run
     where
       by_pending : (pending : Next) → talk.standing.pending ≡ pending → pending ≢ next.Open → IsReadyTo pending talk.standing → (items : List Item)
-          → BeginsWith (due (hang_view talk.standing)) (course_at pending talk.standing items).events
+          → BeginsWith (due (hang_view talk.standing)) (progress_at pending talk.standing items).events
       by_pending next.Open is opened ready items = absurd (opened refl)
       by_pending next.Read is opened ready items =
           let s = talk.standing in
           let few = ready.1 in
-          let later = course_after (read_of 16 items).answer (nat_le 30 (s.waits + 1)) (course_from (30 - (s.waits + 1)) (s.waits + 1) (read_of 16 items).items) in
-          subst (λ e. BeginsWith e (course_from (30 - s.waits) s.waits items).events) (sym (due-read s is ready.0)) (
+          let later = progress_after (read_of 16 items).answer (nat_le 30 (s.waits + 1)) (progress_from (30 - (s.waits + 1)) (s.waits + 1) (read_of 16 items).items) in
+          subst (λ e. BeginsWith e (progress_from (30 - s.waits) s.waits items).events) (sym (due-read s is ready.0)) (
             later.events,
             ap (λ (c : Progress). c.events)
-                (course-next (30 - (s.waits + 1)) s.waits items (30 - s.waits) (let n : 30 - s.waits ≡ suc (30 - (s.waits + 1)) = omega arith in n)),
+                (progress-next (30 - (s.waits + 1)) s.waits items (30 - s.waits) (let n : 30 - s.waits ≡ suc (30 - (s.waits + 1)) = omega arith in n)),
           )
       by_pending next.Close is opened ready items =
           subst (λ e. BeginsWith e (close ∷ [])) (sym (due-ended talk.standing next.Close is ready.0)) ([], refl)
@@ -592,11 +592,11 @@ module _ {L : Type 0} (x : LinkWords L) where
       by_pending next.Wait is opened ready items = absurd ready
 
       by_script : (talk.standing.pending ≢ next.Open) × IsReadyTo talk.standing.pending talk.standing → (script : Option Script)
-          → IsDue (due (hang_view talk.standing)) (option_map (λ (left : Script). (course_of talk.standing left).events) script)
+          → IsDue (due (hang_view talk.standing)) (option_map (λ (left : Script). (progress_of talk.standing left).events) script)
       by_script ready None = tt
       by_script ready (Some script) = by_pending talk.standing.pending refl ready.0 ready.1 script.items
 
       by_link : (link : Option L) → HasRunBy x first trail talk.standing link
-          → IsDue (due (hang_view talk.standing)) (rest_left x (record { standing = talk.standing; link = link }))
+          → IsDue (due (hang_view talk.standing)) (known_rest x (record { standing = talk.standing; link = link }))
       by_link None run = absurd run
       by_link (Some now) run = by_script (run.opened, run.ready) (answers_to_come (x.tells now))

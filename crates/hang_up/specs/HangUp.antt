@@ -12,7 +12,7 @@ use Rattle.sws_steps.specs.declared.End.TheVariants as ending
 use Rattle.sws_steps.specs.declared.Next.{Next}
 use Rattle.sws_steps.specs.declared.Next.TheVariants as next
 use Rattle.sws_conn.specs.Outcome.{Outcome}
-use Rattle.sws_conn.specs.Path.{Handler, open_link, read_piece, resume, close, answers_to_come}
+use Rattle.sws_conn.specs.Path.{Handler, open_link, read_piece, resume, close, answers_to_come, told_by_link}
 use Rattle.sws_conn.specs.Serving.{RoseBy}
 use Rattle.sws_conn.specs.Sound.{is_over, IsShutAtEnd}
 use Rattle.sws_conn.specs.Talks.{TalkView}
@@ -140,75 +140,70 @@ pub record Progress : Type 0 where
   pub end : End
 
 -- after a read that answers so, where this comes if it is tried again
-abbrev pub course_after : LinkRead → Bool → Progress → Progress
-course_after (read.Took count) last later = record { events = close ∷ []; end = ending.Done }
-course_after read.End last later = record { events = close ∷ []; end = ending.Done }
-course_after read.NotReady true later = record { events = close ∷ []; end = ending.Idle }
-course_after read.NotReady false later = later
-course_after read.Failed last later = record { events = close ∷ []; end = ending.Fault }
+abbrev pub progress_after : LinkRead → Bool → Progress → Progress
+progress_after (read.Took count) last later = record { events = close ∷ []; end = ending.Done }
+progress_after read.End last later = record { events = close ∷ []; end = ending.Done }
+progress_after read.NotReady true later = record { events = close ∷ []; end = ending.Idle }
+progress_after read.NotReady false later = later
+progress_after read.Failed last later = record { events = close ∷ []; end = ending.Fault }
 
 -- the read is the first try, or one more
 abbrev pub try_of : ℕ → Handler
 try_of zero = read_piece
 try_of (suc waits) = resume
 
--- a course behind one more event
+-- one more event, and then what is left behind it
 abbrev pub after_try : Handler → Progress → Progress
-after_try event course = record { events = event ∷ course.events; end = course.end }
+after_try event progress = record { events = event ∷ progress.events; end = progress.end }
 
--- from a read on that was tried so often, with so many more tries to come
-unfoldable pub course_from : ℕ → ℕ → List Item → Progress
-course_from zero waits items = record { events = []; end = ending.Idle }
-course_from (suc more) waits items =
+-- what is left from a read on that was tried so often, with so many more tries to come
+unfoldable pub progress_from : ℕ → ℕ → List Item → Progress
+progress_from zero waits items = record { events = []; end = ending.Idle }
+progress_from (suc more) waits items =
     let said = read_of 16 items in
-    after_try (try_of waits) (course_after said.answer (nat_le 30 (waits + 1))
-    (course_from more (waits + 1) said.items))
+    after_try (try_of waits) (progress_after said.answer (nat_le 30 (waits + 1))
+    (progress_from more (waits + 1) said.items))
 
--- from the first read on
-abbrev pub whole_course : Script → Progress
-whole_course script = course_from 30 0 script.items
+-- what is left from the first read on
+abbrev pub whole_progress : Script → Progress
+whole_progress script = progress_from 30 0 script.items
 
--- nothing is written, and the end is that of the course
+-- nothing is written, and the end is the one from the first read on
 abbrev pub hang_outcome : Unit {0} → Script → Outcome
-hang_outcome hall script = record { bytes = []; end = (whole_course script).end }
+hang_outcome hall script = record { bytes = []; end = (whole_progress script).end }
 
--- the opening, and the events of the course
+-- the opening, and the events from the first read on
 abbrev pub hang_path : Unit {0} → Script → List Handler
-hang_path hall script = open_link ∷ (whole_course script).events
+hang_path hall script = open_link ∷ (whole_progress script).events
 
 -- no bytes are answered
 abbrev pub hang_responses : Unit {0} → List ℕ → List ℕ
 hang_responses hall bytes = []
 
--- what is left, as it stands
+-- the end, or `Idle` where none is known yet
 abbrev pub known_or_idle : Option End → End
 known_or_idle None = ending.Idle
 known_or_idle (Some end) = end
 
--- what is left of a course, by what is pending, how it stands and what its link has left
-abbrev pub course_at : Next → WaitingState → List Item → Progress
-course_at next.Open s items = after_try open_link (course_from 30 0 items)
-course_at next.Read s items = course_from (30 - s.waits) s.waits items
-course_at next.Close s items = record { events = close ∷ []; end = known_or_idle s.end }
-course_at next.Nothing s items = record { events = []; end = known_or_idle s.end }
-course_at next.Parse s items = record { events = []; end = known_or_idle s.end }
-course_at next.Look s items = record { events = []; end = known_or_idle s.end }
-course_at next.Write s items = record { events = []; end = known_or_idle s.end }
-course_at next.Wait s items = record { events = []; end = known_or_idle s.end }
+-- what is left, by what is pending, how it stands and the items that its link has left
+abbrev pub progress_at : Next → WaitingState → List Item → Progress
+progress_at next.Open s items = after_try open_link (progress_from 30 0 items)
+progress_at next.Read s items = progress_from (30 - s.waits) s.waits items
+progress_at next.Close s items = record { events = close ∷ []; end = known_or_idle s.end }
+progress_at next.Nothing s items = record { events = []; end = known_or_idle s.end }
+progress_at next.Parse s items = record { events = []; end = known_or_idle s.end }
+progress_at next.Look s items = record { events = []; end = known_or_idle s.end }
+progress_at next.Write s items = record { events = []; end = known_or_idle s.end }
+progress_at next.Wait s items = record { events = []; end = known_or_idle s.end }
 
--- the same of a script
-abbrev pub course_of : WaitingState → Script → Progress
-course_of s script = course_at s.pending s script.items
-
--- what its link tells, where it has one
-abbrev pub told_by : {L : Type 0} → LinkWords L → Option L → Option LinkTells
-told_by x None = None
-told_by x (Some link) = x.tells link
+-- what is left, by how it stands and the script that its link has left
+abbrev pub progress_of : WaitingState → Script → Progress
+progress_of s script = progress_at s.pending s script.items
 
 -- the events that are left, where its link answers by a script
-abbrev pub rest_left : {L : Type 0} → LinkWords L → HangUpState L → Option (List Handler)
-rest_left x s = option_map (λ script. (course_of s.standing script).events)
-    (answers_to_come (told_by x s.link))
+abbrev pub known_rest : {L : Type 0} → LinkWords L → HangUpState L → Option (List Handler)
+known_rest x s = option_map (λ script. (progress_of s.standing script).events)
+    (answers_to_come (told_by_link x s.link))
 
 -- ---- what it has run
 
@@ -218,17 +213,17 @@ pub record HasTaken (before now : LinkTells) (s : WaitingState) : Type 0 where
   pub taken : length now.taken ≡ s.read
   pub written : now.written ≡ []
 
--- the same where the link tells anything
+-- what the link told at first and tells now, where it tells anything
 abbrev pub HasTakenTold : Option LinkTells → Option LinkTells → WaitingState → Type 0
 HasTakenTold None now s = now ≡ None
 HasTakenTold (Some before) now s = (told : LinkTells) × (now ≡ Some told) × HasTaken before told s
 
--- the events and the end are those of the course
+-- the events so far and those that are left are the whole path of the script, and the end is the one that this comes to
 pub record Follows (script now : Script) (trail : List Handler) (s : WaitingState) : Type 0 where
-  pub events : hang_path tt script ≡ trail ++ (course_of s now).events
-  pub end : (course_of s now).end ≡ (whole_course script).end
+  pub events : hang_path tt script ≡ trail ++ (progress_of s now).events
+  pub end : (progress_of s now).end ≡ (whole_progress script).end
 
--- the same where the link answers by a script
+-- the events so far begin the path of the script, and what is left of it follows, where the link answers by one
 abbrev pub FollowsTold : Option Script → Option Script → List Handler → WaitingState → Type 0
 FollowsTold None now trail s = now ≡ None
 FollowsTold (Some script) now trail s = (left : Script) × (now ≡ Some left)
@@ -251,12 +246,12 @@ pub record HasRunOver {L : Type 0} (x : LinkWords L) (first : L) (trail : List H
   pub follows : FollowsTold (answers_to_come (x.tells first))
       (answers_to_come (x.tells now)) trail s
 
--- the same where it has a link still
+-- it has a link still, and has run these events since it got the first
 abbrev pub HasRunBy : {L : Type 0} → LinkWords L → L → List Handler → WaitingState → Option L
     → Type 0
 HasRunBy x first trail s None = ⊥
 HasRunBy x first trail s (Some now) = HasRunOver x first trail s now
 
--- the same of how it stands and its link
+-- it has run these events since it got its link, which was so at first
 abbrev pub HasRun : {L : Type 0} → LinkWords L → L → List Handler → HangUpState L → Type 0
 HasRun x first trail s = HasRunBy x first trail s.standing s.link

@@ -7,7 +7,7 @@ ghost use Rattle.sws_conn.specs.Conn.{reported_by, end_at};
 ghost use Rattle.sws_conn.specs.Path.{open_link};
 ghost use Rattle.sws_conn.specs.Talks.{OpensTalk};
 ghost use Rattle.hang_up.specs.HangUp.{HangUpState, hang_view, HasRun, waiting_at_first, is_waiting_by, ReadsOnce, ShutsOnce, StepsFrom, Steps, IsSound, IsReadyTo};
-ghost use Rattle.hang_up.specs.Shown.{state_of};
+ghost use Rattle.hang_up.specs.WaitingFields.{state_of};
 
 use std::marker::Model;
 use sws_conn::{End, Next};
@@ -37,7 +37,7 @@ impl<L: Link> Model for HangUp<L> {
 
     ghost Value = { HangUpState L };
 
-    ghost use Rattle.hang_up.specs.Shown.{state_of};
+    ghost use Rattle.hang_up.specs.WaitingFields.{state_of};
     ghost use Rattle.hang_up.specs.HangUp.{IsSound};
 
     ghost view = { λ talk. record { standing = state_of talk.waiting; link = talk.link } };
@@ -87,8 +87,8 @@ impl<L: Link + Drop> HangUp<L> {
         ensures ended { (end : End) → self.old.standing.end ≡ Some end
             → self.new.standing.end ≡ Some end }
     {
-        step_over(&mut self.waiting, &mut self.link);
-        told(&self.waiting)
+        self.waiting.step_over(&mut self.link);
+        self.waiting.next_step()
     }
 
     /// The next step.
@@ -135,67 +135,69 @@ impl<L: Link + Drop> HangUp<L> {
     }
 }
 
-/// Does the pending step.
-fn step_over<L: Link>(waiting: &mut Waiting, link: &mut Option<L>)
-    requires { IsSound L.Link (record { standing = state_of waiting.old; link = link.old }) }
-    ensures { StepsFrom L.Link (state_of waiting.old) (state_of waiting.new)
-        waiting.old.pending link.old link.new }
-{
-    match (waiting.pending, link) {
-        (Next::Read, Some(link)) => read_step(waiting, link),
-        (Next::Close, Some(link)) => close_step(waiting, link),
-        _ => {}
+impl Waiting {
+    /// Does the pending step.
+    fn step_over<L: Link>(&mut self, link: &mut Option<L>)
+        requires { IsSound L.Link (record { standing = state_of self.old; link = link.old }) }
+        ensures { StepsFrom L.Link (state_of self.old) (state_of self.new)
+            self.old.pending link.old link.new }
+    {
+        match (self.pending, link) {
+            (Next::Read, Some(link)) => self.read_step(link),
+            (Next::Close, Some(link)) => self.close_step(link),
+            _ => {}
+        }
     }
-}
 
-/// Reads once.
-fn read_step<L: Link>(waiting: &mut Waiting, link: &mut L)
-    requires few { waiting.old.waits < 30 }
-    requires little { waiting.old.read ≤ 16 }
-    requires not_shut { L.is_shut link.old ≡ false }
-    ensures { ReadsOnce L.Link (state_of waiting.old) (state_of waiting.new) link.old link.new }
-{
-    let mut room = [0; 16];
-    match link.read(&mut room) {
-        LinkRead::Took(count) => {
-            waiting.read += count as u64;
-            waiting.end = Some(End::Done);
-            waiting.pending = Next::Close;
-        }
-        LinkRead::End => {
-            waiting.end = Some(End::Done);
-            waiting.pending = Next::Close;
-        }
-        LinkRead::NotReady => {
-            waiting.waits += 1;
-            if waiting.waits >= MAX_WAITS {
-                waiting.end = Some(End::Idle);
-                waiting.pending = Next::Close;
+    /// One try to read: what came ends the talk, and so does the last try in vain.
+    fn read_step<L: Link>(&mut self, link: &mut L)
+        requires few { self.old.waits < 30 }
+        requires little { self.old.read ≤ 16 }
+        requires not_shut { L.is_shut link.old ≡ false }
+        ensures { ReadsOnce L.Link (state_of self.old) (state_of self.new) link.old link.new }
+    {
+        let mut room = [0; 16];
+        match link.read(&mut room) {
+            LinkRead::Took(count) => {
+                self.read += count as u64;
+                self.end = Some(End::Done);
+                self.pending = Next::Close;
+            }
+            LinkRead::End => {
+                self.end = Some(End::Done);
+                self.pending = Next::Close;
+            }
+            LinkRead::NotReady => {
+                self.waits += 1;
+                if self.waits >= MAX_WAITS {
+                    self.end = Some(End::Idle);
+                    self.pending = Next::Close;
+                }
+            }
+            LinkRead::Failed => {
+                self.end = Some(End::Fault);
+                self.pending = Next::Close;
             }
         }
-        LinkRead::Failed => {
-            waiting.end = Some(End::Fault);
-            waiting.pending = Next::Close;
+    }
+
+    /// Shuts the link, after which nothing is left to do.
+    fn close_step<L: Link>(&mut self, link: &mut L)
+        requires { L.is_shut link.old ≡ false }
+        ensures { ShutsOnce L.Link (state_of self.old) (state_of self.new) link.old link.new }
+    {
+        link.shut();
+        self.pending = Next::Nothing;
+    }
+
+    /// What a step answers that leaves this.
+    fn next_step(&self) -> Next
+        ensures { result ≡ reported_by (is_waiting_by self.now.end self.now.waits)
+            self.now.pending }
+    {
+        if self.end.is_none() && self.waits > 0 {
+            return Next::Wait;
         }
+        self.pending
     }
-}
-
-/// Shuts the link.
-fn close_step<L: Link>(waiting: &mut Waiting, link: &mut L)
-    requires { L.is_shut link.old ≡ false }
-    ensures { ShutsOnce L.Link (state_of waiting.old) (state_of waiting.new) link.old link.new }
-{
-    link.shut();
-    waiting.pending = Next::Nothing;
-}
-
-/// What a step answers that leaves this.
-fn told(waiting: &Waiting) -> Next
-    ensures { result ≡ reported_by (is_waiting_by waiting.now.end waiting.now.waits)
-        waiting.now.pending }
-{
-    if waiting.end.is_none() && waiting.waits > 0 {
-        return Next::Wait;
-    }
-    waiting.pending
 }

@@ -22,7 +22,7 @@ const HEAR: u8 = 1;
 /// How many handlers the app has; their numbers are below this.
 const HANDLERS: usize = 2;
 
-/// How many colours the app has, likewise.
+/// How many colours the app has; their numbers are below this.
 const COLOURS: u32 = 2;
 
 /// Who greets has colour 0, and who hears it colour 1.

@@ -1,6 +1,5 @@
 //! What a line says.
-ghost use Rattle.std.specs.Prelude.{◌≡◌, ◌≤◌, ◌<◌, ◌^◌, ◌++◌, ◌∷◌, [], ℕ, List, MatchOption, option_map, codes};
-ghost use Rattle.std.specs.Fmt.{decimal};
+ghost use Rattle.std.specs.Prelude.{◌≡◌, ◌<◌, ◌^◌, ◌++◌, ◌∷◌, [], ℕ, List, MatchOption, option_map, codes};
 ghost use Rattle.sws_report.specs.Numbers.{space_number};
 ghost use Rattle.mely_check.specs.Reading.{IsHigh, IsBehind, ReadsField, ReadsLine};
 ghost use Rattle.mely_history.specs.declared.entry.Entry.{Entry as EntryValue};
@@ -12,6 +11,7 @@ ghost use Rattle.sws_report.specs.Journal.{entry_line, shard_line};
 
 use mely_event::{Colour, Event};
 use mely_history::Entry as HistoryEntry;
+use sws_text::read_decimal;
 
 /// A line of a journal.
 #[derive(Clone, Copy, Debug, PartialEq, Eq)]
@@ -22,9 +22,6 @@ pub(crate) enum Line {
     /// An entry of the shard that has begun.
     Entry(HistoryEntry),
 }
-
-/// The most digits of a number.
-const MAX_DIGITS: usize = 20;
 
 /// What a line with its LF says, or `None` where it says nothing.
 pub(crate) fn read_line(line: &[u8]) -> Option<Line>
@@ -150,7 +147,7 @@ fn field(text: &[u8], high: u64) -> Option<(u64, &[u8])>
     ensures { ReadsField high text.now (option_map (λ found. (found.0, found.1.now)) result) }
 {
     let (digits, rest) = split_low(behind(text, b" ")?);
-    let value = number(digits, high)?;
+    let value = read_decimal(digits, high)?;
     Some((value, rest))
 }
 
@@ -166,39 +163,4 @@ fn split_low(text: &[u8]) -> (&[u8], &[u8])
         }
     }
     (text, &[])
-}
-
-/// The number that a word writes in decimal digits without leading zeros, at most `high`.
-fn number(word: &[u8], high: u64) -> Option<u64>
-    ensures { MatchOption result ((n : ℕ) → word.now ≡ decimal n → n ≤ high → ⊥)
-        (λ n. (word.now ≡ decimal n) × (n ≤ high)) }
-{
-    let value = digits_value(word)?;
-    if value <= u128::from(high) {
-        Some(value as u64)
-    } else {
-        None
-    }
-}
-
-/// The value of one to twenty decimal digits without leading zeros.
-fn digits_value(word: &[u8]) -> Option<u128>
-    ensures { MatchOption result ((n : ℕ) → word.now ≡ decimal n → n < 2 ^ 64 → ⊥)
-        (λ n. (n < 2 ^ 64 → word.now ≡ decimal n)
-        × ((m : ℕ) → word.now ≡ decimal m → m < 2 ^ 64 → m ≡ n)) }
-{
-    if word.is_empty() || word.len() > MAX_DIGITS {
-        return None;
-    }
-    if word.len() > 1 && word[0] == b'0' {
-        return None;
-    }
-    let mut value = 0;
-    for digit in word {
-        if !digit.is_ascii_digit() {
-            return None;
-        }
-        value = value * 10 + u128::from(*digit - b'0');
-    }
-    Some(value)
 }

@@ -12,7 +12,7 @@ use Rattle.mely_steal.specs.StealQueue.{is_worthy, after_entry, after_mark_chang
 use Rattle.mely_steal.proofs.MarkLemmas.{mark_of-same, mark_of-append, mark_of-without_same, mark_of-without_other, mark_of-replaced_same, mark_of-replaced_other, AreApart-push, AreApart-without, AreApart-replaced}
 use Rattle.mely_steal.proofs.StealLemmas.{mark_of-entered_same, mark_of-entered_other, mark_of-push_other, mark_of-changed_same, mark_of-changed_other, each_is_mark_of, worthy-parts, worthy-from, find-All, pick_of-mark_of, AreWorthy-entered, AreWorthy-without, AreWorthy-changed}
 use Rattle.mely_steal.specs.Links.{is_in, without_place}
-use Rattle.mely_steal.specs.StealTable.{Told, StealTableState, SetsMark, mark_in, worthy_of}
+use Rattle.mely_steal.specs.StealTable.{MarkTableState, StealTableState, SetsMark, mark_in, worthy_of}
 use Rattle.mely_steal.proofs.LinkLemmas.{in-other, dropped-first, dropped-later}
 use Rattle.mely_steal.proofs.EnterLemmas.{eqb-swap}
 use Rattle.mely_core.specs.CoreQueue.{HoldTogether, chain_of, if_worthy}
@@ -127,11 +127,11 @@ hold-told new old chain worthy n cost pinned held lt there =
     }
 
 -- the marks of a list of colours
-abbrev pub marks_by : Told → List ℕ → List Mark
+abbrev pub marks_by : MarkTableState → List ℕ → List Mark
 marks_by t l = map (λ colour. mark_in t colour) l
 
 -- the mark of a colour that is in the list, and of one that isn't
-pub mark_of-in : (t : Told) (c : Colour) (l : List ℕ) → is_in l c.0 ≡ true → mark_of c (marks_by t l) ≡ Some (mark_in t c.0)
+pub mark_of-in : (t : MarkTableState) (c : Colour) (l : List ℕ) → is_in l c.0 ≡ true → mark_of c (marks_by t l) ≡ Some (mark_in t c.0)
 mark_of-in t c [] h = absurd (true≢false (sym h))
 mark_of-in t c (x ∷ l) h = elim (cases_eq c.0 x) [
   | inl e ↦ cond-true (eqb x c.0) (Some (mark_in t x)) (mark_of c (marks_by t l)) (eq-eqb x c.0 (sym e)) ∙ ap (λ z. Some (mark_in t z)) (sym e)
@@ -140,17 +140,17 @@ mark_of-in t c (x ∷ l) h = elim (cases_eq c.0 x) [
       ∙ mark_of-in t c l (sym (in-other c.0 x l ne) ∙ h)
 ]
 
-pub mark_of-out : (t : Told) (c : Colour) (l : List ℕ) → is_in l c.0 ≡ false → mark_of c (marks_by t l) ≡ None
+pub mark_of-out : (t : MarkTableState) (c : Colour) (l : List ℕ) → is_in l c.0 ≡ false → mark_of c (marks_by t l) ≡ None
 mark_of-out t c [] off = refl
 mark_of-out t c (x ∷ l) off =
     let parts = or_parts (eqb c.0 x) (is_in l c.0) off in
     cond-false (eqb x c.0) (Some (mark_in t x)) (mark_of c (marks_by t l)) (eqb-swap x c.0 ∙ parts.0) ∙ mark_of-out t c l parts.1
 
-pub none-out : (t : Told) (c : Colour) (l : List ℕ) → mark_of c (marks_by t l) ≡ None → is_in l c.0 ≡ false
+pub none-out : (t : MarkTableState) (c : Colour) (l : List ℕ) → mark_of c (marks_by t l) ≡ None → is_in l c.0 ≡ false
 none-out t c l h = elim (cases_Bool (is_in l c.0)) [ inl t' ↦ absurd (none-some (mark_in t c.0) (sym h ∙ mark_of-in t c l t')) | inr f ↦ f ]
 
 -- without a colour, with one more, and with the mark of one written
-without-by : (t : Told) (c : Colour) (l : List ℕ) → without c (marks_by t l) ≡ marks_by t (without_place c.0 l)
+without-by : (t : MarkTableState) (c : Colour) (l : List ℕ) → without c (marks_by t l) ≡ marks_by t (without_place c.0 l)
 without-by t c [] = refl
 without-by t c (x ∷ l) = elim (cases_eq c.0 x) [
   | inl e ↦
@@ -161,18 +161,18 @@ without-by t c (x ∷ l) = elim (cases_eq c.0 x) [
       ∙ (ap (λ ys. mark_in t x ∷ ys) (without-by t c l) ∙ sym (ap (marks_by t) (dropped-later c.0 x l ne)))
 ]
 
-stay-by : (t u : Told) (m : Mark) (l : List ℕ) → SetsMark m t u → is_in l m.colour.0 ≡ false → marks_by u l ≡ marks_by t l
+stay-by : (t u : MarkTableState) (m : Mark) (l : List ℕ) → SetsMark m t u → is_in l m.colour.0 ≡ false → marks_by u l ≡ marks_by t l
 stay-by t u m [] sets off = refl
 stay-by t u m (x ∷ l) sets off =
     let parts = or_parts (eqb m.colour.0 x) (is_in l m.colour.0) off in
     ap (λ k. k ∷ marks_by u l) (sets.others x (eqb-false m.colour.0 x parts.0)) ∙ ap (λ ys. mark_in t x ∷ ys) (stay-by t u m l sets parts.1)
 
-push-by : (t u : Told) (m : Mark) (l : List ℕ) → SetsMark m t u → is_in l m.colour.0 ≡ false → marks_by u (l ++ m.colour.0 ∷ []) ≡ marks_by t l ++ m ∷ []
+push-by : (t u : MarkTableState) (m : Mark) (l : List ℕ) → SetsMark m t u → is_in l m.colour.0 ≡ false → marks_by u (l ++ m.colour.0 ∷ []) ≡ marks_by t l ++ m ∷ []
 push-by t u m l sets off =
     map-append (λ (x : ℕ). mark_in u x) l (m.colour.0 ∷ [])
     ∙ (ap (λ ys. ys ++ mark_in u m.colour.0 ∷ []) (stay-by t u m l sets off) ∙ ap (λ k. marks_by t l ++ k ∷ []) sets.here)
 
-told-by : (t u : Told) (m : Mark) (l : List ℕ) → SetsMark m t u → marks_by u l ≡ after_replacement m (marks_by t l)
+told-by : (t u : MarkTableState) (m : Mark) (l : List ℕ) → SetsMark m t u → marks_by u l ≡ after_replacement m (marks_by t l)
 told-by t u m [] sets = refl
 told-by t u m (x ∷ l) sets =
     let here : mark_in u x ≡ cond (eqb x m.colour.0) m (mark_in t x) = elim (cases_eq m.colour.0 x) [
@@ -209,7 +209,7 @@ told-holds l T U m old held lt there sets w =
     (is, subst HoldTogether (sym is) (hold-told m old (marks_by T.told l) (worthy_of T).marks T.colours T.cost T.pinned held lt there))
 
 -- the first of the chain, and what is left without its colour
-first-gone : (t : Told) (l : List ℕ) (c : ℕ) → IsOneEach (marks_by t l) → slice_get l 0 ≡ Some c → marks_by t l ≡ mark_in t c ∷ marks_by t (without_place c l)
+first-gone : (t : MarkTableState) (l : List ℕ) (c : ℕ) → IsOneEach (marks_by t l) → slice_get l 0 ≡ Some c → marks_by t l ≡ mark_in t c ∷ marks_by t (without_place c l)
 first-gone t [] c one h = absurd (none-some c h)
 first-gone t (x ∷ l) c one h =
     let is : x ≡ c = same_Some x c h in
@@ -217,9 +217,9 @@ first-gone t (x ∷ l) c one h =
     let less : without_place c (x ∷ l) ≡ l = ap (λ z. without_place z (x ∷ l)) (sym is) ∙ dropped-first x l off in
     ap (λ z. mark_in t z ∷ marks_by t l) is ∙ ap (λ ys. mark_in t c ∷ marks_by t ys) (sym less)
 
-pub front-holds : (t : Told) (l : List ℕ) (o : Option Colour) (c : Colour) → IsOneEach (marks_by t l) → o ≡ Some c → option_map (λ x. x.0) o ≡ slice_get l 0 → marks_by t l ≡ mark_in t c.0 ∷ marks_by t (without_place c.0 l)
+pub front-holds : (t : MarkTableState) (l : List ℕ) (o : Option Colour) (c : Colour) → IsOneEach (marks_by t l) → o ≡ Some c → option_map (λ x. x.0) o ≡ slice_get l 0 → marks_by t l ≡ mark_in t c.0 ∷ marks_by t (without_place c.0 l)
 front-holds t l o c one is at = first-gone t l c.0 one (sym at ∙ ap (option_map (λ (x : Colour). x.0)) is)
 
-pub front-none : (t : Told) (l : List ℕ) (o : Option Colour) → o ≡ None → option_map (λ x. x.0) o ≡ slice_get l 0 → marks_by t l ≡ []
+pub front-none : (t : MarkTableState) (l : List ℕ) (o : Option Colour) → o ≡ None → option_map (λ x. x.0) o ≡ slice_get l 0 → marks_by t l ≡ []
 front-none t [] o is at = refl
 front-none t (x ∷ l) o is at = absurd (none-some x (sym (ap (option_map (λ (c : Colour). c.0)) is) ∙ at))

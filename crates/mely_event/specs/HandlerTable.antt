@@ -2,7 +2,7 @@
 use Rattle.std.specs.Prelude.{ℕ, List, ◌/◌, ◌==◌, Option, Some, length, take, position, nat_lt, if◌then◌else◌, slice_index_or}
 use Rattle.std.specs.Option.{option_map}
 use Rattle.mely_event.specs.declared.handlers.Handlers.{Handlers}
-use Rattle.mely_event.specs.TableLimit.{most_handlers}
+use Rattle.mely_event.specs.TableLimit.{handler_limit}
 use Rattle.mely_event.specs.declared.table_fault.TableFault.{TableFault}
 use Rattle.mely_event.specs.declared.table_fault.TableFault.TheVariants.{TooMany, ZeroPenalty}
 
@@ -21,5 +21,5 @@ weight_of rows handler = (row_at rows handler).0 / (row_at rows handler).1
 -- why rows make no table, the first cause first
 abbrev pub fault_in : List (ℕ × ℕ) → Option TableFault
 fault_in rows =
-    if nat_lt most_handlers (length rows) then Some (TooMany (length rows))
+    if nat_lt handler_limit (length rows) then Some (TooMany (length rows))
     else option_map (λ handler. ZeroPenalty handler) (position (λ row. row.1 == 0) rows)

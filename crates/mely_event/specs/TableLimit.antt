@@ -2,5 +2,5 @@
 use Rattle.std.specs.Prelude.{ℕ}
 
 -- the most rows of a table
-abbrev pub most_handlers : ℕ
-most_handlers = 32
+abbrev pub handler_limit : ℕ
+handler_limit = 32

@@ -1,11 +1,11 @@
 //! The table of handlers: what each of them weighs.
 ghost use Rattle.std.specs.Prelude.{◌≡◌, ◌<◌, ◌≤◌, ℕ, length, take, slice_index_or, IfOk, IfErr};
-ghost use Rattle.mely_event.specs.TableLimit.{most_handlers};
+ghost use Rattle.mely_event.specs.TableLimit.{handler_limit};
 
 use crate::table_fault::{TableFault, find_fault};
 
 /// The most rows of a table.
-pub const MOST_HANDLERS: usize = 32;
+pub const MAX_HANDLERS: usize = 32;
 
 /// The processing time and the penalty of each handler, which make up its weight.
 ///
@@ -14,18 +14,18 @@ pub const MOST_HANDLERS: usize = 32;
 /// a worthy colour. Times are declared and not measured, in a unit of the program's own.
 #[derive(Clone, Copy, Debug)]
 pub struct Handlers {
-    rows: [(u32, u32); MOST_HANDLERS],
+    rows: [(u32, u32); MAX_HANDLERS],
     count: usize,
-    pub ghost few: { count ≤ most_handlers },
+    pub ghost few: { count ≤ handler_limit },
     pub ghost divisors: { (h : ℕ) → h < count → 0 < (slice_index_or rows h (0, 1)).1 },
 }
 
 /// The rows in a table of the full size, whose places behind them are never read.
-fn padded(given: &[(u32, u32)]) -> [(u32, u32); MOST_HANDLERS]
-    requires { length given.now ≤ most_handlers }
+fn padded(given: &[(u32, u32)]) -> [(u32, u32); MAX_HANDLERS]
+    requires { length given.now ≤ handler_limit }
     ensures { take (length given.now) result ≡ given.now }
 {
-    let mut rows = [(0, 1); MOST_HANDLERS];
+    let mut rows = [(0, 1); MAX_HANDLERS];
     rows[..given.len()].copy_from_slice(given);
     rows
 }
@@ -38,7 +38,7 @@ impl Handlers {
     ///
     /// # Errors
     ///
-    /// `TooMany` exactly where there are more than [`MOST_HANDLERS`] rows, else `ZeroPenalty` exactly where a row
+    /// `TooMany` exactly where there are more than [`MAX_HANDLERS`] rows, else `ZeroPenalty` exactly where a row
     /// has penalty 0, with the number of the first such row. It takes no memory.
     pub fn new(rows: &[(u32, u32)]) -> Result<Handlers, TableFault>
         ensures made { IfOk result (λ table. (fault_in rows.now ≡ None)
@@ -57,7 +57,7 @@ impl Handlers {
     /// How many handlers there are.
     pub fn len(&self) -> usize
         ensures value { result ≡ length (rows_of self.now) }
-        ensures few { result ≤ most_handlers }
+        ensures few { result ≤ handler_limit }
     {
         self.count
     }

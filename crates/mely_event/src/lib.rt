@@ -40,7 +40,7 @@ mod unregistered;
 pub use colour::Colour;
 pub use event::Event;
 pub use fits::Fits;
-pub use handlers::{Handlers, MOST_HANDLERS};
+pub use handlers::{Handlers, MAX_HANDLERS};
 pub use kept::Kept;
 pub use mark::Mark;
 pub use memory::Memory;

@@ -1,12 +1,9 @@
 -- Locks and their columns of passes, by place.
-use Rattle.std.proofs.Common.{◌≡◌, ℕ, zero, suc, ◌+◌, ◌<◌, ◌≤◌, ⊎_elim, List, [], ◌∷◌, ◌++◌, Some, length, get_or, drop, refl, sym, ◌∙◌, ap, subst, arith}
+use Rattle.std.proofs.Common.{◌≡◌, ℕ, zero, suc, ◌+◌, ◌<◌, List, [], ◌∷◌, ◌++◌, Some, length, get_or, drop, refl, sym, ◌∙◌, ap, subst, arith}
 use Rattle.std.specs.Prelude.{slice_get}
 use Rattle.mely_weave.proofs.Wholes.DealLemmas.{both_push}
 use Rattle.mely_weave.proofs.Wholes.GatherLemmas.{get_there}
 use Rattle.std.proofs.lemmas.Option.{slice_get-get_or}
-use Rattle.std.proofs.Math.ListN.{get_or-append}
-use Rattle.std.proofs.Math.Seq.{get_or-append_seam}
-use Rattle.std.proofs.lemmas.Bool.{cases_lt}
 use Rattle.mely_fleet.specs.Closed.{IsColumn, AreFilled}
 
 -- the first of the rest of a list stands at the place where the rest begins
@@ -53,27 +50,3 @@ module _ {A C : Type 0} (items : C → List A) (len room : C → ℕ) (rows : Li
         let room_is = same k d low_old in
         omega (arith, before, len_is, room_is);
   }
-
--- no rows, and no elements
-none_column : {A : Type 0} (k : ℕ) (column : List A) → column ≡ [] → IsColumn [] k column
-none_column k column none = subst (IsColumn [] k) (sym none) (record { many = refl; each = λ n row x is. cc })
-
-module _ {A C : Type 0} (items : C → List A) (len room : C → ℕ) (left : ℕ) where
-  -- no columns
-  pub filled_none : AreFilled items len room [] left []
-  filled_none = record { are = λ k d low. absurd (omega (arith, low)); room_left = λ k d low. absurd (omega (arith, low)) }
-
-  -- one empty column more
-  pub filled_push : (columns : List C) (column : C) → AreFilled items len room [] left columns → items column ≡ [] → len column + left ≤ room column → AreFilled items len room [] left (columns ++ column ∷ [])
-  filled_push columns column was none roomy = record {
-    are = λ k d low. at (λ c. IsColumn [] k (items c)) k d low (λ before. was.are k d before) (none_column k (items column) none);
-    room_left = λ k d low. at (λ c. len c + left ≤ room c) k d low (λ before. was.room_left k d before) roomy;
-  } where
-    at : (Has : C → Type 0) (k : ℕ) (d : C) → k < length (columns ++ column ∷ []) → (k < length columns → Has (get_or columns k d)) → Has column → Has (get_or (columns ++ column ∷ []) k d)
-    at Has k d low before here = ⊎_elim
-        (λ (less : k < length columns). subst Has (sym (get_or-append columns (column ∷ []) d k less)) (before less))
-        (λ (more : length columns ≤ k).
-        let longer : length (columns ++ column ∷ []) ≡ suc (length columns) = one_longer columns column in
-        let last : k ≡ length columns = omega (arith, low, longer, more) in
-        subst (λ j. Has (get_or (columns ++ column ∷ []) j d)) (sym last) (subst Has (sym (get_or-append_seam columns column [] d)) here))
-        (cases_lt k (length columns))

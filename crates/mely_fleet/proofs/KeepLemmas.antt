@@ -111,7 +111,7 @@ module _ {S P : Type 0} (old new : ShardState S P) where
 
   -- what a steal does
   pub steals_at : (c : Colour) (to : ℕ) (answer : Result Stolen NoSteal) → IfOk answer (λ stolen. Steals old new c to stolen) → OnErr answer (HasSameContents old new) → IfErr answer (λ why. NoStealAs old.setup old.history c to why) → StealsAt old.setup to c answer old.history new.history
-  steals_at c to (Ok stolen) ok err why = (ok.history, ok.allowed, ok.started, ok.left ∙ ap (λ s. worth_of s new.history c) ok.same_setup)
+  steals_at c to (Ok stolen) ok err why = (ok.history, ok.allowed, ok.started, ok.worth ∙ ap (λ s. worth_of s new.history c) ok.same_setup)
   steals_at c to (Err e) ok err why = (err.history, why)
 
 -- a finish of a turn of the pass's core is seen

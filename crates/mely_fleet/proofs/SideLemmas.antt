@@ -32,8 +32,8 @@ use Rattle.mely_fleet.specs.Calls.{RegistersAt, TakesAt, IsGiven, StealsAt, IsSe
 pub names_core : {P : Type 0} (setup : Setup) (n : ℕ) (c : Colour) (event : Event) (load : Option P) (answer : Result Registered (Unregistered P)) (point after : List Entry) → IsLegal setup after → RegistersAt setup n c event load answer point after → MatchResult answer (NamesCore setup) (GivesBack event load)
 names_core setup n c event load (Err back) point after legal does = (does.1, does.2)
 names_core setup n c event load (Ok (Running core)) point after legal does = tt
-names_core setup n c event load (Ok (Woke core started left)) point after legal does = subst (λ k. k < (shape_of setup).cores) (sym does.1.2) (owner_within setup after c legal)
-names_core setup n c event load (Ok (Told core started left)) point after legal does = subst (λ k. k < (shape_of setup).cores) (sym does.1.2) (owner_within setup after c legal)
+names_core setup n c event load (Ok (Woke core started worth)) point after legal does = subst (λ k. k < (shape_of setup).cores) (sym does.1.2) (owner_within setup after c legal)
+names_core setup n c event load (Ok (Told core started worth)) point after legal does = subst (λ k. k < (shape_of setup).cores) (sym does.1.2) (owner_within setup after c legal)
 
 -- a call of the pass n adds no entry, or one that is no finish of the colour
 abbrev pub AddsNoFinish : ℕ → Colour → List Entry → List Entry → Type 0

@@ -13,7 +13,7 @@ use Rattle.mely_history.specs.declared.colour_counts.ColourCounts.{ColourCounts}
 use Rattle.mely_history.specs.Entries.{colour_of}
 use Rattle.mely_history.specs.Legal.{IsAllowed, IsLegal}
 use Rattle.mely_history.specs.Judging.{HasColour, IsColourFault}
-use Rattle.mely_history.specs.Tallies.{Tells, Allows}
+use Rattle.mely_history.specs.ColourCounts.{Tells, Allows}
 use Rattle.mely_history.proofs.LegalLemmas.{slice_get_from_take, split_below, legal_below}
 use Rattle.mely_history.proofs.BatchLemmas.{take-entry}
 use Rattle.mely_history.proofs.ColourCountsLemmas.{tells_other, allows_exactly}
@@ -37,22 +37,22 @@ slice_get-take history n at entry lt is =
     slice_get-get_or (take n history) at entry (grind (arith, common_steps)) ∙ ap (λ y. Some y) (get_or-take n history at entry lt ∙ get_or_from_slice_get history at entry entry is)
 
 -- where the colour does not occur, its numbers are the first ones
-tells_first : (setup : Setup) (entries : List Entry) (c : Colour) (tally : ColourCounts) → ((at : ℕ) (entry : Entry) → slice_get entries at ≡ Some entry → (colour_of entry).0 ≡ c.0 → ⊥) → Tells setup [] c tally → (n : ℕ) → n ≤ length entries → Tells setup (take n entries) c tally
-tells_first setup entries c tally none first zero le = first
-tells_first setup entries c tally none first (suc n) le =
+tells_first : (setup : Setup) (entries : List Entry) (c : Colour) (counts : ColourCounts) → ((at : ℕ) (entry : Entry) → slice_get entries at ≡ Some entry → (colour_of entry).0 ≡ c.0 → ⊥) → Tells setup [] c counts → (n : ℕ) → n ≤ length entries → Tells setup (take n entries) c counts
+tells_first setup entries c counts none first zero le = first
+tells_first setup entries c counts none first (suc n) le =
     let within : n < length entries = omega arith in
-    let before = tells_first setup entries c tally none first n (omega arith) in
+    let before = tells_first setup entries c counts none first n (omega arith) in
     let next : suc n ≡ n + 1 = omega arith in
     ⊎_elim
-    (λ there. subst (λ es. Tells setup es c tally) (sym (ap (λ k. take k entries) next ∙ take-entry entries n there.0 there.2)) (tells_other setup (take n entries) there.0 c tally (none n there.0 there.2) before))
+    (λ there. subst (λ es. Tells setup es c counts) (sym (ap (λ k. take k entries) next ∙ take-entry entries n there.0 there.2)) (tells_other setup (take n entries) there.0 c counts (none n there.0 there.2) before))
     (λ past. let beyond = past.0 in absurd (omega (arith, beyond, within)))
     (slice_get_cases entries n).1
 
 -- before its first entry a colour has the first numbers, and no entry
-pub before_first : (setup : Setup) (history : List Entry) (c : Colour) (tally : ColourCounts) (n : ℕ) → n ≤ length history → ¬ HasColour c (take n history) → Tells setup [] c tally → Tells setup (take n history) c tally × AreAllowed setup history c n
-before_first setup history c tally n le none first =
+pub before_first : (setup : Setup) (history : List Entry) (c : Colour) (counts : ColourCounts) (n : ℕ) → n ≤ length history → ¬ HasColour c (take n history) → Tells setup [] c counts → Tells setup (take n history) c counts × AreAllowed setup history c n
+before_first setup history c counts n le none first =
     let many : length (take n history) ≡ n = length-take-le n history le in (
-      subst (λ es. Tells setup es c tally) (ap (λ k. take k (take n history)) (sym many) ∙ take-length (take n history)) (tells_first setup (take n history) c tally (λ at entry is own. none (at, entry, is, own)) first n (omega (arith, many))),
+      subst (λ es. Tells setup es c counts) (ap (λ k. take k (take n history)) (sym many) ∙ take-length (take n history)) (tells_first setup (take n history) c counts (λ at entry is own. none (at, entry, is, own)) first n (omega (arith, many))),
       λ at entry lt is own. absurd (none (at, entry, slice_get-take history n at entry lt is, own)),
     )
 
@@ -67,23 +67,23 @@ allowed_more setup history c n entry below is may at other lt there own = ⊎_el
     (split_below at n lt)
 
 -- the numbers of an entry's colour
-pub tells_of : (setup : Setup) (entries : List Entry) (c : Colour) (tally : ColourCounts) (entry : Entry) → (colour_of entry).0 ≡ c.0 → Tells setup entries c tally → Tells setup entries (colour_of entry) tally
-tells_of setup entries c tally entry own tells = subst (λ k. Tells setup entries k tally) (sym (same_colour (colour_of entry) c own)) tells
+pub tells_of : (setup : Setup) (entries : List Entry) (c : Colour) (counts : ColourCounts) (entry : Entry) → (colour_of entry).0 ≡ c.0 → Tells setup entries c counts → Tells setup entries (colour_of entry) counts
+tells_of setup entries c counts entry own tells = subst (λ k. Tells setup entries k counts) (sym (same_colour (colour_of entry) c own)) tells
 
 -- the numbers after the entry of the colour at a place
-pub tells_next : (setup : Setup) (history : List Entry) (c : Colour) (tally : ColourCounts) (n : ℕ) (entry : Entry) → slice_get history n ≡ Some entry → (colour_of entry).0 ≡ c.0 → Tells setup (take n history ++ entry ∷ []) (colour_of entry) tally → Tells setup (take (n + 1) history) c tally
-tells_next setup history c tally n entry is own tells = subst (λ es. Tells setup es c tally) (sym (take-entry history n entry is)) (subst (λ k. Tells setup (take n history ++ entry ∷ []) k tally) (same_colour (colour_of entry) c own) tells)
+pub tells_next : (setup : Setup) (history : List Entry) (c : Colour) (counts : ColourCounts) (n : ℕ) (entry : Entry) → slice_get history n ≡ Some entry → (colour_of entry).0 ≡ c.0 → Tells setup (take n history ++ entry ∷ []) (colour_of entry) counts → Tells setup (take (n + 1) history) c counts
+tells_next setup history c counts n entry is own tells = subst (λ es. Tells setup es c counts) (sym (take-entry history n entry is)) (subst (λ k. Tells setup (take n history ++ entry ∷ []) k counts) (same_colour (colour_of entry) c own) tells)
 
 -- and after one of another colour
-pub tells_past : (setup : Setup) (history : List Entry) (c : Colour) (tally : ColourCounts) (n : ℕ) (entry : Entry) → slice_get history n ≡ Some entry → ((colour_of entry).0 ≡ c.0 → ⊥) → Tells setup (take n history) c tally → Tells setup (take (n + 1) history) c tally
-tells_past setup history c tally n entry is other tells = subst (λ es. Tells setup es c tally) (sym (take-entry history n entry is)) (tells_other setup (take n history) entry c tally other tells)
+pub tells_past : (setup : Setup) (history : List Entry) (c : Colour) (counts : ColourCounts) (n : ℕ) (entry : Entry) → slice_get history n ≡ Some entry → ((colour_of entry).0 ≡ c.0 → ⊥) → Tells setup (take n history) c counts → Tells setup (take (n + 1) history) c counts
+tells_past setup history c counts n entry is other tells = subst (λ es. Tells setup es c counts) (sym (take-entry history n entry is)) (tells_other setup (take n history) entry c counts other tells)
 
 -- an entry of the colour that its numbers do not allow is a fault
-pub not_allowed : (setup : Setup) (history : List Entry) (c : Colour) (tally : ColourCounts) (n : ℕ) (entry other : Entry) → slice_get history n ≡ Some entry → (colour_of entry).0 ≡ c.0 → Tells setup (take n history) c tally → (Allows setup tally entry → ⊥) → slice_get history n ≡ Some other → ¬ IsAllowed setup (take n history) other
-not_allowed setup history c tally n entry other is own tells not there may =
+pub not_allowed : (setup : Setup) (history : List Entry) (c : Colour) (counts : ColourCounts) (n : ℕ) (entry other : Entry) → slice_get history n ≡ Some entry → (colour_of entry).0 ≡ c.0 → Tells setup (take n history) c counts → (Allows setup counts entry → ⊥) → slice_get history n ≡ Some other → ¬ IsAllowed setup (take n history) other
+not_allowed setup history c counts n entry other is own tells not there may =
     let one : Some entry ≡ Some other = sym is ∙ there in
     let which : entry ≡ other = cc in
-    not ((allows_exactly setup (take n history) entry tally (tells_of setup (take n history) c tally entry own tells)).1 (subst (λ e. IsAllowed setup (take n history) e) (sym which) may))
+    not ((allows_exactly setup (take n history) entry counts (tells_of setup (take n history) c counts entry own tells)).1 (subst (λ e. IsAllowed setup (take n history) e) (sym which) may))
 
 -- what a judge knows of the colours that occur before a place: their entries below the limit are allowed, and the entry at the limit is not, if there is one
 pub record IsJudged (setup : Setup) (history : List Entry) (n limit : ℕ) : Type 0 where

@@ -11,7 +11,7 @@ use Rattle.mely_history.specs.declared.setup.Setup.{Setup}
 use Rattle.mely_history.specs.declared.entry.Entry.{Entry}
 use Rattle.mely_history.specs.Entries.{registration_on}
 use Rattle.mely_history.specs.History.{registered_of, weight}
-use Rattle.mely_history.specs.Tallies.{PassesOver}
+use Rattle.mely_history.specs.ColourCounts.{PassesOver}
 
 -- what an entry registers is added
 pub registered-more : (entries : List Entry) (i : ℕ) (c : Colour) (d : Entry) (found : Option Event) → i < length entries → registration_on c (get_or entries i d) ≡ found → registered_of (take (i + 1) entries) c ≡ registered_of (take i entries) c ++ cons_option found []

@@ -3,7 +3,7 @@ pub mod Entries
 pub mod History
 pub mod Legal
 pub mod Judging
-pub mod Tallies
+pub mod ColourCounts
 pub mod ColourAccount
 pub mod Owing
 pub mod LeftOver

@@ -2,7 +2,7 @@
 ghost use Rattle.std.specs.Prelude.{◌≡◌, ◌<◌, ◌≤◌, ◌↔◌, ◌+◌, ◌++◌, ◌∷◌, [], IsTrue, length, take};
 ghost use Rattle.mely_history.specs.Entries.{colour_of, registration_on};
 ghost use Rattle.mely_history.specs.History.{registered_of, weight};
-ghost use Rattle.mely_history.specs.Tallies.{Tells, Allows, PassesOver};
+ghost use Rattle.mely_history.specs.ColourCounts.{Tells, Allows, PassesOver};
 
 use crate::entry::Entry;
 use crate::setup::Setup;

@@ -29,14 +29,14 @@ fn first_fault(setup: &Setup, history: &[Entry], from: usize, until: usize, colo
     requires none { ¬ HasColour colour (take from history.now) }
     ensures { IsColourFault setup.now history.now colour until result }
 {
-    let mut tally = ColourCounts::new(setup, colour);
+    let mut counts = ColourCounts::new(setup, colour);
     for at in from..until {
         let entry = history[at];
         if entry.colour().0 == colour.0 {
-            if !tally.allows(setup, &entry) {
+            if !counts.allows(setup, &entry) {
                 return at;
             }
-            tally.add(setup, &history[..at], &entry);
+            counts.add(setup, &history[..at], &entry);
         }
     }
     until

@@ -12,7 +12,7 @@ use Rattle.mely_lock.specs.declared.seat_knowledge.SeatKnowledge.{SeatKnowledge}
 use Rattle.mely_lock.specs.Seen.{OthersSince, GrewByAtMostOne, GrewIf}
 use Rattle.mely_lock.specs.Views.{claim, view, nobody, first_claims, shares_of, HasClaim, head_number, head_front, head_frame}
 use Rattle.mely_lock.specs.Rule.{inside_word, notes_word, Locked}
-use Rattle.mely_lock.specs.Steps.{Seat, having_seen, kept_of, dealt_of, join_knowledge, seat_outside, seat_inside, Tried, Noted, Left, Meets, Enters, Leaves}
+use Rattle.mely_lock.specs.Steps.{Seat, claim_with_front, kept_of, dealt_of, join_knowledge, seat_outside, seat_inside, Tried, Noted, Left, Meets, Enters, Leaves}
 use Rattle.mely_lock.proofs.KeepsLemmas.{head_claim, tries, notes, leaves, splits, joins, sits}
 
 module _ {N F : Type 0} where
@@ -96,16 +96,16 @@ module _ {W N F : Type 0} (history_of : W → List N) (pass_of : N → ℕ) (fra
       let got : (d : Claim N F) (e : m ≡ seat_outside d) → taken ≡ Some (tried.1 zero d e).0 = λ d e. let t = tried.1 zero d e in same_slot m'.1 (Some t.0) taken (ap (λ (u : Seat W N F). u.1) t.1) read in
       let x : W = (tried.1 zero c is).0 in
       let all : Enters history_of pass_of frame_of m x m'' = λ d e. let t = tried.1 zero d e in let same : t.0 ≡ x = same_some t.0 x (sym (got d e) ∙ got c is) in
-      let Q : W → Type 0 = λ z. (m'' ≡ seat_inside (having_seen d (history_of z)) None) × Meets history_of pass_of frame_of d z in
-      subst Q same (put_in m' m'' (having_seen d (history_of t.0)) (Some t.0) None t.1 written, t.2) in
+      let Q : W → Type 0 = λ z. (m'' ≡ seat_inside (claim_with_front d (history_of z)) None) × Meets history_of pass_of frame_of d z in
+      subst Q same (put_in m' m'' (claim_with_front d (history_of t.0)) (Some t.0) None t.1 written, t.2) in
       subst P (sym (got c is)) (tt, all)
 
   -- where the history did not grow, the pass has seen it as it is
-  pub as_seen : (c : Claim N F) (x : W) → history_of x ≡ c.front → ◌≡◌ {A = Seat W N F} (seat_inside c (Some x)) (seat_inside (having_seen c (history_of x)) (Some x))
-  as_seen c x e = λ i. seat_inside (having_seen c (sym e i)) (Some x)
+  pub as_seen : (c : Claim N F) (x : W) → history_of x ≡ c.front → ◌≡◌ {A = Seat W N F} (seat_inside c (Some x)) (seat_inside (claim_with_front c (history_of x)) (Some x))
+  as_seen c x e = λ i. seat_inside (claim_with_front c (sym e i)) (Some x)
 
-  pub went_out : (m m' m'' : Seat W N F) (c : Claim N F) (x : W) → m ≡ seat_inside c None → m' ≡ seat_inside (having_seen c (history_of x)) (Some x) → Left m' m'' → Leaves history_of m x m''
-  went_out m m' m'' c x is now go = λ d e. let same : c ≡ d = ap (λ (u : Seat W N F). head_claim c u.0.claims) (sym is ∙ e) in subst (λ (k : Claim N F). m'' ≡ seat_outside (having_seen k (history_of x))) same (go (having_seen c (history_of x)) x now)
+  pub went_out : (m m' m'' : Seat W N F) (c : Claim N F) (x : W) → m ≡ seat_inside c None → m' ≡ seat_inside (claim_with_front c (history_of x)) (Some x) → Left m' m'' → Leaves history_of m x m''
+  went_out m m' m'' c x is now go = λ d e. let same : c ≡ d = ap (λ (u : Seat W N F). head_claim c u.0.claims) (sym is ∙ e) in subst (λ (k : Claim N F). m'' ≡ seat_outside (claim_with_front k (history_of x))) same (go (claim_with_front c (history_of x)) x now)
 
   -- what a pass is once it came in and found x
   pub record CameIn (m : Seat W N F) (n : ℕ) (f : F) (x : W) (m' : Seat W N F) : Type 0 where

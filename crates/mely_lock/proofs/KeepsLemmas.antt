@@ -16,7 +16,7 @@ use Rattle.mely_lock.specs.declared.seat_knowledge.SeatKnowledge.{SeatKnowledge}
 use Rattle.mely_lock.specs.Seen.{notes_of, OthersSince}
 use Rattle.mely_lock.specs.Views.{view, outside, within, nobody, first_claims, first_view, shares_of}
 use Rattle.mely_lock.specs.Rule.{inside_word, notes_word, lock_words, EachAt, EachClaim, IsOpen, IsShut, IsHome, EachOnce, Locked}
-use Rattle.mely_lock.specs.Steps.{Seat, having_seen, seat_outside, seat_inside, Tried, Noted, Left, Closes, join_knowledge}
+use Rattle.mely_lock.specs.Steps.{Seat, claim_with_front, seat_outside, seat_inside, Tried, Noted, Left, Closes, join_knowledge}
 use Rattle.mely_lock.proofs.ListsLemmas.{set_there, only_one, Each-append, each_set, each_push, sum-set, sum_same, sum_one, sum_two, sum_but_one}
 use Rattle.mely_lock.proofs.ClaimsLemmas.{shares_of-append, share_of_same, share_of_other, length-first_claims, shares_of-first_claims}
 use Rattle.mely_lock.proofs.SeenLemmas.{none_more, since_itself, since_more}
@@ -83,8 +83,8 @@ module _ {W N F : Type 0} (history_of : W → List N) (pass_of : N → ℕ) (fra
   -- the fourth part, once the only claim of a seat has seen more, whether that seat comes in or goes out
   each_once : (id : ℕ) (c : Claim N F) (was now : Bool) (history history' front : List N) (views : List (SeatKnowledge N F)) → get_elem? views id ≡ some (view (c ∷ []) was) → EachOnce pass_of passes history views
       → OthersSince pass_of c.number front history' → ((k : ℕ) (v : SeatKnowledge N F) → k ≢ id → get_elem? views k ≡ some v → AllByRecursion (λ d. OthersSince pass_of d.number d.front history') v.claims)
-      → ((n : ℕ) → passes ≤ n → notes_of pass_of n history' ≡ []) → EachOnce pass_of passes history' (set views id (view (having_seen c front ∷ []) now))
-  each_once id c was now history history' front views at numbers mine others strangers = let v : SeatKnowledge N F = view (c ∷ []) was in let w : SeatKnowledge N F = view (having_seen c front ∷ []) now in record {
+      → ((n : ℕ) → passes ≤ n → notes_of pass_of n history' ≡ []) → EachOnce pass_of passes history' (set views id (view (claim_with_front c front ∷ []) now))
+  each_once id c was now history history' front views at numbers mine others strangers = let v : SeatKnowledge N F = view (c ∷ []) was in let w : SeatKnowledge N F = view (claim_with_front c front ∷ []) now in record {
     once = λ n l. sum_same (λ (u : SeatKnowledge N F). shares_of n u.claims) views id v w at refl ∙ numbers.once n l;
     never = λ n l. sum_same (λ (u : SeatKnowledge N F). shares_of n u.claims) views id v w at refl ∙ numbers.never n l;
     together = sum_same (λ (u : SeatKnowledge N F). length u.claims) views id v w at refl ∙ numbers.together;
@@ -94,23 +94,23 @@ module _ {W N F : Type 0} (history_of : W → List N) (pass_of : N → ℕ) (fra
 
   -- the frames that the seats were told stay
   frames_stay : (id : ℕ) (c : Claim N F) (was now : Bool) (front : List N) (views : List (SeatKnowledge N F)) → get_elem? views id ≡ some (view (c ∷ []) was) → EachClaim (λ d. d.frame ≡ frame) views
-      → EachClaim (λ d. d.frame ≡ frame) (set views id (view (having_seen c front ∷ []) now))
-  frames_stay id c was now front views at told = each_set (λ _ u. AllByRecursion (λ (d : Claim N F). d.frame ≡ frame) u.claims) views id (view (having_seen c front ∷ []) now) ((told id (view (c ∷ []) was) at).0, tt) (λ k v _. told k v)
+      → EachClaim (λ d. d.frame ≡ frame) (set views id (view (claim_with_front c front ∷ []) now))
+  frames_stay id c was now front views at told = each_set (λ _ u. AllByRecursion (λ (d : Claim N F). d.frame ≡ frame) u.claims) views id (view (claim_with_front c front ∷ []) now) ((told id (view (c ∷ []) was) at).0, tt) (λ k v _. told k v)
 
   no_home : (homes : Homes W) (x y : W) → homes ≡ some (Some x) ∷ [] → set homes 0 none ≡ some (Some y) ∷ [] → ⊥
   no_home homes x y e q = some-ne-none (Some y) (sym (ap (λ (l : Homes W). get_or l 0 none) (ap (λ (l : Homes W). set l 0 none) (sym e) ∙ q)))
 
   -- a try that finds nobody inside
   comes_in : (id : ℕ) (c : Claim N F) (s : Lock) (r : Rule s) (o : IsOpen s) (x : W) → IsHome x s → get_elem? s.views id ≡ some (outside c)
-      → Rule (stepped s inside_word (c.number + 1) id [] (within (having_seen c (history_of x))) (takes 0 (Some x)))
-  comes_in id c s r o x home at = let w : SeatKnowledge N F = within (having_seen c (history_of x)) in let whole : history_of x ≡ r.history = r.tells.home o x home in let wide = r.words in
+      → Rule (stepped s inside_word (c.number + 1) id [] (within (claim_with_front c (history_of x))) (takes 0 (Some x)))
+  comes_in id c s r o x home at = let w : SeatKnowledge N F = within (claim_with_front c (history_of x)) in let whole : history_of x ≡ r.history = r.tells.home o x home in let wide = r.words in
       let taken : get_or (set s.words inside_word (c.number + 1)) inside_word 0 ≡ c.number + 1 = get_or-set_same s.words inside_word (c.number + 1) 0 (omega arith) in
       let not_open : IsOpen (stepped s inside_word (c.number + 1) id [] w (takes 0 (Some x))) → ⊥ = λ o'. let free = o'.free in absurd (omega arith) in record {
         history = r.history;
         words = length-set s.words inside_word (c.number + 1) ∙ wide;
         door = inr record {
           seat = id;
-          holder = having_seen c (history_of x);
+          holder = claim_with_front c (history_of x);
           taken = taken;
           there = set_there s.views id (outside c) w at;
           alone = each_set (λ k v. v.inside ≡ true → k ≡ id) s.views id w (λ _. refl) (λ k v _ there on. absurd (not_both v.inside (o.all_outside k v there) on));
@@ -134,15 +134,15 @@ module _ {W N F : Type 0} (history_of : W → List N) (pass_of : N → ℕ) (fra
   tries id c s r deep at fits = let n : ℕ = get_or s.words inside_word 0 in ⊎_elim
       (λ (o : IsOpen s). let home = r.away o in let x : W = home.0 in let whole : history_of x ≡ r.history = r.tells.home o x home.1 in
       let now : either (eqb n 0) (c.number + 1) n ≡ c.number + 1 = ap (λ (z : ℕ). either (eqb z 0) (c.number + 1) z) o.free in (
-        within (having_seen c (history_of x)),
+        within (claim_with_front c (history_of x)),
         takes 0 (Some x),
         ap (λ hs. get_elem? hs 0) home.1,
-        subst (λ (z : ℕ). Rule (stepped s inside_word z id [] (within (having_seen c (history_of x))) (takes 0 (Some x)))) (sym now) (comes_in id c s r o x home.1 at),
+        subst (λ (z : ℕ). Rule (stepped s inside_word z id [] (within (claim_with_front c (history_of x))) (takes 0 (Some x)))) (sym now) (comes_in id c s r o x home.1 at),
         (
           (λ ne. absurd (ne o.free)),
           λ _ d e. let same : c ≡ d = same_waiting {W = W} c d e in (
             x,
-            ap (λ (k : Claim N F). seat_inside (having_seen k (history_of x)) (Some x)) same,
+            ap (λ (k : Claim N F). seat_inside (claim_with_front k (history_of x)) (Some x)) same,
             let P : Claim N F → Type 0 = λ k. OthersSince pass_of k.number k.front (history_of x) × (frame_of x ≡ k.frame) in
                 subst P same (subst (λ (l : List N). OthersSince pass_of c.number c.front l) (sym whole) (r.numbers.fronts id (outside c) at).0, r.frames.home x home.1 ∙ sym (r.frames.told id (outside c) at).0),
           ),
@@ -160,7 +160,7 @@ module _ {W N F : Type 0} (history_of : W → List N) (pass_of : N → ℕ) (fra
 
   pub notes : (id : ℕ) (c : Claim N F) (x : W) (note : N) → history_of x ≡ c.front ++ note ∷ [] → pass_of note ≡ c.number → length (history_of x) < 2 ^ 64
       → Allows Rule 1 id (seat_inside c (Some x)) notes_word (λ n. (n + 1) % 2 ^ 64) (λ _. Noted history_of (seat_inside c (Some x)))
-  notes id c x note grew own fits s r deep at _ = let w : SeatKnowledge N F = within (having_seen c (history_of x)) in let h = shut_by id c s r at in let once = held_once id c true s r at in let wide = r.words in let n : ℕ = get_or s.words notes_word 0 in
+  notes id c x note grew own fits s r deep at _ = let w : SeatKnowledge N F = within (claim_with_front c (history_of x)) in let h = shut_by id c s r at in let once = held_once id c true s r at in let wide = r.words in let n : ℕ = get_or s.words notes_word 0 in
       let old : c.front ≡ r.history = (r.tells.inside id (within c) at refl).0 in
       let now : history_of x ≡ r.history ++ note ∷ [] = grew ∙ ap (λ (l : List N). l ++ note ∷ []) old in
       let more : length (history_of x) ≡ length r.history + 1 = ap length now ∙ length-append r.history (note ∷ []) in let long = r.tells.counted in
@@ -175,7 +175,7 @@ module _ {W N F : Type 0} (history_of : W → List N) (pass_of : N → ℕ) (fra
           words = length-set s.words notes_word ((n + 1) % 2 ^ 64) ∙ wide;
           door = inr record {
             seat = id;
-            holder = having_seen c (history_of x);
+            holder = claim_with_front c (history_of x);
             taken = taken;
             there = set_there s.views id (within c) w at;
             alone = each_set (λ k v. v.inside ≡ true → k ≡ id) s.views id w (λ _. refl) (λ k v _ there on. h.0.alone k v there on ∙ sym h.2);
@@ -191,7 +191,7 @@ module _ {W N F : Type 0} (history_of : W → List N) (pass_of : N → ℕ) (fra
               (λ q above. ap (notes_of pass_of q) now ∙ none_more pass_of q r.history note (λ e. let below = once.0 in omega arith) (r.numbers.strangers q above));
           frames = record { told = frames_stay id c true true (history_of x) s.views at r.frames.told; home = r.frames.home };
         },
-        λ d y same. let both = same_holding c d x y same in let P : Claim N F → W → Seat W N F = λ k z. seat_inside (having_seen k (history_of z)) (Some z) in λ i. P (both.0 i) (both.1 i),
+        λ d y same. let both = same_holding c d x y same in let P : Claim N F → W → Seat W N F = λ k z. seat_inside (claim_with_front k (history_of z)) (Some z) in λ i. P (both.0 i) (both.1 i),
       )
 
   same_home : (homes : Homes W) (x y : W) → length homes ≡ 1 → set homes 0 (some (Some x)) ≡ some (Some y) ∷ [] → x ≡ y

@@ -8,7 +8,7 @@ use Rattle.atomic_table.specs.Table.{State}
 use Rattle.mely_lock.specs.declared.claim.Claim.{Claim}
 use Rattle.mely_lock.specs.declared.seat_knowledge.SeatKnowledge.{SeatKnowledge}
 use Rattle.mely_lock.specs.Seen.{notes_of, OthersSince}
-use Rattle.mely_lock.specs.Views.{within, times_held, claims_held}
+use Rattle.mely_lock.specs.Views.{within, share_count, claim_count}
 
 -- the place of the word that says who is inside, that of the word with the length of the history, and how many words there are
 abbrev pub inside_word : ℕ
@@ -68,9 +68,9 @@ module _ {W N F : Type 0} where
 
 -- the fourth part: each number below that of the passes is in one claim of one seat, and its notes are those in the front of that claim, with which the history begins; other numbers have neither claims nor notes
 pub record EachOnce {N F : Type 0} (pass_of : N → ℕ) (passes : ℕ) (history : List N) (views : List (SeatKnowledge N F)) : Type 0 where
-  pub once : (n : ℕ) → n < passes → times_held n views ≡ 1
-  pub never : (n : ℕ) → passes ≤ n → times_held n views ≡ 0
-  pub together : claims_held views ≡ passes
+  pub once : (n : ℕ) → n < passes → share_count n views ≡ 1
+  pub never : (n : ℕ) → passes ≤ n → share_count n views ≡ 0
+  pub together : claim_count views ≡ passes
   pub fronts : EachClaim (λ c. OthersSince pass_of c.number c.front history) views
   pub strangers : (n : ℕ) → passes ≤ n → notes_of pass_of n history ≡ []
 

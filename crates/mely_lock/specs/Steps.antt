@@ -9,8 +9,8 @@ use Rattle.mely_lock.specs.Views.{view, outside, within, shares_of}
 
 module _ {N F : Type 0} where
   -- the claim, once its pass has seen so much
-  abbrev pub having_seen : Claim N F → List N → Claim N F
-  having_seen c history = record c { front = history }
+  abbrev pub claim_with_front : Claim N F → List N → Claim N F
+  claim_with_front c history = record c { front = history }
 
   -- dealing out a pass: the seat keeps its claims but the first, which a new seat has
   abbrev pub kept_of : SeatKnowledge N F → SeatKnowledge N F
@@ -45,7 +45,7 @@ module _ {W N F : Type 0} where
   -- after a note: the pass has seen the history of the value in its hand
   abbrev pub Noted : (W → List N) → Seat W N F → Seat W N F → Type 0
   Noted history_of m m' = (c : Claim N F) (x : W) → m ≡ seat_inside c (Some x)
-      → m' ≡ seat_inside (having_seen c (history_of x)) (Some x)
+      → m' ≡ seat_inside (claim_with_front c (history_of x)) (Some x)
 
   -- after leaving: the pass is outside
   abbrev pub Left : Seat W N F → Seat W N F → Type 0
@@ -54,7 +54,7 @@ module _ {W N F : Type 0} where
   -- the value x was put back, a note made if it had grown, and the pass left
   abbrev pub Leaves : (W → List N) → Seat W N F → W → Seat W N F → Type 0
   Leaves history_of m x m' = (c : Claim N F) → m ≡ seat_inside c None
-      → m' ≡ seat_outside (having_seen c (history_of x))
+      → m' ≡ seat_outside (claim_with_front c (history_of x))
 
 module _ {W N F : Type 0} (history_of : W → List N) (pass_of : N → ℕ) (frame_of : W → F) where
   -- the value is one that the pass may find: its history goes on from what the pass had seen, and its frame is the old one
@@ -65,12 +65,12 @@ module _ {W N F : Type 0} (history_of : W → List N) (pass_of : N → ℕ) (fra
   abbrev pub Tried : Seat W N F → ℕ → Seat W N F → Type 0
   Tried m found m' = (found ≢ 0 → m' ≡ m)
       × (found ≡ 0 → (c : Claim N F) → m ≡ seat_outside c → (x : W)
-      × (m' ≡ seat_inside (having_seen c (history_of x)) (Some x)) × Meets c x)
+      × (m' ≡ seat_inside (claim_with_front c (history_of x)) (Some x)) × Meets c x)
 
   -- the pass came in, and took the value x out of the slot
   abbrev pub Enters : Seat W N F → W → Seat W N F → Type 0
   Enters m x m' = (c : Claim N F) → m ≡ seat_outside c
-      → (m' ≡ seat_inside (having_seen c (history_of x)) None) × Meets c x
+      → (m' ≡ seat_inside (claim_with_front c (history_of x)) None) × Meets c x
 
   -- the lock was closed with a seat of these claims, which are those of all passes: the value x goes on from each
   pub record Closes (frame : F) (passes : ℕ) (claims : List (Claim N F)) (x : W) : Type 0 where

@@ -37,12 +37,12 @@ module _ {N F : Type 0} where
   shares_of n claims = count_by (λ c. c.number == n) claims
 
   -- how often the seats have the number n, together
-  abbrev pub times_held : ℕ → List (SeatKnowledge N F) → ℕ
-  times_held n views = sum_by (λ v. shares_of n v.claims) views
+  abbrev pub share_count : ℕ → List (SeatKnowledge N F) → ℕ
+  share_count n views = sum_by (λ v. shares_of n v.claims) views
 
   -- how many claims the seats have, together
-  abbrev pub claims_held : List (SeatKnowledge N F) → ℕ
-  claims_held views = sum_by (λ v. length v.claims) views
+  abbrev pub claim_count : List (SeatKnowledge N F) → ℕ
+  claim_count views = sum_by (λ v. length v.claims) views
 
   -- one of these claims is of this number, and has this front
   abbrev pub HasClaim : List (Claim N F) → ℕ → List N → Type 0

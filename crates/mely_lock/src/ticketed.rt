@@ -68,9 +68,7 @@ impl<V: Kept + Drop> Ticketed<V> {
             Ok(made) => made,
             Err(_) => return Err(Memory),
         };
-        let Ok(apart) = Vec::with_capacity(alloc, SPARE) else {
-            return Err(Memory);
-        };
+        let apart = Vec::with_capacity(alloc, SPARE)?;
         let dealt = deal(alloc, &room, &mut rest, passes)?;
         let sleepers = AtomicU32::new(0);
         Ok((

@@ -164,9 +164,7 @@ impl<P> ColourQueue<P> {
         ensures err { OnErr result (self.new ≡ self.old) }
     {
         let count = self.count_in(batch);
-        let Ok(mut first) = Vec::with_capacity(self.alloc, count) else {
-            return Err(Memory);
-        };
+        let mut first = Vec::with_capacity(self.alloc, count)?;
         self.start(&mut first, count);
         Ok(first)
     }

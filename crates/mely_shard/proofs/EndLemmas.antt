@@ -16,10 +16,10 @@ use Rattle.mely_history.specs.History.{queued_of, IsRunning}
 use Rattle.mely_history.specs.Legal.{IsDrainedOf}
 use Rattle.mely_shard.specs.declared.colour_slot.ColourSlot.{ColourSlot}
 use Rattle.mely_shard.specs.Shard.{colour_at}
-use Rattle.mely_shard.specs.Invariant.{IsKeptShard, CellStands, StateStands, AreAtHome}
-use Rattle.mely_shard.specs.Replies.{cell_is_drained}
+use Rattle.mely_shard.specs.Invariant.{IsKeptShard, SlotStands, StateStands, AreAtHome}
+use Rattle.mely_shard.specs.Replies.{slot_is_drained}
 use Rattle.mely_shard.proofs.SlotLemmas.{shard_of_colour_at}
-use Rattle.mely_shard.proofs.RegisterLemmas.{cell_there}
+use Rattle.mely_shard.proofs.RegisterLemmas.{slot_there}
 
 -- what holds at each place holds of each item
 pub all_from_places : {X : Type 0} (P : X → Type 0) (xs : List X) → ((i : ℕ) (x : X) → slice_get xs i ≡ Some x → P x) → AllByRecursion P xs
@@ -46,10 +46,10 @@ pub map_twice : {X Y Z : Type 0} (f : Y → Z) (h : X → Y) (xs : List X) → m
 map_twice f h [] = refl
 map_twice f h (x ∷ xs) = ap (λ zs. f (h x) ∷ zs) (map_twice f h xs)
 
-module _ {S P F : Type 0} {t : TrailWords S F} {fits : F → Colour → Event → Option P → Type 0} {setup : Setup} {shard : ℕ} {history : List Entry} {cells : List (ColourSlot S P)} {running capacity : ℕ} (kept : IsKeptShard t fits setup shard history cells running capacity) where
-  -- the colour of a place is one of the shard, and its cell stands
-  stands_at : (i : ℕ) (cell : ColourSlot S P) → slice_get cells i ≡ Some cell → CellStands t fits setup (colour_at setup shard i) (account_of setup history (colour_at setup shard i)) cell
-  stands_at i cell is = subst (λ b. CellStands t fits setup (colour_at setup shard i) (account_of setup history (colour_at setup shard i)) b) (get_or_from_slice_get cells i cell cell is) (kept.each i cell (slice_get_within cells i cell is))
+module _ {S P F : Type 0} {t : TrailWords S F} {fits : F → Colour → Event → Option P → Type 0} {setup : Setup} {shard : ℕ} {history : List Entry} {slots : List (ColourSlot S P)} {running capacity : ℕ} (kept : IsKeptShard t fits setup shard history slots running capacity) where
+  -- the colour of a place is one of the shard, and its slot stands
+  stands_at : (i : ℕ) (slot : ColourSlot S P) → slice_get slots i ≡ Some slot → SlotStands t fits setup (colour_at setup shard i) (account_of setup history (colour_at setup shard i)) slot
+  stands_at i slot is = subst (λ b. SlotStands t fits setup (colour_at setup shard i) (account_of setup history (colour_at setup shard i)) b) (get_or_from_slice_get slots i slot slot is) (kept.each i slot (slice_get_within slots i slot is))
 
   home_some : (c : Colour) (given : S) (core count : ℕ) (home : Option S) → StateStands t c given (account_of setup history c) core count home → ¬ IsRunning history c → IsSome home
   home_some c given core count None stands rest =
@@ -60,12 +60,12 @@ module _ {S P F : Type 0} {t : TrailWords S F} {fits : F → Colour → Event �
   home_some c given core count (Some state) stands rest = refl
 
   -- where no colour runs, each state is at home
-  pub all_at_home : ((c : Colour) → c.0 < colours_of setup → c.0 % (shape_of setup).shards ≡ shard → ¬ IsRunning history c) → AreAtHome cells
-  all_at_home rest = all_from_places (λ cell. IsSome cell.home) cells (λ i cell is.
-      let stands = stands_at i cell is in
-      home_some (colour_at setup shard i) cell.given.value cell.core cell.count cell.home stands.state (rest (colour_at setup shard i) (kept.only i (slice_get_within cells i cell is)) (shard_of_colour_at setup shard i kept.numbered)))
+  pub all_at_home : ((c : Colour) → c.0 < colours_of setup → c.0 % (shape_of setup).shards ≡ shard → ¬ IsRunning history c) → AreAtHome slots
+  all_at_home rest = all_from_places (λ slot. IsSome slot.home) slots (λ i slot is.
+      let stands = stands_at i slot is in
+      home_some (colour_at setup shard i) slot.given.value slot.core slot.count slot.home stands.state (rest (colour_at setup shard i) (kept.only i (slice_get_within slots i slot is)) (shard_of_colour_at setup shard i kept.numbered)))
 
-  -- a cell is drained exactly where its colour is
+  -- a slot is drained exactly where its colour is
   drained_here : (c : Colour) (given : S) (core count many : ℕ) (home : Option S) → many ≡ length (queued_of history c) → StateStands t c given (account_of setup history c) core count home → (is_some home && (many == 0)) ≡ true → IsDrainedOf history c
   drained_here c given core count many None many_is stands is = cc
   drained_here c given core count many (Some state) many_is stands is = record { at_rest = stands.0; none_queued = nil_from_length (queued_of history c) (sym many_is ∙ eqb-true many 0 is) }
@@ -74,22 +74,22 @@ module _ {S P F : Type 0} {t : TrailWords S F} {fits : F → Colour → Event �
   drained_there c given core count many None many_is stands drained = let some = stands.2 in let away = stands.1 in let rest = drained.at_rest in absurd (omega (arith, some, away, rest))
   drained_there c given core count many (Some state) many_is stands drained = eq-eqb many 0 (many_is ∙ ap length drained.none_queued)
 
-  waiting_in : (c : Colour) (cell : ColourSlot S P) → CellStands t fits setup c (account_of setup history c) cell → length cell.queue.events ≡ length (queued_of history c)
-  waiting_in c cell stands = sym (length-map cell.queue.events (λ e. e.0)) ∙ ap length stands.events
+  waiting_in : (c : Colour) (slot : ColourSlot S P) → SlotStands t fits setup c (account_of setup history c) slot → length slot.queue.events ≡ length (queued_of history c)
+  waiting_in c slot stands = sym (length-map slot.queue.events (λ e. e.0)) ∙ ap length stands.events
 
-  -- all cells are drained exactly where each colour of the shard is
-  pub drained_exactly : (IsTrue (list_all cell_is_drained cells) → (c : Colour) → c.0 < colours_of setup → c.0 % (shape_of setup).shards ≡ shard → IsDrainedOf history c) × (((c : Colour) → c.0 < colours_of setup → c.0 % (shape_of setup).shards ≡ shard → IsDrainedOf history c) → IsTrue (list_all cell_is_drained cells))
+  -- all slots are drained exactly where each colour of the shard is
+  pub drained_exactly : (IsTrue (list_all slot_is_drained slots) → (c : Colour) → c.0 < colours_of setup → c.0 % (shape_of setup).shards ≡ shard → IsDrainedOf history c) × (((c : Colour) → c.0 < colours_of setup → c.0 % (shape_of setup).shards ≡ shard → IsDrainedOf history c) → IsTrue (list_all slot_is_drained slots))
   drained_exactly = (
     (λ all c there here.
-        let place : c.0 / (shape_of setup).shards < length cells = kept.whole c.0 there here in
+        let place : c.0 / (shape_of setup).shards < length slots = kept.whole c.0 there here in
         ⊎_elim
         (λ found.
-        let stands = cell_there kept c found.0 there here (sym found.3) in
-        drained_here c found.0.given.value found.0.core found.0.count (length found.0.queue.events) found.0.home (waiting_in c found.0 stands) stands.state (passes_at cell_is_drained cells all (c.0 / (shape_of setup).shards) found.0 found.2))
+        let stands = slot_there kept c found.0 there here (sym found.3) in
+        drained_here c found.0.given.value found.0.core found.0.count (length found.0.queue.events) found.0.home (waiting_in c found.0 stands) stands.state (passes_at slot_is_drained slots all (c.0 / (shape_of setup).shards) found.0 found.2))
         (λ past. let beyond = past.0 in absurd (omega (arith, beyond, place)))
-        (slice_get_cases cells (c.0 / (shape_of setup).shards)).1),
-    (λ drained. (all_pass cell_is_drained cells (λ i cell is.
-        let stands = stands_at i cell is in
-        drained_there (colour_at setup shard i) cell.given.value cell.core cell.count (length cell.queue.events) cell.home (waiting_in (colour_at setup shard i) cell stands) stands.state
-        (drained (colour_at setup shard i) (kept.only i (slice_get_within cells i cell is)) (shard_of_colour_at setup shard i kept.numbered))))),
+        (slice_get_cases slots (c.0 / (shape_of setup).shards)).1),
+    (λ drained. (all_pass slot_is_drained slots (λ i slot is.
+        let stands = stands_at i slot is in
+        drained_there (colour_at setup shard i) slot.given.value slot.core slot.count (length slot.queue.events) slot.home (waiting_in (colour_at setup shard i) slot stands) stands.state
+        (drained (colour_at setup shard i) (kept.only i (slice_get_within slots i slot is)) (shard_of_colour_at setup shard i kept.numbered))))),
   )

@@ -30,13 +30,13 @@ use Rattle.mely_queue.specs.ColourQueue.{after_take, registered_in}
 use Rattle.mely_shard.specs.declared.colour_slot.ColourSlot.{ColourSlot}
 use Rattle.mely_shard.specs.Shard.{ColourState, NoTakeAs, IsLaneAlike, IsRoomier, AreAlike}
 use Rattle.mely_history.specs.ColourAccount.{ColourAccount, account_of, next_account}
-use Rattle.mely_shard.specs.Invariant.{IsKeptShard, CellStands, StateStands, is_away, lane_of}
+use Rattle.mely_shard.specs.Invariant.{IsKeptShard, SlotStands, StateStands, is_away, lane_of}
 use Rattle.mely_shard.specs.Shard.{colour_at}
-use Rattle.mely_shard.specs.declared.room.TheConstants.{MOST_ENTRIES}
-use Rattle.mely_shard.specs.Replies.{no_take_of, CellKeepsState}
+use Rattle.mely_shard.specs.declared.room.TheConstants.{MAX_ENTRIES}
+use Rattle.mely_shard.specs.Replies.{no_take_of, SlotKeepsState}
 use Rattle.mely_history.proofs.ColourAccountLemmas.{account-own}
 use Rattle.mely_shard.proofs.SlotLemmas.{kept_after, same_or_not, same_frame_at}
-use Rattle.mely_shard.proofs.RegisterLemmas.{colour_at-place, cell_there, same_count}
+use Rattle.mely_shard.proofs.RegisterLemmas.{colour_at-place, slot_there, same_count}
 
 all_by_recursion-drop : {X : Type 0} (P : X → Type 0) (n : ℕ) (xs : List X) → AllByRecursion P xs → AllByRecursion P (drop n xs)
 all_by_recursion-drop P zero xs all = all
@@ -55,7 +55,7 @@ pub record RoomierLaws {S F : Type 0} (t : TrailWords S F) : Type 0 where
   pub colour : (s u : S) → IsRoomier t s u → t.colour_of s ≡ t.colour_of u
   pub frame : (s u : S) → IsRoomier t s u → t.frame_of s ≡ t.frame_of u
 
-module _ {S P F : Type 0} {t : TrailWords S F} {fits : F → Colour → Event → Option P → Type 0} {setup : Setup} {shard : ℕ} {history : List Entry} {cells : List (ColourSlot S P)} {running capacity : ℕ} (kept : IsKeptShard t fits setup shard history cells running capacity) where
+module _ {S P F : Type 0} {t : TrailWords S F} {fits : F → Colour → Event → Option P → Type 0} {setup : Setup} {shard : ℕ} {history : List Entry} {slots : List (ColourSlot S P)} {running capacity : ℕ} (kept : IsKeptShard t fits setup shard history slots running capacity) where
   -- a state at home, as the history has it
   pub record IsHome (c : Colour) (given state : S) : Type 0 where
     pub trailed : t.trail_of state ≡ take (ended_of history c) (registered_of history c)
@@ -75,12 +75,12 @@ module _ {S P F : Type 0} {t : TrailWords S F} {fits : F → Colour → Event �
   refuse c core given own k n many own_is many_is m m_is true b_is (Some state) stands true t_is = (eqb-true core own b_is ∙ own_is, record { at_rest = stands.0; waiting = grind (arith, nat_tests) }, record { trailed = stands.1; coloured = stands.2; framed = stands.3 })
   refuse c core given own k n many own_is many_is m m_is true b_is (Some state) stands false t_is = (eqb-true core own b_is ∙ own_is, stands.0, nil_from_length (queued_of history c) (grind (arith, nat_tests)), m_is)
 
-  -- what a cell refuses
-  pub cell_refuses : (c : Colour) (core : ℕ) (cell : ColourSlot S P) → CellStands t fits setup c (account_of setup history c) cell → Refuses c core cell.given.value cell.home (no_take_of cell core)
-  cell_refuses c core cell old =
-      let many : length cell.queue.events ≡ length (queued_of history c) = sym (length-map cell.queue.events (λ e. e.0)) ∙ ap length old.events in
-      let all : registered_in cell.queue ≡ length (registered_of history c) = omega (arith, many, old.started, old.begun, length-drop (begun_of history c) (registered_of history c)) in
-      refuse c core cell.given.value cell.owner cell.core cell.count (length cell.queue.events) old.owner many (registered_in cell.queue) all (core == cell.owner) refl cell.home old.state (nat_lt 0 (length cell.queue.events)) refl
+  -- what a slot refuses
+  pub slot_refuses : (c : Colour) (core : ℕ) (slot : ColourSlot S P) → SlotStands t fits setup c (account_of setup history c) slot → Refuses c core slot.given.value slot.home (no_take_of slot core)
+  slot_refuses c core slot old =
+      let many : length slot.queue.events ≡ length (queued_of history c) = sym (length-map slot.queue.events (λ e. e.0)) ∙ ap length old.events in
+      let all : registered_in slot.queue ≡ length (registered_of history c) = omega (arith, many, old.started, old.begun, length-drop (begun_of history c) (registered_of history c)) in
+      refuse c core slot.given.value slot.owner slot.core slot.count (length slot.queue.events) old.owner many (registered_in slot.queue) all (core == slot.owner) refl slot.home old.state (nat_lt 0 (length slot.queue.events)) refl
 
   -- the state of a ready colour
   pub ready_home : (c : Colour) (given : S) (home : Option S) → IsSomeAnd home (IsHome c given) → IsSomeAnd home (λ state. (t.colour_of state ≡ c) × (t.frame_of state ≡ t.frame_of given))
@@ -88,93 +88,93 @@ module _ {S P F : Type 0} {t : TrailWords S F} {fits : F → Colour → Event �
   ready_home c given (Some state) h = (h.coloured, h.framed)
 
   -- one state more is away
-  pub one_more : (i : ℕ) (cell after : ColourSlot S P) → i < length cells → cell ≡ get_or cells i cell → is_away cell ≡ false → is_away after ≡ true → count_by is_away (set cells i after) ≡ count_by is_away cells + 1
-  one_more i cell after lt is here away =
+  pub one_more : (i : ℕ) (slot after : ColourSlot S P) → i < length slots → slot ≡ get_or slots i slot → is_away slot ≡ false → is_away after ≡ true → count_by is_away (set slots i after) ≡ count_by is_away slots + 1
+  one_more i slot after lt is here away =
       let one : Bool → ℕ = λ t. cond t 1 0 in
-      let old : one (is_away (get_or cells i cell)) ≡ 0 = ap (λ b. one (is_away b)) (sym is) ∙ ap one here in
+      let old : one (is_away (get_or slots i slot)) ≡ 0 = ap (λ b. one (is_away b)) (sym is) ∙ ap one here in
       let new : one (is_away after) ≡ 1 = ap one away in
-      omega (arith, sum_by-set (λ b. one (is_away b)) cells i after cell lt, old, new)
+      omega (arith, sum_by-set (λ b. one (is_away b)) slots i after slot lt, old, new)
 
   at_home : (given : S) (c : Colour) (home : Option S) → IsSomeAnd home (IsHome c given) → is_none home ≡ false
   at_home given c None h = absurd h
   at_home given c (Some state) h = refl
 
   -- a take keeps what the fields keep
-  pub kept_taken : (c : Colour) (core capacity' : ℕ) (cell after : ColourSlot S P) → c.0 < colours_of setup → c.0 % (shape_of setup).shards ≡ shard → cell ≡ get_or cells (c.0 / (shape_of setup).shards) cell
-      → Refuses c core cell.given.value cell.home None → (n : ℕ) → n ≡ min (shape_of setup).batch (length cell.queue.events) → 1 ≤ (shape_of setup).batch
-      → after ≡ record cell { queue = after_take cell.queue n; home = None; core = core; count = n } → length history + 2 + running ≤ capacity' → capacity' ≤ MOST_ENTRIES
-      → MayTake setup history c core n × IsKeptShard t fits setup shard (history ++ Take c core n ∷ []) (set cells (c.0 / (shape_of setup).shards) after) (running + 1) capacity'
-  kept_taken c core capacity' cell after there here is ready n n_is batch after_is room limited =
+  pub kept_taken : (c : Colour) (core capacity' : ℕ) (slot after : ColourSlot S P) → c.0 < colours_of setup → c.0 % (shape_of setup).shards ≡ shard → slot ≡ get_or slots (c.0 / (shape_of setup).shards) slot
+      → Refuses c core slot.given.value slot.home None → (n : ℕ) → n ≡ min (shape_of setup).batch (length slot.queue.events) → 1 ≤ (shape_of setup).batch
+      → after ≡ record slot { queue = after_take slot.queue n; home = None; core = core; count = n } → length history + 2 + running ≤ capacity' → capacity' ≤ MAX_ENTRIES
+      → MayTake setup history c core n × IsKeptShard t fits setup shard (history ++ Take c core n ∷ []) (set slots (c.0 / (shape_of setup).shards) after) (running + 1) capacity'
+  kept_taken c core capacity' slot after there here is ready n n_is batch after_is room limited =
       let i = c.0 / (shape_of setup).shards in
-      let place : i < length cells = kept.whole c.0 there here in
+      let place : i < length slots = kept.whole c.0 there here in
       let at : colour_at setup shard i ≡ c = colour_at-place setup shard c here in
-      let old = cell_there kept c cell there here is in
-      let many : length cell.queue.events ≡ length (queued_of history c) = sym (length-map cell.queue.events (λ e. e.0)) ∙ ap length old.events in
+      let old = slot_there kept c slot there here is in
+      let many : length slot.queue.events ≡ length (queued_of history c) = sym (length-map slot.queue.events (λ e. e.0)) ∙ ap length old.events in
       let behind : length (queued_of history c) ≡ length (registered_of history c) - begun_of history c = length-drop (begun_of history c) (registered_of history c) in
       let some : 1 ≤ n = omega (arith, n_is, many, ready.1.waiting, batch) in
-      let few : n ≤ length cell.queue.events = omega (arith, n_is) in
+      let few : n ≤ length slot.queue.events = omega (arith, n_is) in
       let may : MayTake setup history c core n = record { by_owner = ready.0; ready = ready.1; whole_batch = n_is ∙ ap (min (shape_of setup).batch) many } in
-      let next : ColourSlot S P = record cell { queue = after_take cell.queue n; home = None; core = core; count = n } in
-      let stands : CellStands t fits setup c (next_account (account_of setup history c) (Take c core n)) next = record {
-        events = sym (drop-map (λ (e : Event × Option P). e.0) n cell.queue.events) ∙ ap (drop n) old.events ∙ drop-drop n (begun_of history c) (registered_of history c);
+      let next : ColourSlot S P = record slot { queue = after_take slot.queue n; home = None; core = core; count = n } in
+      let stands : SlotStands t fits setup c (next_account (account_of setup history c) (Take c core n)) next = record {
+        events = sym (drop-map (λ (e : Event × Option P). e.0) n slot.queue.events) ∙ ap (drop n) old.events ∙ drop-drop n (begun_of history c) (registered_of history c);
         weights = ap (drop n) old.weights ∙ drop-map (weight setup) n (queued_of history c) ∙ ap (map (weight setup)) (drop-drop n (begun_of history c) (registered_of history c));
         started = ap (λ k. k + n) old.started;
         finished = old.finished;
         begun = omega (arith, few, many, behind, old.begun);
         owner = old.owner;
-        fit = all_by_recursion-drop _ n cell.queue.events old.fit;
+        fit = all_by_recursion-drop _ n slot.queue.events old.fit;
         state = (refl, ap (λ k. k + n) ready.1.at_rest, omega (arith, some));
       } in
-      let stood = subst (λ b. CellStands t fits setup c (next_account (account_of setup history c) (Take c core n)) b) (sym after_is) stands in
-      let home : is_away cell ≡ false = at_home cell.given.value c cell.home ready.2 in
-      let more = one_more i cell after place is home (ap is_away after_is) in (
+      let stood = subst (λ b. SlotStands t fits setup c (next_account (account_of setup history c) (Take c core n)) b) (sym after_is) stands in
+      let home : is_away slot ≡ false = at_home slot.given.value c slot.home ready.2 in
+      let more = one_more i slot after place is home (ap is_away after_is) in (
         may,
         kept_after (Take c core n) i after (running + 1) capacity' kept place (sym (ap (λ k. k.0) at)) may
-            (subst (λ k. CellStands t fits setup k (next_account (account_of setup history k) (Take c core n)) after) (sym at) stood)
-            (ap (λ b. t.frame_of b.given.value) after_is ∙ ap (λ b. t.frame_of b.given.value) is ∙ ap (λ b. t.frame_of b.given.value) (get_or_default cells i cell after place))
+            (subst (λ k. SlotStands t fits setup k (next_account (account_of setup history k) (Take c core n)) after) (sym at) stood)
+            (ap (λ b. t.frame_of b.given.value) after_is ∙ ap (λ b. t.frame_of b.given.value) is ∙ ap (λ b. t.frame_of b.given.value) (get_or_default slots i slot after place))
             (omega (arith, more, kept.counted))
             (omega (arith, room))
             limited,
       )
 
-  -- one cell changed, with the history as it is
-  kept_cell : (i : ℕ) (cell after : ColourSlot S P) (capacity' : ℕ) → i < length cells → cell ≡ get_or cells i cell
-      → CellStands t fits setup (colour_at setup shard i) (account_of setup history (colour_at setup shard i)) after
-      → t.frame_of after.given.value ≡ t.frame_of cell.given.value → is_away after ≡ is_away cell → capacity ≤ capacity' → capacity' ≤ MOST_ENTRIES
-      → IsKeptShard t fits setup shard history (set cells i after) running capacity'
-  kept_cell i cell after capacity' there is stands same_frame same_home room limited =
-      let same : t.frame_of after.given.value ≡ t.frame_of (get_or cells i after).given.value = same_frame ∙ ap (λ b. t.frame_of b.given.value) is ∙ ap (λ b. t.frame_of b.given.value) (get_or_default cells i cell after there) in
+  -- one slot changed, with the history as it is
+  kept_slot : (i : ℕ) (slot after : ColourSlot S P) (capacity' : ℕ) → i < length slots → slot ≡ get_or slots i slot
+      → SlotStands t fits setup (colour_at setup shard i) (account_of setup history (colour_at setup shard i)) after
+      → t.frame_of after.given.value ≡ t.frame_of slot.given.value → is_away after ≡ is_away slot → capacity ≤ capacity' → capacity' ≤ MAX_ENTRIES
+      → IsKeptShard t fits setup shard history (set slots i after) running capacity'
+  kept_slot i slot after capacity' there is stands same_frame same_home room limited =
+      let same : t.frame_of after.given.value ≡ t.frame_of (get_or slots i after).given.value = same_frame ∙ ap (λ b. t.frame_of b.given.value) is ∙ ap (λ b. t.frame_of b.given.value) (get_or_default slots i slot after there) in
       record {
         legal = kept.legal;
         numbered = kept.numbered;
         whole = λ k lt of. rw length-set (kept.whole k lt of);
-        only = λ j lt. kept.only j (subst (λ n. j < n) (length-set cells i after) lt);
+        only = λ j lt. kept.only j (subst (λ n. j < n) (length-set slots i after) lt);
         each = λ j d lt. ⊎_elim
-            (λ (e : j ≡ i). subst (λ k. CellStands t fits setup (colour_at setup shard k) (account_of setup history (colour_at setup shard k)) (get_or (set cells i after) k d)) (sym e)
-            (rw (get_or-set_same cells i after d there) stands))
-            (λ (ne : j ≡ i → ⊥). rw (get_or-set_other cells i j after d ne) (kept.each j d (subst (λ n. j < n) (length-set cells i after) lt)))
+            (λ (e : j ≡ i). subst (λ k. SlotStands t fits setup (colour_at setup shard k) (account_of setup history (colour_at setup shard k)) (get_or (set slots i after) k d)) (sym e)
+            (rw (get_or-set_same slots i after d there) stands))
+            (λ (ne : j ≡ i → ⊥). rw (get_or-set_other slots i j after d ne) (kept.each j d (subst (λ n. j < n) (length-set slots i after) lt)))
             (same_or_not j i);
         own = kept.own;
         frames = λ j k d lj lk.
-            same_frame_at t.frame_of cells i after there same j d
-            ∙ kept.frames j k d (subst (λ n. j < n) (length-set cells i after) lj) (subst (λ n. k < n) (length-set cells i after) lk)
-            ∙ sym (same_frame_at t.frame_of cells i after there same k d);
-        counted = kept.counted ∙ sym (same_count kept cells i cell after there is same_home);
+            same_frame_at t.frame_of slots i after there same j d
+            ∙ kept.frames j k d (subst (λ n. j < n) (length-set slots i after) lj) (subst (λ n. k < n) (length-set slots i after) lk)
+            ∙ sym (same_frame_at t.frame_of slots i after there same k d);
+        counted = kept.counted ∙ sym (same_count kept slots i slot after there is same_home);
         room = omega (arith, kept.room, room);
         limited = limited;
       }
 
   module _ (laws : RoomierLaws t) where
     -- a greater spare keeps what the fields keep
-    pub kept_alike : (c : Colour) (cell after : ColourSlot S P) (capacity' : ℕ) → c.0 < colours_of setup → c.0 % (shape_of setup).shards ≡ shard → cell ≡ get_or cells (c.0 / (shape_of setup).shards) cell
-        → CellKeepsState t cell after → capacity ≤ capacity' → capacity' ≤ MOST_ENTRIES → IsKeptShard t fits setup shard history (set cells (c.0 / (shape_of setup).shards) after) running capacity'
-    kept_alike c cell after capacity' there here is keeps room limited =
+    pub kept_alike : (c : Colour) (slot after : ColourSlot S P) (capacity' : ℕ) → c.0 < colours_of setup → c.0 % (shape_of setup).shards ≡ shard → slot ≡ get_or slots (c.0 / (shape_of setup).shards) slot
+        → SlotKeepsState t slot after → capacity ≤ capacity' → capacity' ≤ MAX_ENTRIES → IsKeptShard t fits setup shard history (set slots (c.0 / (shape_of setup).shards) after) running capacity'
+    kept_alike c slot after capacity' there here is keeps room limited =
         let i = c.0 / (shape_of setup).shards in
-        let place : i < length cells = kept.whole c.0 there here in
+        let place : i < length slots = kept.whole c.0 there here in
         let at : colour_at setup shard i ≡ c = colour_at-place setup shard c here in
-        let old = cell_there kept c cell there here is in
-        let was : StateStands t c cell.given.value (account_of setup history c) cell.core cell.count (Some keeps.home) = subst (λ o. StateStands t c cell.given.value (account_of setup history c) cell.core cell.count o) keeps.was old.state in
-        let stands : CellStands t fits setup c (account_of setup history c) (record cell { home = Some keeps.state }) = record {
+        let old = slot_there kept c slot there here is in
+        let was : StateStands t c slot.given.value (account_of setup history c) slot.core slot.count (Some keeps.home) = subst (λ o. StateStands t c slot.given.value (account_of setup history c) slot.core slot.count o) keeps.was old.state in
+        let stands : SlotStands t fits setup c (account_of setup history c) (record slot { home = Some keeps.state }) = record {
           events = old.events;
           weights = old.weights;
           started = old.started;
@@ -184,8 +184,8 @@ module _ {S P F : Type 0} {t : TrailWords S F} {fits : F → Colour → Event �
           fit = old.fit;
           state = (was.0, sym (laws.trail keeps.home keeps.state keeps.alike) ∙ was.1, sym (laws.colour keeps.home keeps.state keeps.alike) ∙ was.2, sym (laws.frame keeps.home keeps.state keeps.alike) ∙ was.3);
         } in
-        let stood = subst (λ b. CellStands t fits setup c (account_of setup history c) b) (sym keeps.left) stands in
-        kept_cell i cell after capacity' place is (subst (λ k. CellStands t fits setup k (account_of setup history k) after) (sym at) stood)
+        let stood = subst (λ b. SlotStands t fits setup c (account_of setup history c) b) (sym keeps.left) stands in
+        kept_slot i slot after capacity' place is (subst (λ k. SlotStands t fits setup k (account_of setup history k) after) (sym at) stood)
         (ap (λ b. t.frame_of b.given.value) keeps.left) (ap is_away keeps.left ∙ sym (ap is_none keeps.was)) room limited
 
     -- two states that are the same but for the spare, or the same
@@ -193,7 +193,7 @@ module _ {S P F : Type 0} {t : TrailWords S F} {fits : F → Colour → Event �
     alike_options None = tt
     alike_options (Some s) = laws.itself s
 
-    lanes_alike : (a b : ColourSlot S P) → CellKeepsState t a b → IsLaneAlike (IsRoomier t) (lane_of a) (lane_of b)
+    lanes_alike : (a b : ColourSlot S P) → SlotKeepsState t a b → IsLaneAlike (IsRoomier t) (lane_of a) (lane_of b)
     lanes_alike a b keeps = record {
       given = ap (λ k. k.given.value) keeps.left;
       events = ap (λ k. k.queue.events) keeps.left;
@@ -201,37 +201,37 @@ module _ {S P F : Type 0} {t : TrailWords S F} {fits : F → Colour → Event �
     }
 
     -- each lane is the same but for the spare
-    pub each_alike : (i : ℕ) (cell after : ColourSlot S P) → i < length cells → cell ≡ get_or cells i cell → CellKeepsState t cell after
-        → (j : ℕ) (d : ColourState S P) → j < length (map lane_of cells) → IsLaneAlike (IsRoomier t) (get_or (map lane_of cells) j d) (get_or (map lane_of (set cells i after)) j d)
-    each_alike i cell after place is keeps j d lt = rw (map-set lane_of cells i after)
+    pub each_alike : (i : ℕ) (slot after : ColourSlot S P) → i < length slots → slot ≡ get_or slots i slot → SlotKeepsState t slot after
+        → (j : ℕ) (d : ColourState S P) → j < length (map lane_of slots) → IsLaneAlike (IsRoomier t) (get_or (map lane_of slots) j d) (get_or (map lane_of (set slots i after)) j d)
+    each_alike i slot after place is keeps j d lt = rw (map-set lane_of slots i after)
         (⊎_elim
-        (λ (e : j ≡ i). subst (λ k. IsLaneAlike (IsRoomier t) (get_or (map lane_of cells) k d) (get_or (set (map lane_of cells) i (lane_of after)) k d)) (sym e)
-        (rw (get_or-set_same (map lane_of cells) i (lane_of after) d (subst (λ n. i < n) (sym (length-map cells lane_of)) place))
-        (subst (λ l. IsLaneAlike (IsRoomier t) l (lane_of after)) (lane_read i cell d place is) (lanes_alike cell after keeps))))
-        (λ (ne : j ≡ i → ⊥). rw (get_or-set_other (map lane_of cells) i j (lane_of after) d ne) (record { given = refl; events = refl; state = alike_options (get_or (map lane_of cells) j d).state }))
+        (λ (e : j ≡ i). subst (λ k. IsLaneAlike (IsRoomier t) (get_or (map lane_of slots) k d) (get_or (set (map lane_of slots) i (lane_of after)) k d)) (sym e)
+        (rw (get_or-set_same (map lane_of slots) i (lane_of after) d (subst (λ n. i < n) (sym (length-map slots lane_of)) place))
+        (subst (λ l. IsLaneAlike (IsRoomier t) l (lane_of after)) (lane_read i slot d place is) (lanes_alike slot after keeps))))
+        (λ (ne : j ≡ i → ⊥). rw (get_or-set_other (map lane_of slots) i j (lane_of after) d ne) (record { given = refl; events = refl; state = alike_options (get_or (map lane_of slots) j d).state }))
         (same_or_not j i))
       where
-        lane_read : (i : ℕ) (cell : ColourSlot S P) (d : ColourState S P) → i < length cells → cell ≡ get_or cells i cell → lane_of cell ≡ get_or (map lane_of cells) i d
-        lane_read i cell d place is = ap lane_of is ∙ sym (get_or-map lane_of cells i cell) ∙ get_or_default (map lane_of cells) i (lane_of cell) d (subst (λ n. i < n) (sym (length-map cells lane_of)) place)
+        lane_read : (i : ℕ) (slot : ColourSlot S P) (d : ColourState S P) → i < length slots → slot ≡ get_or slots i slot → lane_of slot ≡ get_or (map lane_of slots) i d
+        lane_read i slot d place is = ap lane_of is ∙ sym (get_or-map lane_of slots i slot) ∙ get_or_default (map lane_of slots) i (lane_of slot) d (subst (λ n. i < n) (sym (length-map slots lane_of)) place)
 
     -- the lanes as they are
     pub lanes_as_they_are : (lanes : List (ColourState S P)) (j : ℕ) (d : ColourState S P) → IsLaneAlike (IsRoomier t) (get_or lanes j d) (get_or lanes j d)
     lanes_as_they_are lanes j d = record { given = refl; events = refl; state = alike_options (get_or lanes j d).state }
 
     -- the turn of a take
-    pub taken_turn : (c : Colour) (core n : ℕ) (cell : ColourSlot S P) → CellStands t fits setup c (account_of setup history c) cell → Refuses c core cell.given.value cell.home None → 1 ≤ n
-        → (home state : S) → cell.home ≡ Some home → IsRoomier t home state
-        → IsRunningOn (history ++ Take c core n ∷ []) c core n × (t.trail_of state ++ map (λ e. e.0) (take n cell.queue.events) ≡ take (begun_of (history ++ Take c core n ∷ []) c) (registered_of (history ++ Take c core n ∷ []) c)) × (t.colour_of state ≡ c) × (t.frame_of state ≡ t.frame_of cell.given.value)
-    taken_turn c core n cell old ready some home state was alike =
+    pub taken_turn : (c : Colour) (core n : ℕ) (slot : ColourSlot S P) → SlotStands t fits setup c (account_of setup history c) slot → Refuses c core slot.given.value slot.home None → 1 ≤ n
+        → (home state : S) → slot.home ≡ Some home → IsRoomier t home state
+        → IsRunningOn (history ++ Take c core n ∷ []) c core n × (t.trail_of state ++ map (λ e. e.0) (take n slot.queue.events) ≡ take (begun_of (history ++ Take c core n ∷ []) c) (registered_of (history ++ Take c core n ∷ []) c)) × (t.colour_of state ≡ c) × (t.frame_of state ≡ t.frame_of slot.given.value)
+    taken_turn c core n slot old ready some home state was alike =
         let next = account-own setup history (Take c core n) c refl in
-        let h : IsHome c cell.given.value home = subst (λ o. IsSomeAnd o (IsHome c cell.given.value)) was ready.2 in
+        let h : IsHome c slot.given.value home = subst (λ o. IsSomeAnd o (IsHome c slot.given.value)) was ready.2 in
         let begun_is : begun_of (history ++ Take c core n ∷ []) c ≡ begun_of history c + n = ap (λ (s : ColourAccount). s.begun) next in
         let ended_is : ended_of (history ++ Take c core n ∷ []) c ≡ ended_of history c = ap (λ (s : ColourAccount). s.ended) next in
         let registered_is : registered_of (history ++ Take c core n ∷ []) c ≡ registered_of history c = ap (λ (s : ColourAccount). s.registered) next in (
           record { running = omega (arith, begun_is, ended_is, ready.1.at_rest, some); last = ap (λ (s : ColourAccount). s.last) next },
           rw (begun_is, registered_is)
-              (ap (λ es. es ++ map (λ e. e.0) (take n cell.queue.events)) (sym (laws.trail home state alike) ∙ h.trailed ∙ ap (λ k. take k (registered_of history c)) (sym ready.1.at_rest))
-              ∙ ap (λ es. take (begun_of history c) (registered_of history c) ++ es) (sym (take-map (λ (e : Event × Option P). e.0) n cell.queue.events) ∙ ap (take n) old.events)
+              (ap (λ es. es ++ map (λ e. e.0) (take n slot.queue.events)) (sym (laws.trail home state alike) ∙ h.trailed ∙ ap (λ k. take k (registered_of history c)) (sym ready.1.at_rest))
+              ∙ ap (λ es. take (begun_of history c) (registered_of history c) ++ es) (sym (take-map (λ (e : Event × Option P). e.0) n slot.queue.events) ∙ ap (take n) old.events)
               ∙ sym (take-add (begun_of history c) n (registered_of history c))),
           sym (laws.colour home state alike) ∙ h.coloured,
           sym (laws.frame home state alike) ∙ h.framed,

@@ -12,17 +12,17 @@ use Rattle.mely_history.specs.Legal.{IsLegal}
 use Rattle.mely_queue.specs.Turn.{EachFits}
 use Rattle.mely_shard.specs.declared.colour_slot.ColourSlot.{ColourSlot}
 use Rattle.mely_shard.specs.Shard.{ColourState, colour_at}
-use Rattle.mely_shard.specs.declared.room.TheConstants.{MOST_ENTRIES}
+use Rattle.mely_shard.specs.declared.room.TheConstants.{MAX_ENTRIES}
 use Rattle.mely_history.specs.ColourAccount.{ColourAccount, account_of}
 use Rattle.mely_history.specs.Entries.{colour_of}
 
 -- a colour of a shard, as contracts see it
 abbrev pub lane_of : {S P : Type 0} → ColourSlot S P → ColourState S P
-lane_of cell = record { state = cell.home; given = cell.given.value; events = cell.queue.events }
+lane_of slot = record { state = slot.home; given = slot.given.value; events = slot.queue.events }
 
 -- the state of the colour is out, in a turn
 abbrev pub is_away : {S P : Type 0} → ColourSlot S P → Bool
-is_away cell = is_none cell.home
+is_away slot = is_none slot.home
 
 -- a state away, or at home
 abbrev pub StateStands : {S F : Type 0} → TrailWords S F → Colour → S → ColourAccount → ℕ
@@ -33,16 +33,16 @@ StateStands t c given s core count (Some state) = (s.begun ≡ s.ended)
     × (t.trail_of state ≡ take s.ended s.registered) × (t.colour_of state ≡ c)
     × (t.frame_of state ≡ t.frame_of given)
 
--- a cell has what the history says of its colour
-pub record CellStands {S P F : Type 0} (t : TrailWords S F) (fits : F → Colour → Event → Option P → Type 0) (setup : Setup) (c : Colour) (s : ColourAccount) (cell : ColourSlot S P) : Type 0 where
-  pub events : map (λ e. e.0) cell.queue.events ≡ drop s.begun s.registered
-  pub weights : cell.queue.weights ≡ map (weight setup) (drop s.begun s.registered)
-  pub started : cell.queue.started ≡ s.begun
-  pub finished : cell.queue.finished ≡ s.ended
+-- a slot has what the history says of its colour
+pub record SlotStands {S P F : Type 0} (t : TrailWords S F) (fits : F → Colour → Event → Option P → Type 0) (setup : Setup) (c : Colour) (s : ColourAccount) (slot : ColourSlot S P) : Type 0 where
+  pub events : map (λ e. e.0) slot.queue.events ≡ drop s.begun s.registered
+  pub weights : slot.queue.weights ≡ map (weight setup) (drop s.begun s.registered)
+  pub started : slot.queue.started ≡ s.begun
+  pub finished : slot.queue.finished ≡ s.ended
   pub begun : s.begun ≤ length s.registered
-  pub owner : cell.owner ≡ s.owner
-  pub fit : EachFits (fits (t.frame_of cell.given.value) c) cell.queue.events
-  pub state : StateStands t c cell.given.value s cell.core cell.count cell.home
+  pub owner : slot.owner ≡ s.owner
+  pub fit : EachFits (fits (t.frame_of slot.given.value) c) slot.queue.events
+  pub state : StateStands t c slot.given.value s slot.core slot.count slot.home
 
 -- the emptied lists into which a shard is taken apart have room for each of its colours
 pub record HasRoom (states states_room queues queues_room places : ℕ) : Type 0 where
@@ -51,41 +51,41 @@ pub record HasRoom (states states_room queues queues_room places : ℕ) : Type 0
   pub room_for_states : places ≤ states_room
   pub room_for_queues : places ≤ queues_room
 
--- a cell at first
-pub record IsFirstCell {S P : Type 0} (setup : Setup) (c : ℕ) (state : S) (cell : ColourSlot S P) : Type 0 where
-  pub queue : cell.queue ≡ record { events = []; weights = []; started = 0; finished = 0 }
-  pub home : cell.home ≡ Some state
-  pub given : cell.given.value ≡ state
-  pub owner : cell.owner ≡ c % (shape_of setup).cores
+-- a slot at first
+pub record IsFirstSlot {S P : Type 0} (setup : Setup) (c : ℕ) (state : S) (slot : ColourSlot S P) : Type 0 where
+  pub queue : slot.queue ≡ record { events = []; weights = []; started = 0; finished = 0 }
+  pub home : slot.home ≡ Some state
+  pub given : slot.given.value ≡ state
+  pub owner : slot.owner ≡ c % (shape_of setup).cores
 
--- the cells of the first states of a shard
-abbrev pub AreFirstCells : {S P : Type 0} → Setup → ℕ → List S → List (ColourSlot S P) → Type 0
-AreFirstCells {S} {P} setup shard states cells = (i : ℕ) (state : S) (cell : ColourSlot S P)
-    → slice_get states i ≡ Some state → slice_get cells i ≡ Some cell
-    → IsFirstCell setup (colour_at setup shard i).0 state cell
+-- the slots of the first states of a shard
+abbrev pub AreFirstSlots : {S P : Type 0} → Setup → ℕ → List S → List (ColourSlot S P) → Type 0
+AreFirstSlots {S} {P} setup shard states slots = (i : ℕ) (state : S) (slot : ColourSlot S P)
+    → slice_get states i ≡ Some state → slice_get slots i ≡ Some slot
+    → IsFirstSlot setup (colour_at setup shard i).0 state slot
 
 -- each state is at home
 abbrev pub AreAtHome : {S P : Type 0} → List (ColourSlot S P) → Type 0
-AreAtHome cells = AllByRecursion (λ cell. IsSome cell.home) cells
+AreAtHome slots = AllByRecursion (λ slot. IsSome slot.home) slots
 
 -- how many entries a history may have where its vector has this capacity
 abbrev pub most_of : ℕ → ℕ
-most_of capacity = min capacity MOST_ENTRIES
+most_of capacity = min capacity MAX_ENTRIES
 
 -- what the fields of a shard keep; the room of the history is below the limit
-pub record IsKeptShard {S P F : Type 0} (t : TrailWords S F) (fits : F → Colour → Event → Option P → Type 0) (setup : Setup) (shard : ℕ) (history : List Entry) (cells : List (ColourSlot S P)) (running capacity : ℕ) : Type 0 where
+pub record IsKeptShard {S P F : Type 0} (t : TrailWords S F) (fits : F → Colour → Event → Option P → Type 0) (setup : Setup) (shard : ℕ) (history : List Entry) (slots : List (ColourSlot S P)) (running capacity : ℕ) : Type 0 where
   pub legal : IsLegal setup history
   pub numbered : shard < (shape_of setup).shards
   pub whole : (c : ℕ) → c < colours_of setup → c % (shape_of setup).shards ≡ shard
-      → c / (shape_of setup).shards < length cells
-  pub only : (i : ℕ) → i < length cells → (colour_at setup shard i).0 < colours_of setup
-  pub each : (i : ℕ) (d : ColourSlot S P) → i < length cells
-      → CellStands t fits setup (colour_at setup shard i)
-      (account_of setup history (colour_at setup shard i)) (slice_index_or cells i d)
+      → c / (shape_of setup).shards < length slots
+  pub only : (i : ℕ) → i < length slots → (colour_at setup shard i).0 < colours_of setup
+  pub each : (i : ℕ) (d : ColourSlot S P) → i < length slots
+      → SlotStands t fits setup (colour_at setup shard i)
+      (account_of setup history (colour_at setup shard i)) (slice_index_or slots i d)
   pub own : AllByRecursion (λ entry. (colour_of entry).0 % (shape_of setup).shards ≡ shard) history
-  pub frames : (i j : ℕ) (d : ColourSlot S P) → i < length cells → j < length cells
-      → t.frame_of (slice_index_or cells i d).given.value
-      ≡ t.frame_of (slice_index_or cells j d).given.value
-  pub counted : running ≡ count_by is_away cells
+  pub frames : (i j : ℕ) (d : ColourSlot S P) → i < length slots → j < length slots
+      → t.frame_of (slice_index_or slots i d).given.value
+      ≡ t.frame_of (slice_index_or slots j d).given.value
+  pub counted : running ≡ count_by is_away slots
   pub room : length history + running ≤ capacity
-  pub limited : capacity ≤ MOST_ENTRIES
+  pub limited : capacity ≤ MAX_ENTRIES

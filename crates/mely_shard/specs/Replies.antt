@@ -1,4 +1,4 @@
--- Within the crate: what the cell of one colour answers, in its own fields. Callers see it by the words of ShardState.
+-- Within the crate: what the slot of one colour answers, in its own fields. Callers see it by the words of ShardState.
 use Rattle.std.specs.Prelude.{◌≡◌, ◌≤◌, ◌==◌, ℕ, Bool, Option, None, Some, length, min, take, sum, ◌&&◌, is_some, is_none, nat_lt, if◌then◌else◌}
 use Rattle.mely_event.specs.declared.colour.Colour.{Colour}
 use Rattle.mely_event.specs.declared.trail.Trail.{Ghosts as TrailWords}
@@ -19,27 +19,27 @@ use Rattle.mely_shard.specs.Shard.{IsRoomier}
 
 -- what a registration is told, where events waited before it or not
 abbrev pub reply_of : {S P : Type 0} → ColourSlot S P → Bool → Registered
-reply_of cell waited =
-    if is_none cell.home then Running cell.core
-    else if waited then Told cell.owner cell.queue.started (sum cell.queue.weights)
-    else Woke cell.owner cell.queue.started (sum cell.queue.weights)
+reply_of slot waited =
+    if is_none slot.home then Running slot.core
+    else if waited then Told slot.owner slot.queue.started (sum slot.queue.weights)
+    else Woke slot.owner slot.queue.started (sum slot.queue.weights)
 
 -- why a core may not take a colour, memory aside
 abbrev pub no_take_of : {S P : Type 0} → ColourSlot S P → ℕ → Option NoTake
-no_take_of cell core =
-    if core == cell.owner then
-    if is_none cell.home then Some (Busy cell.core)
-    else if nat_lt 0 (length cell.queue.events) then None
-    else Some (Empty (registered_in cell.queue))
-    else Some (Elsewhere cell.owner)
+no_take_of slot core =
+    if core == slot.owner then
+    if is_none slot.home then Some (Busy slot.core)
+    else if nat_lt 0 (length slot.queue.events) then None
+    else Some (Empty (registered_in slot.queue))
+    else Some (Elsewhere slot.owner)
 
 -- what is left after a finish
 abbrev pub after_of : {S P : Type 0} → ColourSlot S P → After
-after_of cell = if nat_lt 0 (length cell.queue.events) then More cell.queue.started
-    (sum cell.queue.weights) else Idle
+after_of slot = if nat_lt 0 (length slot.queue.events) then More slot.queue.started
+    (sum slot.queue.weights) else Idle
 
 -- the state and the first events are moved out
-pub record CellTakes {S P F : Type 0} (t : TrailWords S F) (old new : ColourSlot S P) (colour : Colour) (core batch : ℕ) (turn : TurnState S P) : Type 0 where
+pub record SlotTakes {S P F : Type 0} (t : TrailWords S F) (old new : ColourSlot S P) (colour : Colour) (core batch : ℕ) (turn : TurnState S P) : Type 0 where
   pub home : S
   pub was : old.home ≡ Some home
   pub alike : IsRoomier t home turn.state
@@ -61,7 +61,7 @@ pub record CellTakes {S P F : Type 0} (t : TrailWords S F) (old new : ColourSlot
   }
 
 -- only the spare of the state at home may be greater
-pub record CellKeepsState {S P F : Type 0} (t : TrailWords S F) (old new : ColourSlot S P) : Type 0 where
+pub record SlotKeepsState {S P F : Type 0} (t : TrailWords S F) (old new : ColourSlot S P) : Type 0 where
   pub home : S
   pub was : old.home ≡ Some home
   pub state : S
@@ -70,27 +70,27 @@ pub record CellKeepsState {S P F : Type 0} (t : TrailWords S F) (old new : Colou
 
 -- why a core may not steal a colour, memory aside
 abbrev pub no_steal_of : {S P : Type 0} → ColourSlot S P → ℕ → ℕ → Option NoSteal
-no_steal_of cell to cost =
-    if to == cell.owner then Some Own
-    else if is_none cell.home then Some (steals.Busy cell.core)
-    else if nat_lt 0 (length cell.queue.events) then
-    if nat_lt cost (sum cell.queue.weights) then None
-    else Some (Cheap (sum cell.queue.weights))
-    else Some (steals.Empty (registered_in cell.queue))
+no_steal_of slot to cost =
+    if to == slot.owner then Some Own
+    else if is_none slot.home then Some (steals.Busy slot.core)
+    else if nat_lt 0 (length slot.queue.events) then
+    if nat_lt cost (sum slot.queue.weights) then None
+    else Some (Cheap (sum slot.queue.weights))
+    else Some (steals.Empty (registered_in slot.queue))
 
--- what is told of a steal: the owner so far, how many events were started, and the time left
+-- what is told of a steal: the owner so far, how many events were started, and the worth
 abbrev pub stolen_of : {S P : Type 0} → ColourSlot S P → Stolen
-stolen_of cell = record {
-  from = cell.owner;
-  started = cell.queue.started;
-  worth = sum cell.queue.weights;
+stolen_of slot = record {
+  from = slot.owner;
+  started = slot.queue.started;
+  worth = sum slot.queue.weights;
 }
 
 -- the state is at home, and nothing waits
-abbrev pub cell_is_drained : {S P : Type 0} → ColourSlot S P → Bool
-cell_is_drained cell = is_some cell.home && (length cell.queue.events == 0)
+abbrev pub slot_is_drained : {S P : Type 0} → ColourSlot S P → Bool
+slot_is_drained slot = is_some slot.home && (length slot.queue.events == 0)
 
--- the owner, how many events were started, and the time left, where the state is at home and something waits
+-- the owner, how many events were started, and the worth, where the state is at home and something waits
 abbrev pub ready_of : {S P : Type 0} → ColourSlot S P → Option (ℕ × ℕ × ℕ)
-ready_of cell = if is_some cell.home && nat_lt 0 (length cell.queue.events) then Some
-    (cell.owner, cell.queue.started, sum cell.queue.weights) else None
+ready_of slot = if is_some slot.home && nat_lt 0 (length slot.queue.events) then Some
+    (slot.owner, slot.queue.started, sum slot.queue.weights) else None

@@ -21,7 +21,7 @@ use Rattle.mely_history.specs.declared.no_steal.NoSteal.TheVariants as steals
 use Rattle.mely_history.specs.declared.no_steal.NoSteal.TheVariants.{Pinned, Own, Cheap}
 use Rattle.mely_history.specs.declared.stolen.Stolen.{Stolen}
 use Rattle.mely_queue.specs.Turn.{TurnState, EachFits}
-use Rattle.mely_shard.specs.declared.room.TheConstants.{MOST_ENTRIES}
+use Rattle.mely_shard.specs.declared.room.TheConstants.{MAX_ENTRIES}
 
 -- one colour: its state where it is at home, the state that it was given at first, and the events that wait with their loads
 pub record ColourState (S P : Type 0) : Type 0 where
@@ -121,12 +121,12 @@ pub record Registers {S P : Type 0} (old new : ShardState S P) (c : Colour) (eve
 abbrev pub RegisteredAs : Setup → List Entry → List Entry → Colour → Registered → Type 0
 RegisteredAs setup old new c (Running core) = IsRunning old c
     × ((count : ℕ) × (last_take old c ≡ Some (core, count)))
-RegisteredAs setup old new c (Woke core started left) = (begun_of old c ≡ ended_of old c)
+RegisteredAs setup old new c (Woke core started worth) = (begun_of old c ≡ ended_of old c)
     × (queued_of old c ≡ []) × (core ≡ owner_of setup new c) × (started ≡ begun_of new c)
-    × (left ≡ worth_of setup new c)
-RegisteredAs setup old new c (Told core started left) = (begun_of old c ≡ ended_of old c)
+    × (worth ≡ worth_of setup new c)
+RegisteredAs setup old new c (Told core started worth) = (begun_of old c ≡ ended_of old c)
     × (0 < length (queued_of old c)) × (core ≡ owner_of setup new c) × (started ≡ begun_of new c)
-    × (left ≡ worth_of setup new c)
+    × (worth ≡ worth_of setup new c)
 
 -- a turn of a shard: its colour runs on it, the events that were run on its state and those that it holds are all that were begun, its state is of the colour and has the shard's frame, and each event that it holds fits its load
 pub record TurnStands {S P F : Type 0} (t : TrailWords S F) (fits : F → Colour → Event → Option P → Type 0) (has : ShardState S P) (turn : TurnState S P) : Type 0 where
@@ -195,8 +195,8 @@ pub record Finishes {S P : Type 0} (old new : ShardState S P) (turn : TurnState 
 
 -- what is left
 abbrev pub AfterAs : Setup → List Entry → Colour → After → Type 0
-AfterAs setup history c (More started left) = (0 < length (queued_of history c))
-    × (started ≡ begun_of history c) × (left ≡ worth_of setup history c)
+AfterAs setup history c (More started worth) = (0 < length (queued_of history c))
+    × (started ≡ begun_of history c) × (worth ≡ worth_of setup history c)
 AfterAs setup history c Idle = queued_of history c ≡ []
 
 -- where the state of a colour is, and what it has
@@ -225,7 +225,7 @@ pub record IsConsistent {S P F : Type 0} (t : TrailWords S F) (fits : F → Colo
       → slice_get has.lanes j ≡ Some b → t.frame_of a.given ≡ t.frame_of b.given
   pub each : (c : Colour) (lane : ColourState S P) → IsOwn has c → lane_at has c ≡ Some lane
       → LaneStands t fits has.history c lane
-  pub within_limit : length has.history + running_in has + has.spare ≤ MOST_ENTRIES
+  pub within_limit : length has.history + running_in has + has.spare ≤ MAX_ENTRIES
 
 -- what is told of a ready colour; nothing where it runs or nothing is queued
 abbrev pub ReadyAs : Setup → List Entry → Colour → Option (ℕ × ℕ × ℕ) → Type 0
@@ -241,7 +241,7 @@ pub record Steals {S P : Type 0} (old new : ShardState S P) (c : Colour) (to : �
   pub history : new.history ≡ old.history ++ Steal c stolen.from to ∷ []
   pub lanes : new.lanes ≡ old.lanes
   pub started : stolen.started ≡ begun_of new.history c
-  pub left : stolen.worth ≡ worth_of new.setup new.history c
+  pub worth : stolen.worth ≡ worth_of new.setup new.history c
 
 -- why nothing is stolen
 abbrev pub NoStealAs : Setup → List Entry → Colour → ℕ → NoSteal → Type 0
@@ -253,9 +253,9 @@ NoStealAs setup history c to (steals.Busy k) = (pinned_of setup ≤ c.0)
 NoStealAs setup history c to (steals.Empty n) = (pinned_of setup ≤ c.0)
     × (to ≢ owner_of setup history c) × (begun_of history c ≡ ended_of history c)
     × (queued_of history c ≡ []) × (n ≡ length (registered_of history c))
-NoStealAs setup history c to (Cheap left) = (pinned_of setup ≤ c.0)
-    × (to ≢ owner_of setup history c) × IsReady history c × (left ≡ worth_of setup history c)
-    × (left ≤ (shape_of setup).steal_cost)
+NoStealAs setup history c to (Cheap worth) = (pinned_of setup ≤ c.0)
+    × (to ≢ owner_of setup history c) × IsReady history c × (worth ≡ worth_of setup history c)
+    × (worth ≤ (shape_of setup).steal_cost)
 NoStealAs setup history c to steals.Memory = (pinned_of setup ≤ c.0)
     × (to ≢ owner_of setup history c) × IsReady history c
     × ((shape_of setup).steal_cost < worth_of setup history c)

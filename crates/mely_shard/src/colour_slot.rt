@@ -2,9 +2,9 @@
 ghost use Rattle.std.specs.Prelude.{◌≡◌, ◌<◌, ◌≤◌, ◌+◌, ◌^◌, ◌-◌, [], None, Some, IfOk, IfErr, OnOk, OnErr, length, nat_lt, IsSomeAnd, map};
 ghost use Rattle.std.specs.Prelude.{◌++◌, ◌≢◌, ℕ, IsSome, slice_get, vec_len, vec_capacity};
 ghost use Rattle.mely_history.specs.Setup.{shape_of, colours_of};
-ghost use Rattle.mely_shard.specs.Invariant.{IsFirstCell, AreFirstCells, AreAtHome};
+ghost use Rattle.mely_shard.specs.Invariant.{IsFirstSlot, AreFirstSlots, AreAtHome};
 ghost use Rattle.mely_shard.specs.Shard.{colour_at};
-ghost use Rattle.mely_shard.specs.Replies.{cell_is_drained};
+ghost use Rattle.mely_shard.specs.Replies.{slot_is_drained};
 ghost use Rattle.std.specs.List.{list_all};
 ghost use Rattle.mely_queue.specs.ColourQueue.{registered_in, after_push};
 
@@ -120,7 +120,7 @@ impl<S, P> ColourSlot<S, P> {
 
     /// Whether the colour rests with nothing queued.
     pub(crate) fn is_drained(&self) -> bool
-        ensures { result ≡ cell_is_drained self.now }
+        ensures { result ≡ slot_is_drained self.now }
     {
         self.home.is_some() && self.queue.len() == 0
     }
@@ -141,7 +141,7 @@ impl<S, P> ColourSlot<S, P> {
     where
         S: Drop,
         requires { self.old.queue.finished + count ≤ self.old.queue.started }
-        ensures cell { self.new
+        ensures slot { self.new
             ≡ record self.old { queue = finished_by self.old.queue count; home = Some state } }
         ensures reply { result ≡ after_of self.old }
     {
@@ -159,7 +159,7 @@ impl<S, P> ColourSlot<S, P> {
 
     /// Changes the owner, and answers what is told of a steal.
     pub(crate) fn steal(&mut self, to: u16) -> Stolen
-        ensures cell { self.new ≡ record self.old { owner = to } }
+        ensures slot { self.new ≡ record self.old { owner = to } }
         ensures reply { result ≡ stolen_of self.old }
     {
         let from = self.owner;
@@ -173,7 +173,7 @@ impl<S, P> ColourSlot<S, P> {
 }
 
 impl<S: Fits<P>, P> ColourSlot<S, P> {
-    ghost use Rattle.mely_shard.specs.Replies.{CellTakes, CellKeepsState};
+    ghost use Rattle.mely_shard.specs.Replies.{SlotTakes, SlotKeepsState};
     ghost use Rattle.mely_queue.specs.Turn.{EachFits};
 
     /// Moves the state and the first events out, these in the emptied vector, in whose place a new one
@@ -194,8 +194,8 @@ impl<S: Fits<P>, P> ColourSlot<S, P> {
         requires fit { EachFits (S.fits_under (S.frame_of self.old.given.value) colour)
             self.old.queue.events }
         ensures ok { IfOk result (λ turn.
-            CellTakes S.Trail self.old self.new colour core batch turn) }
-        ensures err { OnErr result (CellKeepsState S.Trail self.old self.new) }
+            SlotTakes S.Trail self.old self.new colour core batch turn) }
+        ensures err { OnErr result (SlotKeepsState S.Trail self.old self.new) }
         ensures emptied { emptied.new.items ≡ [] }
     {
         let count = (batch as usize).min(self.queue.len());
@@ -214,10 +214,10 @@ impl<S: Fits<P>, P> ColourSlot<S, P> {
     }
 }
 
-/// A cell at first: nothing was registered, and the state is at home on the core that the colour
+/// A slot at first: nothing was registered, and the state is at home on the core that the colour
 /// begins on.
-fn first_cell<S, P>(alloc: Global, setup: &Setup, colour: u32, state: S) -> ColourSlot<S, P>
-    ensures { IsFirstCell setup.now colour state result }
+fn first_slot<S, P>(alloc: Global, setup: &Setup, colour: u32, state: S) -> ColourSlot<S, P>
+    ensures { IsFirstSlot setup.now colour state result }
 {
     let given = Snapshot::of(&state);
     ColourSlot {
@@ -230,8 +230,8 @@ fn first_cell<S, P>(alloc: Global, setup: &Setup, colour: u32, state: S) -> Colo
     }
 }
 
-/// A cell for each state, of the colours of a shard in ascending order.
-pub(crate) fn cells_of<S: Drop, P: Drop>(
+/// A slot for each state, of the colours of a shard in ascending order.
+pub(crate) fn slots_of<S: Drop, P: Drop>(
     alloc: Global,
     setup: &Setup,
     shard: u16,
@@ -240,45 +240,43 @@ pub(crate) fn cells_of<S: Drop, P: Drop>(
     requires numbered { shard < (shape_of setup.now).shards }
     requires few { (i : ℕ) → i < length states.items → (colour_at setup.now shard i).0
         < colours_of setup.now }
-    ensures many { IfOk result (λ cells. length cells.items ≡ length states.items) }
-    ensures first { IfOk result (λ cells. AreFirstCells setup.now shard states.items cells.items) }
+    ensures many { IfOk result (λ slots. length slots.items ≡ length states.items) }
+    ensures first { IfOk result (λ slots. AreFirstSlots setup.now shard states.items slots.items) }
 {
-    let Ok(mut cells) = Vec::with_capacity(alloc, states.len()) else {
-        return Err(Memory);
-    };
+    let mut slots = Vec::with_capacity(alloc, states.len())?;
     let mut colour = u32::from(shard);
     for state in states {
-        cells.push_reserved(first_cell(alloc, setup, colour, state));
+        slots.push_reserved(first_slot(alloc, setup, colour, state));
         colour += u32::from(setup.shards());
     }
-    Ok(cells)
+    Ok(slots)
 }
 
-/// Whether each cell rests with nothing queued.
-pub(crate) fn all_drained<S, P>(cells: &[ColourSlot<S, P>]) -> bool
-    ensures { result ≡ list_all cell_is_drained cells.now }
+/// Whether each slot rests with nothing queued.
+pub(crate) fn all_drained<S, P>(slots: &[ColourSlot<S, P>]) -> bool
+    ensures { result ≡ list_all slot_is_drained slots.now }
 {
-    cells.iter().all(|cell| cell.is_drained())
+    slots.iter().all(|slot| slot.is_drained())
 }
 
-/// Moves the states and the queued events out of cells whose states are all at home, into lists that
+/// Moves the states and the queued events out of slots whose states are all at home, into lists that
 /// have room for them.
 pub(crate) fn take_apart<S: Drop, P: Drop>(
-    cells: Vec<ColourSlot<S, P>>,
+    slots: Vec<ColourSlot<S, P>>,
     states: &mut Vec<S>,
     queues: &mut Vec<Vec<(Event, Option<P>)>>,
 )
-    requires at_home { AreAtHome cells.items }
-    requires states { vec_len states.old + length cells.items ≤ vec_capacity states.old }
-    requires queues { vec_len queues.old + length cells.items ≤ vec_capacity queues.old }
+    requires at_home { AreAtHome slots.items }
+    requires states { vec_len states.old + length slots.items ≤ vec_capacity states.old }
+    requires queues { vec_len queues.old + length slots.items ≤ vec_capacity queues.old }
     ensures states { map (λ state. Some state) states.new.items
-        ≡ map (λ state. Some state) states.old.items ++ map (λ cell. cell.home) cells.items }
+        ≡ map (λ state. Some state) states.old.items ++ map (λ slot. slot.home) slots.items }
     ensures queues { map (λ queue. queue.items) queues.new.items
-        ≡ map (λ queue. queue.items) queues.old.items ++ map (λ cell.
-        cell.queue.events) cells.items }
+        ≡ map (λ queue. queue.items) queues.old.items ++ map (λ slot.
+        slot.queue.events) slots.items }
 {
-    for cell in cells {
-        let ColourSlot { queue, home, .. } = cell;
+    for slot in slots {
+        let ColourSlot { queue, home, .. } = slot;
         let Some(state) = home else { unreachable!() };
         states.push_reserved(state);
         queues.push_reserved(queue.into_events());

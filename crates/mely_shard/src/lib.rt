@@ -7,7 +7,7 @@
 //! colour's state, which is then away; it runs them on the state, and finishes, which takes the state
 //! home; an idle core steals a whole colour that is worth more than the declared cost, unless it is
 //! pinned. Each of these four calls appends its entry to the shard's history, and the type keeps that
-//! the history is legal by the rules of `mely_history`. A history has at most [`MOST_ENTRIES`].
+//! the history is legal by the rules of `mely_history`. A history has at most [`MAX_ENTRIES`].
 //!
 //! ```
 //! let mut shard = Shard::new(alloc, &setup, 0, states)?;
@@ -29,5 +29,5 @@ mod shard;
 #[cfg(test)]
 mod tests;
 
-pub use room::MOST_ENTRIES;
+pub use room::MAX_ENTRIES;
 pub use shard::Shard;

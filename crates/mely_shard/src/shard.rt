@@ -1,7 +1,7 @@
 //! The colours of one shard as one plain value.
 ghost use Rattle.std.specs.Prelude.{◌≡◌, ◌<◌, ◌≤◌, ◌+◌, ◌-◌, ◌/◌, ◌%◌, ◌^◌, ◌++◌, ◌∷◌, [], ℕ, List, Option, ◌≢◌, length, IfOk, IfErr, OnOk, OnErr, option_copied, IsTrue, ◌↔◌};
 
-use crate::colour_slot::{ColourSlot, all_drained, cells_of, take_apart};
+use crate::colour_slot::{ColourSlot, all_drained, slots_of, take_apart};
 use crate::room::make_room;
 use mely_event::{Colour, Event, Fits, Memory, Trail, Unregistered};
 use mely_history::{After, Entry, NoSteal, NoTake, Registered, Setup, Stolen};
@@ -25,12 +25,12 @@ use std::snapshot::Snapshot;
 /// raises it; a registration and a steal lower it by one at most, a take by two at most (its own
 /// entry, and that of its finish), a finish and a refused call not at all. The entries, those that
 /// finish the turns that are out and the spare are never more than
-/// [`MOST_ENTRIES`](crate::MOST_ENTRIES).
+/// [`MAX_ENTRIES`](crate::MAX_ENTRIES).
 #[derive(Drop)]
 pub struct Shard<S: Fits<P>, P> {
     setup: Setup,
     shard: u16,
-    cells: Vec<ColourSlot<S, P>>,
+    slots: Vec<ColourSlot<S, P>>,
     alloc: Global,
 
     /// Empty lists with room for what [`into_parts`](Shard::into_parts) hands out.
@@ -63,16 +63,16 @@ impl<S: Fits<P>, P> Model for Shard<S, P> {
       setup = s.setup;
       shard = s.shard;
       history = s.history.items;
-      lanes = map lane_of s.cells.items;
+      lanes = map lane_of s.slots.items;
       spare =
           most_of (vec_capacity s.history) - (length s.history.items + s.running);
     } };
 
     ghost invariant = { λ s.
-        IsKeptShard S.Trail S.fits_under s.setup s.shard s.history.items s.cells.items s.running
+        IsKeptShard S.Trail S.fits_under s.setup s.shard s.history.items s.slots.items s.running
         (most_of (vec_capacity s.history))
         × HasRoom (vec_len s.states) (vec_capacity s.states) (vec_len s.queues)
-        (vec_capacity s.queues) (length s.cells.items) × (s.emptied.items ≡ []) };
+        (vec_capacity s.queues) (length s.slots.items) × (s.emptied.items ≡ []) };
 }
 
 impl<S: Fits<P>, P> Shard<S, P> {
@@ -105,17 +105,13 @@ impl<S: Fits<P>, P> Shard<S, P> {
         ensures made { IfOk result (λ made. IsFirst setup.now shard states.items made) }
         ensures kept { IfOk result (λ made. IsConsistent S.Trail S.fits_under made) }
     {
-        let cells = cells_of(alloc, setup, shard, states)?;
-        let Ok(states) = Vec::with_capacity(alloc, cells.len()) else {
-            return Err(Memory);
-        };
-        let Ok(queues) = Vec::with_capacity(alloc, cells.len()) else {
-            return Err(Memory);
-        };
+        let slots = slots_of(alloc, setup, shard, states)?;
+        let states = Vec::with_capacity(alloc, slots.len())?;
+        let queues = Vec::with_capacity(alloc, slots.len())?;
         Ok(Shard {
             setup: *setup,
             shard,
-            cells,
+            slots,
             alloc,
             states,
             queues,
@@ -142,12 +138,12 @@ impl<S: Fits<P>, P> Shard<S, P> {
     {
         let Shard {
             history,
-            cells,
+            slots,
             mut states,
             mut queues,
             ..
         } = self;
-        take_apart(cells, &mut states, &mut queues);
+        take_apart(slots, &mut states, &mut queues);
         (history, states, queues)
     }
 
@@ -156,7 +152,7 @@ impl<S: Fits<P>, P> Shard<S, P> {
     pub fn is_drained(&self) -> bool
         ensures { IsTrue result ↔ IsDrained self.now.history }
     {
-        all_drained(&self.cells)
+        all_drained(&self.slots)
     }
 
     /// The entries so far, the oldest first.
@@ -201,7 +197,7 @@ impl<S: Fits<P>, P> Shard<S, P> {
         };
         let weight = self.setup.handlers().weight(event.handler);
         let place = self.setup.place_of(colour);
-        let reply = self.cells[place].register(event, load, weight)?;
+        let reply = self.slots[place].register(event, load, weight)?;
         self.history.push_reserved(Entry::Reg { colour, event, by });
         Ok(reply)
     }
@@ -228,15 +224,15 @@ impl<S: Fits<P>, P> Shard<S, P> {
         ensures frame { KeepsFrame self.old self.new }
     {
         let place = self.setup.place_of(colour);
-        let cell = &mut self.cells[place];
-        if let Some(refusal) = cell.no_take(core) {
+        let slot = &mut self.slots[place];
+        if let Some(refusal) = slot.no_take(core) {
             return Err(refusal);
         }
         let Ok(()) = make_room(&mut self.history, self.running + 2) else {
             return Err(NoTake::Memory);
         };
         let batch = self.setup.batch();
-        let Ok(turn) = cell.take(colour, core, batch, &mut self.emptied, self.alloc) else {
+        let Ok(turn) = slot.take(colour, core, batch, &mut self.emptied, self.alloc) else {
             return Err(NoTake::Memory);
         };
         let count = turn.count();
@@ -276,7 +272,7 @@ impl<S: Fits<P>, P> Shard<S, P> {
         self.running -= 1;
         let (state, emptied) = turn.into_parts();
         self.emptied = emptied;
-        self.cells[place].finish(count, state)
+        self.slots[place].finish(count, state)
     }
 
     /// Makes the spare of the history at least this many entries, beside the room for running turns.
@@ -304,7 +300,7 @@ impl<S: Fits<P>, P> Shard<S, P> {
             → option_copied result ≡ lane.state }
     {
         let place = self.setup.place_of(colour);
-        self.cells[place].home.as_ref()
+        self.slots[place].home.as_ref()
     }
 
     /// The owner, how many events were started, and the worth of a colour that is ready.
@@ -313,7 +309,7 @@ impl<S: Fits<P>, P> Shard<S, P> {
         ensures { ReadyAs self.now.setup self.now.history colour result }
     {
         let place = self.setup.place_of(colour);
-        self.cells[place].ready()
+        self.slots[place].ready()
     }
 
     /// Moves a colour with all that is queued to another core.
@@ -342,14 +338,14 @@ impl<S: Fits<P>, P> Shard<S, P> {
             return Err(NoSteal::Pinned { colour });
         }
         let place = self.setup.place_of(colour);
-        let cell = &mut self.cells[place];
-        if let Some(refusal) = cell.no_steal(to, self.setup.steal_cost()) {
+        let slot = &mut self.slots[place];
+        if let Some(refusal) = slot.no_steal(to, self.setup.steal_cost()) {
             return Err(refusal);
         }
         let Ok(()) = make_room(&mut self.history, self.running + 1) else {
             return Err(NoSteal::Memory);
         };
-        let stolen = cell.steal(to);
+        let stolen = slot.steal(to);
         let from = stolen.from;
         self.history
             .push_reserved(Entry::Steal { colour, from, to });

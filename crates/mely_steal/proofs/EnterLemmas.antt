@@ -4,7 +4,7 @@ use Rattle.std.proofs.lemmas.Bool.{cases_Bool, cases_eq, both_ways, eqb-true, eq
 use Rattle.std.proofs.lemmas.List.Elements.{filter-append}
 use Rattle.std.proofs.lemmas.Option.{none-some, same_Some}
 use Rattle.mely_steal.specs.Links.{is_in, without_place}
-use Rattle.mely_steal.specs.Entering.{Ranked, of_class, gone, has_entry, ranks_of, insert_by_number, by_number, merge_classes, IsLeast, IsAscending, AreClassed, AreBelow, IsMerged}
+use Rattle.mely_steal.specs.Entering.{Ranked, of_class, entries_without, has_entry, ranks_of, insert_by_number, by_number, merge_classes, IsLeast, IsAscending, AreClassed, AreBelow, IsMerged}
 
 -- an entry with the least number goes first
 placed-least : (n : ℕ → ℕ) (x : Ranked) (xs : List Ranked) → IsLeast n x xs → insert_by_number n x xs ≡ x ∷ xs
@@ -152,15 +152,15 @@ eqb-swap x y = elim (cases_eq x y) [
 ]
 
 -- the entries of one class
-pub gone-ranked : (c k : ℕ) (xs : List ℕ) → gone c (ranks_of k xs) ≡ ranks_of k (without_place c xs)
-gone-ranked c k [] = refl
-gone-ranked c k (x ∷ xs) = elim (cases_eq c x) [
+pub entries_without-ranks : (c k : ℕ) (xs : List ℕ) → entries_without c (ranks_of k xs) ≡ ranks_of k (without_place c xs)
+entries_without-ranks c k [] = refl
+entries_without-ranks c k (x ∷ xs) = elim (cases_eq c x) [
   | inl e ↦
-      cond-false (not (eqb x c)) (record { colour = x; class = k } ∷ gone c (ranks_of k xs)) (gone c (ranks_of k xs)) (not_from_true (eqb x c) (eq-eqb x c (sym e)))
-      ∙ (gone-ranked c k xs ∙ sym (ap (ranks_of k) (cond-false (not (eqb c x)) (x ∷ without_place c xs) (without_place c xs) (not_from_true (eqb c x) (eq-eqb c x e)))))
+      cond-false (not (eqb x c)) (record { colour = x; class = k } ∷ entries_without c (ranks_of k xs)) (entries_without c (ranks_of k xs)) (not_from_true (eqb x c) (eq-eqb x c (sym e)))
+      ∙ (entries_without-ranks c k xs ∙ sym (ap (ranks_of k) (cond-false (not (eqb c x)) (x ∷ without_place c xs) (without_place c xs) (not_from_true (eqb c x) (eq-eqb c x e)))))
   | inr ne ↦
-      cond-true (not (eqb x c)) (record { colour = x; class = k } ∷ gone c (ranks_of k xs)) (gone c (ranks_of k xs)) (not_from_false (eqb x c) (ne_eqb x c (λ e. ne (sym e))))
-      ∙ (ap (λ ys. record { colour = x; class = k } ∷ ys) (gone-ranked c k xs)
+      cond-true (not (eqb x c)) (record { colour = x; class = k } ∷ entries_without c (ranks_of k xs)) (entries_without c (ranks_of k xs)) (not_from_false (eqb x c) (ne_eqb x c (λ e. ne (sym e))))
+      ∙ (ap (λ ys. record { colour = x; class = k } ∷ ys) (entries_without-ranks c k xs)
       ∙ sym (ap (ranks_of k) (cond-true (not (eqb c x)) (x ∷ without_place c xs) (without_place c xs) (not_from_false (eqb c x) (ne_eqb c x ne)))))
 ]
 

@@ -6,9 +6,9 @@ use Rattle.std.proofs.lemmas.List.{map-append}
 use Rattle.mely_steal.specs.declared.links.Link.{Link}
 use Rattle.mely_steal.specs.declared.links.Ends.{Ends}
 use Rattle.mely_steal.specs.Links.{list_at, places_of, is_in, without_place, IsStrung, MovesOnly, SparesOthers}
-use Rattle.mely_steal.specs.Entering.{Ranked, of_class, gone, has_entry, class_in, ranks_of, number_at, no_ends, ends_at, entries_of, IsAscending, AreClassed, AreBelow, IsMerged, StandInOrder}
+use Rattle.mely_steal.specs.Entering.{Ranked, of_class, entries_without, has_entry, class_in, ranks_of, number_at, no_ends, ends_at, entries_of, IsAscending, AreClassed, AreBelow, IsMerged, StandInOrder}
 use Rattle.mely_steal.proofs.LinkLemmas.{dropped-none}
-use Rattle.mely_steal.proofs.EnterLemmas.{class-here, class-later, merged-is, class-push, ascending-push, classed-push, below-push, ascending-filter, classed-filter, below-filter, filter-swap, gone-ranked, has-ranked, has-class, find-class, find-none}
+use Rattle.mely_steal.proofs.EnterLemmas.{class-here, class-later, merged-is, class-push, ascending-push, classed-push, below-push, ascending-filter, classed-filter, below-filter, filter-swap, entries_without-ranks, has-ranked, has-class, find-class, find-none}
 
 -- a class of marks that are worth a steal
 abbrev pub IsClass : ℕ → Type 0
@@ -172,13 +172,13 @@ enter-stands L M ends N next k c now s isk lt free is strung spares moves =
 -- where a colour left its class
 pub leave-stands : (L M : List Link) (ends : List Ends) (N : List ℕ) (next k c : ℕ) (now : Ends) → StandInOrder L ends N next → IsClass k → c < length L → list_at L c ≡ k
     → places_of M now ≡ without_place c (list_of L ends k) → IsStrung k M now → SparesOthers k L M → MovesOnly c 0 L M
-    → (entries_of M (set ends (k - 1) now) N ≡ gone c (entries_of L ends N)) × StandInOrder M (set ends (k - 1) now) N next
+    → (entries_of M (set ends (k - 1) now) N ≡ entries_without c (entries_of L ends N)) × StandInOrder M (set ends (k - 1) now) N next
 leave-stands L M ends N next k c now s isk lt at is strung spares moves =
     let g : List Ranked = entries_of L ends N in
     let late : List Ends = set ends (k - 1) now in
     let n : ℕ → ℕ = number_at N in
     let p : Ranked → Bool = λ e. not (e.colour == c) in
-    stands-as M late N next (gone c g)
+    stands-as M late N next (entries_without c g)
     (length-set ends (k - 1) now ∙ s.many)
     (let small = s.small in rw moves.long small)
     (s.numbered ∙ sym moves.long)
@@ -188,8 +188,8 @@ leave-stands L M ends N next k c now s isk lt at is strung spares moves =
     ])
     (λ j isj. elim (lists-after L M ends N next k j now s isk isj strung spares) [ inl a ↦ a.2 | inr b ↦ b.2 ])
     (λ j isj.
-    let rest : of_class j (gone c g) ≡ ranks_of j (without_place c (list_of L ends j)) =
-    filter-swap (λ e. e.class == j) p g ∙ (ap (gone c) (entries-class L ends N next j s isj) ∙ gone-ranked c j (list_of L ends j)) in
+    let rest : of_class j (entries_without c g) ≡ ranks_of j (without_place c (list_of L ends j)) =
+    filter-swap (λ e. e.class == j) p g ∙ (ap (entries_without c) (entries-class L ends N next j s isj) ∙ entries_without-ranks c j (list_of L ends j)) in
     elim (lists-after L M ends N next k j now s isk isj strung spares) [
       | inl a ↦ rest ∙ ap (ranks_of j) (ap (λ z. without_place c (list_of L ends z)) a.0 ∙ (sym is ∙ sym a.1))
       | inr b ↦
@@ -201,11 +201,11 @@ leave-stands L M ends N next k c now s isk lt at is strung spares moves =
     (below-filter n next p g s.below)
 
 -- entries without a colour that has none
-pub gone-absent : (c : ℕ) (g : List Ranked) → has_entry c g ≡ false → gone c g ≡ g
-gone-absent c [] off = refl
-gone-absent c (x ∷ g) off =
+pub entries_without-absent : (c : ℕ) (g : List Ranked) → has_entry c g ≡ false → entries_without c g ≡ g
+entries_without-absent c [] off = refl
+entries_without-absent c (x ∷ g) off =
     let parts = or_parts (eqb x.colour c) (has_entry c g) off in
-    ap (λ b. cond (not b) (x ∷ gone c g) (gone c g)) parts.0 ∙ ap (λ ys. x ∷ ys) (gone-absent c g parts.1)
+    ap (λ b. cond (not b) (x ∷ entries_without c g) (entries_without c g)) parts.0 ∙ ap (λ ys. x ∷ ys) (entries_without-absent c g parts.1)
 
 pub class-from : (k : ℕ) → 1 ≤ k → k ≤ 3 → IsClass k
 class-from k low high = elim (class-cases k high) [ inl none ↦ absurd (omega arith) | inr is ↦ is ]

@@ -8,11 +8,11 @@ use Rattle.mely_event.specs.declared.mark.Mark.{Mark}
 use Rattle.mely_steal.specs.Classes.{class_of}
 use Rattle.mely_steal.specs.Marks.{mark_of, without, after_replacement}
 use Rattle.mely_steal.specs.StealQueue.{AreWorthy, is_worthy, after_entry, after_mark_change, keeps_class}
-use Rattle.mely_steal.specs.Entering.{Ranked, gone, has_entry, class_in, joined_by, moved_to}
-use Rattle.mely_steal.specs.StealTable.{Told, AreStealable, mark_in, SetsMark, marks_of, AreOfClass}
+use Rattle.mely_steal.specs.Entering.{Ranked, entries_without, has_entry, class_in, joined_by, moved_to}
+use Rattle.mely_steal.specs.StealTable.{MarkTableState, AreStealable, mark_in, SetsMark, marks_of, AreOfClass}
 use Rattle.mely_steal.proofs.MarkLemmas.{without-none}
 use Rattle.mely_steal.proofs.StealLemmas.{worthy-parts, worthy-from, worthy-class_of, find-All, keeps_class-worthy, keeps_class-loose, keeps_class-old, AreWorthy-entered, AreWorthy-changed, AreWorthy-without}
-use Rattle.mely_steal.proofs.TableMarksLemmas.{mark_of-entries, without-entries, marks-absent, marks-replaced, class-at, classed-push, classed-gone, classed-absent, classed-same, absent-has, gone-has, class-none, mark-at, none-gone}
+use Rattle.mely_steal.proofs.TableMarksLemmas.{mark_of-entries, without-entries, marks-absent, marks-replaced, class-at, classed-push, classed-entries_without, classed-absent, classed-same, absent-has, entries_without-has, class-none, mark-at, none-entries_without}
 
 -- the class in which a mark may be stolen, and 0 where it may not
 abbrev pub stealing_class : ℕ → ℕ → Mark → ℕ
@@ -23,7 +23,7 @@ stealing-some : (cost pinned : ℕ) (m : Mark) → is_worthy cost pinned m ≡ t
 stealing-some cost pinned m w = (cond-true (is_worthy cost pinned m) (class_of m.worth cost) 0 w, worthy-class_of m.worth cost (worthy-parts cost pinned m w).1)
 
 -- a colour that has no mark yet enters
-pub enter-stealable : (t u : Told) (g : List Ranked) (n cost pinned : ℕ) (m : Mark) → AreStealable (record { told = t; entries = g; colours = n; cost = cost; pinned = pinned }) → SetsMark m t u → m.colour.0 < n → has_entry m.colour.0 g ≡ false → mark_of m.colour (marks_of t g) ≡ None
+pub enter-stealable : (t u : MarkTableState) (g : List Ranked) (n cost pinned : ℕ) (m : Mark) → AreStealable (record { told = t; entries = g; colours = n; cost = cost; pinned = pinned }) → SetsMark m t u → m.colour.0 < n → has_entry m.colour.0 g ≡ false → mark_of m.colour (marks_of t g) ≡ None
     → (marks_of u (joined_by (stealing_class cost pinned m) m.colour.0 g) ≡ after_entry cost pinned m (marks_of t g))
     × AreStealable (record { told = u; entries = joined_by (stealing_class cost pinned m) m.colour.0 g; colours = n; cost = cost; pinned = pinned })
 enter-stealable t u g n cost pinned m s sets lt off none =
@@ -59,14 +59,14 @@ enter-stealable t u g n cost pinned m s sets lt off none =
     ]
 
 -- a colour leaves
-pub leave-stealable : (t : Told) (g : List Ranked) (n cost pinned : ℕ) (c : Colour) → AreStealable (record { told = t; entries = g; colours = n; cost = cost; pinned = pinned })
-    → AreStealable (record { told = t; entries = gone c.0 g; colours = n; cost = cost; pinned = pinned })
+pub leave-stealable : (t : MarkTableState) (g : List Ranked) (n cost pinned : ℕ) (c : Colour) → AreStealable (record { told = t; entries = g; colours = n; cost = cost; pinned = pinned })
+    → AreStealable (record { told = t; entries = entries_without c.0 g; colours = n; cost = cost; pinned = pinned })
 leave-stealable t g n cost pinned c s =
     let Kept : List Mark → Type 0 = λ xs. AreWorthy (record { marks = xs; colours = n; cost = cost; pinned = pinned }) in
-    record { worthy = subst Kept (without-entries t c g) (AreWorthy-without c (marks_of t g) n cost pinned s.worthy); classed = classed-gone cost t c.0 g s.classed }
+    record { worthy = subst Kept (without-entries t c g) (AreWorthy-without c (marks_of t g) n cost pinned s.worthy); classed = classed-entries_without cost t c.0 g s.classed }
 
 -- what a colour that has a mark there is
-there-class : (t : Told) (g : List Ranked) (n cost pinned : ℕ) (c : Colour) (old : Mark) → AreStealable (record { told = t; entries = g; colours = n; cost = cost; pinned = pinned }) → mark_of c (marks_of t g) ≡ Some old
+there-class : (t : MarkTableState) (g : List Ranked) (n cost pinned : ℕ) (c : Colour) (old : Mark) → AreStealable (record { told = t; entries = g; colours = n; cost = cost; pinned = pinned }) → mark_of c (marks_of t g) ≡ Some old
     → (class_in c.0 g ≡ class_of old.worth cost) × (0 < class_in c.0 g)
 there-class t g n cost pinned c old s there =
     let is : class_in c.0 g ≡ class_of old.worth cost = class-at cost t c.0 g s.classed ∙ ap (λ o. option_map_or (λ (m : Mark). class_of m.worth cost) o 0) (sym (mark_of-entries t c g) ∙ there) in
@@ -75,7 +75,7 @@ there-class t g n cost pinned c old s there =
     (is, rw is low)
 
 -- a mark keeps its class exactly where its colour is moved to where it is, and has a mark there
-keeps-is : (t : Told) (g : List Ranked) (n cost pinned : ℕ) (m : Mark) → AreStealable (record { told = t; entries = g; colours = n; cost = cost; pinned = pinned }) → keeps_class cost m (marks_of t g) ≡ true
+keeps-is : (t : MarkTableState) (g : List Ranked) (n cost pinned : ℕ) (m : Mark) → AreStealable (record { told = t; entries = g; colours = n; cost = cost; pinned = pinned }) → keeps_class cost m (marks_of t g) ≡ true
     → class_in m.colour.0 g ≡ stealing_class cost pinned m
 keeps-is t g n cost pinned m s keeps =
     let old = keeps_class-old cost m (mark_of m.colour (marks_of t g)) keeps in
@@ -84,7 +84,7 @@ keeps-is t g n cost pinned m s keeps =
     there.0 ∙ (old.2 ∙ sym (stealing-some cost pinned m worthy).0)
 
 -- where a colour that has a mark is of the class in which the new mark may be stolen, the mark keeps its class
-stays-keeps : (t : Told) (g : List Ranked) (n cost pinned : ℕ) (m : Mark) → AreStealable (record { told = t; entries = g; colours = n; cost = cost; pinned = pinned }) → class_in m.colour.0 g ≡ stealing_class cost pinned m
+stays-keeps : (t : MarkTableState) (g : List Ranked) (n cost pinned : ℕ) (m : Mark) → AreStealable (record { told = t; entries = g; colours = n; cost = cost; pinned = pinned }) → class_in m.colour.0 g ≡ stealing_class cost pinned m
     → (o : Option Mark) → mark_of m.colour (marks_of t g) ≡ o → (option_map_or (λ old. class_of old.worth cost == class_of m.worth cost) o false ≡ true) ⊎ (o ≡ None)
 stays-keeps t g n cost pinned m s is None at = inr refl
 stays-keeps t g n cost pinned m s is (Some old) at =
@@ -98,7 +98,7 @@ stays-keeps t g n cost pinned m s is (Some old) at =
     ]
 
 -- the mark of a colour changes
-pub change-stealable : (t u : Told) (g : List Ranked) (n cost pinned : ℕ) (m : Mark) → AreStealable (record { told = t; entries = g; colours = n; cost = cost; pinned = pinned }) → SetsMark m t u → m.colour.0 < n
+pub change-stealable : (t u : MarkTableState) (g : List Ranked) (n cost pinned : ℕ) (m : Mark) → AreStealable (record { told = t; entries = g; colours = n; cost = cost; pinned = pinned }) → SetsMark m t u → m.colour.0 < n
     → (marks_of u (moved_to (stealing_class cost pinned m) m.colour.0 g) ≡ after_mark_change cost pinned m (marks_of t g))
     × AreStealable (record { told = u; entries = moved_to (stealing_class cost pinned m) m.colour.0 g; colours = n; cost = cost; pinned = pinned })
 change-stealable t u g n cost pinned m s sets lt =
@@ -110,7 +110,7 @@ change-stealable t u g n cost pinned m s sets lt =
     let Classed : List Ranked → Type 0 = λ h. AreOfClass cost u h in
     elim (cases_eq (class_in c g) k) [
       | inl is ↦
-          let same : moved_to k c g ≡ g = cond-true (eqb (class_in c g) k) g (joined_by k c (gone c g)) (eq-eqb (class_in c g) k is) in
+          let same : moved_to k c g ≡ g = cond-true (eqb (class_in c g) k) g (joined_by k c (entries_without c g)) (eq-eqb (class_in c g) k is) in
           elim (stays-keeps t g n cost pinned m s is (mark_of m.colour xs) refl) [
             | inl keeps ↦
                 let marks : marks_of u (moved_to k c g) ≡ after_mark_change cost pinned m xs =
@@ -134,8 +134,8 @@ change-stealable t u g n cost pinned m s sets lt =
                 (marks, record { worthy = subst Kept (sym marks) after; classed = subst Classed (sym same) (classed-absent cost t u m g sets off s.classed) })
           ]
       | inr ne ↦
-          let rest = enter-stealable t u (gone c g) n cost pinned m (leave-stealable t g n cost pinned m.colour s) sets lt (gone-has c g) (none-gone t m.colour g) in
-          let moved : moved_to k c g ≡ joined_by k c (gone c g) = cond-false (eqb (class_in c g) k) g (joined_by k c (gone c g)) (ne_eqb (class_in c g) k ne) in
+          let rest = enter-stealable t u (entries_without c g) n cost pinned m (leave-stealable t g n cost pinned m.colour s) sets lt (entries_without-has c g) (none-entries_without t m.colour g) in
+          let moved : moved_to k c g ≡ joined_by k c (entries_without c g) = cond-false (eqb (class_in c g) k) g (joined_by k c (entries_without c g)) (ne_eqb (class_in c g) k ne) in
           let loses : keeps_class cost m xs ≡ false = elim (cases_Bool (keeps_class cost m xs)) [ inl keeps ↦ absurd (ne (keeps-is t g n cost pinned m s keeps)) | inr f ↦ f ] in
           let marks : marks_of u (moved_to k c g) ≡ after_mark_change cost pinned m xs =
           ap (marks_of u) moved ∙ (rest.0

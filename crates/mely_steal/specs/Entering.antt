@@ -2,7 +2,7 @@
 use Rattle.std.specs.Prelude.{◌≡◌, ◌≢◌, ◌<◌, ◌≤◌, ◌==◌, ◌⊎◌, ◌++◌, ℕ, Bool, not, nat_lt, List, [], ◌∷◌, map, filter, find, length, slice_index, slice_index_or, if◌then◌else◌}
 use Rattle.std.specs.List.{list_any}
 use Rattle.std.specs.Option.{option_map_or}
-use Rattle.mely_steal.specs.declared.links.TheConstants.{MOST_PLACES}
+use Rattle.mely_steal.specs.declared.links.TheConstants.{MAX_PLACES}
 use Rattle.mely_steal.specs.declared.links.Link.{Link}
 use Rattle.mely_steal.specs.declared.links.Ends.{Ends}
 use Rattle.mely_steal.specs.Links.{list_at, places_of, IsStrung}
@@ -13,7 +13,7 @@ pub record Ranked : Type 0 where
   pub class : ℕ
 
 -- colours in the order in which each entered its class, and the number of colours that there is room for
-pub record Ranking : Type 0 where
+pub record ClassesState : Type 0 where
   pub entries : List Ranked
   pub places : ℕ
 
@@ -22,8 +22,8 @@ abbrev pub of_class : ℕ → List Ranked → List Ranked
 of_class class entries = filter (λ entry. entry.class == class) entries
 
 -- the entries but that of the colour
-abbrev pub gone : ℕ → List Ranked → List Ranked
-gone colour entries = filter (λ entry. not (entry.colour == colour)) entries
+abbrev pub entries_without : ℕ → List Ranked → List Ranked
+entries_without colour entries = filter (λ entry. not (entry.colour == colour)) entries
 
 -- whether a colour has an entry, and its class, which is 0 where it has none
 abbrev pub has_entry : ℕ → List Ranked → Bool
@@ -42,7 +42,7 @@ joined_by class colour entries =
 -- the entries once a colour was moved to a class
 abbrev pub moved_to : ℕ → ℕ → List Ranked → List Ranked
 moved_to class colour entries = if class_in colour entries == class then entries else joined_by
-    class colour (gone colour entries)
+    class colour (entries_without colour entries)
 
 -- these colours are of the class
 abbrev pub ranks_of : ℕ → List ℕ → List Ranked
@@ -120,7 +120,7 @@ AreBelow number next (entry ∷ entries) = (number entry.colour < next) × AreBe
 -- the next one
 pub record StandInOrder (links : List Link) (ends : List Ends) (numbers : List ℕ) (next : ℕ) : Type 0 where
   pub many : length ends ≡ 3
-  pub small : length links ≤ MOST_PLACES
+  pub small : length links ≤ MAX_PLACES
   pub numbered : length numbers ≡ length links
   pub classes : (place : ℕ) → list_at links place ≤ 3
   pub one : IsStrung 1 links (ends_at ends 0)

@@ -5,20 +5,20 @@ use Rattle.mely_steal.specs.declared.links.Link.{Link}
 use Rattle.mely_steal.specs.declared.links.Ends.{Ends}
 
 -- a place that is in no list
-abbrev pub unlinked : Link
-unlinked = record { list = 0; before = 0; after = 0 }
+abbrev pub blank_link : Link
+blank_link = record { list = 0; before = 0; after = 0 }
 
 -- what the table says of a place: the number of the list that it is in, 0 where it is in none, and its neighbours there
 abbrev pub list_at : List Link → ℕ → ℕ
-list_at links place = (slice_index_or links place unlinked).list
+list_at links place = (slice_index_or links place blank_link).list
 
 -- the place before this one, by its link
 abbrev pub before_at : List Link → ℕ → ℕ
-before_at links place = (slice_index_or links place unlinked).before
+before_at links place = (slice_index_or links place blank_link).before
 
 -- the place behind this one, by its link
 abbrev pub after_at : List Link → ℕ → ℕ
-after_at links place = (slice_index_or links place unlinked).after
+after_at links place = (slice_index_or links place blank_link).after
 
 -- so many places, this one first, and behind each the one that its link names
 abbrev pub places_from : (ℕ → ℕ) → ℕ → ℕ → List ℕ

@@ -6,12 +6,12 @@ use Rattle.mely_steal.specs.StealQueue.{StealQueueState, AreWorthy}
 use Rattle.mely_steal.specs.Entering.{Ranked}
 
 -- of each colour the number of its started events and its worth, as they were last told
-pub record Told : Type 0 where
+pub record MarkTableState : Type 0 where
   pub started : List ℕ
   pub worth : List ℕ
 
 -- the mark of a colour
-abbrev pub mark_in : Told → ℕ → Mark
+abbrev pub mark_in : MarkTableState → ℕ → Mark
 mark_in told colour = record {
   colour = record { 0 = colour };
   started = slice_index told.started colour;
@@ -19,19 +19,19 @@ mark_in told colour = record {
 }
 
 -- one colour's mark is written, and nothing else
-pub record SetsMark (mark : Mark) (old new : Told) : Type 0 where
+pub record SetsMark (mark : Mark) (old new : MarkTableState) : Type 0 where
   pub here : mark_in new mark.colour.0 ≡ mark
   pub others : (colour : ℕ) → (mark.colour.0 ≡ colour → ⊥) → mark_in new colour ≡ mark_in old colour
   pub long : length new.started ≡ length old.started
 
 -- the marks of entries
-abbrev pub marks_of : Told → List Ranked → List Mark
+abbrev pub marks_of : MarkTableState → List Ranked → List Mark
 marks_of told entries = map (λ entry. mark_in told entry.colour) entries
 
 -- marks, the entries of those that may be stolen, the number of colours, the cost of a steal, and below which number colours are
 -- pinned to their cores
 pub record StealTableState : Type 0 where
-  pub told : Told
+  pub told : MarkTableState
   pub entries : List Ranked
   pub colours : ℕ
   pub cost : ℕ
@@ -47,7 +47,7 @@ worthy_of table = record {
 }
 
 -- each entry is in the class of its mark
-abbrev pub AreOfClass : ℕ → Told → List Ranked → Type 0
+abbrev pub AreOfClass : ℕ → MarkTableState → List Ranked → Type 0
 AreOfClass cost told [] = Unit {0}
 AreOfClass cost told (entry ∷ entries) =
     (entry.class ≡ class_of (mark_in told entry.colour).worth cost) × AreOfClass cost told entries

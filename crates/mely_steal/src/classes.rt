@@ -1,8 +1,8 @@
 //! Colours in three classes, each a list by links.
 ghost use Rattle.std.specs.Prelude.{◌≡◌, ◌<◌, ◌≤◌, ◌∷◌, ◌++◌, ◌==◌, [], IfOk, IfSome, min, option_map, find};
-ghost use Rattle.mely_steal.specs.Entering.{class_in, gone};
+ghost use Rattle.mely_steal.specs.Entering.{class_in, entries_without};
 
-use crate::links::{Ends, Link, MOST_PLACES, NO_ENDS, UNLINKED};
+use crate::links::{Ends, Link, MAX_PLACES, NO_ENDS, UNLINKED};
 use crate::numbering::next_number;
 use crate::table::{push_back, unlink};
 use mely_event::Memory;
@@ -22,9 +22,9 @@ pub(crate) struct Classes {
 }
 
 impl Model for Classes {
-    ghost use Rattle.mely_steal.specs.Entering.{Ranking, StandInOrder, entries_of};
+    ghost use Rattle.mely_steal.specs.Entering.{ClassesState, StandInOrder, entries_of};
 
-    ghost Value = { Ranking };
+    ghost Value = { ClassesState };
 
     ghost use Rattle.std.specs.Prelude.{length};
 
@@ -37,7 +37,7 @@ impl Model for Classes {
 }
 
 impl Classes {
-    ghost use Rattle.mely_steal.specs.Entering.{Ranked, Ranking};
+    ghost use Rattle.mely_steal.specs.Entering.{Ranked, ClassesState};
 
     /// No colours, with room for this many, and for no more than there are numbers of colours.
     ///
@@ -46,9 +46,9 @@ impl Classes {
     /// There was no memory.
     pub(crate) fn new(alloc: Global, colours: u32) -> Result<Classes, Memory>
         ensures empty { IfOk result (λ classes. classes.entries ≡ []) }
-        ensures places { IfOk result (λ classes. classes.places ≡ min colours MOST_PLACES) }
+        ensures places { IfOk result (λ classes. classes.places ≡ min colours MAX_PLACES) }
     {
-        let places = colours.min(MOST_PLACES) as usize;
+        let places = colours.min(MAX_PLACES) as usize;
         Ok(Classes {
             links: vec![in alloc; UNLINKED; places]?,
             ends: [NO_ENDS; 3],
@@ -98,7 +98,7 @@ impl Classes {
     /// Takes a colour out of its class. Nothing changes where it is in none.
     pub(crate) fn remove(&mut self, colour: u16)
         requires { colour < self.old.places }
-        ensures { self.new ≡ record self.old { entries = gone colour self.old.entries } }
+        ensures { self.new ≡ record self.old { entries = entries_without colour self.old.entries } }
     {
         let class = self.links[colour as usize].list;
         if class == 0 {

@@ -2,7 +2,7 @@
 ghost use Rattle.std.specs.Prelude.{◌≡◌, ◌<◌, ◌↔◌, ◌∷◌, ◌++◌, [], false, IfOk, IfSome, IsTrue, option_map, slice_get};
 ghost use Rattle.mely_steal.specs.Links.{without_place, is_in};
 
-use crate::links::{Ends, Link, MOST_PLACES, NO_ENDS, UNLINKED};
+use crate::links::{Ends, Link, MAX_PLACES, NO_ENDS, UNLINKED};
 use crate::table::{push_back, unlink};
 use mely_event::{Colour, Memory};
 use std::alloc::Global;
@@ -46,7 +46,7 @@ impl ColourList {
     pub fn new(alloc: Global, colours: u32) -> Result<ColourList, Memory>
         ensures { IfOk result (λ list. list ≡ record { list = []; colours = colours }) }
     {
-        let places = colours.min(MOST_PLACES) as usize;
+        let places = colours.min(MAX_PLACES) as usize;
         Ok(ColourList {
             links: vec![in alloc; UNLINKED; places]?,
             ends: NO_ENDS,

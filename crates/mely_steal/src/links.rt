@@ -20,7 +20,7 @@ pub(crate) struct Ends {
 }
 
 /// The most places of a table, one for each number that a colour may have.
-pub(crate) const MOST_PLACES: u32 = 65_536;
+pub(crate) const MAX_PLACES: u32 = 65_536;
 
 /// A place that is in no list.
 pub(crate) const UNLINKED: Link = Link {

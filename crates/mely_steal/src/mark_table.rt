@@ -2,7 +2,7 @@
 ghost use Rattle.std.specs.Prelude.{◌≡◌, ◌<◌, IfOk, length, min};
 ghost use Rattle.mely_steal.specs.StealTable.{SetsMark, mark_in};
 
-use crate::links::MOST_PLACES;
+use crate::links::MAX_PLACES;
 use mely_event::{Colour, Mark, Memory};
 use std::alloc::Global;
 use std::marker::Model;
@@ -16,9 +16,9 @@ pub(crate) struct MarkTable {
 }
 
 impl Model for MarkTable {
-    ghost use Rattle.mely_steal.specs.StealTable.{Told};
+    ghost use Rattle.mely_steal.specs.StealTable.{MarkTableState};
 
-    ghost Value = { Told };
+    ghost Value = { MarkTableState };
 
     ghost use Rattle.std.specs.Prelude.{◌≡◌, length};
 
@@ -34,9 +34,9 @@ impl MarkTable {
     ///
     /// There was no memory.
     pub(crate) fn new(alloc: Global, colours: u32) -> Result<MarkTable, Memory>
-        ensures { IfOk result (λ table. length table.started ≡ min colours MOST_PLACES) }
+        ensures { IfOk result (λ table. length table.started ≡ min colours MAX_PLACES) }
     {
-        let places = colours.min(MOST_PLACES) as usize;
+        let places = colours.min(MAX_PLACES) as usize;
         Ok(MarkTable {
             started: vec![in alloc; 0; places]?,
             worth: vec![in alloc; 0; places]?,

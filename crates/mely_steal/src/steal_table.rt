@@ -90,7 +90,7 @@ impl Model for StealTable {
     ghost Value = { StealTableState };
 
     ghost use Rattle.std.specs.Prelude.{◌≡◌, length, min};
-    ghost use Rattle.mely_steal.specs.declared.links.TheConstants.{MOST_PLACES};
+    ghost use Rattle.mely_steal.specs.declared.links.TheConstants.{MAX_PLACES};
 
     ghost view = { λ t. record {
       told = t.marks;
@@ -106,8 +106,8 @@ impl Model for StealTable {
       colours = t.colours;
       cost = t.cost;
       pinned = t.pinned;
-    }) × (length t.marks.started ≡ min t.colours MOST_PLACES)
-        × (t.classes.places ≡ min t.colours MOST_PLACES) };
+    }) × (length t.marks.started ≡ min t.colours MAX_PLACES)
+        × (t.classes.places ≡ min t.colours MAX_PLACES) };
 }
 
 impl StealTable {

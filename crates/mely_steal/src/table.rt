@@ -1,6 +1,6 @@
 //! Lists by links in one table.
 ghost use Rattle.std.specs.Prelude.{◌≡◌, ◌==◌, ◌<◌, ◌≤◌, ◌++◌, ◌∷◌, ◌-◌, [], length, if◌then◌else◌};
-ghost use Rattle.mely_steal.specs.declared.links.TheConstants.{MOST_PLACES};
+ghost use Rattle.mely_steal.specs.declared.links.TheConstants.{MAX_PLACES};
 ghost use Rattle.mely_steal.specs.Links.{places_of, list_at, before_at, after_at, without_place, IsStrung, MovesOnly, SparesOthers, SetsAfter, SetsBefore, SetsList, SetsLink, JoinsBehind, JoinsBefore};
 
 use crate::links::{Ends, Link};
@@ -11,7 +11,7 @@ pub(crate) fn push_back(links: &mut [Link], ends: &mut Ends, list: u8, place: u1
     requires strung { IsStrung list links.old ends.old }
     requires below { place < length links.old }
     requires free { list_at links.old place ≡ 0 }
-    requires small { length links.old ≤ MOST_PLACES }
+    requires small { length links.old ≤ MAX_PLACES }
     ensures listed { places_of links.new ends.new ≡ places_of links.old ends.old ++ place ∷ [] }
     ensures strung { IsStrung list links.new ends.new }
     ensures spares { SparesOthers list links.old links.new }

@@ -22,9 +22,6 @@ use Rattle.mely_tally.proofs.SumsLemmas.{sum_one, sum_set}
 abbrev pub home_of : {S P : Type 0} → ColourState S P → List S
 home_of lane = in_place lane.state
 
-abbrev pub waiting_of : {S P : Type 0} → ColourState S P → List (Carried P)
-waiting_of lane = lane.events
-
 alike_home : {S F : Type 0} (t : TrailWords S F) (f : S → ℕ) → IgnoresSpare t f → (a b : Option S) → AreAlike (IsRoomier t) a b → sum_by f (in_place b) ≡ sum_by f (in_place a)
 alike_home t f same None None is = refl
 alike_home t f same None (Some b) is = absurd is

@@ -7,7 +7,7 @@ pub mod SideStands
 pub mod Sides
 pub mod Weave
 pub mod StandsWell
-pub mod Trying
+pub mod Posting
 pub mod Steps
 pub mod Runs
 pub mod Drains

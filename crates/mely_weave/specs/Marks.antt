@@ -16,8 +16,9 @@ in_chains core (queue ∷ queues) =
     map (λ mark. (core, mark)) queue.chain ++ in_chains (core + 1) queues
 
 -- all marks: those in the chains, and those that the workers hold
-abbrev pub held : {W : Type 0} → (W → List Placed) → List CoreQueueState → List W → List Placed
-held in_hand chains workers = in_chains 0 chains ++ flat_map in_hand workers
+abbrev pub marks_in_system : {W : Type 0} → (W → List Placed) → List CoreQueueState → List W
+    → List Placed
+marks_in_system in_hand chains workers = in_chains 0 chains ++ flat_map in_hand workers
 
 -- the mark is of the colour
 abbrev pub is_of : Colour → Placed → Bool

@@ -18,7 +18,7 @@ use Rattle.mely_worker.specs.declared.made.Made.TheVariants as made
 use Rattle.mely_worker.specs.Worker.{WorkerState}
 use Rattle.mely_worker.specs.Conditions.{MayStep}
 use Rattle.mely_weave.specs.Side.{SideState, Readiness, history_for, readiness_for}
-use Rattle.mely_weave.specs.Marks.{MarksStand, held}
+use Rattle.mely_weave.specs.Marks.{MarksStand, marks_in_system}
 use Rattle.mely_weave.specs.Hands.{held_by, colour_run_by}
 use Rattle.mely_weave.specs.Calls.{IsOut}
 use Rattle.mely_weave.specs.SideStands.{ShardStands, ChainStands}
@@ -83,7 +83,7 @@ module _ {S P F : Type 0} (t : TrailWords S F) (fits : F → Colour → Event �
         → ChainStands weave.setup queue
     -- A ready colour has one mark, in a chain or a hand, and no other colour has one. It is for the owner, and says how many events were begun and no more than the worth.
     pub marks : MarksStand (readiness_for weave.setup weave.shards)
-        (held held_by weave.chains weave.workers)
+        (marks_in_system held_by weave.chains weave.workers)
     pub workers : length weave.workers ≡ (shape_of weave.setup).cores
     pub worker : (core : ℕ) (w : WorkerState S P) → slice_get weave.workers core
         ≡ Some w → WorkerStands core w

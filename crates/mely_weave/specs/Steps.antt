@@ -1,18 +1,17 @@
 -- What the calls of a weave do: steps by the worker's rule, and posts.
-use Rattle.std.specs.Prelude.{◌≡◌, ℕ, Bool, List, Option, Some, Result, Ok, Err, slice_get, slice_set}
+use Rattle.std.specs.Prelude.{◌≡◌, ℕ, List, Option, Some, Result, slice_get, slice_set}
 use Rattle.mely_event.specs.declared.colour.Colour.{Colour}
 use Rattle.mely_event.specs.declared.event.Event.{Event}
 use Rattle.mely_event.specs.declared.unregistered.Unregistered.{Unregistered}
 use Rattle.mely_event.specs.declared.trail.Trail.{Ghosts as TrailWords}
 use Rattle.mely_history.specs.declared.registered.Registered.{Registered}
-use Rattle.mely_history.specs.Setup.{shape_of}
 use Rattle.mely_worker.specs.declared.made.Made.{Made}
 use Rattle.mely_worker.specs.declared.app.App.{Ghosts as AppWords}
 use Rattle.mely_worker.specs.Worker.{WorkerState}
-use Rattle.mely_worker.specs.Delivery.{delivery_after, Delivers}
 use Rattle.mely_worker.specs.Step.{Steps}
 use Rattle.mely_weave.specs.Side.{SideState}
-use Rattle.mely_weave.specs.Calls.{AtShard, RegisterAs, weave_words}
+use Rattle.mely_weave.specs.Calls.{weave_words}
+use Rattle.mely_weave.specs.Posting.{PostAs}
 use Rattle.mely_weave.specs.StandsWell.{side_of}
 use Rattle.mely_weave.specs.Weave.{WeaveState}
 
@@ -35,17 +34,8 @@ pub record StepsAt {R S P F : Type 0} (t : TrailWords S F) (y : AppWords R P S F
   pub steps : Steps (weave_words t) y app (side_of before core) worker step side becomes
   pub leaves : after ≡ with_workers side (slice_set before.workers core becomes)
 
--- a registration by the pass of the number after the cores', and what follows it, which is delivered at once; a mark that is pushed enters
-abbrev pub PostAs : {S P F : Type 0} → TrailWords S F → Colour → Event → Option P
-    → Result Registered (Unregistered P) → SideState S P → SideState S P → Type 0
-PostAs {S} {P} t c event load (Ok reply) a b = (between : SideState S P)
-    × AtShard a between c (RegisterAs c event load (shape_of a.setup).cores (Ok reply))
-    × ((arrived : Bool) × Delivers (weave_words t) between (delivery_after c reply) arrived b)
-PostAs t c event load (Err back) a b =
-    AtShard a b c (RegisterAs c event load (shape_of a.setup).cores (Err back))
-
 -- a post, and the workers stay
 pub record PostsAt {S P F : Type 0} (t : TrailWords S F) (before : WeaveState S P) (c : Colour) (event : Event) (load : Option P) (answer : Result Registered (Unregistered P)) (after : WeaveState S P) : Type 0 where
   pub side : SideState S P
-  pub posts : PostAs t c event load answer (side_of before 0) side
+  pub posts : PostAs (weave_words t) c event load answer (side_of before 0) side
   pub leaves : after ≡ with_workers side before.workers

@@ -17,7 +17,7 @@ use Rattle.mely_worker.specs.declared.delivery.Delivery.TheVariants.{Report}
 use Rattle.mely_worker.specs.Access.{IsColour, FitsSetup, events_of}
 use Rattle.mely_worker.specs.Worker.{WorkerState}
 use Rattle.mely_weave.specs.Side.{history_for}
-use Rattle.mely_weave.specs.Marks.{Placed, is_of, held}
+use Rattle.mely_weave.specs.Marks.{Placed, is_of, marks_in_system}
 use Rattle.mely_weave.specs.Hands.{held_by}
 use Rattle.mely_weave.specs.Lanes.{lane_for}
 use Rattle.mely_weave.specs.StandsWell.{IsTurningOn}
@@ -29,12 +29,12 @@ module _ {S P F : Type 0} (t : TrailWords S F) (fits : F → Colour → Event �
   history_of c = history_for weave.setup weave.shards c
 
   -- all marks, in chains and in hands, each with the core that it is for: that of its chain, the worker's own for a popped mark and one that is to land, the victim for a picked one, and the target for one that is to be pushed
-  abbrev pub marks_held : List Placed
-  marks_held = held held_by weave.chains weave.workers
+  abbrev pub placed_marks : List Placed
+  placed_marks = marks_in_system held_by weave.chains weave.workers
 
   -- a mark is held, for a core
   abbrev pub IsHeld : ℕ → Mark → Type 0
-  IsHeld core mark = (i : ℕ) × (slice_get marks_held i ≡ Some (core, mark))
+  IsHeld core mark = (i : ℕ) × (slice_get placed_marks i ≡ Some (core, mark))
 
   -- the worker of a core is turning
   abbrev pub Turns : ℕ → TurnState S P → Delivery → List (Colour × Event × Option P) → Type 0
@@ -63,8 +63,8 @@ module _ {S P F : Type 0} (t : TrailWords S F) (fits : F → Colour → Event �
 
   -- 2: a colour has one mark where it rests while something waits, and none otherwise
   pub record MarksAreOne : Type 0 where
-    pub one : (c : Colour) → IsReady (history_of c) c → count_by (is_of c) marks_held ≡ 1
-    pub none : (c : Colour) → ¬ IsReady (history_of c) c → count_by (is_of c) marks_held ≡ 0
+    pub one : (c : Colour) → IsReady (history_of c) c → count_by (is_of c) placed_marks ≡ 1
+    pub none : (c : Colour) → ¬ IsReady (history_of c) c → count_by (is_of c) placed_marks ≡ 0
 
   -- 3: each mark is for the owner of its colour, and a thief isn't the owner
   pub record MarksAreForOwners : Type 0 where

@@ -53,7 +53,7 @@ impl<S: Fits<P> + Drop, P: Drop> Shared<S, P> {
     ghost use Rattle.mely_worker.specs.Delivery.{Delivers, MayDeliver};
     ghost use Rattle.mely_worker.specs.Step.{Steps};
     ghost use Rattle.mely_weave.specs.Calls.{IsOut, side_words};
-    ghost use Rattle.mely_weave.specs.Trying.{TriesToPost};
+    ghost use Rattle.mely_weave.specs.Posting.{PostAs};
 
     /// Lends the side of a core for one step of its worker.
     pub(crate) fn step<R: App<State = S, Load = P>>(
@@ -86,8 +86,8 @@ impl<S: Fits<P> + Drop, P: Drop> Shared<S, P> {
     ) -> Result<Registered, Unregistered<P>>
         requires fits { FitsSetup S.fits_under self.old.setup (S.frame_of self.old.given)
             (colour, event, load) }
-        ensures posts { TriesToPost S.Trail (SideStands S.Trail S.fits_under) colour event load
-            result (side_at self.old 0) (side_at self.new 0) }
+        ensures posts { PostAs (side_words S.Trail (SideStands S.Trail S.fits_under)) colour event
+            load result (side_at self.old 0) (side_at self.new 0) }
         ensures back { IfErr result (λ refused. (refused.event ≡ event) × (refused.load ≡ load)) }
         ensures stands { SideStands S.Trail S.fits_under (side_at self.new 0) }
     {

@@ -57,11 +57,6 @@ module _ {A S P F : Type 0} (t : TrailWords S F) (fits : F → Colour → Event 
   WillBeSpentAt turn = WillBeSpent t fits (x.setup_of access) (x.core_of access)
       (x.frame_of access) (x.owes access) turn
 
-  abbrev pub MayTurnAt : TurnState S P → Delivery → List (Colour × Event × Option P) → Type 0
-  MayTurnAt turn hand puts =
-      MayTurn t fits (x.setup_of access) (x.core_of access) (x.frame_of access)
-      (x.owes access) turn hand puts
-
   abbrev pub MayStepAt : WorkerState S P → Type 0
   MayStepAt w = MayStep t fits (x.setup_of access) (x.core_of access)
       (x.frame_of access) (x.owes access) w

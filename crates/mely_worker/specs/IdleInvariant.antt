@@ -7,14 +7,14 @@ use Rattle.mely_worker.specs.WorkerFields.{IsConsistent}
 -- a worker at rest, of its private fields
 abbrev pub rest_of : {P : Type 0} → Inside P → IdleWorkerState P
 rest_of r = record {
-  core = r.holdings.core;
-  batch = r.holdings.batch;
-  halted = r.holdings.halted;
-  victims = r.holdings.victims.items;
-  lost = r.holdings.lost.items;
+  core = r.fields.core;
+  batch = r.fields.batch;
+  halted = r.fields.halted;
+  victims = r.fields.victims.items;
+  lost = r.fields.lost.items;
   place = r.place;
 }
 
 -- what each worker at rest keeps: that of a free worker
 abbrev pub IsRestKept : {P : Type 0} → Inside P → Type 0
-IsRestKept {P} r = IsConsistent {S = Unit {0}} {P = P} r.holdings (Free r.place)
+IsRestKept {P} r = IsConsistent {S = Unit {0}} {P = P} r.fields (Free r.place)

@@ -5,8 +5,8 @@ use Rattle.mely_worker.specs.WorkerFields.{worker_of, IsConsistent}
 
 -- a worker, of its private fields
 abbrev pub view_of : {S P : Type 0} → Inside S P → WorkerState S P
-view_of w = worker_of w.holdings w.phase
+view_of w = worker_of w.fields w.phase
 
 -- what each worker keeps
 abbrev pub IsWellKept : {S P : Type 0} → Inside S P → Type 0
-IsWellKept w = IsConsistent w.holdings w.phase
+IsWellKept w = IsConsistent w.fields w.phase

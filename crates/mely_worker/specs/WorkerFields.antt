@@ -4,7 +4,7 @@ use Rattle.mely_worker.specs.declared.phase.Phase.{Phase}
 use Rattle.mely_worker.specs.declared.worker_fields.WorkerFields.{WorkerFields}
 use Rattle.mely_worker.specs.Worker.{WorkerState, may_be_refused, is_hunting, place_of}
 
--- a worker of these holdings in this phase
+-- a worker of these fields in this phase
 abbrev pub worker_of : {S P : Type 0} → WorkerFields P → Phase S P → WorkerState S P
 worker_of h phase = record {
   core = h.core;

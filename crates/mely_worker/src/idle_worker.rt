@@ -11,7 +11,7 @@ use std::marker::Model;
 /// cross into a thread, where [`wake`](IdleWorker::wake) gives the worker back.
 #[derive(Drop)]
 pub struct IdleWorker<P> {
-    pub(crate) holdings: WorkerFields<P>,
+    pub(crate) fields: WorkerFields<P>,
     pub(crate) place: usize,
 }
 
@@ -34,9 +34,9 @@ impl<P> IdleWorker<P> {
     pub fn wake<S>(self) -> Worker<S, P>
         ensures { result ≡ resumed_worker self }
     {
-        let IdleWorker { holdings, place } = self;
+        let IdleWorker { fields, place } = self;
         Worker {
-            holdings,
+            fields,
             phase: Phase::Free { place },
         }
     }
@@ -48,14 +48,14 @@ impl<P: Drop> IdleWorker<P> {
         ensures value { result.items ≡ self.lost }
         ensures few { length self.lost ≤ 2 * self.batch }
     {
-        let IdleWorker { holdings, place: _ } = self;
+        let IdleWorker { fields, place: _ } = self;
         let WorkerFields {
             core: _,
             batch: _,
             halted: _,
             victims: _,
             lost,
-        } = holdings;
+        } = fields;
         lost
     }
 }

@@ -18,7 +18,7 @@ use mely_history::{NoSteal, NoTake};
 
 /// The step of a worker that has popped a mark.
 fn step_popped<S: Fits<P> + Drop, P: Drop, A: Access<S, P>, R: App<State = S, Load = P>>(
-    holdings: &mut WorkerFields<P>,
+    fields: &mut WorkerFields<P>,
     phase: &mut Phase<S, P>,
     mark: Mark,
     access: &mut A,
@@ -26,10 +26,10 @@ fn step_popped<S: Fits<P> + Drop, P: Drop, A: Access<S, P>, R: App<State = S, Lo
 ) -> Made
     requires no_turn { is_turning phase.old ≡ false }
     requires on { StepsOn S.Trail S.fits_under A.Access R.App app.now access.old
-        holdings.old (Popped mark) }
+        fields.old (Popped mark) }
     ensures done { StepDone S.Trail S.fits_under A.Access R.App app.now access.old
-        holdings.old (Popped mark)
-        result access.new holdings.new phase.new }
+        fields.old (Popped mark)
+        result access.new fields.new phase.new }
 {
     match access.take(mark.colour) {
         Ok(turn) => {
@@ -45,9 +45,9 @@ fn step_popped<S: Fits<P> + Drop, P: Drop, A: Access<S, P>, R: App<State = S, Lo
             made
         }
         Err(NoTake::Memory) => {
-            holdings.halted = true;
+            fields.halted = true;
             phase.go_to(Phase::Pushing {
-                core: holdings.core,
+                core: fields.core,
                 mark,
             });
             Made::Memory
@@ -61,7 +61,7 @@ fn step_popped<S: Fits<P> + Drop, P: Drop, A: Access<S, P>, R: App<State = S, Lo
 
 /// The step of a worker that has picked a mark.
 fn step_picked<S: Fits<P> + Drop, P: Drop, A: Access<S, P>, R: App<State = S, Load = P>>(
-    holdings: &mut WorkerFields<P>,
+    fields: &mut WorkerFields<P>,
     phase: &mut Phase<S, P>,
     mark: Mark,
     victim: u16,
@@ -69,11 +69,11 @@ fn step_picked<S: Fits<P> + Drop, P: Drop, A: Access<S, P>, R: App<State = S, Lo
     app: &R,
 ) -> Made
     requires no_turn { is_turning phase.old ≡ false }
-    requires on { StepsOn S.Trail S.fits_under A.Access R.App app.now access.old holdings.old
+    requires on { StepsOn S.Trail S.fits_under A.Access R.App app.now access.old fields.old
         (Picked mark victim) }
     ensures done { StepDone S.Trail S.fits_under A.Access R.App app.now access.old
-        holdings.old (Picked mark victim)
-        result access.new holdings.new phase.new }
+        fields.old (Picked mark victim)
+        result access.new fields.new phase.new }
 {
     match access.steal(mark.colour) {
         Ok(stolen) => {
@@ -90,7 +90,7 @@ fn step_picked<S: Fits<P> + Drop, P: Drop, A: Access<S, P>, R: App<State = S, Lo
             }
         }
         Err(NoSteal::Memory) => {
-            holdings.halted = true;
+            fields.halted = true;
             phase.go_to(Phase::Pushing { core: victim, mark });
             Made::Memory
         }
@@ -103,7 +103,7 @@ fn step_picked<S: Fits<P> + Drop, P: Drop, A: Access<S, P>, R: App<State = S, Lo
 
 /// The step of a free worker.
 fn step_free<S: Fits<P> + Drop, P: Drop, A: Access<S, P>, R: App<State = S, Load = P>>(
-    holdings: &mut WorkerFields<P>,
+    fields: &mut WorkerFields<P>,
     phase: &mut Phase<S, P>,
     place: usize,
     access: &mut A,
@@ -112,15 +112,15 @@ fn step_free<S: Fits<P> + Drop, P: Drop, A: Access<S, P>, R: App<State = S, Load
     requires no_turn { is_turning phase.old ≡ false }
     requires at { phase.old ≡ Free place }
     requires on { StepsOn S.Trail S.fits_under A.Access R.App app.now access.old
-        holdings.old (Free place) }
+        fields.old (Free place) }
     ensures done { StepDone S.Trail S.fits_under A.Access R.App app.now access.old
-        holdings.old (Free place)
-        result access.new holdings.new phase.new }
+        fields.old (Free place)
+        result access.new fields.new phase.new }
 {
-    if holdings.halted {
+    if fields.halted {
         return Made::Halted;
     }
-    let count = holdings.victims.len();
+    let count = fields.victims.len();
     let next = if place < count { place + 1 } else { 0 };
     if place == 0 {
         return match access.pop() {
@@ -136,7 +136,7 @@ fn step_free<S: Fits<P> + Drop, P: Drop, A: Access<S, P>, R: App<State = S, Load
             }
         };
     }
-    let victim = holdings.victims[place - 1];
+    let victim = fields.victims[place - 1];
     match access.pick(victim) {
         Some(mark) => {
             phase.go_to(Phase::Picked { mark, victim });
@@ -159,25 +159,19 @@ pub(crate) fn step_by_phase<
     A: Access<S, P>,
     R: App<State = S, Load = P>,
     G: Gate,
->(
-    holdings: &mut WorkerFields<P>,
-    phase: &mut Phase<S, P>,
-    access: &mut A,
-    app: &R,
-    gate: &G,
-) -> Made
+>(fields: &mut WorkerFields<P>, phase: &mut Phase<S, P>, access: &mut A, app: &R, gate: &G) -> Made
     requires on { StepsOn S.Trail S.fits_under A.Access R.App app.now access.old
-        holdings.old phase.old }
+        fields.old phase.old }
     ensures done { StepDone S.Trail S.fits_under A.Access R.App app.now access.old
-        holdings.old phase.old
-        result access.new holdings.new phase.new }
+        fields.old phase.old
+        result access.new fields.new phase.new }
 {
     match phase {
         Phase::Turning { turn, hand, outs } => {
             if has_run_all(turn, hand, outs) {
-                finish_turn(holdings, phase, access, app)
+                finish_turn(fields, phase, access, app)
             } else {
-                step_turn(holdings, turn, hand, outs, access, app, gate)
+                step_turn(fields, turn, hand, outs, access, app, gate)
             }
         }
         Phase::Pushing { core, mark } => {
@@ -191,15 +185,15 @@ pub(crate) fn step_by_phase<
         }
         Phase::Popped { mark } => {
             let mark = *mark;
-            step_popped(holdings, phase, mark, access, app)
+            step_popped(fields, phase, mark, access, app)
         }
         Phase::Picked { mark, victim } => {
             let (mark, victim) = (*mark, *victim);
-            step_picked(holdings, phase, mark, victim, access, app)
+            step_picked(fields, phase, mark, victim, access, app)
         }
         Phase::Landing { mark } => {
             let mark = *mark;
-            let _ = access.push(holdings.core, mark);
+            let _ = access.push(fields.core, mark);
             phase.go_to(Phase::Free { place: 0 });
             Made::Landed {
                 colour: mark.colour,
@@ -207,7 +201,7 @@ pub(crate) fn step_by_phase<
         }
         Phase::Free { place } => {
             let place = *place;
-            step_free(holdings, phase, place, access, app)
+            step_free(fields, phase, place, access, app)
         }
     }
 }

@@ -33,7 +33,7 @@ pub(crate) fn step_turn<
     R: App<State = S, Load = P>,
     G: Gate,
 >(
-    holdings: &mut WorkerFields<P>,
+    fields: &mut WorkerFields<P>,
     turn: &mut Turn<S, P>,
     hand: &mut Delivery,
     outs: &mut Outs<P>,
@@ -42,16 +42,16 @@ pub(crate) fn step_turn<
     gate: &G,
 ) -> Made
     requires left { ¬ (HasRunAll {P = P} (Turning turn.old hand.old outs.old)) }
-    requires on { StepsOn S.Trail S.fits_under A.Access R.App app.now access.old holdings.old
+    requires on { StepsOn S.Trail S.fits_under A.Access R.App app.now access.old fields.old
         (Turning turn.old hand.old outs.old) }
     ensures done { StepDone S.Trail S.fits_under A.Access R.App app.now access.old
-        holdings.old (Turning turn.old hand.old outs.old)
-        result access.new holdings.new (Turning turn.new hand.new outs.new) }
+        fields.old (Turning turn.old hand.old outs.old)
+        result access.new fields.new (Turning turn.new hand.new outs.new) }
 {
     match *hand {
         Delivery::Nothing => match outs.take_first() {
-            Some(first) => step_put(holdings, turn, hand, first, outs, access, app),
-            None => run_next(holdings, turn, outs, access, app, gate),
+            Some(first) => step_put(fields, turn, hand, first, outs, access, app),
+            None => run_next(fields, turn, outs, access, app, gate),
         },
         Delivery::PushMark { core, mark } => {
             let _entered = hand.deliver(access);
@@ -80,7 +80,7 @@ pub(crate) fn step_turn<
 
 /// Registers the first of the registrations that are left.
 fn step_put<S: Fits<P> + Drop, P: Drop, A: Access<S, P>, R: App<State = S, Load = P>>(
-    holdings: &mut WorkerFields<P>,
+    fields: &mut WorkerFields<P>,
     turn: &Turn<S, P>,
     hand: &mut Delivery,
     first: (Colour, Event, Option<P>),
@@ -89,11 +89,11 @@ fn step_put<S: Fits<P> + Drop, P: Drop, A: Access<S, P>, R: App<State = S, Load 
     app: &R,
 ) -> Made
     requires empty { hand.old ≡ Nothing }
-    requires on { StepsOn S.Trail S.fits_under A.Access R.App app.now access.old holdings.old
+    requires on { StepsOn S.Trail S.fits_under A.Access R.App app.now access.old fields.old
         (Turning turn.now Nothing (first ∷ outs.now)) }
     ensures done { StepDone S.Trail S.fits_under A.Access R.App app.now access.old
-        holdings.old (Turning turn.now Nothing (first ∷ outs.now))
-        result access.new holdings.new (Turning turn.now hand.new outs.now) }
+        fields.old (Turning turn.now Nothing (first ∷ outs.now))
+        result access.new fields.new (Turning turn.now hand.new outs.now) }
 {
     let (colour, event, load) = first;
     match access.register(colour, event, load) {
@@ -102,8 +102,8 @@ fn step_put<S: Fits<P> + Drop, P: Drop, A: Access<S, P>, R: App<State = S, Load 
             Made::Registered { colour }
         }
         Err(back) => {
-            holdings.halted = true;
-            holdings.lost.push_reserved((colour, back.event, back.load));
+            fields.halted = true;
+            fields.lost.push_reserved((colour, back.event, back.load));
             Made::Memory
         }
     }
@@ -111,7 +111,7 @@ fn step_put<S: Fits<P> + Drop, P: Drop, A: Access<S, P>, R: App<State = S, Load 
 
 /// Runs the handler of the next event.
 fn run_next<S: Fits<P> + Drop, P: Drop, A: Access<S, P>, R: App<State = S, Load = P>, G: Gate>(
-    holdings: &mut WorkerFields<P>,
+    fields: &mut WorkerFields<P>,
     turn: &mut Turn<S, P>,
     outs: &mut Outs<P>,
     access: &mut A,
@@ -120,17 +120,17 @@ fn run_next<S: Fits<P> + Drop, P: Drop, A: Access<S, P>, R: App<State = S, Load 
 ) -> Made
     requires some { ¬ (turn.old.events ≡ []) }
     requires none_left { outs.old ≡ [] }
-    requires on { StepsOn S.Trail S.fits_under A.Access R.App app.now access.old holdings.old
+    requires on { StepsOn S.Trail S.fits_under A.Access R.App app.now access.old fields.old
         (Turning turn.old Nothing outs.old) }
     ensures done { StepDone S.Trail S.fits_under A.Access R.App app.now access.old
-        holdings.old (Turning turn.old Nothing outs.old)
-        result access.new holdings.new (Turning turn.new Nothing outs.new) }
+        fields.old (Turning turn.old Nothing outs.old)
+        result access.new fields.new (Turning turn.new Nothing outs.new) }
 {
     let Some((event, load)) = turn.next() else {
         unreachable!()
     };
     let colour = turn.colour();
-    gate.pass(holdings.core, colour, event);
+    gate.pass(fields.core, colour, event);
     app.run(turn.state(), event, load, outs);
     Made::Ran {
         colour,
@@ -140,17 +140,17 @@ fn run_next<S: Fits<P> + Drop, P: Drop, A: Access<S, P>, R: App<State = S, Load 
 
 /// Finishes a turn of which nothing is left.
 pub(crate) fn finish_turn<S: Fits<P> + Drop, P: Drop, A: Access<S, P>, R: App<State = S, Load = P>>(
-    holdings: &mut WorkerFields<P>,
+    fields: &mut WorkerFields<P>,
     phase: &mut Phase<S, P>,
     access: &mut A,
     app: &R,
 ) -> Made
     requires ended { HasRunAll phase.old }
     requires on { StepsOn S.Trail S.fits_under A.Access R.App app.now access.old
-        holdings.old phase.old }
+        fields.old phase.old }
     ensures done { StepDone S.Trail S.fits_under A.Access R.App app.now access.old
-        holdings.old phase.old
-        result access.new holdings.new phase.new }
+        fields.old phase.old
+        result access.new fields.new phase.new }
 {
     let turn = mem::replace(phase, Phase::Free { place: 0 }).into_turn();
     let colour = turn.colour();
@@ -162,7 +162,7 @@ pub(crate) fn finish_turn<S: Fits<P> + Drop, P: Drop, A: Access<S, P>, R: App<St
                 worth,
             };
             phase.go_to(Phase::Pushing {
-                core: holdings.core,
+                core: fields.core,
                 mark,
             });
             Made::Finished { colour, more: true }

@@ -22,7 +22,7 @@ use std::marker::Model;
 /// refused, and its phase. A worker may hold a turn, so it has no `Drop`: one that is free is spent by
 /// [`rest`](Worker::rest) or [`into_lost`](Worker::into_lost).
 pub struct Worker<S, P> {
-    pub(crate) holdings: WorkerFields<P>,
+    pub(crate) fields: WorkerFields<P>,
     pub(crate) phase: Phase<S, P>,
 }
 
@@ -62,11 +62,9 @@ impl<S, P> Worker<S, P> {
           phase = Free 0;
         }) }
     {
-        let Ok(lost) = Vec::with_capacity(alloc, 2 * batch as usize) else {
-            return Err(Memory);
-        };
+        let lost = Vec::with_capacity(alloc, 2 * batch as usize)?;
         Ok(Worker {
-            holdings: WorkerFields {
+            fields: WorkerFields {
                 core,
                 batch,
                 halted: false,
@@ -88,7 +86,7 @@ impl<S, P> Worker<S, P> {
     pub fn is_halted(&self) -> bool
         ensures { result ≡ self.now.halted }
     {
-        self.holdings.halted
+        self.fields.halted
     }
 
     /// The registrations that were refused for memory, the first one first.
@@ -96,7 +94,7 @@ impl<S, P> Worker<S, P> {
         ensures value { result.now ≡ self.now.lost }
         ensures few { length self.now.lost ≤ 2 * self.now.batch }
     {
-        self.holdings.lost.as_slice()
+        self.fields.lost.as_slice()
     }
 }
 
@@ -117,10 +115,10 @@ impl<S, P: Drop> Worker<S, P> {
         requires { IsTrue (is_free self.phase) }
         ensures { resumed_worker result ≡ self }
     {
-        let Worker { holdings, phase } = self;
+        let Worker { fields, phase } = self;
         // A phase has no `Drop`, as it may hold a turn: that of a free worker is spent by reading its place.
         let place = phase.place();
-        IdleWorker { holdings, place }
+        IdleWorker { fields, place }
     }
 }
 
@@ -151,6 +149,6 @@ impl<S: Fits<P> + Drop, P: Drop> Worker<S, P> {
         ensures same { Stays A.setup_of A.core_of A.frame_of access.old access.new }
         ensures kept { A.keeps access.old access.new }
     {
-        step_by_phase(&mut self.holdings, &mut self.phase, access, app, gate)
+        step_by_phase(&mut self.fields, &mut self.phase, access, app, gate)
     }
 }

@@ -1,6 +1,6 @@
 //! A run of a small app, whose contract is the machine's run: how an app's author uses `mely_run`.
 //!
-//! `sending.rt` has the app and what tells it, `specs/Sent.antt` the function; [`run`] is all that is left.
+//! `sending.rt` has the app and what tells it, `specs/Sending.antt` the function; [`run`] is all that is left.
 #![tactic(auto)]
 
 ghost use Rattle.std.specs.Prelude.{◌≡◌, ◌<◌, ◌≤◌, ◌^◌, ℕ, All, IfOk, IfSome, List, map, sum_by, length};
@@ -9,7 +9,7 @@ ghost use Rattle.mely_event.specs.HandlerTable.{rows_of};
 ghost use Rattle.mely_weave.specs.Making.{AreBlank};
 ghost use Rattle.mely_machine.specs.Rules.{rules_of};
 ghost use Rattle.mely_machine.specs.MachineRun.{RunsTo};
-ghost use Rattle.run_sample.specs.Sent.{sends};
+ghost use Rattle.run_sample.specs.Sending.{sends};
 
 mod sending;
 #[cfg(test)]

@@ -3,7 +3,7 @@ ghost use Rattle.std.specs.Prelude.{◌≡◌, ◌≤◌, ◌+◌, ◌++◌, ◌
 ghost use Rattle.std.specs.List.{AllByRecursion};
 ghost use Rattle.mely_worker.specs.Access.{FitsIn};
 ghost use Rattle.mely_run.specs.Corresponds.{without_loads};
-ghost use Rattle.run_sample.specs.Sent.{sent, sends};
+ghost use Rattle.run_sample.specs.Sending.{registrations_of, sends};
 
 use mely_event::{Colour, Event, TrailLog};
 use mely_run::Told;
@@ -24,12 +24,13 @@ impl App for Sending {
 
     ghost serves = { λ app frame. Unit {0} };
 
-    ghost runs = { λ app before event load after puts. without_loads puts ≡ sent event };
+    ghost runs = { λ app before event load after puts. without_loads puts
+        ≡ registrations_of event };
 
     fn run(&self, state: &mut TrailLog, event: Event, load: Option<u8>, outs: &mut Outs<u8>)
         requires room { 1 ≤ state.old.spare }
         requires empty { outs.old ≡ [] }
-        ensures ran { without_loads outs.new ≡ sent event }
+        ensures ran { without_loads outs.new ≡ registrations_of event }
         ensures colour { state.new.colour ≡ state.old.colour }
         ensures frame { Unit {0} }
         ensures trail { state.new.events ≡ state.old.events ++ event ∷ [] }

@@ -2,6 +2,7 @@
 ghost use Rattle.std.specs.Prelude.{◌≡◌, ◌<◌, ◌≤◌, ℕ, length, All, IfOk, IfSome};
 ghost use Rattle.mely_shard.specs.Shard.{IsOwn, KeepsFrame, TurnStands};
 ghost use Rattle.shard_loop.specs.Loops.{IsLoop, AreBlank};
+ghost use Rattle.shard_loop.specs.declared.event_loop.TheConstants.{COLOURS};
 
 use mely_event::{Colour, Event, Fits, Handlers, Memory, Trail, TrailLog};
 use mely_history::{After, Registered, Setup, Shape};
@@ -38,7 +39,7 @@ fn make_shard(alloc: Global, batch: u16) -> Option<Shard<TrailLog, u32>>
     let Ok(handlers) = Handlers::new(&[(1, 1)]) else {
         return None;
     };
-    let Ok(setup) = Setup::new(&shape, 1024, handlers, 0) else {
+    let Ok(setup) = Setup::new(&shape, u32::from(COLOURS), handlers, 0) else {
         return None;
     };
     let Ok(states) = blank_states(alloc) else {
@@ -57,17 +58,14 @@ fn register(
     ready: &mut VecDeque<u16>,
 ) -> Result<(), Memory>
     requires is { IsLoop shard.old }
-    requires colour { colour < 1024 }
-    requires known { All (λ c. c < 1024) ready.old.items }
+    requires colour { colour < COLOURS }
+    requires known { All (λ c. c < COLOURS) ready.old.items }
     ensures is { IsLoop shard.new }
-    ensures known { All (λ c. c < 1024) ready.new.items }
+    ensures known { All (λ c. c < COLOURS) ready.new.items }
 {
     let event = Event { handler: 0, arg: 0 };
     match shard.register(Colour(colour), event, None, 0) {
-        Ok(Registered::Woke { .. }) => match ready.push_back(colour) {
-            Ok(()) => Ok(()),
-            Err(_) => Err(Memory),
-        },
+        Ok(Registered::Woke { .. }) => Ok(ready.push_back(colour)?),
         Ok(_) => Ok(()),
         Err(_) => Err(Memory),
     }
@@ -80,16 +78,13 @@ fn register_all(
     ready: &mut VecDeque<u16>,
 ) -> Result<(), Memory>
     requires is { IsLoop shard.old }
-    requires known { All (λ c. c < 1024) ready.old.items }
+    requires known { All (λ c. c < COLOURS) ready.old.items }
     ensures is { IsLoop shard.new }
-    ensures known { All (λ c. c < 1024) ready.new.items }
+    ensures known { All (λ c. c < COLOURS) ready.new.items }
 {
     'events: for number in 0..events {
-        let colour = (number % 1024) as u16;
-        match register(shard, colour, ready) {
-            Ok(()) => {}
-            Err(_) => return Err(Memory),
-        }
+        let colour = (number % u32::from(COLOURS)) as u16;
+        register(shard, colour, ready)?;
     }
     Ok(())
 }
@@ -111,7 +106,7 @@ fn run_and_finish(shard: &mut Shard<TrailLog, u32>, mut turn: Turn<TrailLog, u32
 /// Takes a colour, runs what was taken and finishes, and answers how many events that were.
 fn take_turn(shard: &mut Shard<TrailLog, u32>, colour: u16) -> Option<(u16, After)>
     requires is { IsLoop shard.old }
-    requires colour { colour < 1024 }
+    requires colour { colour < COLOURS }
     ensures { IsLoop shard.new }
 {
     match shard.take(Colour(colour), 0) {
@@ -126,9 +121,9 @@ fn take_turn(shard: &mut Shard<TrailLog, u32>, colour: u16) -> Option<(u16, Afte
 /// Takes the next ready colour, and notes it again where more of it waits; answers how many events were run.
 fn step(shard: &mut Shard<TrailLog, u32>, ready: &mut VecDeque<u16>) -> Option<u16>
     requires is { IsLoop shard.old }
-    requires known { All (λ c. c < 1024) ready.old.items }
+    requires known { All (λ c. c < COLOURS) ready.old.items }
     ensures is { IsLoop shard.new }
-    ensures known { All (λ c. c < 1024) ready.new.items }
+    ensures known { All (λ c. c < COLOURS) ready.new.items }
 {
     let colour = ready.pop_front()?;
     match take_turn(shard, colour) {

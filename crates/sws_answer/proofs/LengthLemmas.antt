@@ -8,7 +8,7 @@ use Rattle.sws_site.specs.declared.statuses.Status.TheVariants.{Success, Partial
 use Rattle.sws_site.specs.ResponseHeads.{ResponseHead, head_text}
 use Rattle.sws_site.specs.Fixed.{fixed_body}
 use Rattle.sws_site.specs.Files.{File, file_named}
-use Rattle.sws_site.specs.Limits.{IsWithinLimits, max_bytes}
+use Rattle.sws_site.specs.Limits.{IsWithinLimits, size_limit}
 use Rattle.sws_site.specs.Site.{SiteState}
 use Rattle.sws_site.proofs.HeadLengthsLemmas.{content_type-short, IsShortRange, head_text-short}
 use Rattle.sws_site.proofs.FileLemmas.{file_named-short}
@@ -26,7 +26,7 @@ use Rattle.sws_answer.proofs.RangeLemmas.{selection_for-within, length-part-le}
 -- the file is no longer than all contents of a site may be
 IsShort : Option File → Type 0
 IsShort None = ⊤
-IsShort (Some file) = length file.1 ≤ max_bytes
+IsShort (Some file) = length file.1 ≤ size_limit
 
 file_for-short : (site : SiteState) (asked : Request) → IsWithinLimits site.files → IsShort (file_for site asked)
 unfolding IsShort
@@ -45,7 +45,7 @@ file_for-short site asked within = by_name (name_of asked.target)
 -- the content of a response
 record HasShortContent (content : Content) : Type 0 where
   kind : length content.kind ≤ 32
-  bytes : length content.bytes ≤ max_bytes
+  bytes : length content.bytes ≤ size_limit
 
 content_of-short : (status : Status) (file : Option File) (selection : Selection) → IsShort file → HasShortContent (content_of status file selection)
 unfolding IsShort fixed_body
@@ -53,7 +53,7 @@ content_of-short Success None selection short = record { kind = lit≤ tt; bytes
 content_of-short Success (Some file) selection short = record { kind = content_type-short file.0; bytes = short }
 content_of-short PartialContent None selection short = record { kind = lit≤ tt; bytes = lit≤ tt }
 content_of-short PartialContent (Some file) Whole short = record { kind = content_type-short file.0; bytes = short }
-content_of-short PartialContent (Some file) (Part first last) short = record { kind = content_type-short file.0; bytes = length-part-le file.1 first (last + 1) max_bytes short }
+content_of-short PartialContent (Some file) (Part first last) short = record { kind = content_type-short file.0; bytes = length-part-le file.1 first (last + 1) size_limit short }
 content_of-short PartialContent (Some file) Unsatisfied short = record { kind = content_type-short file.0; bytes = lit≤ tt }
 content_of-short NotModified file selection short = record { kind = lit≤ tt; bytes = lit≤ tt }
 content_of-short BadRequest file selection short = record { kind = lit≤ tt; bytes = lit≤ tt }
@@ -92,7 +92,7 @@ response-short date status file selection closes is_head short fits =
     } in
     by_head (head_text head) (content_of status file selection).bytes (head_text-short head content.kind (omega arith) (range_of-short file selection short fits)) content.bytes is_head
   where
-    by_head : (head bytes : List ℕ) → length head ≤ 256 → length bytes ≤ max_bytes → (t : Bool) → length (head ++ (if t then [] else bytes)) ≤ text_limit
+    by_head : (head bytes : List ℕ) → length head ≤ 256 → length bytes ≤ size_limit → (t : Bool) → length (head ++ (if t then [] else bytes)) ≤ text_limit
     by_head head bytes short few true = omega (arith, length-append head [])
     by_head head bytes short few false = omega (arith, length-append head bytes)
 

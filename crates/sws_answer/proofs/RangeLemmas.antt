@@ -16,7 +16,7 @@ use Rattle.sws_site.specs.declared.statuses.Status.TheVariants.{PartialContent, 
 use Rattle.sws_site.specs.declared.heads.ContentRange.TheVariants.{Selected, NoSuch}
 use Rattle.sws_site.specs.ResponseHeads.{ResponseHead, head_text}
 use Rattle.sws_site.specs.Fixed.{plain_text}
-use Rattle.sws_site.specs.Limits.{max_bytes}
+use Rattle.sws_site.specs.Limits.{size_limit}
 use Rattle.sws_site.specs.Files.{File}
 use Rattle.sws_site.proofs.HeadLengthsLemmas.{head_text-short}
 use Rattle.sws_answer.specs.declared.ranges.RangeSpec.{RangeSpec}
@@ -24,7 +24,7 @@ use Rattle.sws_answer.specs.declared.ranges.RangeSpec.TheVariants.{Between, Onwa
 use Rattle.sws_answer.specs.declared.ranges.Selection.TheVariants.{Whole, Part, Unsatisfied}
 use Rattle.sws_answer.specs.Fields.{values_of, has_field, trim_blanks}
 use Rattle.sws_answer.specs.Conditions.{one_of}
-use Rattle.sws_answer.specs.Ranges.{number_in, range_between, spec_of, is_dash, spec_said, asked_range, part_from, selection_of, selection_by, selection_in, selection_for, IsWithin}
+use Rattle.sws_answer.specs.Ranges.{number_in, range_between, spec_of, is_dash, spec_in_value, asked_range, part_from, selection_of, selection_by, selection_in, selection_for, IsWithin}
 
 -- ---- numbers
 
@@ -99,8 +99,8 @@ spec_of-ordered before behind =
     if-ordered (length behind == 0) _ _ (onward-ordered (number_in before)) (
     then-ordered (number_in before) _ (λ first. then-ordered (number_in behind) _ (λ last. between-ordered first last))))
 
-spec_said-ordered : (value : List ℕ) → AreOrdered (spec_said value)
-spec_said-ordered value =
+spec_in_value-ordered : (value : List ℕ) → AreOrdered (spec_in_value value)
+spec_in_value-ordered value =
     let text = drop 6 (trim_blanks value) in
     let dash = position_or_len is_dash text in
     if-ordered (str_eq_ignore_ascii_case (take 6 (trim_blanks value)) (codes "bytes=")) _ _
@@ -110,7 +110,7 @@ spec_said-ordered value =
 asked_range-ordered : (asked : Request) → AreOrdered (asked_range asked)
 asked_range-ordered asked =
     if-ordered (bytes_eq asked.method (codes "GET") && not (has_field (codes "if-range") asked.fields)) _ _
-    (then-ordered (one_of (values_of (codes "range") asked.fields)) _ spec_said-ordered) none-ordered
+    (then-ordered (one_of (values_of (codes "range") asked.fields)) _ spec_in_value-ordered) none-ordered
 
 -- ---- what is selected lies within the file
 
@@ -169,15 +169,15 @@ pub part_head-same : (closes : Bool) (first last : ℕ) (date other : Option Htt
     → head_text (part_head closes first last date kind bytes) ≡ head_text (part_head closes first last other media contents)
 part_head-same closes first last date other kind media bytes contents d k b = cc
 
-pub part_head-short : (closes : Bool) (first last : ℕ) (date : Option HttpDate) (kind bytes : List ℕ) → length kind ≤ 32 → length bytes ≤ max_bytes
+pub part_head-short : (closes : Bool) (first last : ℕ) (date : Option HttpDate) (kind bytes : List ℕ) → length kind ≤ 32 → length bytes ≤ size_limit
     → first ≤ last → last < length bytes → length (head_text (part_head closes first last date kind bytes)) ≤ 256
 part_head-short closes first last date kind bytes short few ordered within =
-    let part = length-part-le bytes first (last + 1) max_bytes few in
+    let part = length-part-le bytes first (last + 1) size_limit few in
     head_text-short (part_head closes first last date kind bytes) short (omega arith) (omega arith, omega arith, omega arith)
 
 abbrev pub no_part_head : Bool → Option HttpDate → ℕ → ResponseHead
 no_part_head closes date len =
     record { status = RangeNotSatisfiable; closes = closes; date = date; range = Some (NoSuch len); kind = plain_text; len = 26 }
 
-pub no_part_head-short : (closes : Bool) (date : Option HttpDate) (len : ℕ) → len ≤ max_bytes → length (head_text (no_part_head closes date len)) ≤ 256
+pub no_part_head-short : (closes : Bool) (date : Option HttpDate) (len : ℕ) → len ≤ size_limit → length (head_text (no_part_head closes date len)) ≤ 256
 no_part_head-short closes date len few = head_text-short (no_part_head closes date len) (lit≤ tt) (lit< tt) (omega arith)

@@ -77,15 +77,15 @@ abbrev pub content_of : Status → Option File → Selection → Content
 content_of status file selection = content_by (row_of status).body status file selection
 
 -- which part of a file of so many bytes is sent, or that it has none such (RFC 9110, section 14.4)
-abbrev pub range_selected : Selection → ℕ → Option ContentRange
-range_selected Whole len = None
-range_selected (Part first last) len = Some (Selected first last len)
-range_selected Unsatisfied len = Some (NoSuch len)
+abbrev pub selected_range : Selection → ℕ → Option ContentRange
+selected_range Whole len = None
+selected_range (Part first last) len = Some (Selected first last len)
+selected_range Unsatisfied len = Some (NoSuch len)
 
 -- what the head says of the range, where one of a file is asked for
 abbrev pub range_of : Option File → Selection → Option ContentRange
 range_of None selection = None
-range_of (Some file) selection = range_selected selection (length file.1)
+range_of (Some file) selection = selected_range selection (length file.1)
 
 -- for HEAD the content is left out, and all lines stay (RFC 9110, section 9.3.2)
 unfoldable pub response : Option HttpDate → Status → Option File → Selection → Bool → Bool → Answer

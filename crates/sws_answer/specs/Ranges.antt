@@ -43,8 +43,8 @@ spec_in text =
     if nat_lt dash (length text) then spec_of (take dash text) (drop (dash + 1) text) else None
 
 -- a value that says one range of bytes, without regard to ASCII case and to blanks round it (RFC 9110, sections 14.1.2 and 14.2)
-abbrev pub spec_said : List ℕ → Option RangeSpec
-spec_said value =
+abbrev pub spec_in_value : List ℕ → Option RangeSpec
+spec_in_value value =
     let text = trim_blanks value in
     if str_eq_ignore_ascii_case (take 6 text) (codes "bytes=") then spec_in (drop 6 text) else None
 
@@ -52,7 +52,7 @@ spec_said value =
 abbrev pub asked_range : Request → Option RangeSpec
 asked_range asked =
     if bytes_eq asked.method (codes "GET") && not (has_field (codes "if-range") asked.fields)
-    then option_and_then spec_said (one_of (values_of (codes "range") asked.fields))
+    then option_and_then spec_in_value (one_of (values_of (codes "range") asked.fields))
     else None
 
 -- ---- what is sent for it

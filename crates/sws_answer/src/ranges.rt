@@ -4,7 +4,7 @@ ghost use Rattle.std.specs.List.{position_or_len};
 ghost use Rattle.std.specs.Str.{all_ascii_digits};
 ghost use Rattle.std.specs.Str.Parse.{digits_value};
 ghost use Rattle.sws_answer.specs.declared.ranges.RangeSpec.TheVariants.{Suffix};
-ghost use Rattle.sws_answer.specs.Ranges.{number_in, range_between, spec_of, is_dash, spec_in, spec_said, asked_range, part_from, selection_of, selection_in, IsWithin};
+ghost use Rattle.sws_answer.specs.Ranges.{number_in, range_between, spec_of, is_dash, spec_in, spec_in_value, asked_range, part_from, selection_of, selection_in, IsWithin};
 
 use crate::conditions::sole_value;
 use crate::fields::{has, is_same_word, trim};
@@ -122,7 +122,7 @@ fn read_spec(text: &[u8]) -> Option<RangeSpec>
 
 /// The one range of bytes that the value of a field says.
 fn read_value(value: &[u8]) -> Option<RangeSpec>
-    ensures { result ≡ spec_said value.now }
+    ensures { result ≡ spec_in_value value.now }
 {
     let text = trim(value);
     if text.len() < 6 || !is_same_word(&text[..6], b"bytes=") {

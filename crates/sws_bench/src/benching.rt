@@ -5,6 +5,7 @@ ghost use Rattle.sws_link.specs.Counts.{HasCause};
 ghost use Rattle.sws_replay.specs.Replays.{WritesOne};
 ghost use Rattle.sws_bench.specs.BenchScript.{bench_bytes};
 ghost use Rattle.sws_bench.specs.BenchSummary.{bench_ends, bench_written, bench_summary};
+ghost use Rattle.sws_engine.specs.Limits.{conn_limit};
 
 use crate::script::generate;
 use crate::site::bench_site;
@@ -46,7 +47,7 @@ pub fn bench<R: Threads + Wait + Sync, O: Sink>(
     shape: &Shape,
     out: &mut O,
 ) -> Result<(), RunFault>
-    requires few { connections ≤ 1024 }
+    requires few { connections ≤ conn_limit }
     requires shape { first_out_of_range shape.now (connections + 2) 1 ≡ None }
     ensures writes { WritesOne (λ text. text ≡ bench_summary number connections)
         (O.written out.old) (O.written out.new) result }
@@ -70,16 +71,14 @@ fn run_bench<R: Threads + Wait + Sync>(
     number: u32,
     shape: &Shape,
 ) -> Result<Tally, Memory>
-    requires few { connections ≤ 1024 }
+    requires few { connections ≤ conn_limit }
     requires shape { first_out_of_range shape.now (connections + 2) 1 ≡ None }
     ensures ends { IfOk result (λ tally. tally.ends.items ≡ bench_ends number connections) }
     ensures read { IfOk result (λ tally. tally.read ≡ bench_bytes number connections) }
     ensures written { IfOk result (λ tally. tally.written ≡ bench_written number connections) }
 {
     let site = bench_site(alloc)?;
-    let Ok(made) = generate(alloc, connections, number) else {
-        return Err(Memory);
-    };
+    let made = generate(alloc, connections, number)?;
     match run_script(rt, alloc, &site, shape, &made.conns) {
         Ok(ended) => tally_of(alloc, &ended.served, made.bytes),
         Err(_) => Err(Memory),
@@ -96,14 +95,11 @@ fn tally_of(alloc: Global, served: &[Served<MemLink>], read: u64) -> Result<Tall
     ensures written { IfOk result (λ tally.
         tally.written ≡ sum_by (λ conn. conn.written) served.now) }
 {
-    match ends_of(alloc, served) {
-        Ok(ends) => Ok(Tally {
-            ends,
-            read,
-            written: written_of(served),
-        }),
-        Err(_) => Err(Memory),
-    }
+    Ok(Tally {
+        ends: ends_of(alloc, served)?,
+        read,
+        written: written_of(served),
+    })
 }
 
 /// How connections ended, each of which did.

@@ -24,10 +24,8 @@ pub fn bench_script(alloc: Global, connections: u16, number: u32) -> Result<Vec<
     ensures input { IfOk result (λ conns. (cores : ℕ)
         → IsInput false cores (record { steps = []; conns = conns.items })) }
 {
-    match generate(alloc, connections, number) {
-        Ok(generated) => Ok(generated.conns),
-        Err(_) => Err(Memory),
-    }
+    let generated = generate(alloc, connections, number)?;
+    Ok(generated.conns)
 }
 
 /// So many connections, by the draws that begin with the number.

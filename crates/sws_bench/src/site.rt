@@ -16,9 +16,7 @@ const FILES: u8 = 16;
 pub fn bench_site(alloc: Global) -> Result<Site, Memory>
     ensures { IfOk result (λ site. site ≡ bench_site) }
 {
-    let Ok(files) = files(alloc) else {
-        return Err(Memory);
-    };
+    let files = files(alloc)?;
     match Site::load(alloc, &mut SureFolder::new(alloc, files), None) {
         Ok(site) => Ok(site),
         Err(SiteFault::Memory) => Err(Memory),

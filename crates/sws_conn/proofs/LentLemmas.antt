@@ -3,7 +3,7 @@ use Rattle.std.proofs.Common.{◌≡◌, Option, sym, subst}
 use Rattle.sws_link.specs.declared.Link.{Ghosts as LinkWords}
 use Rattle.sws_steps.specs.declared.conn_core.ConnCore.{ConnCore}
 use Rattle.sws_conn.specs.declared.http.Http.{Http}
-use Rattle.sws_conn.specs.Shown.{state_of}
+use Rattle.sws_conn.specs.ConnCoreFields.{state_of}
 use Rattle.sws_conn.specs.Conn.{ConnState}
 use Rattle.sws_conn.specs.Sound.{IsSound}
 

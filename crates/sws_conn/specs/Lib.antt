@@ -6,7 +6,7 @@ pub mod Http
 pub mod HttpLaws
 pub mod Conn
 pub mod Step
-pub mod Shown
+pub mod ConnCoreFields
 pub mod Sound
 pub mod Outcome
 pub mod Path

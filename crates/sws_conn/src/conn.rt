@@ -4,11 +4,11 @@ ghost use Rattle.sws_conn.specs.Conn.{reported_step, told_end};
 ghost use Rattle.sws_link.specs.Links.{IsFresh};
 ghost use Rattle.sws_conn.specs.Step.{Steps, StepsFrom, Opens};
 ghost use Rattle.sws_conn.specs.Sound.{IsSound, IsShutAtEnd, core_before_open};
-ghost use Rattle.sws_conn.specs.Path.{FollowsScript, TakesEvent, TakesOff, HasNoEvents, open_link, path_told, rest_told, told_by_link};
+ghost use Rattle.sws_conn.specs.Path.{FollowsScript, TakesEvent, TakesOff, HasNoEvents, open_link, known_path, known_rest, told_by_link};
 ghost use Rattle.sws_conn.specs.Serving.{BeginsResponses};
 ghost use Rattle.sws_conn.specs.Responses.{input_limit};
 ghost use Rattle.sws_conn.specs.Run.{HasRun};
-ghost use Rattle.sws_conn.specs.Shown.{state_of};
+ghost use Rattle.sws_conn.specs.ConnCoreFields.{state_of};
 ghost use Rattle.std.specs.Option.{option_copied};
 
 use crate::buffer::Buffer;
@@ -20,13 +20,13 @@ use sws_answer::PathRoom;
 use sws_link::{Link, Memory};
 use sws_parts::Parts;
 use sws_site::Site;
-use sws_steps::{ConnCore, close_step, look_step, parse_step, read_step, told, write_step};
+use sws_steps::ConnCore;
 
 /// A connection over a link, which does one step at a time. All of it but the link lies in a box, so that little is
 /// moved where the connection is.
 #[derive(Drop)]
 pub struct Conn<'s, L: Link> {
-    talking: Box<ConnCore<Http<'s>>>,
+    core: Box<ConnCore<Http<'s>>>,
     link: Option<L>,
 }
 
@@ -35,13 +35,13 @@ impl<'s, L: Link> Model for Conn<'s, L> {
 
     ghost Value = { ConnState L };
 
-    ghost use Rattle.sws_conn.specs.Shown.{state_of};
+    ghost use Rattle.sws_conn.specs.ConnCoreFields.{state_of};
     ghost use Rattle.sws_conn.specs.Sound.{IsSound};
 
-    ghost view = { λ conn. record { standing = state_of conn.talking.value; link = conn.link } };
+    ghost view = { λ conn. record { standing = state_of conn.core.value; link = conn.link } };
 
     ghost invariant = { λ conn.
-        IsSound L.Link (record { standing = state_of conn.talking.value; link = conn.link }) };
+        IsSound L.Link (record { standing = state_of conn.core.value; link = conn.link }) };
 }
 
 impl<'s, L: Link + Drop> Conn<'s, L> {
@@ -55,7 +55,7 @@ impl<'s, L: Link + Drop> Conn<'s, L> {
         let buffer = Buffer::new(alloc)?;
         let room = PathRoom::new(alloc)?;
         site.limits();
-        let talking = ConnCore {
+        let core = ConnCore {
             speech: Http {
                 site,
                 buffer,
@@ -71,13 +71,10 @@ impl<'s, L: Link + Drop> Conn<'s, L> {
             read: 0,
             written: 0,
         };
-        match Box::new(alloc, talking) {
-            Ok(talking) => Ok(Conn {
-                talking,
-                link: None,
-            }),
-            Err(_) => Err(Memory),
-        }
+        Ok(Conn {
+            core: Box::new(alloc, core)?,
+            link: None,
+        })
     }
 
     /// Gives the connection its link, which isn't shut and of which nothing was taken or written; hands it back where
@@ -88,15 +85,15 @@ impl<'s, L: Link + Drop> Conn<'s, L> {
         ensures opens { Opens self.old link result self.new }
         ensures run { IfOk result (λ _. HasRun L.Link self.old.standing.hall link [] self.new) }
         ensures path { IfOk result (λ next.
-            TakesOff (open_link ∷ []) (path_told self.old.standing.hall (L.tells link))
-            (rest_told L.Link self.new)) }
+            TakesOff (open_link ∷ []) (known_path self.old.standing.hall (L.tells link))
+            (known_rest L.Link self.new)) }
         ensures sound { IsSound L.Link self.new }
     {
         if self.link.is_some() {
             return Err(link);
         }
         self.link = Some(link);
-        self.talking.pending = Next::Read;
+        self.core.pending = Next::Read;
         Ok(Next::Read)
     }
 
@@ -115,8 +112,8 @@ impl<'s, L: Link + Drop> Conn<'s, L> {
             → self.new.standing.end ≡ Some end }
         ensures sound { IsSound L.Link self.new }
     {
-        step_over(&mut self.talking, &mut self.link);
-        told(&self.talking)
+        step_over(&mut self.core, &mut self.link);
+        self.core.next_step()
     }
 
     /// The step that comes next, which is never `Wait`. The link is shut where the answer is `Nothing`, and not before.
@@ -126,17 +123,17 @@ impl<'s, L: Link + Drop> Conn<'s, L> {
         ensures linked { (self.now.link ≡ None) ↔ (result ≡ Next.Open) }
         ensures shut { IsShutAtEnd L.Link result self.now.link }
     {
-        self.talking.pending
+        self.core.pending
     }
 
     /// How it ended, once it is closed. Then no event is left of the path.
     pub fn end(&self) -> Option<End>
         ensures end { result ≡ told_end self.now.standing }
         ensures closed { IsSome result ↔ (self.now.standing.pending ≡ Next.Nothing) }
-        ensures path { IsSome result → HasNoEvents (rest_told L.Link self.now) }
+        ensures path { IsSome result → HasNoEvents (known_rest L.Link self.now) }
     {
-        match self.talking.pending {
-            Next::Nothing => self.talking.end,
+        match self.core.pending {
+            Next::Nothing => self.core.end,
             _ => None,
         }
     }
@@ -146,7 +143,7 @@ impl<'s, L: Link + Drop> Conn<'s, L> {
         ensures read { result ≡ self.now.standing.read }
         ensures few { result ≤ input_limit }
     {
-        self.talking.read
+        self.core.read
     }
 
     /// How many bytes were written.
@@ -154,7 +151,7 @@ impl<'s, L: Link + Drop> Conn<'s, L> {
         ensures written { result ≡ self.now.standing.written }
         ensures few { result < 2 ^ 40 }
     {
-        self.talking.written
+        self.core.written
     }
 
     /// The link, once it was given.
@@ -168,23 +165,23 @@ impl<'s, L: Link + Drop> Conn<'s, L> {
     pub fn into_link(self) -> Option<L>
         ensures { result ≡ self.entry.link }
     {
-        let Conn { talking: _, link } = self;
+        let Conn { core: _, link } = self;
         link
     }
 }
 
 /// Does the pending step.
-fn step_over<L: Link>(talking: &mut ConnCore<Http<'_>>, link: &mut Option<L>)
-    requires { IsSound L.Link (record { standing = state_of talking.old; link = link.old }) }
-    ensures { StepsFrom L.Link (state_of talking.old) (state_of talking.new)
-        talking.old.pending link.old link.new }
+fn step_over<L: Link>(core: &mut ConnCore<Http<'_>>, link: &mut Option<L>)
+    requires { IsSound L.Link (record { standing = state_of core.old; link = link.old }) }
+    ensures { StepsFrom L.Link (state_of core.old) (state_of core.new)
+        core.old.pending link.old link.new }
 {
-    match (talking.pending, link) {
-        (Next::Read, Some(link)) => read_step(talking, link),
-        (Next::Parse, _) => parse_step(talking),
-        (Next::Look, _) => look_step(talking),
-        (Next::Write, Some(link)) => write_step(talking, link),
-        (Next::Close, Some(link)) => close_step(talking, link),
+    match (core.pending, link) {
+        (Next::Read, Some(link)) => core.read_step(link),
+        (Next::Parse, _) => core.parse_step(),
+        (Next::Look, _) => core.look_step(),
+        (Next::Write, Some(link)) => core.write_step(link),
+        (Next::Close, Some(link)) => core.close_step(link),
         _ => {}
     }
 }

@@ -3,7 +3,7 @@ ghost use Rattle.std.specs.Prelude.{List};
 ghost use Rattle.sws_answer.specs.Responses.{responses_of};
 ghost use Rattle.sws_conn.specs.Conn.{ConnState};
 ghost use Rattle.sws_conn.specs.Outcome.{outcome_of, UnlessMemory};
-ghost use Rattle.sws_conn.specs.Path.{Handler, path_of, rest_told, TakesOff};
+ghost use Rattle.sws_conn.specs.Path.{Handler, path_of, known_rest, TakesOff};
 ghost use Rattle.sws_conn.specs.Talks.{due, HasServed, ServesNow, path_to_come, IsDue};
 ghost use Rattle.sws_conn.specs.ConnTalks.{talk_view, HasRunOpen};
 
@@ -29,7 +29,7 @@ impl<'s, L: Link + Drop> Talk<L> for Conn<'s, L> {
 
     ghost has_run = { λ first trail conn. HasRunOpen L.Link first trail conn };
 
-    ghost rest_of = { λ conn. rest_told L.Link conn };
+    ghost rest_of = { λ conn. known_rest L.Link conn };
 
     ghost responses = { responses_of };
 
@@ -83,10 +83,10 @@ impl<'s, L: Link + Drop> Talk<L> for Conn<'s, L> {
             → HasRunOpen L.Link first trail talk
             → UnlessMemory talk.standing.end
             (TakesOff trail (path_to_come (path_of talk.standing.hall) (L.tells first))
-            (rest_told L.Link talk)) }
+            (known_rest L.Link talk)) }
         ensures due { (first : L) (trail : List Handler) (talk : ConnState L)
             → HasRunOpen L.Link first trail talk
-            → IsDue (due (talk_view talk.standing)) (rest_told L.Link talk) }
+            → IsDue (due (talk_view talk.standing)) (known_rest L.Link talk) }
     {}
 
     ghost use Rattle.sws_conn.specs.ConnTalks.{responses-begin};

@@ -10,7 +10,7 @@ ghost use Rattle.sws_conn.specs.Conn.{ConnState};
 ghost use Rattle.sws_conn.specs.Step.{going_to, Steps};
 ghost use Rattle.sws_conn.specs.Sound.{core_before_open, IsReadyTo, IsSound};
 ghost use Rattle.sws_conn.specs.Outcome.{UnlessMemory};
-ghost use Rattle.sws_conn.specs.Path.{Handler, Scripted, IsPathFrom, open_link, read_piece, parse, resume, close, event_of, scripted_step, path_of, rest_of_path, path_told, rest_told, TakesOff};
+ghost use Rattle.sws_conn.specs.Path.{Handler, Scripted, IsPathFrom, open_link, read_piece, parse, resume, close, event_of, scripted_step, path_of, rest_of_path, known_path, known_rest, TakesOff};
 ghost use Rattle.sws_conn.specs.Run.{conn_at_open, HasRun, EndsRun};
 
 use sws_link::Link;
@@ -55,7 +55,7 @@ pub fn a_run_serves_its_link<L: Link>()
     ensures path { (site : SiteState) (first : L) (trail : List Handler) (conn : ConnState L)
         → HasRun L.Link site first trail conn
         → UnlessMemory conn.standing.end
-        (TakesOff (open_link ∷ trail) (path_told site (L.tells first)) (rest_told L.Link conn)) }
+        (TakesOff (open_link ∷ trail) (known_path site (L.tells first)) (known_rest L.Link conn)) }
     ensures ends { (site : SiteState) (first : L) (trail : List Handler) (conn : ConnState L)
         (now : L) (end : EndValue)
         → HasRun L.Link site first trail conn → conn.standing.pending ≡ NextValue.Nothing

@@ -7,7 +7,7 @@ ghost use Rattle.sws_link.specs.Links.{IsFresh};
 ghost use Rattle.sws_conn.specs.Outcome.{Outcome, UnlessMemory};
 ghost use Rattle.sws_conn.specs.Path.{Handler, open_link, TakesOff};
 ghost use Rattle.sws_conn.specs.Responses.{input_limit};
-ghost use Rattle.sws_conn.specs.Talks.{TalkView, unopened_view, next_told, end_told, due, OpensTalk, HasNoStep, HasServed, ServesNow, path_to_come, IsDue};
+ghost use Rattle.sws_conn.specs.Talks.{TalkView, unopened_view, reported_next, reported_end, due, OpensTalk, HasNoStep, HasServed, ServesNow, path_to_come, IsDue};
 
 use crate::{End, Next};
 use std::alloc::Global;
@@ -72,7 +72,7 @@ pub trait Talk<L: Link>: Sized {
     /// Does the pending step, and answers the next one: `Wait` where the link was not ready and the same step is
     /// pending. Before `open` and after the close it does nothing. An end that is known stays.
     fn step(&mut self) -> Next
-        ensures told { result ≡ next_told (view_of self.new) }
+        ensures told { result ≡ reported_next (view_of self.new) }
         ensures nothing { HasNoStep (view_of self.old).pending → self.new ≡ self.old }
         ensures hall { hall_of self.new ≡ hall_of self.old }
         ensures ended { (end : End) → (view_of self.old).end ≡ Some end
@@ -89,7 +89,7 @@ pub trait Talk<L: Link>: Sized {
 
     /// How it ended, once it is closed.
     fn end(&self) -> Option<End>
-        ensures end { result ≡ end_told (view_of self.now) }
+        ensures end { result ≡ reported_end (view_of self.now) }
         ensures closed { IsSome result ↔ ((view_of self.now).pending ≡ Next.Nothing) };
 
     /// How many bytes were taken, 65,536 at most.

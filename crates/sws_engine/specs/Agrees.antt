@@ -25,10 +25,12 @@ module _ (whole : List (List Handler)) where
     pub accepted : w.accepted ≡ s.accepted
     pub coming : w.coming ≡ drop w.accepted whole
 
+  -- no world rests, or the one that rests has accepted so many links and has the others to come
   abbrev pub RestStands : Server → Option World → Type 0
   RestStands s None = Unit {0}
   RestStands s (Some w) = WorldStands s w
 
+  -- the desk is as the server has it: who waits, whether links are to come, and the world at rest
   pub record DeskStands (s : Server) (desk : Desk) : Type 0 where
     pub waiting : desk.waiting ≡ s.waiting
     pub last : desk.last ≡ s.last
@@ -40,6 +42,7 @@ module _ (whole : List (List Handler)) where
   SeatStands s i None = slice_get s.paths i ≡ slice_get whole i
   SeatStands s i (Some path) = (slice_get s.paths i ≡ Some path) × HasNoOpening path
 
+  -- colour 0 has the desk, colour 1 accepts, and each later colour has its connection's seat
   abbrev pub PlaceStands : Server → Colour → Place → Type 0
   PlaceStands s c (polling desk) = (c.0 ≡ 0) × DeskStands s desk
   PlaceStands s c accepting = c.0 ≡ 1
@@ -73,6 +76,7 @@ worlds_of holds carries (c, inl state) = holds state
 worlds_of holds carries (c, inr (event, load)) = worlds_in_load carries load
 
 module _ {S P : Type 0} (IsPlace : S → Place → Type 0) (IsLoad : P → Load → Type 0) (holds : S → ℕ) (carries : P → ℕ) (whole : List (List Handler)) where
+  -- a state is at its colour as the server has it, and an event under way has its load
   abbrev pub PieceStands : Server → Piece S P → Type 0
   PieceStands s (c, inl state) = (place : Place) × IsPlace state place × PlaceStands whole s c place
   PieceStands s (c, inr (event, load)) = (l : Option Load) × AreLoads IsLoad load l

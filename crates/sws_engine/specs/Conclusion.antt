@@ -12,7 +12,7 @@ use Rattle.sws_engine.specs.declared.load.WorldLoad.{WorldLoad}
 use Rattle.sws_engine.specs.declared.load.Load.{Load}
 use Rattle.sws_engine.specs.Place.{PlaceState}
 use Rattle.sws_engine.specs.RunLeaves.{talkers, resting_in, ShowAll, VerdictIs}
-use Rattle.sws_engine.specs.Handing.{served_with, world_with}
+use Rattle.sws_engine.specs.Handing.{served_with_loads, world_with_loads}
 
 -- there is none
 abbrev pub is_empty : {A : Type 0} → List A → Bool
@@ -42,13 +42,14 @@ module _ {W L T G H : Type 0} (y : TalkWords T L G H) (total : ℕ) (how : Drain
 
   -- the world that is found: under way, or at rest in a state
   abbrev pub world_found : Option (WorldLoad W)
-  world_found = world_with ways_of (resting_in None parts.states.items)
+  world_found = world_with_loads ways_of (resting_in None parts.states.items)
 
+  -- what the run ends with is read off the states and what is under way, and so is the verdict
   pub record IsConcluded : Type 0 where
     -- the connections are those of the states, with the links that are still under way
     pub found : List (Served L)
     pub shows : ShowAll y (talkers parts.states.items) found
-    pub served : ended.served.items ≡ served_with ways_of found
+    pub served : ended.served.items ≡ served_with_loads ways_of found
     pub world : ended.world ≡ option_map (λ held. held.world) world_found
     pub accepted : ended.accepted ≡ accepted_of world_found
     pub failed : ended.failed ≡ failed_of world_found

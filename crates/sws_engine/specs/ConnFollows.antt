@@ -9,7 +9,8 @@ use Rattle.sws_engine.specs.declared.ended.Served.{Served}
 use Rattle.sws_engine.specs.Invariant.{event_for}
 
 -- its trail is the path of the script, and bytes and end are its outcome
-pub record ConnFollows {T L G H : Type 0} (l : LinkWords L) (y : TalkWords T L G H) (hall : H) (i : ℕ) (script : Script) (trail : List Event) (s : Served L) : Type 0 where
+pub record ConnFollows {T L G H : Type 0} (l : LinkWords L) (y : TalkWords T L G H) (hall : H)
+    (i : ℕ) (script : Script) (trail : List Event) (s : Served L) : Type 0 where
   pub path : trail ≡ map (event_for i) (y.path hall script)
   pub link : L
   pub there : s.link ≡ Some link

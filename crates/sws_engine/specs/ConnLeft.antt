@@ -6,7 +6,7 @@ use Rattle.sws_link.specs.declared.world.World.{Ghosts as WorldWords}
 use Rattle.sws_steps.specs.declared.Next.TheVariants as next
 use Rattle.sws_conn.specs.declared.talk.Talk.{Ghosts as TalkWords}
 use Rattle.sws_conn.specs.Responses.{input_limit}
-use Rattle.sws_conn.specs.Talks.{TalkView, unopened_view, end_told, HasServed}
+use Rattle.sws_conn.specs.Talks.{TalkView, unopened_view, reported_end, HasServed}
 use Rattle.sws_engine.specs.declared.ended.Served.{Served}
 use Rattle.sws_engine.specs.declared.place.Seat.{Seat}
 use Rattle.sws_engine.specs.Loads.{LinkStands}
@@ -20,6 +20,7 @@ module _ {W L T G H : Type 0} (x : WorldWords W L) (l : LinkWords L) (y : TalkWo
   LinkLeft (Some now) view = (begun : L) × LinkStands x l first i begun
       × HasServed l (y.responses hall) (y.outcome hall) begun now view
 
+  -- what is left of connection i: its link, its end, its counts and its first stray event
   pub record ConnLeft (trail : List Event) (s : Served L) : Type 0 where
     -- the state of its colour, with its talk, from which all of it is told
     pub place : PlaceState H W T
@@ -28,7 +29,7 @@ module _ {W L T G H : Type 0} (x : WorldWords W L) (l : LinkWords L) (y : TalkWo
     pub over : (place.hall ≡ hall) × (place.first ≡ first) × (place.trail ≡ trail)
     pub link : LinkLeft s.link (y.view_of seat.talk)
     -- an end exactly where the link is shut
-    pub end : s.end ≡ end_told (y.view_of seat.talk)
+    pub end : s.end ≡ reported_end (y.view_of seat.talk)
     pub closed : IsSome s.end ↔ ((y.view_of seat.talk).pending ≡ next.Nothing)
     pub read : s.read ≡ (y.view_of seat.talk).read
     pub few_read : s.read ≤ input_limit

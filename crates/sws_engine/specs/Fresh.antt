@@ -17,6 +17,7 @@ module _ {W L T G H : Type 0} (y : TalkWords T L G H) (first : W) where
   FreshRole c Accepting = c ≡ 1
   FreshRole c (Talking seat) = (2 ≤ c) × (y.view_of seat.talk ≡ unopened_view) × (seat.stray ≡ None)
 
+  -- a state of colour c, over the first world, with the fresh role of that colour
   pub record IsFreshPlace (c : ℕ) (s : PlaceState H W T) : Type 0 where
     pub colour : s.colour.0 ≡ c
     pub world : s.first ≡ first
@@ -36,14 +37,16 @@ abbrev pub first_load : {W : Type 0} → W → WorldLoad W
 first_load world = record { world = world; accepted = 0; failed = false }
 
 -- a fresh state as it is made, over the hall
-pub record IsFirstPlace {W L T G H : Type 0} (y : TalkWords T L G H) (first : W) (hall : H) (c : ℕ) (s : PlaceState H W T) : Type 0 where
+pub record IsFirstPlace {W L T G H : Type 0} (y : TalkWords T L G H) (first : W) (hall : H) (c : ℕ)
+    (s : PlaceState H W T) : Type 0 where
   pub fresh : IsFreshPlace y first c s
   pub untouched : s.trail ≡ []
   pub hall_is : s.hall ≡ hall
   pub own_hall : (seat : Seat T) → s.role ≡ Talking seat → y.hall_of seat.talk ≡ hall
 
 -- so many of them, in ascending order
-pub record AreFirstPlaces {W L T G H : Type 0} (y : TalkWords T L G H) (first : W) (hall : H) (count : ℕ) (states : List (PlaceState H W T)) : Type 0 where
+pub record AreFirstPlaces {W L T G H : Type 0} (y : TalkWords T L G H) (first : W) (hall : H)
+    (count : ℕ) (states : List (PlaceState H W T)) : Type 0 where
   pub many : length states ≡ count
   pub each : (i : ℕ) (s : PlaceState H W T) → slice_get states i ≡ Some s
       → IsFirstPlace y first hall i s

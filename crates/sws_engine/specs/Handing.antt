@@ -20,28 +20,34 @@ module _ {L : Type 0} where
   place_link link (suc i) (s ∷ served) = s ∷ place_link link i served
 
 module _ {W L : Type 0} where
+  -- the connections, with the link of one event
   abbrev pub served_with_load : ℕ → Option (Load W L) → List (Served L) → List (Served L)
   served_with_load i None served = served
   served_with_load i (Some (load.World held)) served = served
   served_with_load i (Some (load.Link link)) served = place_link link i served
 
+  -- the world, where this event has it, or as it was found before
   abbrev pub world_with_load : Option (Load W L) → Option (WorldLoad W) → Option (WorldLoad W)
   world_with_load None world = world
   world_with_load (Some (load.World held)) world = Some held
   world_with_load (Some (load.Link link)) world = world
 
   -- the connections, with the links of all these events
-  abbrev pub served_with : List (Event × Option (Load W L)) → List (Served L) → List (Served L)
-  served_with [] served = served
-  served_with (e ∷ events) served = served_with events (served_with_load e.0.arg e.1 served)
+  abbrev pub served_with_loads : List (Event × Option (Load W L)) → List (Served L)
+      → List (Served L)
+  served_with_loads [] served = served
+  served_with_loads (e ∷ events) served =
+      served_with_loads events (served_with_load e.0.arg e.1 served)
 
   -- the world, where it is in one of them, or as it was found before
-  abbrev pub world_with : List (Event × Option (Load W L)) → Option (WorldLoad W)
+  abbrev pub world_with_loads : List (Event × Option (Load W L)) → Option (WorldLoad W)
       → Option (WorldLoad W)
-  world_with [] world = world
-  world_with (e ∷ events) world = world_with events (world_with_load e.1 world)
+  world_with_loads [] world = world
+  world_with_loads (e ∷ events) world = world_with_loads events (world_with_load e.1 world)
 
-  pub record HandsOut (events : List (Event × Option (Load W L))) (before after : Left W L) : Type 0 where
-    pub served : after.served.items ≡ served_with events before.served.items
-    pub world : after.world ≡ world_with events before.world
+  -- the events hand out their links and their world, and the trails stay as they are
+  pub record HandsOut (events : List (Event × Option (Load W L)))
+      (before after : Left W L) : Type 0 where
+    pub served : after.served.items ≡ served_with_loads events before.served.items
+    pub world : after.world ≡ world_with_loads events before.world
     pub trails : after.trails ≡ before.trails

@@ -174,7 +174,8 @@ abbrev pub conn_of : Colour → ℕ
 conn_of c = c.0 - 2
 
 -- connection i waits now, and a world that rested polls again
-pub record RunsWait {W L : Type 0} (desk : Desk W) (i : ℕ) (after : Desk W) (puts : List (Put W L)) : Type 0 where
+pub record RunsWait {W L : Type 0} (desk : Desk W) (i : ℕ) (after : Desk W)
+    (puts : List (Put W L)) : Type 0 where
   pub waiting : after.waiting.items ≡ waiting_with i desk.waiting.items
   pub last : after.last ≡ desk.last
   pub resting : after.resting ≡ None
@@ -188,7 +189,9 @@ module _ {W L : Type 0} (x : WorldWords W L) where
   Asks false world waiting last failed now asked = (now ≡ world)
       × (asked ≡ record { waiting = waiting; last = last; failed = failed; resumed = [] })
 
-  pub record RunsPoll (desk : Desk W) (arg : ℕ) (held : WorldLoad W) (after : Desk W) (puts : List (Put W L)) : Type 0 where
+  -- the world is polled where there is a need: who is ready resumes, and the world goes on or rests
+  pub record RunsPoll (desk : Desk W) (arg : ℕ) (held : WorldLoad W) (after : Desk W)
+      (puts : List (Put W L)) : Type 0 where
     pub now : W
     pub asked : Asked
     pub asks : let last = desk.last || not (arg == 0) in let failed = held.failed || (arg == 2) in
@@ -205,6 +208,7 @@ module _ {W L : Type 0} (x : WorldWords W L) where
           failed = asked.failed;
         })
 
+  -- colour 0 polls with a world, or lets a connection wait; any other event does nothing there
   abbrev pub RunsDesk : Desk W → Option Task → ℕ → Option (Load W L) → Desk W
       → List (Put W L) → Type 0
   RunsDesk desk (Some task.Poll) arg (Some (load.World held)) after puts =
@@ -213,6 +217,7 @@ module _ {W L : Type 0} (x : WorldWords W L) where
   RunsDesk desk other arg carried after puts = (after ≡ desk) × (puts ≡ [])
 
 module _ {W L : Type 0} (x : WorldWords W L) (l : LinkWords L) where
+  -- the world is asked for its next link, and its answer says what is put
   pub record RunsAccept (total : ℕ) (held : WorldLoad W) (puts : List (Put W L)) : Type 0 where
     pub answer : Accepted L
     pub now : W
@@ -220,6 +225,7 @@ module _ {W L : Type 0} (x : WorldWords W L) (l : LinkWords L) where
         l.waits held.world answer now
     pub puts_are : puts ≡ accept_puts total held now answer
 
+  -- colour 1 accepts with a world; any other event does nothing there
   abbrev pub RunsAccepting : ℕ → Option Task → Option (Load W L) → List (Put W L) → Type 0
   RunsAccepting total (Some task.Accept) (Some (load.World held)) puts = RunsAccept total held puts
   RunsAccepting total other carried puts = puts ≡ []
@@ -251,6 +257,7 @@ module _ {W L T G H : Type 0} (y : TalkWords T L G H) where
       × (after.stray ≡ stray_of seat.stray event) × (puts ≡ [])
 
 module _ {W L T G H : Type 0} (x : WorldWords W L) (l : LinkWords L) (y : TalkWords T L G H) where
+  -- a role does its own events, of polling, of accepting or of talking, and stays of its kind
   abbrev pub RunsRole : Colour → Role W T → Event → Option (Load W L) → Role W T
       → List (Put W L) → ℕ → Type 0
   RunsRole c (Polling desk) event carried (Polling after) puts total =
@@ -263,7 +270,9 @@ module _ {W L T G H : Type 0} (x : WorldWords W L) (l : LinkWords L) (y : TalkWo
   RunsRole c role event carried after puts total = ⊥
 
   -- what the handler of an event does: the event joins the trail, and all but the role stays
-  pub record Runs (total : ℕ) (before : PlaceState H W T) (event : Event) (carried : Option (Load W L)) (after : PlaceState H W T) (puts : List (Put W L)) : Type 0 where
+  pub record Runs (total : ℕ) (before : PlaceState H W T) (event : Event)
+      (carried : Option (Load W L)) (after : PlaceState H W T)
+      (puts : List (Put W L)) : Type 0 where
     pub colour : after.colour ≡ before.colour
     pub hall : after.hall ≡ before.hall
     pub first : after.first ≡ before.first

@@ -6,7 +6,7 @@ use Rattle.sws_link.specs.declared.Link.{Ghosts as LinkWords}
 use Rattle.sws_link.specs.declared.world.World.{Ghosts as WorldWords}
 use Rattle.sws_conn.specs.declared.talk.Talk.{Ghosts as TalkWords}
 use Rattle.sws_conn.specs.Path.{Handler}
-use Rattle.sws_conn.specs.Talks.{unopened_view, next_told, due}
+use Rattle.sws_conn.specs.Talks.{unopened_view, reported_next, due}
 use Rattle.sws_engine.specs.declared.place.Desk.{Desk}
 use Rattle.sws_engine.specs.declared.place.Seat.{Seat}
 use Rattle.sws_engine.specs.declared.place.Role.{Role}
@@ -50,19 +50,22 @@ module _ {W L T G H : Type 0} (x : WorldWords W L) (l : LinkWords L) (y : TalkWo
   TrailIs trail ran None = trail ≡ map (event_for i) ran
   TrailIs trail ran (Some event) = FirstStray trail event
 
+  -- the talk is over the hall; the steps it has run make up the trail, unless an event was stray
   pub record SeatStands (trail : List Event) (seat : Seat T) : Type 0 where
     pub hall_is : y.hall_of seat.talk ≡ hall
-    pub next : seat.next ≡ next_told (y.view_of seat.talk)
+    pub next : seat.next ≡ reported_next (y.view_of seat.talk)
     pub ran : List Handler
     pub runs : RanBy ran seat.talk
     pub trailed : TrailIs trail ran seat.stray
 
 module _ {W L T G H : Type 0} (x : WorldWords W L) (l : LinkWords L) (y : TalkWords T L G H) where
+  -- the role is that of the colour, and its desk or seat is sound
   abbrev pub RoleStands : H → W → Colour → List Event → Role W T → Type 0
   RoleStands hall first c trail (Polling desk) = (c.0 ≡ 0) × DeskStands x l first desk
   RoleStands hall first c trail Accepting = c.0 ≡ 1
   RoleStands hall first c trail (Talking seat) = (2 ≤ c.0)
       × SeatStands x l y hall first (conn_of c) trail seat
 
+  -- the role of a state is sound by the state's own hall, world, colour and trail
   abbrev pub IsConsistent : PlaceState H W T → Type 0
   IsConsistent place = RoleStands place.hall place.first place.colour place.trail place.role

@@ -3,7 +3,7 @@ pub mod Counting
 pub mod Waiting
 pub mod WaitingKept
 pub mod Place
-pub mod PlaceShown
+pub mod PlaceFields
 pub mod Loads
 pub mod Handling
 pub mod Polling
@@ -38,3 +38,4 @@ pub mod Modelled
 pub mod Scripted
 pub mod ConnFollows
 pub mod Begins
+pub mod Limits

@@ -60,24 +60,29 @@ module _ {W L : Type 0} (x : WorldWords W L) (l : LinkWords L) (first : W) where
     pub failing : arg ≡ 2 → Rose (x.faults first) (x.faults held.world)
     pub sure : IsTrue at_first.scripted → arg ≤ 1
 
+  -- an accept: on colour 1, with the world of the run, while more links are to come
   pub record AcceptFits (c : Colour) (arg : ℕ) (held : WorldLoad W) : Type 0 where
     pub colour : c.0 ≡ 1
     pub none : arg ≡ 0
     pub stands : WorldStands held
     pub more : held.accepted < at_first.total
 
+  -- a wait: on colour 0, for a connection of the run
   pub record WaitFits (c : Colour) (i : ℕ) : Type 0 where
     pub colour : c.0 ≡ 0
     pub conn : i < at_first.total
 
+  -- a step: on the colour of a connection of the run
   pub record StepFits (c : Colour) (i : ℕ) : Type 0 where
     pub colour : c.0 ≡ i + 2
     pub conn : i < at_first.total
 
+  -- an opening: on the colour of its connection, with the link of that, still untouched
   pub record OpenFits (c : Colour) (i : ℕ) (link : L) : Type 0 where
     pub step : StepFits c i
     pub fresh : LinkStands i link
 
+  -- what fits a task: its colour, its argument, and the load it takes, or none
   abbrev pub TaskFits : Colour → ℕ → Option Task → Option (Load W L) → Type 0
   TaskFits c arg (Some task.Poll) (Some (load.World held)) = PollFits c arg held
   TaskFits c arg (Some task.Accept) (Some (load.World held)) = AcceptFits c arg held

@@ -17,7 +17,10 @@ use Rattle.sws_engine.specs.Place.{PlaceState}
 use Rattle.sws_engine.specs.RunEnds.{IsPlacedAs}
 
 -- The histories are legal, one for each shard, and where the weave was drained each of them is and nothing is queued. There is a state for each colour, of its role, over the world that was handed in, and its trail is what was run of it.
-pub record PartsKept {W L T G H : Type 0} (x : WorldWords W L) (y : TalkWords T L G H) (setup : Setup) (first : W) (how : Drained) (histories : List (List Entry)) (states : List (PlaceState H W T)) (queued : List (List (Event × Option (Load W L)))) : Type 0 where
+pub record PartsKept {W L T G H : Type 0} (x : WorldWords W L) (y : TalkWords T L G H)
+    (setup : Setup) (first : W) (how : Drained) (histories : List (List Entry))
+    (states : List (PlaceState H W T))
+    (queued : List (List (Event × Option (Load W L)))) : Type 0 where
   pub legal : AreLegal setup histories
   pub shards : length histories ≡ (shape_of setup).shards
   pub drained : how ≡ Empty → (shard : ℕ) (history : List Entry) → slice_get histories shard

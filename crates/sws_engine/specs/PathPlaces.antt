@@ -98,6 +98,7 @@ goes_on false waiting w = with_world w accept ∷ []
 goes_on true [] w = []
 goes_on true (i ∷ waiting) w = with_world w (poll 1) ∷ []
 
+-- the world that rests after a poll: where no more links are to come and nobody waits
 abbrev pub rests_with : Bool → List ℕ → World → Option World
 rests_with false waiting w = None
 rests_with true [] w = Some w

@@ -34,16 +34,19 @@ module _ {W L T G H : Type 0} (x : WorldWords W L) (l : LinkWords L) (y : TalkWo
   -- ---- a state and a load as the paths have them
 
   module _ (paths : List (List Handler)) where
+    -- the world has accepted so many links, and has the paths of the others to come
     pub record HasWorld (held : WorldLoad W) (w : path.World) : Type 0 where
       pub accepted : w.accepted ≡ held.accepted
       pub coming : w.coming ≡ drop held.accepted paths
 
+    -- a world rests on both sides, the one as the other, or none rests on either
     abbrev pub HasRest : Option (WorldLoad W) → Option path.World → Type 0
     HasRest None None = ⊤
     HasRest None (Some w) = ⊥
     HasRest (Some held) None = ⊥
     HasRest (Some held) (Some w) = HasWorld held w
 
+    -- the desk has who waits, whether no more links are to come, and the world that rests
     pub record HasDesk (desk : Desk W) (d : path.Desk) : Type 0 where
       pub waiting : d.waiting ≡ desk.waiting.items
       pub last : d.last ≡ desk.last
@@ -58,19 +61,23 @@ module _ {W L T G H : Type 0} (x : WorldWords W L) (l : LinkWords L) (y : TalkWo
       pub opened : due (y.view_of talk) ≢ Some open_link
       pub sound : (y.view_of talk).end ≢ Some Memory
 
+    -- the talk is over the hall; it was never opened, or has this rest of its path to run
     abbrev pub HasTalk : T → Option (List Handler) → Type 0
     HasTalk talk None = (y.hall_of talk ≡ hall) × (y.view_of talk ≡ unopened_view)
     HasTalk talk (Some rest) = (y.hall_of talk ≡ hall) × HasRun talk rest
 
+    -- the role is of the kind that the paths have, with the desk or the talk that they have
     abbrev pub HasRole : Role W T → path.Place → Type 0
     HasRole (Polling desk) (path.polling d) = HasDesk desk d
     HasRole Accepting path.accepting = ⊤
     HasRole (Talking seat) (path.talking rest) = HasTalk seat.talk rest
     HasRole role place = ⊥
 
+    -- the role of a state is as the paths have it
     abbrev pub HasPlace : PlaceState H W T → path.Place → Type 0
     HasPlace s place = HasRole s.role place
 
+    -- the load carries the world as the paths have it, or a link whose path to come is this one
     abbrev pub HasLoad : Load W L → path.Load → Type 0
     HasLoad (load.World held) (path.world w) = HasWorld held w
     HasLoad (load.Link link) (path.link way) = path_to_come (y.path hall) (l.tells link) ≡ Some way

@@ -11,7 +11,10 @@ use Rattle.sws_engine.specs.Agrees.{PlaceStands, ComingStands}
 use Rattle.sws_engine.specs.PathStates.{AreLoads, ArePuts}
 
 -- over a scripted world a handler makes of what a colour has and of its load what the place says, unless it leaves the state spoilt, as where the link met want of memory; a state or a load that is as a place or a load has as many worlds
-pub record IsPlaced {S P F R : Type 0} (t : TrailWords S F) (fits : F → Colour → Event → Option P → Type 0) (y : AppWords R P S F) (app : R) (frame : F) (IsPlace : S → Place → Type 0) (IsLoad : P → Load → Type 0) (holds : S → ℕ) (carries : P → ℕ) (spoilt : S → Bool) (whole : List (List Handler)) : Type 0 where
+pub record IsPlaced {S P F R : Type 0} (t : TrailWords S F)
+    (fits : F → Colour → Event → Option P → Type 0) (y : AppWords R P S F) (app : R) (frame : F)
+    (IsPlace : S → Place → Type 0) (IsLoad : P → Load → Type 0) (holds : S → ℕ) (carries : P → ℕ)
+    (spoilt : S → Bool) (whole : List (List Handler)) : Type 0 where
   pub held : (state : S) (place : Place) → IsPlace state place → holds state ≡ worlds_of_place place
   pub carriage : (load : P) (l : Load) → IsLoad load l → carries load ≡ worlds_of_load (Some l)
   pub roomy : (state roomy : S) (place : Place) → t.alike state roomy

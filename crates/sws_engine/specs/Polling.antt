@@ -24,7 +24,8 @@ asked_as waiting last failed ready = record {
 
 module _ {W L : Type 0} (x : WorldWords W L) where
   -- the world was asked, and who is resumed was taken off those that wait
-  pub record PollsOnce (world : W) (waiting : List ℕ) (last failed : Bool) (resumed : Option ℕ) (now : W) (left : List ℕ) (last_now failed_now : Bool) : Type 0 where
+  pub record PollsOnce (world : W) (waiting : List ℕ) (last failed : Bool) (resumed : Option ℕ)
+      (now : W) (left : List ℕ) (last_now failed_now : Bool) : Type 0 where
     pub asked : Asked
     pub asks : Asks x (is_to_ask waiting last failed) world waiting last failed now asked
     pub left_is : left ≡ (resumed_one asked).waiting

@@ -17,13 +17,15 @@ pub record IsPlacedAs {H W T : Type 0} (i : ℕ) (place : PlaceState H W T) : Ty
   pub talks : 2 ≤ i → (seat : Seat T) × (place.role ≡ Talking seat)
 
 -- no event of the connection was stray; where its link was accepted it was served to its close, and else it was never opened
-pub record ConnEnds {T L G H : Type 0} (y : TalkWords T L G H) (accepted i : ℕ) (seat : Seat T) : Type 0 where
+pub record ConnEnds {T L G H : Type 0} (y : TalkWords T L G H) (accepted i : ℕ)
+    (seat : Seat T) : Type 0 where
   pub no_stray : seat.stray ≡ None
   pub closed : i < accepted → due (y.view_of seat.talk) ≡ None
   pub unopened : accepted ≤ i → due_number y seat ≡ 3
 
 -- the world rests at colour 0: all links were accepted or it has failed, nobody waits, and each connection has ended
-pub record RunEnds {W L T G H : Type 0} (y : TalkWords T L G H) (total : ℕ) (states : List (PlaceState H W T)) (desk : Desk W) : Type 0 where
+pub record RunEnds {W L T G H : Type 0} (y : TalkWords T L G H) (total : ℕ)
+    (states : List (PlaceState H W T)) (desk : Desk W) : Type 0 where
   pub held : WorldLoad W
   pub rests : desk.resting ≡ Some held
   pub nobody : desk.waiting.items ≡ []

@@ -12,7 +12,10 @@ use Rattle.sws_engine.specs.Loads.{Fit, WorldStands, LinkStands}
 use Rattle.sws_engine.specs.Place.{PlaceState}
 
 module _ {W L : Type 0} (x : WorldWords W L) (l : LinkWords L) (first : W) where
-  pub record RunFits {H T : Type 0} (hall : H) (states : List (PlaceState H W T)) (waits : List (List (Event × Option (Load W L)))) (refused : List (Colour × Event × Option (Load W L))) : Type 0 where
+  -- each state is over the hall, and each event queued or refused fits its load and its colour
+  pub record RunFits {H T : Type 0} (hall : H) (states : List (PlaceState H W T))
+      (waits : List (List (Event × Option (Load W L))))
+      (refused : List (Colour × Event × Option (Load W L))) : Type 0 where
     pub of_hall : (i : ℕ) (place : PlaceState H W T)
         → slice_get states i ≡ Some place → place.hall ≡ hall
     pub queued : (c : Colour) (events : List (Event × Option (Load W L)))

@@ -7,7 +7,7 @@ use Rattle.sws_steps.specs.declared.End.TheVariants as ending
 use Rattle.sws_steps.specs.declared.Next.TheVariants as next
 use Rattle.sws_conn.specs.declared.talk.Talk.{Ghosts as TalkWords}
 use Rattle.sws_conn.specs.Responses.{input_limit}
-use Rattle.sws_conn.specs.Talks.{end_told}
+use Rattle.sws_conn.specs.Talks.{reported_end}
 use Rattle.sws_engine.specs.declared.ended.Served.{Served}
 use Rattle.sws_engine.specs.declared.ended.Verdict.{Verdict}
 use Rattle.sws_engine.specs.declared.ended.Verdict.TheVariants as verdict
@@ -54,10 +54,11 @@ resting_in before [] = before
 resting_in before (place ∷ states) = resting_in (or_else (resting_by place.role) before) states
 
 -- what a connection shows once its talk was given up
-pub record ShowsSeat {T L G H : Type 0} (y : TalkWords T L G H) (seat : Seat T) (s : Served L) : Type 0 where
+pub record ShowsSeat {T L G H : Type 0} (y : TalkWords T L G H) (seat : Seat T)
+    (s : Served L) : Type 0 where
   pub link : s.link ≡ y.link_of seat.talk
   pub linked : (s.link ≡ None) ↔ ((y.view_of seat.talk).pending ≡ next.Open)
-  pub end : s.end ≡ end_told (y.view_of seat.talk)
+  pub end : s.end ≡ reported_end (y.view_of seat.talk)
   pub closed : IsSome s.end ↔ ((y.view_of seat.talk).pending ≡ next.Nothing)
   pub read : s.read ≡ (y.view_of seat.talk).read
   pub few_read : s.read ≤ input_limit
@@ -66,7 +67,8 @@ pub record ShowsSeat {T L G H : Type 0} (y : TalkWords T L G H) (seat : Seat T) 
   pub stray : s.stray ≡ seat.stray
 
 -- each connection shows how its talk stands
-pub record ShowAll {W T L G H : Type 0} (y : TalkWords T L G H) (all : List (Talker H W T)) (served : List (Served L)) : Type 0 where
+pub record ShowAll {W T L G H : Type 0} (y : TalkWords T L G H) (all : List (Talker H W T))
+    (served : List (Served L)) : Type 0 where
   pub many : length served ≡ length all
   pub each : (i : ℕ) (talker : Talker H W T) (s : Served L) → slice_get all i ≡ Some talker
       → slice_get served i ≡ Some s → ShowsSeat y talker.seat s
@@ -80,6 +82,7 @@ module _ {W L T G H : Type 0} (x : WorldWords W L) (l : LinkWords L) (y : TalkWo
   RoleTells place Accepting = Unit {0}
   RoleTells place (Talking seat) = SeatServes x l y place seat
 
+  -- what a state tells of the run by the role that it has
   abbrev pub StateTells : PlaceState H W T → Type 0
   StateTells place = RoleTells place place.role
 
@@ -112,6 +115,7 @@ module _ {L : Type 0} (served : List (Served L)) where
   NoneOutOfMemory = (i : ℕ) (s : Served L) → slice_get served i ≡ Some s
       → is_out_of_memory s.end ≡ false
 
+  -- some link met want of memory
   pub record SomeOutOfMemory : Type 0 where
     pub i : ℕ
     pub s : Served L

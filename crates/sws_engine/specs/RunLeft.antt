@@ -30,8 +30,8 @@ use Rattle.sws_engine.specs.ServerRun.{server_rules}
 use Rattle.sws_engine.specs.RunFits.{RunFits}
 use Rattle.sws_engine.specs.Conclusion.{IsConcluded}
 
--- of a link that is known to answer by a script: at Ok its connection has run its path, and came to its outcome
 module _ {W L T G H : Type 0} (x : WorldWords W L) (l : LinkWords L) (y : TalkWords T L G H) (hall : H) (first : W) (ended : Ended W L) where
+  -- a connection whose link answers by a known script has run its path and come to its outcome
   abbrev pub AllFollow : Type 0
   AllFollow = (coming : List Coming) (one : Coming) (script : Script) (i : ℕ) (s : Served L)
       (trail : List Event) → (x.tells first).coming ≡ Some coming → slice_get coming i ≡ Some one
@@ -41,6 +41,7 @@ module _ {W L T G H : Type 0} (x : WorldWords W L) (l : LinkWords L) (y : TalkWo
       → ConnFollows l y hall i script trail s
 
 module _ {W L T G H : Type 0} (x : WorldWords W L) (l : LinkWords L) (y : TalkWords T L G H) (shape : Shape) (hall : H) (first : W) (ended : Ended W L) where
+  -- the histories that the run left, as lists of entries
   abbrev pub histories_in : List (List Entry)
   histories_in = map (λ history. history.items) ended.histories.items
 

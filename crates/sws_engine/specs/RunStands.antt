@@ -65,11 +65,13 @@ asks_for handler i e = bit ((e.0.handler == handler) && (e.0.arg == i))
 -- ---- of the states
 
 module _ {W T : Type 0} where
+  -- a number of the desk, and 0 where the role isn't to poll
   abbrev pub at_desk : (Desk W → ℕ) → Role W T → ℕ
   at_desk of (Polling desk) = of desk
   at_desk of Accepting = 0
   at_desk of (Talking seat) = 0
 
+  -- a number of the seat, and 0 where the role isn't to talk
   abbrev pub at_seat : (Seat T → ℕ) → Role W T → ℕ
   at_seat of (Polling desk) = 0
   at_seat of Accepting = 0
@@ -92,9 +94,11 @@ is_stray None = 0
 is_stray (Some event) = 1
 
 module _ {H W T : Type 0} where
+  -- a state whose role isn't that of its colour
   abbrev pub misplaced_count : PlaceState H W T → ℕ
   misplaced_count s = misplaced_at s.colour.0 s.role
 
+  -- a state that polls
   abbrev pub desks : PlaceState H W T → ℕ
   desks s = at_desk (λ desk. 1) s.role
 
@@ -102,20 +106,24 @@ module _ {H W T : Type 0} where
   abbrev pub seats : ℕ → PlaceState H W T → ℕ
   seats i s = at_seat (λ seat. bit (s.colour.0 == i + 2)) s.role
 
+  -- a world that rests in the state
   abbrev pub rests : PlaceState H W T → ℕ
   rests s = at_desk (λ desk. if_held is_any desk.resting) s.role
 
+  -- a world that rests in the state and has accepted more links than i
   abbrev pub rests_beyond : ℕ → PlaceState H W T → ℕ
   rests_beyond i s = at_desk (λ desk. if_held (is_beyond i) desk.resting) s.role
 
-  abbrev pub rests_unended : ℕ → PlaceState H W T → ℕ
-  rests_unended total s = at_desk (λ desk. if_held (is_unended total) desk.resting) s.role
+  -- a world that rests though links are still to be accepted and it hasn't failed
+  abbrev pub unended_rests : ℕ → PlaceState H W T → ℕ
+  unended_rests total s = at_desk (λ desk. if_held (is_unended total) desk.resting) s.role
 
   -- the world rests though somebody waits
   abbrev pub rests_in_vain : PlaceState H W T → ℕ
   rests_in_vain s = at_desk (λ desk.
       if_held (λ held. is_some desk.waiting.items) desk.resting) s.role
 
+  -- a desk that knows that no more links are to come
   abbrev pub is_last : PlaceState H W T → ℕ
   is_last s = at_desk (λ desk. bit desk.last) s.role
 
@@ -123,6 +131,7 @@ module _ {H W T : Type 0} where
   abbrev pub waits_for : ℕ → PlaceState H W T → ℕ
   waits_for i s = at_desk (λ desk. times i desk.waiting.items) s.role
 
+  -- a connection that met a stray event
   abbrev pub strays : PlaceState H W T → ℕ
   strays s = at_seat (λ seat. is_stray seat.stray) s.role
 
@@ -142,7 +151,8 @@ module _ {W L T G H : Type 0} (y : TalkWords T L G H) where
       bit ((s.colour.0 == i + 2) && not (due_number y seat == 3))) s.role
 
   -- Of all states and all events under way in a run with so many links
-  pub record RunStands (total : ℕ) (states : List (PlaceState H W T)) (ways : List (Way W L)) : Type 0 where
+  pub record RunStands (total : ℕ) (states : List (PlaceState H W T))
+      (ways : List (Way W L)) : Type 0 where
     -- each colour has the role that is its own, there is one state that polls, and one for each connection
     pub placed : sum_by misplaced_count states ≡ 0
     pub one_desk : sum_by desks states ≡ 1
@@ -160,6 +170,6 @@ module _ {W L T G H : Type 0} (y : TalkWords T L G H) where
         + sum_by (waits_for i) states ≡ sum_by (is_at i 9) states
     pub no_stray : sum_by strays states ≡ 0
     -- the poll after the last link comes after the last link or a fault, and so does the rest of the world
-    pub ended : sum_by (unended_count total) ways + sum_by (rests_unended total) states ≡ 0
+    pub ended : sum_by (unended_count total) ways + sum_by (unended_rests total) states ≡ 0
     pub late : sum_by early ways + sum_by is_last states ≤ 1
     pub not_in_vain : sum_by rests_in_vain states ≡ 0

@@ -10,7 +10,8 @@ use Rattle.sws_engine.specs.declared.ended.Verdict.TheVariants as verdict
 use Rattle.sws_engine.specs.ServerRun.{IsServerRun}
 
 -- nothing of the outside stands in the way of the world, and its links, of which none was accepted, answer by these scripts
-pub record TellsScripts {W L : Type 0} (x : WorldWords W L) (first : W) (scripts : List Script) : Type 0 where
+pub record TellsScripts {W L : Type 0} (x : WorldWords W L) (first : W)
+    (scripts : List Script) : Type 0 where
   pub scripted : IsTrue (x.tells first).scripted
   pub many : (x.tells first).total ≡ length scripts
   pub coming : List Coming

@@ -18,13 +18,16 @@ LoadSuits l false (Some (load.World held)) = Unit {0}
 LoadSuits l false None = Unit {0}
 
 module _ {T L G H : Type 0} (y : TalkWords T L G H) where
+  -- the connection has no link, and nothing was done on it
   abbrev pub IsUnopened : T → Type 0
   IsUnopened talk = (y.link_of talk ≡ None) × (y.view_of talk ≡ unopened_view)
 
+  -- some steps were run on the connection, over the link it began with
   pub record HasRunSome (talk : T) : Type 0 where
     pub first : L
     pub ran : List Handler
     pub is : y.has_run first ran talk
 
+  -- the connection was never opened, or has run some steps
   abbrev pub IsFreshOrRan : T → Type 0
   IsFreshOrRan talk = IsUnopened talk ⊎ HasRunSome talk

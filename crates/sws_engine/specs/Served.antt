@@ -13,6 +13,7 @@ use Rattle.sws_engine.specs.Handling.{conn_of}
 use Rattle.sws_engine.specs.Invariant.{event_for}
 
 module _ {W L T G H : Type 0} (x : WorldWords W L) (l : LinkWords L) (y : TalkWords T L G H) (place : PlaceState H W T) (seat : Seat T) where
+  -- the number of the connection of the place
   abbrev pub conn : ℕ
   conn = conn_of place.colour
 
@@ -31,6 +32,7 @@ module _ {W L T G H : Type 0} (x : WorldWords W L) (l : LinkWords L) (y : TalkWo
       (path_to_come (y.path place.hall) (l.tells first)) (y.rest_of seat.talk))
       × IsDue (due (y.view_of seat.talk)) (y.rest_of seat.talk)
 
+  -- the connection was served so far; unless an event was stray, its trail is the steps it ran
   pub record SeatServes : Type 0 where
     pub served : ServedBy (y.link_of seat.talk)
     -- without a stray event the trail is the steps that were run

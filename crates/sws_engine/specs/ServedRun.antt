@@ -27,7 +27,11 @@ use Rattle.sws_engine.specs.ServerRun.{server_rules, IsRunOfPaths}
 
 module _ {W L T G H : Type 0} (x : WorldWords W L) (y : TalkWords T L G H) where
   -- a weave of the fresh states was made, the first poll was posted with the world, the schedule was run, and a drain came to its end
-  pub record HasRunOut {R : Type 0} (t : TrailWords (PlaceState H W T) (Frame H W)) (fits : Frame H W → Colour → Event → Option (Load W L) → Type 0) (a : AppWords R (Load W L) (PlaceState H W T) (Frame H W)) (total_of : R → ℕ) (setup : Setup) (first : W) (hall : H) (schedule : List (ℕ × ℕ)) (end : WeaveState (PlaceState H W T) (Load W L)) : Type 0 where
+  pub record HasRunOut {R : Type 0} (t : TrailWords (PlaceState H W T) (Frame H W))
+      (fits : Frame H W → Colour → Event → Option (Load W L) → Type 0)
+      (a : AppWords R (Load W L) (PlaceState H W T) (Frame H W)) (total_of : R → ℕ) (setup : Setup)
+      (first : W) (hall : H) (schedule : List (ℕ × ℕ))
+      (end : WeaveState (PlaceState H W T) (Load W L)) : Type 0 where
     pub app : R
     pub total : total_of app ≡ (x.tells first).total
     pub states : List (PlaceState H W T)

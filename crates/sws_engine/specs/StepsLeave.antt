@@ -31,5 +31,6 @@ module _ {W L T G H : Type 0} (x : WorldWords W L) (l : LinkWords L) (y : TalkWo
     -- nothing is ever amiss
     pub never_apart : (conn : ℕ) → ended.verdict ≢ verdict.Apart conn
 
+  -- memory was refused before the first event, or the server has run over the weave
   abbrev pub StepsLeave : Type 0
   StepsLeave = HasNotBegun first ended ⊎ HasRun

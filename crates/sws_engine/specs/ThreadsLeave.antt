@@ -24,5 +24,6 @@ module _ {W L T G H : Type 0} (x : WorldWords W L) (l : LinkWords L) (y : TalkWo
     -- at Ok each connection follows the script that its link is known to answer by
     pub follows : IsUnkept y → ended.verdict ≡ verdict.Ok → AllFollow x l y hall first ended
 
+  -- memory was refused before the first event, or the server has run on the threads
   abbrev pub ThreadsLeave : Type 0
   ThreadsLeave = HasNotBegun first ended ⊎ HasRunThreads

@@ -3,6 +3,7 @@ ghost use Rattle.std.specs.Prelude.{◌≡◌, ◌<◌, ◌≤◌, ◌∷◌, �
 ghost use Rattle.sws_engine.specs.Handling.{RunsAccept, RunsAccepting, poll_put, open_put};
 ghost use Rattle.sws_engine.specs.Polling.{MayAccept};
 ghost use Rattle.sws_engine.specs.Tasks.{task_of};
+ghost use Rattle.sws_engine.specs.Limits.{conn_limit};
 
 use crate::desk::event_of;
 use crate::load::{Load, WorldLoad};
@@ -21,7 +22,7 @@ pub(crate) fn accept<W: World + Drop>(
     requires empty { outs.old ≡ [] }
     requires more { (W.tells held.world).accepted < (W.tells held.world).total }
     requires few { held.accepted < total }
-    requires small { total ≤ 1024 }
+    requires small { total ≤ conn_limit }
     ensures runs { RunsAccept W.World W.Link.Link total held outs.new }
 {
     let WorldLoad {
@@ -98,7 +99,7 @@ pub(crate) fn run_accepting<W: World + Drop>(
 )
     requires empty { outs.old ≡ [] }
     requires more { IfSome load (MayAccept W.tells total) }
-    requires small { total ≤ 1024 }
+    requires small { total ≤ conn_limit }
     ensures runs { RunsAccepting W.World W.Link.Link total (task_of event.handler) load outs.new }
 {
     match Task::of(event.handler) {

@@ -43,13 +43,14 @@ impl<W: World + Drop, T: Talk<W::Link> + Drop> App for Sws<W, T> {
 
     ghost use Rattle.std.specs.Prelude.{◌≡◌, ◌≤◌, ◌+◌};
     ghost use Rattle.sws_engine.specs.Handling.{Runs};
-    ghost use Rattle.sws_engine.specs.PlaceShown.{frame_in};
+    ghost use Rattle.sws_engine.specs.Limits.{conn_limit};
+    ghost use Rattle.sws_engine.specs.PlaceFields.{frame_in};
 
     ghost colours_of = { λ app. app.total + 2 };
 
     ghost handlers_of = { λ app. 10 };
 
-    ghost serves = { λ app frame. ((W.tells frame.first).total ≡ app.total) × (app.total ≤ 1024) };
+    ghost serves = { λ app frame. ((W.tells frame.first).total ≡ app.total) × (app.total ≤ conn_limit) };
 
     ghost runs = { λ app before event load after puts.
         Runs W.World W.Link.Link T.Talk app.total before event load after puts };
@@ -62,7 +63,7 @@ impl<W: World + Drop, T: Talk<W::Link> + Drop> App for Sws<W, T> {
         outs: &mut Outs<Load<W, W::Link>>,
     )
         requires serves { ((W.tells state.old.first).total ≡ self.now.total)
-            × (self.now.total ≤ 1024) }
+            × (self.now.total ≤ conn_limit) }
         requires room { 1 ≤ state.old.spare }
         requires empty { outs.old ≡ [] }
         requires fits { Fit W.World W.Link.Link state.old.first state.old.colour event load }

@@ -5,6 +5,7 @@ ghost use Rattle.sws_engine.specs.Tasks.{number_of_task, task_of};
 ghost use Rattle.mely_worker.specs.Outs.{in_place};
 ghost use Rattle.sws_conn.specs.Path.{resume};
 ghost use Rattle.sws_engine.specs.Polling.{LetsGo, asked_as, PollsOnce};
+ghost use Rattle.sws_engine.specs.Limits.{conn_limit};
 
 use crate::load::{Load, WorldLoad};
 use crate::place::Desk;
@@ -104,7 +105,7 @@ pub(crate) fn poll<W: World + Drop>(
     outs: &mut Outs<Load<W, W::Link>>,
 )
     requires empty { outs.old ≡ [] }
-    requires few { desk.old.waiting.total ≤ 1024 }
+    requires few { desk.old.waiting.total ≤ conn_limit }
     ensures runs { RunsPoll W.World desk.old arg held desk.new outs.new }
     ensures room { desk.new.waiting.total ≡ desk.old.waiting.total }
 {
@@ -172,7 +173,7 @@ pub(crate) fn run_desk<W: World + Drop>(
     outs: &mut Outs<Load<W, W::Link>>,
 )
     requires empty { outs.old ≡ [] }
-    requires few { desk.old.waiting.total ≤ 1024 }
+    requires few { desk.old.waiting.total ≤ conn_limit }
     requires known { task_of event.handler ≡ Some Task.Wait → event.arg < desk.old.waiting.total }
     ensures runs { RunsDesk W.World desk.old (task_of event.handler) event.arg
         load desk.new outs.new }

@@ -1,6 +1,7 @@
 //! What a run leaves.
 ghost use Rattle.std.specs.Prelude.{◌≡◌, ◌≤◌, ◌+◌, [], IfOk, vec_capacity};
 ghost use Rattle.sws_engine.specs.EndRoom.{HasEndRoom};
+ghost use Rattle.sws_engine.specs.Limits.{conn_limit};
 
 use mely_event::Event;
 use mely_history::Entry;
@@ -82,15 +83,11 @@ impl<L> EndRoom<L> {
     pub fn new(alloc: Global, total: u16) -> Result<EndRoom<L>, Memory>
     where
         L: Drop,
-        requires { total ≤ 1024 }
+        requires { total ≤ conn_limit }
         ensures { IfOk result (HasEndRoom total) }
     {
-        let Ok(served) = Vec::with_capacity(alloc, usize::from(total)) else {
-            return Err(Memory);
-        };
-        let Ok(trails) = Vec::with_capacity(alloc, usize::from(total) + 2) else {
-            return Err(Memory);
-        };
+        let served = Vec::with_capacity(alloc, usize::from(total))?;
+        let trails = Vec::with_capacity(alloc, usize::from(total) + 2)?;
         Ok(EndRoom { served, trails })
     }
 }

@@ -58,7 +58,7 @@ impl<W: World, T: Talk<W::Link>> Model for Place<W, T> {
 
     ghost Value = { PlaceState T.Contents W T };
 
-    ghost use Rattle.sws_engine.specs.PlaceShown.{state_of};
+    ghost use Rattle.sws_engine.specs.PlaceFields.{state_of};
     ghost use Rattle.sws_engine.specs.Invariant.{IsConsistent};
 
     ghost view = { λ place. state_of T.contents_of place };
@@ -70,7 +70,7 @@ impl<W: World, T: Talk<W::Link>> Model for Place<W, T> {
 impl<W: World, T: Talk<W::Link>> Trail for Place<W, T> {
     type Frame = Frame<T::Contents, W>;
 
-    ghost use Rattle.sws_engine.specs.PlaceShown.{IsAlike};
+    ghost use Rattle.sws_engine.specs.PlaceFields.{IsAlike};
 
     ghost trail_of = { λ s. s.trail };
 
@@ -95,7 +95,7 @@ impl<W: World, T: Talk<W::Link>> Trail for Place<W, T> {
 
     ghost alike_itself = { λ s. refl };
 
-    ghost use Rattle.sws_engine.specs.PlaceShown.{alike_onward as alike_on, alike_framed};
+    ghost use Rattle.sws_engine.specs.PlaceFields.{alike_onward as alike_on, alike_framed};
 
     ghost alike_onward = { alike_on };
 

@@ -6,6 +6,7 @@ ghost use Rattle.mely_weave.specs.Drains.{AllFree, HistoriesAreDrained};
 ghost use Rattle.mely_weave.specs.Runs.{KeepsSetup};
 ghost use Rattle.mely_run.specs.WholeRuns.{IsRunOut};
 ghost use Rattle.sws_engine.specs.RunFact.{RunFact};
+ghost use Rattle.sws_engine.specs.Limits.{conn_limit};
 
 use crate::app::Sws;
 use crate::load::Load;
@@ -29,7 +30,7 @@ pub fn run_through<R: Wait, W: World + Drop, T: Talk<W::Link> + Drop>(
     requires colours { app.now.total + 2 ≤ colours_of weave.old.setup }
     requires handlers { 10 ≤ length (rows_of (handlers_of weave.old.setup)) }
     requires total { (W.tells weave.old.given.first).total ≡ app.now.total }
-    requires few { app.now.total ≤ 1024 }
+    requires few { app.now.total ≤ conn_limit }
     requires stands { RunFact W.World T.Talk weave.old.given.first weave.old }
     ensures stands { RunFact W.World T.Talk weave.old.given.first weave.new }
     ensures free { AllFree weave.new }

@@ -3,7 +3,7 @@ ghost use Rattle.std.specs.Prelude.{false, ◌≡◌, ◌<◌, ◌≤◌, ◌≢
 ghost use Rattle.sws_conn.specs.Path.{Handler, open_link, read_piece};
 ghost use Rattle.sws_link.specs.Links.{IsFresh};
 ghost use Rattle.sws_engine.specs.Seating.{LoadSuits, IsUnopened, HasRunSome, IsFreshOrRan};
-ghost use Rattle.sws_conn.specs.Talks.{due, due_after, next_told, opened_view};
+ghost use Rattle.sws_conn.specs.Talks.{due, due_after, reported_next, opened_view};
 ghost use Rattle.sws_engine.specs.Tasks.{number_of_task};
 ghost use Rattle.sws_engine.specs.Invariant.{RanBy};
 ghost use Rattle.sws_engine.specs.Handling.{is_due, next_puts, KeepsEnd, RunsSeat};
@@ -119,7 +119,7 @@ fn step_seat<W: Drop, L: Link + Drop, T: Talk<L>>(
         → T.has_run first ran seat.old.talk → due (T.view_of seat.old.talk) ≡ Some step
         → T.has_run first (ran ++ step ∷ []) seat.new.talk }
     ensures hall { T.hall_of seat.new.talk ≡ T.hall_of seat.old.talk }
-    ensures next { seat.new.next ≡ next_told (T.view_of seat.new.talk) }
+    ensures next { seat.new.next ≡ reported_next (T.view_of seat.new.talk) }
     ensures ended { KeepsEnd T.Talk seat.old.talk seat.new.talk }
     ensures stray { seat.new.stray ≡ seat.old.stray }
     ensures puts { outs.new ≡ next_puts conn (due (T.view_of seat.new.talk)) }
@@ -143,12 +143,12 @@ pub(crate) fn serve<W: Drop, L: Link + Drop, T: Talk<L>>(
 )
     requires empty { outs.old ≡ [] }
     requires small { conn < 65534 }
-    requires next { seat.old.next ≡ next_told (T.view_of seat.old.talk) }
+    requires next { seat.old.next ≡ reported_next (T.view_of seat.old.talk) }
     requires ran { IsFreshOrRan T.Talk seat.old.talk }
     requires suits { LoadSuits L.Link (event.handler == 3) load }
     ensures runs { RunsSeat T.Talk (is_due conn (due (T.view_of seat.old.talk)) event) conn seat.old
         event load seat.new outs.new }
-    ensures next { seat.new.next ≡ next_told (T.view_of seat.new.talk) }
+    ensures next { seat.new.next ≡ reported_next (T.view_of seat.new.talk) }
     ensures once { HasRunSome T.Talk seat.old.talk
         → due (T.view_of seat.old.talk) ≢ Some open_link }
 {

@@ -4,6 +4,7 @@ ghost use Rattle.mely_run.specs.WholeRuns.{IsBegun};
 ghost use Rattle.sws_engine.specs.Begins.{AreAtFirst};
 ghost use Rattle.sws_engine.specs.Fresh.{IsFirstPlace, AreFirstPlaces, first_poll, first_load};
 ghost use Rattle.sws_engine.specs.RunFact.{RunFact};
+ghost use Rattle.sws_engine.specs.Limits.{conn_limit};
 
 use crate::desk::event_of;
 use crate::load::{Load, WorldLoad};
@@ -44,9 +45,7 @@ fn fresh_place<W: World + Drop, T: Talk<W::Link> + Drop>(
             stray: None,
         }),
     };
-    let Ok(role) = Box::new(alloc, role) else {
-        return Err(Memory);
-    };
+    let role = Box::new(alloc, role)?;
     Ok(Place {
         colour: Colour(number),
         trail: Vec::new(alloc),
@@ -63,14 +62,12 @@ pub fn fresh_places<W: World + Drop, T: Talk<W::Link> + Drop>(
     world: &W,
     total: u16,
 ) -> Result<Vec<Place<W, T>>, Memory>
-    requires few { total ≤ 1024 }
+    requires few { total ≤ conn_limit }
     requires total { (W.tells world.now).total ≡ total }
     ensures { IfOk result (λ places.
         AreFirstPlaces T.Talk world.now (T.contents_of hall) (total + 2) places.items) }
 {
-    let Ok(mut places) = Vec::with_capacity(alloc, total as usize + 2) else {
-        return Err(Memory);
-    };
+    let mut places = Vec::with_capacity(alloc, total as usize + 2)?;
     for number in 0..total + 2 {
         places.push_reserved(fresh_place(alloc, hall, world, number, total)?);
     }

@@ -10,6 +10,7 @@ ghost use Rattle.sws_engine.specs.Invariant.{IsConsistent};
 ghost use Rattle.sws_engine.specs.RunFits.{RunFits};
 ghost use Rattle.sws_engine.specs.PartsKept.{PartsKept};
 ghost use Rattle.sws_engine.specs.ThreadsLeave.{IsUnkept, ThreadsLeave};
+ghost use Rattle.sws_engine.specs.Limits.{conn_limit};
 
 use crate::app::Sws;
 use crate::concluding::conclude;
@@ -104,7 +105,7 @@ where
     W::Link: Send,
     T::Hall: Send,
     requires set { AreAtFirst W.World T.Talk setup.now world total states.old.items }
-    requires few { total ≤ 1024 }
+    requires few { total ≤ conn_limit }
     ensures of_world { IfOk result (λ ran. ran.0.given.first ≡ world) }
     ensures of_hall { (hall : _) → AreFirstPlaces T.Talk world hall (total + 2) states.old.items
         → IfOk result (λ ran. ran.0.given.hall ≡ hall) }

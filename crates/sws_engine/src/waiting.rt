@@ -43,12 +43,8 @@ impl Waiting {
     pub(crate) fn new(alloc: Global, total: u16) -> Result<Waiting, Memory>
         ensures { IfOk result (λ waiting. waiting ≡ record { items = []; total = total }) }
     {
-        let Ok(conns) = Vec::with_capacity(alloc, usize::from(total)) else {
-            return Err(Memory);
-        };
-        let Ok(mut since) = Vec::with_capacity(alloc, usize::from(total)) else {
-            return Err(Memory);
-        };
+        let conns = Vec::with_capacity(alloc, usize::from(total))?;
+        let mut since = Vec::with_capacity(alloc, usize::from(total))?;
         'conns: for _conn in 0..total {
             since.push_reserved(None);
         }

@@ -7,7 +7,7 @@ use Rattle.sws_link.specs.Links.{TakesTold, ReadsAs, EndsRead, given_by}
 use Rattle.sws_link.specs.Scripts.{Item, piece, wait, fault, read_of, left_of_limit}
 use Rattle.sws_link.specs.LinkItems.{all_bytes, HasNoFault}
 use Rattle.sws_link.specs.Calls.{next_fails}
-use Rattle.sws_link.specs.MemLinks.{script_unless, wire_tells, wire_after_read}
+use Rattle.sws_link.specs.MemLinks.{script_unless, bytes_tell, bytes_after_read}
 use Rattle.sws_link.specs.ScriptedBytes.{ScriptedBytesState}
 
 -- the bytes that a read gives are the next ones
@@ -39,15 +39,15 @@ reads_script [] (Some zero) cut items room answer into a b = refl
 reads_script [] (Some (suc limit)) cut items room answer into a b = (a, b, refl)
 reads_script (call ∷ failing) step cut items room answer into a b = refl
 
-pub takes_wire : (failing : List ℕ) (before now : ScriptedBytesState) (room : ℕ) (answer : LinkRead) (into : List ℕ)
+pub takes_bytes : (failing : List ℕ) (before now : ScriptedBytesState) (room : ℕ) (answer : LinkRead) (into : List ℕ)
     → answer ≡ (read_of room before.input.items).answer → given_by answer into ≡ (read_of room before.input.items).bytes
-    → now ≡ wire_after_read before room
-    → TakesTold (wire_tells failing before) (Some (wire_tells failing now)) room answer into
-takes_wire failing before now room answer into a b is =
+    → now ≡ bytes_after_read before room
+    → TakesTold (bytes_tell failing before) (Some (bytes_tell failing now)) room answer into
+takes_bytes failing before now room answer into a b is =
     let said = read_of room before.input.items in
     record {
-      after = wire_tells failing (wire_after_read before room);
-      is = ap (λ (wire : ScriptedBytesState). Some (wire_tells failing wire)) is;
+      after = bytes_tell failing (bytes_after_read before room);
+      is = ap (λ (bytes : ScriptedBytesState). Some (bytes_tell failing bytes)) is;
       left = read_bytes room before.input.items ∙ ap (λ g. g ++ all_bytes said.items) (sym b);
       taken = ap (λ g. before.input.taken ++ g) (sym b);
       written = refl;
@@ -57,14 +57,14 @@ takes_wire failing before now room answer into a b is =
     }
 
 -- a read that fails takes nothing; where some call is to fail, no script is told
-fails_wire : (call : ℕ) (failing : List ℕ) (before now : ScriptedBytesState) (room : ℕ) (answer : LinkRead) (into : List ℕ)
+fails_bytes : (call : ℕ) (failing : List ℕ) (before now : ScriptedBytesState) (room : ℕ) (answer : LinkRead) (into : List ℕ)
     → answer ≡ read.Failed → now ≡ before
-    → TakesTold (wire_tells (call ∷ failing) before) (Some (wire_tells (call ∷ failing) now)) room answer into
-fails_wire call failing before now room answer into a is =
+    → TakesTold (bytes_tell (call ∷ failing) before) (Some (bytes_tell (call ∷ failing) now)) room answer into
+fails_bytes call failing before now room answer into a is =
     let nothing : given_by answer into ≡ [] = ap (λ r. given_by r into) a in
     record {
-      after = wire_tells (call ∷ failing) before;
-      is = ap (λ (wire : ScriptedBytesState). Some (wire_tells (call ∷ failing) wire)) is;
+      after = bytes_tell (call ∷ failing) before;
+      is = ap (λ (bytes : ScriptedBytesState). Some (bytes_tell (call ∷ failing) bytes)) is;
       left = ap (λ g. g ++ all_bytes before.input.items) (sym nothing);
       taken = sym (append-nil before.input.taken) ∙ ap (λ g. before.input.taken ++ g) (sym nothing);
       written = refl;
@@ -78,11 +78,11 @@ pub takes_or_fails : (failing : List ℕ) (made failed : ℕ) (before now : Scri
     → (fails : Bool) → fails ≡ next_fails (record { failing = failing; made = made; failed = failed })
     → answer ≡ (if fails then read.Failed else (read_of room before.input.items).answer)
     → given_by answer into ≡ (if fails then [] else (read_of room before.input.items).bytes)
-    → now ≡ (if fails then before else wire_after_read before room)
-    → TakesTold (wire_tells failing before) (Some (wire_tells failing now)) room answer into
-takes_or_fails failing made failed before now room answer into false is a b wire = takes_wire failing before now room answer into a b wire
-takes_or_fails [] made failed before now room answer into true is a b wire = cc
-takes_or_fails (call ∷ failing) made failed before now room answer into true is a b wire = fails_wire call failing before now room answer into a wire
+    → now ≡ (if fails then before else bytes_after_read before room)
+    → TakesTold (bytes_tell failing before) (Some (bytes_tell failing now)) room answer into
+takes_or_fails failing made failed before now room answer into false is a b bytes = takes_bytes failing before now room answer into a b bytes
+takes_or_fails [] made failed before now room answer into true is a b bytes = cc
+takes_or_fails (call ∷ failing) made failed before now room answer into true is a b bytes = fails_bytes call failing before now room answer into a bytes
 
 -- ---- items of which none fails
 
@@ -93,6 +93,14 @@ read_no_fault room (piece (byte ∷ bytes) ∷ items) sure = sure
 read_no_fault room (wait zero ∷ items) sure = read_no_fault room items sure
 read_no_fault room (wait (suc count) ∷ items) sure = sure
 read_no_fault room (fault ∷ items) sure = absurd sure
+
+-- after a read no item fails and no write is cut, where that was so before
+pub stays_sure : (before now : ScriptedBytesState) (room : ℕ) → now ≡ bytes_after_read before room → HasNoFault before.input.items → before.cut ≡ None
+    → HasNoFault now.input.items × (now.cut ≡ None)
+stays_sure before now room is no_fault no_cut = (
+  subst (λ (bytes : ScriptedBytesState). HasNoFault bytes.input.items) (sym is) (read_no_fault room before.input.items no_fault),
+  ap (λ (bytes : ScriptedBytesState). bytes.cut) is ∙ no_cut,
+)
 
 pub never_fails : (room : ℕ) (items : List Item) → HasNoFault items → read.Failed ≡ (read_of room items).answer → ⊥
 never_fails room [] sure e = cc

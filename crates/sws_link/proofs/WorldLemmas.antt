@@ -4,25 +4,25 @@ use Rattle.std.specs.Prelude.{IsSome}
 use Rattle.std.specs.List.{AllByRecursion}
 use Rattle.sws_link.specs.declared.Accepted.TheVariants as accepted
 use Rattle.sws_link.specs.Counts.{Count, HasCause, kept_count, no_faults}
-use Rattle.sws_link.specs.Calls.{CallsMade, after_call}
+use Rattle.sws_link.specs.Calls.{CallsState, after_call}
 use Rattle.sws_link.specs.Links.{LinkTells, IsFresh}
-use Rattle.sws_link.specs.MemLinks.{wire_tells, mem_link_tells, sure_link_tells, script_of, script_unless}
+use Rattle.sws_link.specs.MemLinks.{bytes_tell, mem_link_tells, sure_link_tells, script_of, script_unless}
 use Rattle.sws_link.specs.SureLink.{SureLinkState}
 use Rattle.sws_link.specs.MemLink.{MemLinkState}
 use Rattle.sws_link.specs.ScriptedBytes.{ScriptedBytesState}
 use Rattle.sws_link.specs.LinkItems.{all_bytes}
 use Rattle.sws_link.specs.Worlds.{Coming, fresh_tells, AreScripted, IsScripted, TakesNext, GivesLink, Accepts}
-use Rattle.sws_link.specs.MemWorlds.{GivesNext, IsFreshMemLink, IsFreshSureLink, wire_coming, mem_coming, sure_coming, lobby_tells, is_none, mem_world_tells, sure_world_tells}
+use Rattle.sws_link.specs.MemWorlds.{GivesNext, IsFreshMemLink, IsFreshSureLink, bytes_coming, mem_coming, sure_coming, lobby_tells, is_none, mem_world_tells, sure_world_tells}
 use Rattle.sws_link.specs.MemWorld.{MemWorldState}
 use Rattle.sws_link.specs.Lobby.{LobbyState}
 use Rattle.sws_link.proofs.CountLemmas.{HasCause-none}
 
 -- a link of which nothing was taken or written tells what was to come of it
-wire-told : (failing : List ℕ) (wire : ScriptedBytesState) → wire.input.taken ≡ [] → wire.written ≡ [] → Some (wire_tells failing wire) ≡ Some (fresh_tells (wire_coming failing wire))
-wire-told failing wire taken written =
+bytes-told : (failing : List ℕ) (bytes : ScriptedBytesState) → bytes.input.taken ≡ [] → bytes.written ≡ [] → Some (bytes_tell failing bytes) ≡ Some (fresh_tells (bytes_coming failing bytes))
+bytes-told failing bytes taken written =
     let told : List ℕ → List ℕ → Option LinkTells =
-    (λ t w. Some (record { taken = t; left = all_bytes wire.input.items; written = w; to_come = script_unless failing (script_of wire); says_all = true })) in
-    ap (λ t. told t wire.written) taken ∙ ap (told []) written
+    (λ t w. Some (record { taken = t; left = all_bytes bytes.input.items; written = w; to_come = script_unless failing (script_of bytes); says_all = true })) in
+    ap (λ t. told t bytes.written) taken ∙ ap (told []) written
 
 -- the next link is given
 lobby-gives : {L : Type 0} (tells : L → Option LinkTells) (is_shut : L → Bool) (faults waits : L → Count) (coming : L → Coming) (scripted : Bool)
@@ -50,7 +50,7 @@ gives-answers (Some coming) told now (first, rest, is, now_is, told_is) are =
 cause-never : (IsFailure : Type 0) → (IsFailure → ⊥) → (count : Count) → HasCause count count IsFailure
 cause-never IsFailure never count = HasCause-none count count IsFailure refl never
 
-pub mem-accepts : (before : MemWorldState) (after : LobbyState MemLinkState) (calls : CallsMade) (link : MemLinkState)
+pub mem-accepts : (before : MemWorldState) (after : LobbyState MemLinkState) (calls : CallsState) (link : MemLinkState)
     → AllByRecursion IsFreshMemLink before.lobby.links → GivesNext before.lobby link after → calls ≡ after_call before.calls
     → HasCause (kept_count before.calls.failed) (kept_count calls.failed) (accepted.Link link ≡ accepted.Failed)
     → Accepts mem_world_tells (λ world. kept_count world.calls.failed) (λ _. no_faults)
@@ -61,9 +61,9 @@ mem-accepts before after calls link fresh gives called_is failed =
     let next : GivesLink mem_link_tells (λ link. link.shut) (λ link. kept_count link.calls.failed) (λ link. kept_count link.waits)
     (mem_world_tells before) link (mem_world_tells (record { lobby = after; calls = calls })) = subst (λ (failing : List ℕ). GivesLink mem_link_tells (λ link. link.shut) (λ link. kept_count link.calls.failed) (λ link. kept_count link.waits)
     (mem_world_tells before) link (lobby_tells mem_coming (is_none failing) after))
-    (sym (ap (λ (c : CallsMade). c.failing) called_is))
+    (sym (ap (λ (c : CallsState). c.failing) called_is))
     (lobby-gives mem_link_tells (λ link. link.shut) (λ link. kept_count link.calls.failed) (λ link. kept_count link.waits) mem_coming (is_none before.calls.failing)
-    before.lobby after link gives (wire-told link.calls.failing link.wire first.taken first.written) first.not_shut
+    before.lobby after link gives (bytes-told link.calls.failing link.bytes first.taken first.written) first.not_shut
     (ap kept_count first.failed) (ap kept_count first.waits)) in
     let on = gives-answers (mem_world_tells before).coming (mem_link_tells link) (Some (map mem_coming after.links)) next.next in
     record {
@@ -83,7 +83,7 @@ sure-accepts before after link fresh gives =
     let first : IsFreshSureLink link = (subst (AllByRecursion IsFreshSureLink) gives.next fresh).0 in
     let next : GivesLink sure_link_tells (λ link. link.shut) (λ _. no_faults) (λ link. kept_count link.waits)
     (sure_world_tells before) link (sure_world_tells after) = lobby-gives sure_link_tells (λ link. link.shut) (λ _. no_faults) (λ link. kept_count link.waits) sure_coming true
-    before after link gives (wire-told [] link.wire first.taken first.written) first.not_shut refl (ap kept_count first.waits) in
+    before after link gives (bytes-told [] link.bytes first.taken first.written) first.not_shut refl (ap kept_count first.waits) in
     let on = gives-answers (sure_world_tells before).coming (sure_link_tells link) (Some (map sure_coming after.links)) next.next in
     record {
       gives = next;

@@ -172,7 +172,7 @@ module _ {L : Type 0} (tells : L → Option LinkTells) (is_shut : L → Bool) (f
     pub waited : HasCause (waits before) (waits after) (answer ≡ write.NotReady)
     pub not_shut : is_shut after ≡ false
 
-  -- it is shut now, which changes nothing else
+  -- the link is shut now, which changes nothing else
   pub record Shuts (before after : L) : Type 0 where
     pub shut : is_shut after ≡ true
     pub same : tells after ≡ tells before

@@ -8,14 +8,14 @@ use Rattle.sws_link.specs.declared.LinkWrite.TheVariants as write
 use Rattle.sws_link.specs.Scripts.{Script, Item, left_of_limit, within, read_of}
 use Rattle.sws_link.specs.Links.{LinkTells, given_by, written_by}
 use Rattle.sws_link.specs.LinkItems.{all_bytes}
-use Rattle.sws_link.specs.Calls.{CallsMade, count_up, next_fails}
+use Rattle.sws_link.specs.Calls.{CallsState, count_up, next_fails}
 use Rattle.sws_link.specs.ScriptedBytes.{ScriptedBytesState}
 use Rattle.sws_link.specs.MemLink.{MemLinkState}
 use Rattle.sws_link.specs.SureLink.{SureLinkState}
 
 -- nothing was taken or written
-abbrev pub fresh_wire : List Item → Option ℕ → Option ℕ → ScriptedBytesState
-fresh_wire items step cut = record {
+abbrev pub fresh_bytes : List Item → Option ℕ → Option ℕ → ScriptedBytesState
+fresh_bytes items step cut = record {
   input = record { taken = []; items = items };
   written = [];
   step = step;
@@ -26,10 +26,10 @@ fresh_wire items step cut = record {
 
 -- the answers to come, as they stand
 abbrev pub script_of : ScriptedBytesState → Script
-script_of wire = record {
-  items = wire.input.items;
-  step = wire.step;
-  cut = left_of_limit wire.cut (length wire.written);
+script_of bytes = record {
+  items = bytes.input.items;
+  step = bytes.step;
+  cut = left_of_limit bytes.cut (length bytes.written);
 }
 
 -- no script has a step of nothing
@@ -44,30 +44,30 @@ script_unless [] script = script_by_step script.step script
 script_unless (call ∷ failing) script = None
 
 -- what scripted bytes tell, where these calls are to fail
-abbrev pub wire_tells : List ℕ → ScriptedBytesState → LinkTells
-wire_tells failing wire = record {
-  taken = wire.input.taken;
-  left = all_bytes wire.input.items;
-  written = wire.written;
-  to_come = script_unless failing (script_of wire);
+abbrev pub bytes_tell : List ℕ → ScriptedBytesState → LinkTells
+bytes_tell failing bytes = record {
+  taken = bytes.input.taken;
+  left = all_bytes bytes.input.items;
+  written = bytes.written;
+  to_come = script_unless failing (script_of bytes);
   says_all = true;
 }
 
 -- what a link in memory tells
 abbrev pub mem_link_tells : MemLinkState → Option LinkTells
-mem_link_tells link = Some (wire_tells link.calls.failing link.wire)
+mem_link_tells link = Some (bytes_tell link.calls.failing link.bytes)
 
 -- what a link in memory without faults tells
 abbrev pub sure_link_tells : SureLinkState → Option LinkTells
-sure_link_tells link = Some (wire_tells [] link.wire)
+sure_link_tells link = Some (bytes_tell [] link.bytes)
 
 -- ---- calls
 
 -- what was read is taken, and the items are those that are left
-abbrev pub wire_after_read : ScriptedBytesState → ℕ → ScriptedBytesState
-wire_after_read wire room =
-    let said = read_of room wire.input.items in
-    record wire { input = record { taken = wire.input.taken ++ said.bytes; items = said.items } }
+abbrev pub bytes_after_read : ScriptedBytesState → ℕ → ScriptedBytesState
+bytes_after_read bytes room =
+    let said = read_of room bytes.input.items in
+    record bytes { input = record { taken = bytes.input.taken ++ said.bytes; items = said.items } }
 
 -- a write fails where so many bytes were written as may be, and isn't ready where a write takes nothing
 abbrev pub write_answer : Option ℕ → Option ℕ → ℕ → LinkWrite
@@ -83,13 +83,13 @@ write_answer (Some (suc limit)) (Some (suc left)) length =
 
 -- what a write may answer
 abbrev pub MayAnswer : ScriptedBytesState → ℕ → LinkWrite → Type 0
-MayAnswer wire count answer = (answer ≡ write.Memory)
-    ⊎ (answer ≡ write_answer wire.step (left_of_limit wire.cut (length wire.written)) count)
+MayAnswer bytes count answer = (answer ≡ write.Memory)
+    ⊎ (answer ≡ write_answer bytes.step (left_of_limit bytes.cut (length bytes.written)) count)
 
 -- what the answer says was written
-abbrev pub wire_after_write : ScriptedBytesState → LinkWrite → List ℕ → ScriptedBytesState
-wire_after_write wire answer piece =
-    record wire { written = wire.written ++ written_by answer piece }
+abbrev pub bytes_after_write : ScriptedBytesState → LinkWrite → List ℕ → ScriptedBytesState
+bytes_after_write bytes answer piece =
+    record bytes { written = bytes.written ++ written_by answer piece }
 
 -- ---- counts
 
@@ -122,7 +122,7 @@ is_waiting_write write.Failed = false
 is_waiting_write write.Memory = false
 
 -- one more call was made, and it may have failed
-abbrev pub after_link_call : CallsMade → Bool → CallsMade
+abbrev pub after_link_call : CallsState → Bool → CallsState
 after_link_call calls failed = record {
   failing = calls.failing;
   made = count_up calls.made;
@@ -139,11 +139,11 @@ waits_after waits waiting = if waiting then count_up waits else waits
 pub record FailsOrReads (before : MemLinkState) (room : ℕ) (answer : LinkRead) (into : List ℕ) (after : MemLinkState) : Type 0 where
   pub answer_is : answer
       ≡ (if next_fails before.calls then read.Failed else
-      (read_of room before.wire.input.items).answer)
+      (read_of room before.bytes.input.items).answer)
   pub bytes_are : given_by answer into
-      ≡ (if next_fails before.calls then [] else (read_of room before.wire.input.items).bytes)
-  pub wire_is : after.wire
-      ≡ (if next_fails before.calls then before.wire else wire_after_read before.wire room)
+      ≡ (if next_fails before.calls then [] else (read_of room before.bytes.input.items).bytes)
+  pub bytes_become : after.bytes
+      ≡ (if next_fails before.calls then before.bytes else bytes_after_read before.bytes room)
   pub calls_are : after.calls ≡ after_link_call before.calls (is_failed_read answer)
   pub waits_are : after.waits ≡ waits_after before.waits (is_waiting_read answer)
   pub shut_is : after.shut ≡ before.shut
@@ -152,23 +152,24 @@ pub record FailsOrReads (before : MemLinkState) (room : ℕ) (answer : LinkRead)
 -- but what it says
 pub record FailsOrWrites (before : MemLinkState) (piece : List ℕ) (answer : LinkWrite) (after : MemLinkState) : Type 0 where
   pub to_fail : IsTrue (next_fails before.calls) → answer ≡ write.Failed
-  pub else_by_bounds : next_fails before.calls ≡ false → MayAnswer before.wire (length piece) answer
-  pub wire_is : after.wire ≡ wire_after_write before.wire answer piece
+  pub else_by_bounds : next_fails before.calls ≡ false
+      → MayAnswer before.bytes (length piece) answer
+  pub bytes_become : after.bytes ≡ bytes_after_write before.bytes answer piece
   pub calls_are : after.calls ≡ after_link_call before.calls (is_failed_write answer)
   pub waits_are : after.waits ≡ waits_after before.waits (is_waiting_write answer)
   pub shut_is : after.shut ≡ before.shut
 
 -- a read and a write of a link without faults answer as its items and its bound say, for a read of this much room
 pub record SureReads (before : SureLinkState) (room : ℕ) (answer : LinkRead) (into : List ℕ) (after : SureLinkState) : Type 0 where
-  pub answer_is : answer ≡ (read_of room before.wire.input.items).answer
-  pub bytes_are : given_by answer into ≡ (read_of room before.wire.input.items).bytes
-  pub wire_is : after.wire ≡ wire_after_read before.wire room
+  pub answer_is : answer ≡ (read_of room before.bytes.input.items).answer
+  pub bytes_are : given_by answer into ≡ (read_of room before.bytes.input.items).bytes
+  pub bytes_become : after.bytes ≡ bytes_after_read before.bytes room
   pub waits_are : after.waits ≡ waits_after before.waits (is_waiting_read answer)
   pub shut_is : after.shut ≡ before.shut
 
 -- a write on a link without faults answers as its bound says, but for want of memory
 pub record SureWrites (before : SureLinkState) (piece : List ℕ) (answer : LinkWrite) (after : SureLinkState) : Type 0 where
-  pub by_bounds : MayAnswer before.wire (length piece) answer
-  pub wire_is : after.wire ≡ wire_after_write before.wire answer piece
+  pub by_bounds : MayAnswer before.bytes (length piece) answer
+  pub bytes_become : after.bytes ≡ bytes_after_write before.bytes answer piece
   pub waits_are : after.waits ≡ waits_after before.waits (is_waiting_write answer)
   pub shut_is : after.shut ≡ before.shut

@@ -1,6 +1,6 @@
 -- What the worlds in memory hold and tell, and what stands after each call: it follows from the links that are to come and the calls that
 -- are to fail alone.
-use Rattle.std.specs.Prelude.{◌≡◌, ℕ, ◌+◌, ◌≤◌, min, Bool, true, false, if◌then◌else◌, List, [], ◌∷◌, length, map, Some}
+use Rattle.std.specs.Prelude.{◌≡◌, ℕ, ◌+◌, min, Bool, true, false, if◌then◌else◌, List, [], ◌∷◌, length, map, Some}
 use Rattle.sws_link.specs.declared.Opened.{Opened}
 use Rattle.sws_link.specs.declared.Opened.TheVariants as opened
 use Rattle.sws_link.specs.declared.Polled.{Polled}
@@ -22,8 +22,8 @@ abbrev pub fresh_lobby : {L : Type 0} → List L → LobbyState L
 fresh_lobby links = record { links = links; total = length links; accepted = 0; port = 0 }
 
 -- as many as are asked for, or as there are
-abbrev pub lobby_opened : {L : Type 0} → LobbyState L → ℕ → ℕ → LobbyState L
-lobby_opened lobby port total = record lobby {
+abbrev pub lobby_after_open : {L : Type 0} → LobbyState L → ℕ → ℕ → LobbyState L
+lobby_after_open lobby port total = record lobby {
   total = min total (length lobby.links);
   accepted = 0;
   port = port;
@@ -34,42 +34,38 @@ pub record GivesNext {L : Type 0} (before : LobbyState L) (link : L) (after : Lo
   pub next : before.links ≡ link ∷ after.links
   pub becomes : after ≡ record before { links = after.links; accepted = before.accepted + 1 }
 
--- there are as many links to come as are still to be given
-abbrev pub HasEnough : {L : Type 0} → LobbyState L → Type 0
-HasEnough lobby = lobby.total ≤ lobby.accepted + length lobby.links
-
 -- ---- links that are to come
 
 -- nothing was taken or written, no call failed, the link was never waited for, and it isn't shut
 pub record IsFreshMemLink (link : MemLinkState) : Type 0 where
-  pub taken : link.wire.input.taken ≡ []
-  pub written : link.wire.written ≡ []
+  pub taken : link.bytes.input.taken ≡ []
+  pub written : link.bytes.written ≡ []
   pub failed : link.calls.failed ≡ 0
   pub waits : link.waits ≡ 0
   pub not_shut : link.shut ≡ false
 
 -- nothing was done with the link
 pub record IsFreshSureLink (link : SureLinkState) : Type 0 where
-  pub taken : link.wire.input.taken ≡ []
-  pub written : link.wire.written ≡ []
+  pub taken : link.bytes.input.taken ≡ []
+  pub written : link.bytes.written ≡ []
   pub waits : link.waits ≡ 0
   pub not_shut : link.shut ≡ false
 
 -- what is to come of a link: the bytes of its items, and its answers where no call is to fail
-abbrev pub wire_coming : List ℕ → ScriptedBytesState → Coming
-wire_coming failing wire = record {
-  input = all_bytes wire.input.items;
-  answers = script_unless failing (script_of wire);
+abbrev pub bytes_coming : List ℕ → ScriptedBytesState → Coming
+bytes_coming failing bytes = record {
+  input = all_bytes bytes.input.items;
+  answers = script_unless failing (script_of bytes);
   says_all = true;
 }
 
 -- what is known of a link in memory before it is given
 abbrev pub mem_coming : MemLinkState → Coming
-mem_coming link = wire_coming link.calls.failing link.wire
+mem_coming link = bytes_coming link.calls.failing link.bytes
 
 -- what is known of a link in memory without faults before it is given
 abbrev pub sure_coming : SureLinkState → Coming
-sure_coming link = wire_coming [] link.wire
+sure_coming link = bytes_coming [] link.bytes
 
 -- ---- worlds
 
@@ -88,7 +84,7 @@ lobby_tells coming scripted lobby = record {
   scripted = scripted;
 }
 
--- it is scripted where no call is to fail
+-- what a world in memory tells; it is scripted where no call is to fail
 abbrev pub mem_world_tells : MemWorldState → WorldTells
 mem_world_tells world = lobby_tells mem_coming (is_none world.calls.failing) world.lobby
 
@@ -103,9 +99,9 @@ abbrev pub opened_or_fails : MemWorldState → Opened
 opened_or_fails world = if next_fails world.calls then opened.Failed else opened.Ready
 
 -- a world in memory after it was opened, or failed to
-abbrev pub mem_world_opened : MemWorldState → ℕ → ℕ → MemWorldState
-mem_world_opened world port total = record {
-  lobby = if next_fails world.calls then world.lobby else lobby_opened world.lobby port total;
+abbrev pub mem_world_after_open : MemWorldState → ℕ → ℕ → MemWorldState
+mem_world_after_open world port total = record {
+  lobby = if next_fails world.calls then world.lobby else lobby_after_open world.lobby port total;
   calls = after_call world.calls;
 }
 

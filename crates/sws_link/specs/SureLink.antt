@@ -4,6 +4,6 @@ use Rattle.sws_link.specs.ScriptedBytes.{ScriptedBytesState}
 
 -- a link without faults
 pub record SureLinkState : Type 0 where
-  pub wire : ScriptedBytesState
+  pub bytes : ScriptedBytesState
   pub waits : ℕ
   pub shut : Bool

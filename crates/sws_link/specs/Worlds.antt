@@ -17,7 +17,7 @@ pub record Coming : Type 0 where
   pub answers : Option Script
   pub says_all : Bool
 
--- what such a link tells when it comes: nothing was taken or written
+-- what a link tells when it comes: nothing was taken or written
 abbrev pub fresh_tells : Coming → LinkTells
 fresh_tells coming = record {
   taken = [];
@@ -56,7 +56,7 @@ abbrev pub total_within : Option (List Coming) → ℕ → ℕ
 total_within None total = total
 total_within (Some coming) total = min total (length coming)
 
--- it gives links anew, and none was accepted
+-- a world that gives links anew, of which none was accepted
 abbrev pub opened_at : WorldTells → ℕ → ℕ → WorldTells
 opened_at world port total = record world {
   total = total_within world.coming total;
@@ -122,14 +122,14 @@ IsLink accepted.Failed = ⊥
 -- ---- whole calls, of a world that is seen by what it tells and by its two counts
 
 module _ {W : Type 0} (tells : W → WorldTells) (faults waits : W → Count) where
-  -- it was opened at the port for so many links
+  -- the world was opened at the port for so many links
   pub record Listens (before : W) (port total : ℕ) (answer : Opened) (after : W) : Type 0 where
     pub becomes : tells after ≡ after_open (tells before) port total answer
     pub scripted : IsTrue (tells before).scripted → answer ≢ opened.Failed
     pub failed : HasCause (faults before) (faults after) (answer ≡ opened.Failed)
     pub same_waits : waits after ≡ waits before
 
-  -- it was asked which of those that wait is ready
+  -- the world was asked which of those that wait is ready
   pub record Polls (before : W) (waiting : List ℕ) (answer : Polled) (after : W) : Type 0 where
     pub same : tells after ≡ tells before
     pub among : IsAmong answer waiting
@@ -137,7 +137,7 @@ module _ {W : Type 0} (tells : W → WorldTells) (faults waits : W → Count) wh
     pub failed : HasCause (faults before) (faults after) (answer ≡ polled.Failed)
     pub waited : HasCause (waits before) (waits after) ((answer ≡ polled.Quiet) × (waiting ≢ []))
 
-  -- it was asked for the next link
+  -- the world was asked for the next link
   pub record Accepts {L : Type 0} (link_tells : L → Option LinkTells) (link_shut : L
       → Bool) (link_faults link_waits : L → Count)
       (before : W) (answer : Accepted L) (after : W) : Type 0 where

@@ -5,7 +5,7 @@ ghost use Rattle.sws_link.specs.Counts.{kept_count, no_faults};
 ghost use Rattle.sws_link.specs.Calls.{no_calls, next_fails, after_call};
 ghost use Rattle.sws_link.specs.MemLinks.{mem_link_tells};
 ghost use Rattle.sws_link.specs.Worlds.{Listens, Polls, Accepts};
-ghost use Rattle.sws_link.specs.MemWorlds.{fresh_lobby, IsFreshMemLink, mem_world_tells, opened_or_fails, mem_world_opened, ready_or_fails, FailsOrGives};
+ghost use Rattle.sws_link.specs.MemWorlds.{fresh_lobby, IsFreshMemLink, mem_world_tells, opened_or_fails, mem_world_after_open, ready_or_fails, FailsOrGives};
 
 use crate::calls::Calls;
 use crate::lobby::Lobby;
@@ -61,7 +61,7 @@ impl World for MemWorld {
     /// Begins anew with the links that are left, or fails where this call is to fail.
     fn open(&mut self, port: u16, total: u16) -> Opened
         ensures exact { result ≡ opened_or_fails self.old }
-        ensures becomes { self.new ≡ mem_world_opened self.old port total }
+        ensures becomes { self.new ≡ mem_world_after_open self.old port total }
         ensures listens { Listens mem_world_tells (λ world.
             kept_count world.calls.failed) (λ _. no_faults)
             self.old port total result self.new }

@@ -19,15 +19,15 @@ pub struct ScriptReader {
 }
 
 impl Model for ScriptReader {
-    ghost use Rattle.sws_link.specs.ScriptReader.{Played};
+    ghost use Rattle.sws_link.specs.ScriptReader.{ScriptReaderState};
 
-    ghost Value = { Played };
+    ghost Value = { ScriptReaderState };
 
-    ghost use Rattle.sws_link.specs.Played.{played_of, IsPlayed};
+    ghost use Rattle.sws_link.specs.ScriptReaderFields.{state_of, IsConsistent};
 
-    ghost view = { played_of };
+    ghost view = { state_of };
 
-    ghost invariant = { IsPlayed };
+    ghost invariant = { IsConsistent };
 }
 
 impl ScriptReader {

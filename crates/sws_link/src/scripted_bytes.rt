@@ -3,7 +3,7 @@ ghost use Rattle.std.specs.Prelude.{◌≡◌, ◌<◌, ◌≤◌, length, map};
 ghost use Rattle.sws_link.specs.Scripts.{left_of_limit, within, read_of};
 ghost use Rattle.sws_link.specs.Links.{IsReadWithin, IsWriteWithin, given_by};
 ghost use Rattle.sws_link.specs.LinkItems.{item_of};
-ghost use Rattle.sws_link.specs.MemLinks.{fresh_wire, wire_after_read, MayAnswer, wire_after_write};
+ghost use Rattle.sws_link.specs.MemLinks.{fresh_bytes, bytes_after_read, MayAnswer, bytes_after_write};
 
 use crate::script_reader::ScriptReader;
 use crate::{LinkItem, LinkRead, LinkWrite};
@@ -16,7 +16,7 @@ pub struct ScriptedBytes {
     input: ScriptReader,
     step: Option<u32>,
     cut: Option<u64>,
-    bytes: Vec<u8>,
+    written: Vec<u8>,
 }
 
 impl Model for ScriptedBytes {
@@ -24,9 +24,9 @@ impl Model for ScriptedBytes {
 
     ghost Value = { ScriptedBytesState };
 
-    ghost use Rattle.sws_link.specs.MemLinkViews.{shown_wire};
+    ghost use Rattle.sws_link.specs.MemLinkViews.{shown_scripted_bytes};
 
-    ghost view = { shown_wire };
+    ghost view = { shown_scripted_bytes };
 }
 
 impl ScriptedBytes {
@@ -37,13 +37,13 @@ impl ScriptedBytes {
         step: Option<u32>,
         cut: Option<u64>,
     ) -> ScriptedBytes
-        ensures { result ≡ fresh_wire (map item_of items.items) step cut }
+        ensures { result ≡ fresh_bytes (map item_of items.items) step cut }
     {
         ScriptedBytes {
             input: ScriptReader::new(items),
             step,
             cut,
-            bytes: Vec::new(alloc),
+            written: Vec::new(alloc),
         }
     }
 
@@ -51,7 +51,7 @@ impl ScriptedBytes {
     pub fn written(&self) -> &[u8]
         ensures { result.now ≡ self.now.written }
     {
-        &self.bytes
+        &self.written
     }
 
     /// Reads as the items say.
@@ -61,7 +61,7 @@ impl ScriptedBytes {
         ensures answer { result ≡ (read_of (length into.old) self.old.input.items).answer }
         ensures bytes { given_by result into.new
             ≡ (read_of (length into.old) self.old.input.items).bytes }
-        ensures wire { self.new ≡ wire_after_read self.old (length into.old) }
+        ensures becomes { self.new ≡ bytes_after_read self.old (length into.old) }
     {
         self.input.read(into)
     }
@@ -71,7 +71,7 @@ impl ScriptedBytes {
         requires { 0 < length bytes.now }
         ensures within { IsWriteWithin result (length bytes.now) }
         ensures answer { MayAnswer self.old (length bytes.now) result }
-        ensures wire { self.new ≡ wire_after_write self.old result bytes.now }
+        ensures becomes { self.new ≡ bytes_after_write self.old result bytes.now }
     {
         let left = self.left();
         if let Some(0) = left {
@@ -81,7 +81,7 @@ impl ScriptedBytes {
         if count == 0 {
             return LinkWrite::NotReady;
         }
-        match self.bytes.extend_from_slice(&bytes[..count]) {
+        match self.written.extend_from_slice(&bytes[..count]) {
             Ok(()) => LinkWrite::Wrote(count),
             Err(_) => LinkWrite::Memory,
         }
@@ -93,7 +93,7 @@ impl ScriptedBytes {
     {
         match self.cut {
             None => None,
-            Some(cut) => Some(cut.saturating_sub(self.bytes.len() as u64)),
+            Some(cut) => Some(cut.saturating_sub(self.written.len() as u64)),
         }
     }
 }

@@ -4,7 +4,7 @@ ghost use Rattle.std.specs.List.{AllByRecursion};
 ghost use Rattle.sws_link.specs.Counts.{kept_count, no_faults};
 ghost use Rattle.sws_link.specs.MemLinks.{sure_link_tells};
 ghost use Rattle.sws_link.specs.Worlds.{first_ready, Listens, Polls, Accepts};
-ghost use Rattle.sws_link.specs.MemWorlds.{fresh_lobby, lobby_opened, IsFreshSureLink, sure_world_tells, Gives};
+ghost use Rattle.sws_link.specs.MemWorlds.{fresh_lobby, lobby_after_open, IsFreshSureLink, sure_world_tells, Gives};
 
 use crate::lobby::Lobby;
 use crate::{Accepted, Opened, Polled, SureLink, World};
@@ -56,7 +56,7 @@ impl World for SureWorld {
     /// Begins anew with the links that are left.
     fn open(&mut self, port: u16, total: u16) -> Opened
         ensures exact { result ≡ Opened.Ready }
-        ensures becomes { self.new ≡ lobby_opened self.old port total }
+        ensures becomes { self.new ≡ lobby_after_open self.old port total }
         ensures listens { Listens sure_world_tells (λ _. no_faults) (λ _. no_faults)
             self.old port total result self.new }
     {

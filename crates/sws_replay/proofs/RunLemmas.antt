@@ -28,7 +28,7 @@ use Rattle.sws_engine.specs.declared.ended.Ended.{Ended}
 use Rattle.sws_engine.specs.declared.ended.Served.{Served}
 use Rattle.sws_engine.specs.declared.ended.Verdict.TheVariants as verdict
 use Rattle.sws_link.specs.Links.{LinkTells}
-use Rattle.sws_link.specs.MemLinks.{wire_tells, mem_link_tells}
+use Rattle.sws_link.specs.MemLinks.{bytes_tell, mem_link_tells}
 use Rattle.sws_link.specs.MemLink.{MemLinkState}
 use Rattle.sws_link.specs.MemWorld.{MemWorldState}
 use Rattle.sws_link.specs.Scripts.{Script}
@@ -54,8 +54,8 @@ some_of (Some a) some = (a, refl)
 
 module _ {T G : Type 0} (x : WorldWords MemWorldState MemLinkState) (l : LinkWords MemLinkState) (y : TalkWords T MemLinkState G SiteState) (site : SiteState) (first : MemWorldState) (conns : List ScriptConn)
     (told : x.tells first ≡ told_of conns) (link_told : (link : MemLinkState) → l.tells link ≡ mem_link_tells link) (outcome_is : (script : Script) → y.outcome site script ≡ outcome_of site script) where
-  tells_is : (link : MemLinkState) (tells : LinkTells) → l.tells link ≡ Some tells → tells ≡ wire_tells link.calls.failing link.wire
-  tells_is link tells is = same_Some tells (wire_tells link.calls.failing link.wire) (sym is ∙ link_told link)
+  tells_is : (link : MemLinkState) (tells : LinkTells) → l.tells link ≡ Some tells → tells ≡ bytes_tell link.calls.failing link.bytes
+  tells_is link tells is = same_Some tells (bytes_tell link.calls.failing link.bytes) (sym is ∙ link_told link)
 
   -- the link came with the input of its connection
   came : (i : ℕ) (conn : ScriptConn) (begun : MemLinkState) → slice_get conns i ≡ Some conn → LinkStands x l first i begun → l.tells begun ≡ Some (fresh_tells (coming_of conn))
@@ -66,7 +66,7 @@ module _ {T G : Type 0} (x : WorldWords MemWorldState MemLinkState) (l : LinkWor
 
   -- what was taken and written of it, by the counts
   served_link : (i : ℕ) (conn : ScriptConn) (link : MemLinkState) (view : TalkView) → slice_get conns i ≡ Some conn → LinkLeft x l y site first i (Some link) view
-      → ServesLink (y.responses site) (fresh_tells (coming_of conn)) (wire_tells link.calls.failing link.wire) view
+      → ServesLink (y.responses site) (fresh_tells (coming_of conn)) (bytes_tell link.calls.failing link.bytes) view
   served_link i conn link view at left =
       let serves : ServesTold (y.responses site) (Some (fresh_tells (coming_of conn))) (l.tells link) view =
       subst (λ (t : Option LinkTells). ServesTold (y.responses site) t (l.tells link) view) (came i conn left.0 at left.1) left.2.told in

@@ -104,9 +104,6 @@ next_shown served index s low is =
     let one : suc index ≡ index + 1 = omega arith in
     drop-cons served index s low ∙ ap (λ (x : Served MemLinkState). x ∷ drop (suc index) served) (sym is) ∙ ap (λ (n : ℕ). s ∷ drop n served) one
 
-done≢failed : put.Done ≢ put.Failed
-done≢failed same = cc
-
 -- ---- the texts of a replay
 
 module _ (site : SiteState) (shape : Shape) (conns : List ScriptConn) (ended : Ended MemWorldState MemLinkState) (ran : RunsWell site shape conns ended) (before after : Option (List ℕ)) (answer : Put) (result : Result (Unit {0}) RunFault) (is : result ≡ result_of answer) where

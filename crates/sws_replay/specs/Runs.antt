@@ -17,23 +17,25 @@ use Rattle.sws_replay.specs.Histories.{AreServed}
 use Rattle.sws_replay.specs.Transcripts.{alone}
 
 -- the connection was served as if it were alone
-pub record IsServedAlone (site : SiteState) (conn : ScriptConn) (s : Served MemLinkState) : Type 0 where
+pub record IsServedAlone (site : SiteState) (conn : ScriptConn)
+    (s : Served MemLinkState) : Type 0 where
   pub link : MemLinkState
   pub there : s.link ≡ Some link
   -- its end and what was written are those of its outcome, in which memory doesn't occur
   pub end : s.end ≡ Some (alone site conn).end
   pub fine : (alone site conn).end ≢ Memory
-  pub bytes : link.wire.written ≡ (alone site conn).bytes
+  pub bytes : link.bytes.written ≡ (alone site conn).bytes
   -- the counts are those of what was written and taken, and what was taken and is left is all that its lines give
-  pub written : s.written ≡ length link.wire.written
+  pub written : s.written ≡ length link.bytes.written
   pub few_written : s.written < 2 ^ 40
-  pub read : s.read ≡ length link.wire.input.taken
+  pub read : s.read ≡ length link.bytes.input.taken
   pub few_read : s.read ≤ input_limit
-  pub input : link.wire.input.taken ++ all_bytes link.wire.input.items
+  pub input : link.bytes.input.taken ++ all_bytes link.bytes.input.items
       ≡ all_bytes (script_of conn).items
 
 -- the run went well: each connection was served as if it were alone
-pub record ServesAll (site : SiteState) (conns : List ScriptConn) (ended : Ended MemWorldState MemLinkState) : Type 0 where
+pub record ServesAll (site : SiteState) (conns : List ScriptConn)
+    (ended : Ended MemWorldState MemLinkState) : Type 0 where
   pub well : ended.verdict ≡ verdict.Ok
   pub many : length ended.served.items ≡ length conns
   pub each : (i : ℕ) (conn : ScriptConn) (s : Served MemLinkState) → slice_get conns i ≡ Some conn
@@ -44,6 +46,7 @@ abbrev pub histories_of : Ended MemWorldState MemLinkState → List (List Entry)
 histories_of ended = map (λ history. history.items) ended.histories.items
 
 -- and the histories are those of a server that has served them
-pub record RunsWell (site : SiteState) (shape : Shape) (conns : List ScriptConn) (ended : Ended MemWorldState MemLinkState) : Type 0 where
+pub record RunsWell (site : SiteState) (shape : Shape) (conns : List ScriptConn)
+    (ended : Ended MemWorldState MemLinkState) : Type 0 where
   pub serves : ServesAll site conns ended
   pub served : AreServed site shape conns (histories_of ended)

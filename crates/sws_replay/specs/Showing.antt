@@ -16,7 +16,7 @@ pub record IsShowable (s : Served MemLinkState) : Type 0 where
 -- what was written on a connection, if it was opened
 abbrev pub shown_bytes : Option MemLinkState → List ℕ
 shown_bytes None = []
-shown_bytes (Some link) = link.wire.written
+shown_bytes (Some link) = link.bytes.written
 
 -- how a connection ended; well, where it has no end
 abbrev pub shown_end : Option End → End

@@ -5,6 +5,7 @@ ghost use Rattle.sws_link.specs.Counts.{HasCause};
 ghost use Rattle.sws_script.specs.Inputs.{IsInput};
 ghost use Rattle.sws_replay.specs.OfInput.{AreOfInput};
 ghost use Rattle.sws_replay.specs.Replays.{IsReplay, IsScheduledReplay, WritesOne, result_of};
+ghost use Rattle.sws_engine.specs.Limits.{conn_limit};
 
 use crate::fault::RunFault;
 use crate::running::{run_script, run_steps};
@@ -36,7 +37,7 @@ pub fn replay<R: Threads + Wait + Sync, O: Sink>(
     out: &mut O,
 ) -> Result<(), RunFault>
     requires shape { first_out_of_range shape.now (length conns.now + 2) 1 ≡ None }
-    requires few { length conns.now ≤ 1024 }
+    requires few { length conns.now ≤ conn_limit }
     requires conns { AreOfInput conns.now }
     ensures writes { WritesOne (IsReplay site.now shape.now conns.now journal)
         (O.written out.old) (O.written out.new) result }
@@ -70,7 +71,7 @@ pub fn replay_by_schedule<R: Wait, O: Sink>(
     out: &mut O,
 ) -> Result<(), RunFault>
     requires shape { first_out_of_range shape.now (length input.now.conns + 2) 1 ≡ None }
-    requires few { length input.now.conns ≤ 1024 }
+    requires few { length input.now.conns ≤ conn_limit }
     requires input { IsInput true shape.now.cores input.now }
     ensures writes { WritesOne (IsScheduledReplay site.now shape.now input.now)
         (O.written out.old) (O.written out.new) result }

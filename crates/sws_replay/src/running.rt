@@ -6,6 +6,7 @@ ghost use Rattle.sws_link.specs.MemWorlds.{mem_world_tells};
 ghost use Rattle.sws_script.specs.Scripted.{script_of, told_of};
 ghost use Rattle.sws_replay.specs.OfInput.{AreOfInput};
 ghost use Rattle.sws_replay.specs.Runs.{RunsWell, histories_of};
+ghost use Rattle.sws_engine.specs.Limits.{conn_limit};
 
 use crate::fault::RunFault;
 use mely_history::Shape;
@@ -34,7 +35,7 @@ pub fn run_script<R: Threads + Wait + Sync>(
     conns: &[ScriptConn],
 ) -> Result<Ended<MemWorld>, RunFault>
     requires shape { first_out_of_range shape.now (length conns.now + 2) 1 ≡ None }
-    requires few { length conns.now ≤ 1024 }
+    requires few { length conns.now ≤ conn_limit }
     requires conns { AreOfInput conns.now }
     ensures ran { IfOk result (λ ended. RunsWell site.now shape.now conns.now ended) }
     ensures refused { IfErr result (λ fault. fault ≡ RunFault.Memory) }
@@ -65,7 +66,7 @@ pub fn run_steps<R: Wait>(
     schedule: &[(u16, u32)],
 ) -> Result<Ended<MemWorld>, RunFault>
     requires shape { first_out_of_range shape.now (length conns.now + 2) 1 ≡ None }
-    requires few { length conns.now ≤ 1024 }
+    requires few { length conns.now ≤ conn_limit }
     requires conns { AreOfInput conns.now }
     requires cores { All (λ part. part.0 < shape.now.cores) schedule.now }
     requires count { sum_by (λ part. part.1) schedule.now < 2 ^ 64 }
@@ -86,7 +87,7 @@ pub fn run_steps<R: Wait>(
 
 /// The world of the connections.
 fn make_world(alloc: Global, conns: &[ScriptConn]) -> Result<MemWorld, RunFault>
-    requires few { length conns.now ≤ 1024 }
+    requires few { length conns.now ≤ conn_limit }
     requires conns { AreOfInput conns.now }
     ensures tells { IfOk result (λ world. mem_world_tells world ≡ told_of conns.now) }
     ensures refused { IfErr result (λ fault. fault ≡ RunFault.Memory) }

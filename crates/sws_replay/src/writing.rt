@@ -8,6 +8,7 @@ ghost use Rattle.sws_report.specs.Journal.{journal};
 ghost use Rattle.sws_report.specs.Transcript.{transcript, conn_text};
 ghost use Rattle.sws_replay.specs.Runs.{histories_of};
 ghost use Rattle.sws_replay.specs.Showing.{IsShowable, shown_of};
+ghost use Rattle.sws_engine.specs.Limits.{conn_limit};
 
 use std::alloc::Global;
 use sws_engine::{Ended, Served};
@@ -16,7 +17,7 @@ use sws_report::{write_conn, write_journal};
 
 /// Writes the transcript of the connections of a run, and behind it the journal of its histories.
 pub fn write_run<O: Sink>(alloc: Global, out: &mut O, ended: &Ended<MemWorld>) -> Put
-    requires few { length ended.now.served.items ≤ 1024 }
+    requires few { length ended.now.served.items ≤ conn_limit }
     requires showable { AllByRecursion IsShowable ended.now.served.items }
     ensures text { Puts (O.written out.old) (O.written out.new) result
         (transcript (map shown_of ended.now.served.items) ++ journal (histories_of ended.now)) }
@@ -30,7 +31,7 @@ pub fn write_run<O: Sink>(alloc: Global, out: &mut O, ended: &Ended<MemWorld>) -
 
 /// Writes the transcript of connections, each of which has ended with its link.
 pub fn write_transcript<O: Sink>(alloc: Global, out: &mut O, served: &[Served<MemLink>]) -> Put
-    requires few { length served.now ≤ 1024 }
+    requires few { length served.now ≤ conn_limit }
     requires showable { AllByRecursion IsShowable served.now }
     ensures text { Puts (O.written out.old) (O.written out.new) result
         (transcript (map shown_of served.now)) }

@@ -1,10 +1,10 @@
 -- A text that is written piece by piece.
-use Rattle.std.proofs.Common.{◌≡◌, ◌≢◌, ℕ, ◌<◌, List, [], ◌++◌, length, Option, refl, sym, ap, ◌∙◌, subst, arith, append_assoc, append-nil, length-append}
+use Rattle.std.proofs.Common.{◌≡◌, ◌≢◌, ℕ, ◌<◌, List, [], ◌++◌, length, Option, sym, ap, ◌∙◌, subst, arith, append_assoc, append-nil, length-append}
 use Rattle.sws_link.specs.declared.Put.{Put}
 use Rattle.sws_link.specs.declared.Put.TheVariants.{Done, Failed}
 use Rattle.sws_link.specs.Counts.{Count, HasCause}
 use Rattle.sws_link.specs.Contents.{Puts}
-use Rattle.sws_link.proofs.ContentLemmas.{Puts-nil, Puts-then, Puts-stop}
+use Rattle.sws_link.proofs.ContentLemmas.{Puts-then, Puts-stop}
 use Rattle.sws_link.proofs.CountLemmas.{HasCause-as}
 
 -- so far a front of the whole was written, and no write failed; behind it are the piece and what is left
@@ -13,9 +13,6 @@ pub record Going (before now : Option (List ℕ)) (faults_before faults_now : Co
   pub puts : Puts before now Done front
   pub is : front ++ (piece ++ left) ≡ whole
   pub same : faults_now ≡ faults_before
-
-pub Going-none : (now : Option (List ℕ)) (faults : Count) (piece left : List ℕ) → Going now now faults faults piece left (piece ++ left)
-Going-none now faults piece left = record { front = []; puts = Puts-nil now; is = refl; same = refl }
 
 -- bytes went over into the piece
 pub Going-moved : (a b : Option (List ℕ)) (m n : Count) (piece left more rest whole : List ℕ) → Going a b m n piece left whole → more ++ rest ≡ piece ++ left → Going a b m n more rest whole

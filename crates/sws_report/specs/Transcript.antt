@@ -1,6 +1,6 @@
 -- The transcript of connections.
 use Rattle.std.specs.Prelude.{ℕ, ◌+◌, List, [], ◌∷◌, ◌++◌, length, codes}
-use Rattle.sws_text.specs.Shown.{shown}
+use Rattle.sws_text.specs.Shown.{shown_lines}
 use Rattle.sws_steps.specs.declared.End.{End}
 use Rattle.sws_steps.specs.declared.End.TheVariants.{Done, Idle, Fault, Memory}
 use Rattle.sws_report.specs.Numbers.{space_number}
@@ -19,7 +19,7 @@ conn_line number end count =
 
 -- a connection: its line, and the lines that show the bytes
 abbrev pub conn_text : ℕ → End → List ℕ → List ℕ
-conn_text number end bytes = conn_line number end (length bytes) ++ shown bytes
+conn_text number end bytes = conn_line number end (length bytes) ++ shown_lines bytes
 
 -- connections from this number on
 abbrev pub transcript_from : ℕ → List (End × List ℕ) → List ℕ

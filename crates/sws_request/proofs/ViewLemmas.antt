@@ -1,20 +1,13 @@
--- A view of what was parsed, and one field of it.
-use Rattle.std.proofs.Common.{◌≡◌, ℕ, ◌<◌, ◌≤◌, List, length, take, map, get_or, Some, slice_get, sym, ap, subst, ◌∙◌, arith, length-take}
+-- What was parsed, as the request that its spans show.
+use Rattle.std.proofs.Common.{◌≡◌, ℕ, ◌≤◌, List, length, take, map, sym, ap, subst, ◌∙◌, arith, length-take}
 use Rattle.std.proofs.lemmas.List.{length-map}
 use Rattle.httparse.specs.declared.spans.HeaderSpan.{HeaderSpan}
-use Rattle.httparse.specs.Spans.{span_bytes, header_bytes, IsHeaderWithin}
-use Rattle.sws_request.specs.declared.request.RequestView.TheInside.{Inside}
+use Rattle.httparse.specs.Spans.{span_bytes, header_bytes}
 use Rattle.httparse.specs.Grammar.{ReadsRequest}
 use Rattle.httparse.specs.declared.spans.RequestSpans.{RequestSpans}
 use Rattle.httparse.specs.Spans.{IsRequestOf, name_and_value}
 use Rattle.std.proofs.lemmas.List.{drop_all}
 use Rattle.sws_request.specs.Request.{SaysRequest, field_limit}
-
--- the i-th field of a view is that of its i-th spans
-pub record IsFieldAt (view : Inside) (fields : List (List ℕ × List ℕ)) (i : ℕ) (d : HeaderSpan) : Type 0 where
-  pub below : i < 64
-  pub within : IsHeaderWithin (length view.head.now) (get_or view.spans i d)
-  pub field : slice_get fields i ≡ Some (header_bytes view.head.now (get_or view.spans i d))
 
 -- what was parsed, and nothing behind it, is the request that the spans show
 pub SaysRequest-shown : (bytes : List ℕ) (headers : List HeaderSpan) (spans : RequestSpans) → IsRequestOf bytes headers spans → spans.len ≡ length bytes → spans.headers ≤ field_limit

@@ -14,7 +14,8 @@ use Rattle.sws_script.specs.declared.line.Line.{Line}
 use Rattle.sws_script.specs.declared.line.Line.TheVariants as line
 use Rattle.sws_script.specs.Lines.{SpellsLine, IsSpelled}
 use Rattle.sws_script.specs.Inputs.{step_lines, cut_lines, conn_lines, run_line, schedule_lines, script_lines, input_lines}
-use Rattle.sws_script.specs.Grammar.{conn_limit, lines_of, size_of, Spells, Begin, MayStand, IsFirstOutside, IsFirstTooMany, is_conn, conns_in, IsCause, IsUnlessMemory}
+use Rattle.sws_script.specs.Grammar.{lines_of, size_of, Spells, Begin, MayStand, IsFirstOutside, IsFirstTooMany, is_conn, conns_in, IsCause, IsUnlessMemory}
+use Rattle.sws_script.specs.Limits.{conn_limit}
 use Rattle.sws_script.specs.Order.{grown, conns_of, input_of, no_contents, bare_conn}
 use Rattle.sws_script.proofs.SplitLemmas.{to-spelled, spelled-unique}
 use Rattle.sws_script.proofs.StandingLemmas.{is_conn-line, is_conn_line, length-conns_of-grown}
@@ -243,7 +244,7 @@ no_cause schedule cores text input (Bad at) spells few why = absurd (no_fault sc
 no_cause schedule cores text input (TooMany at) spells few why = absurd (no_many schedule cores text input why.0 spells few why.2)
 no_cause schedule cores text input Memory spells few why = refl
 
--- and one that spells none has one fault beside it
+-- a text has one fault beside want of memory
 pub one_cause : (schedule : Bool) (cores : ℕ) (text : List ℕ) (one other : ScriptFault) → IsCause schedule cores text one → IsCause schedule cores text other
     → (one ≡ other) ⊎ ((one ≡ Memory) ⊎ (other ≡ Memory))
 one_cause schedule cores text Memory other a b = inr (inl refl)

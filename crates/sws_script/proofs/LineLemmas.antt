@@ -152,7 +152,7 @@ split_once byte (c ∷ a) (d ∷ b) x y no_a no_b e = both (head c d _ _ e) (spl
     both : c ≡ d → (a ≡ b) × (x ≡ y) → (c ∷ a ≡ d ∷ b) × (x ≡ y)
     both h t = (ap (λ z. z ∷ a) h ∙ ap (λ z. d ∷ z) t.0, t.1)
 
--- it is not there, and there
+-- a byte that a text has not doesn't stand in it
 pub not_among : (byte : ℕ) (a x y : List ℕ) → HasNo byte y → y ≡ a ++ byte ∷ x → ⊥
 not_among byte a x y none e = there a x byte (subst (HasNo byte) e none)
   where

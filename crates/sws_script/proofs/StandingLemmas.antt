@@ -17,7 +17,8 @@ use Rattle.sws_script.specs.declared.place.Place.{Place}
 use Rattle.sws_script.specs.declared.place.Place.TheVariants.{ScheduleHead, Steps, ScriptHead, Top, Conn, Step, Cut, Piece, Pause, Fault}
 use Rattle.sws_script.specs.Lines.{SpellsLine, IsSpelled}
 use Rattle.sws_script.specs.Inputs.{input_lines, script_lines, schedule_lines, run_line}
-use Rattle.sws_script.specs.Grammar.{byte_limit, conn_limit, lines_of, size_of, Spells, Begin, MayStand, IsFirstOutside, IsFirstTooMany, is_conn, conns_in, IsCause}
+use Rattle.sws_script.specs.Grammar.{lines_of, size_of, Spells, Begin, MayStand, IsFirstOutside, IsFirstTooMany, is_conn, conns_in, IsCause}
+use Rattle.sws_script.specs.Limits.{byte_limit, conn_limit}
 use Rattle.sws_script.specs.Order.{in_script, place_after, State, total_after, state_of, state_after, run, start, grown, conns_of, input_of, no_contents}
 use Rattle.sws_script.specs.Splits.{IsFirstLine}
 use Rattle.sws_script.specs.Parsers.{state}
@@ -341,7 +342,7 @@ outside schedule cores text rest count parser words after stands first not =
       whole = λ input all spells. omega arith;
     }
 
--- which passes the limit
+-- a line that passes the limit may not stand
 pub too_long : (schedule : Bool) (cores : ℕ) (text rest : List ℕ) (count : ℕ) (parser : Parser) (words after : List ℕ) → Stands schedule cores text rest count parser → IsFirstLine rest words after
     → 16777216 < length text - length after → MayStand schedule cores text (count + 1) → ⊥
 too_long schedule cores text rest count parser words after stands first long may =
@@ -354,7 +355,7 @@ too_long schedule cores text rest count parser words after stands first long may
     let ended = stands.ended some in
     omega arith
 
--- or may not follow
+-- a line that may not follow those before it may not stand
 pub refused : (schedule : Bool) (cores : ℕ) (text rest : List ℕ) (count : ℕ) (parser : Parser) (words after : List ℕ) → Stands schedule cores text rest count parser → IsFirstLine rest words after
     → ((says : Line) → IsSpelled words says → state_after parser.cores (state parser) says ≡ None) → MayStand schedule cores text (count + 1) → ⊥
 refused schedule cores text rest count parser words after stands first none may =

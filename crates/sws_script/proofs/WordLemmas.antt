@@ -37,7 +37,7 @@ pub first_word_found : (words : List Word) (i : ℕ) (d : Word) (line rest : Lis
 first_word_found words i d line rest lt e =
     ap (λ ws. first_word ws line) (drop-cons words i d lt) ∙ ap (λ o. onward (get_or words i d) o (first_word (drop (suc i) words) line)) e
 
--- or it is among those behind it
+-- where the line doesn't begin with the word at a place, the first is among those behind it
 pub first_word_next : (words : List Word) (i : ℕ) (d : Word) (line : List ℕ) → i < length words → strip_word (word_text (get_or words i d)) line ≡ None
     → first_word (drop (i + 1) words) line ≡ first_word (drop i words) line
 first_word_next words i d line lt e =

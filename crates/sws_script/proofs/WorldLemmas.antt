@@ -99,7 +99,7 @@ answers_told : (conns : List ScriptConn) → AreScripted (Some (map coming_of co
 answers_told [] = tt
 answers_told (conn ∷ conns) = (refl, answers_told conns)
 
--- and that it tells the answers of each link
+-- the world of an input tells the answers of each link
 pub world_scripted : (schedule : Bool) (cores : ℕ) (input : Input) → IsInput schedule cores input → AreScripted (mem_world_tells (world_of input.conns)).coming
 world_scripted schedule cores input is =
     subst AreScripted (sym (ap (λ (told : WorldTells). told.coming) (world_told schedule cores input is))) (answers_told input.conns)

@@ -7,14 +7,7 @@ use Rattle.sws_script.specs.declared.fault.ScriptFault.{ScriptFault}
 use Rattle.sws_script.specs.declared.fault.ScriptFault.TheVariants.{Bad, TooMany, Memory}
 use Rattle.sws_script.specs.Lines.{SpellsLine}
 use Rattle.sws_script.specs.Inputs.{IsInput, input_lines}
-
--- the most bytes of a text, and the most connections of an input
-abbrev pub byte_limit : ℕ
-byte_limit = 16777216
-
--- the most connections of a script
-abbrev pub conn_limit : ℕ
-conn_limit = 1024
+use Rattle.sws_script.specs.Limits.{byte_limit, conn_limit}
 
 -- the lines of a text, without their LF, which may be missing at the last
 abbrev pub lines_of : List ℕ → List (List ℕ)

@@ -8,6 +8,7 @@ use Rattle.sws_script.specs.declared.input.Input.{Input}
 use Rattle.sws_script.specs.declared.line.Line.{Line}
 use Rattle.sws_script.specs.declared.line.Line.TheVariants as line
 use Rattle.sws_script.specs.Lines.{IsLine}
+use Rattle.sws_script.specs.Limits.{step_limit}
 
 -- ---- the lines of an input
 
@@ -64,10 +65,6 @@ IsInOrder (item ∷ next ∷ items) = MayFollow item next × IsInOrder (next ∷
 abbrev pub total_of : List (ℕ × ℕ) → ℕ
 total_of [] = 0
 total_of (run ∷ runs) = run.1 + total_of runs
-
--- the most steps of a schedule
-abbrev pub step_limit : ℕ
-step_limit = 10000000
 
 -- each number is within its range, cores are below the number of workers, the steps are 10,000,000 at most, items stand in order,
 -- and without a schedule there are no steps

@@ -8,3 +8,4 @@ pub mod Printed
 pub mod Order
 pub mod Parsers
 pub mod Adding
+pub mod Limits

@@ -9,6 +9,7 @@ use Rattle.sws_script.specs.declared.line.Line.TheVariants as line
 use Rattle.sws_script.specs.declared.contents.Contents.{Contents}
 use Rattle.sws_script.specs.declared.place.Place.{Place}
 use Rattle.sws_script.specs.declared.place.Place.TheVariants.{ScheduleHead, Steps, ScriptHead, Top, Conn, Step, Cut, Piece, Pause, Fault}
+use Rattle.sws_script.specs.Limits.{step_limit}
 
 -- ---- places
 
@@ -34,7 +35,7 @@ takes_items Piece = true
 takes_items Pause = true
 takes_items _ = false
 
--- and not behind a pause
+-- in a connection that no fault has ended, and not behind a pause
 abbrev pub takes_pause : Place → Bool
 takes_pause Pause = false
 takes_pause place = takes_items place
@@ -88,7 +89,7 @@ pub record State : Type 0 where
 abbrev pub total_after : ℕ → ℕ → Line → Option ℕ
 total_after cores total line.ScheduleHead = Some total
 total_after cores total (line.Run core count) =
-    if nat_lt core cores && nat_le (total + count) 10000000 then Some (total + count) else None
+    if nat_lt core cores && nat_le (total + count) step_limit then Some (total + count) else None
 total_after cores total line.End = Some total
 total_after cores total line.ScriptHead = Some total
 total_after cores total line.Conn = Some total
@@ -136,7 +137,7 @@ with_cut count conn = record { step = conn.step; cut = Some count; items = conn.
 abbrev pub with_item : Item → ScriptConn → ScriptConn
 with_item item conn = record { step = conn.step; cut = conn.cut; items = conn.items ++ item ∷ [] }
 
--- with one line more
+-- what lines have said, with one line more
 abbrev pub grown : Contents → Line → Contents
 grown contents line.ScheduleHead = contents
 grown contents (line.Run core count) = record {

@@ -4,6 +4,7 @@ use Rattle.sws_script.specs.declared.input.Input.{Input}
 use Rattle.sws_script.specs.declared.parser.Parser.{Parser}
 use Rattle.sws_script.specs.declared.line.Line.{Line}
 use Rattle.sws_script.specs.Order.{State, state_after, grown, in_script, input_of}
+use Rattle.sws_script.specs.Limits.{step_limit}
 
 -- the place and the total of a parser
 abbrev pub state : Parser → State
@@ -14,9 +15,9 @@ pub record Adds (old new : Parser) (says : Line) : Type 0 where
   pub state_is : state_after old.cores (state old) says ≡ Some (state new)
   pub contents_are : new.contents ≡ grown old.contents says
   pub cores : new.cores ≡ old.cores
-  pub few : new.total ≤ 10000000
+  pub few : new.total ≤ step_limit
 
--- or it may not follow
+-- the line was added, or may not follow
 abbrev pub TakesLine : Parser → Parser → Line → Bool → Type 0
 TakesLine old new says taken =
     MatchBool taken (Adds old new says) (state_after old.cores (state old) says ≡ None)

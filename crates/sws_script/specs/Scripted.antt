@@ -5,7 +5,7 @@ use Rattle.sws_link.specs.Scripts.{Script, piece, wait, fault}
 use Rattle.sws_link.specs.Scripts.{Item as LinkItem}
 use Rattle.sws_link.specs.Calls.{no_calls}
 use Rattle.sws_link.specs.LinkItems.{all_bytes}
-use Rattle.sws_link.specs.MemLinks.{fresh_wire}
+use Rattle.sws_link.specs.MemLinks.{fresh_bytes}
 use Rattle.sws_link.specs.MemLink.{MemLinkState}
 use Rattle.sws_link.specs.Worlds.{Coming, WorldTells}
 use Rattle.sws_link.specs.MemWorlds.{fresh_lobby}
@@ -18,7 +18,7 @@ use Rattle.sws_script.specs.declared.input.ScriptConn.{ScriptConn}
 abbrev pub filled_item : ℕ → LinkItem
 filled_item count = piece (replicate count 97)
 
--- in pieces of this many, and one of what is left, if anything is
+-- so many bytes `a` in pieces of this size, and one of what is left, if anything is
 abbrev pub fill_pieces_by : ℕ → ℕ → List LinkItem
 fill_pieces_by size count =
     replicate (count / size) (filled_item size)
@@ -42,13 +42,13 @@ script_of conn = record { items = flat_map link_items conn.items; step = conn.st
 -- the link of a connection: nothing was taken or written, and no call is to fail but by its lines
 abbrev pub link_of : ScriptConn → MemLinkState
 link_of conn = record {
-  wire = fresh_wire (flat_map link_items conn.items) conn.step conn.cut;
+  bytes = fresh_bytes (flat_map link_items conn.items) conn.step conn.cut;
   calls = no_calls [];
   waits = 0;
   shut = false;
 }
 
--- what is to come of it: the bytes of its items, and the answers of its script
+-- what is to come of the link of a connection: the bytes of its items, and the answers of its script
 abbrev pub coming_of : ScriptConn → Coming
 coming_of conn = record {
   input = all_bytes (flat_map link_items conn.items);
@@ -60,7 +60,7 @@ coming_of conn = record {
 abbrev pub world_of : List ScriptConn → MemWorldState
 world_of conns = record { lobby = fresh_lobby (map link_of conns); calls = no_calls [] }
 
--- what it tells: as many links as connections, each with its input and its answers, and that nothing of the outside stands in its way
+-- what the world of connections tells: as many links as connections, each with its input and its answers, and that nothing of the outside stands in its way
 abbrev pub told_of : List ScriptConn → WorldTells
 told_of conns = record {
   coming = Some (map coming_of conns);

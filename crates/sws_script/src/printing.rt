@@ -5,7 +5,8 @@ ghost use Rattle.std.specs.Fmt.{decimal};
 ghost use Rattle.sws_script.specs.declared.line.Line.TheVariants as line;
 ghost use Rattle.sws_script.specs.declared.input.Item.TheVariants.{Send};
 ghost use Rattle.sws_script.specs.Inputs.{IsInput, conn_lines, cut_lines, step_lines, run_line, schedule_lines, script_lines};
-ghost use Rattle.sws_script.specs.Grammar.{byte_limit, Spells};
+ghost use Rattle.sws_script.specs.Grammar.{Spells};
+ghost use Rattle.sws_script.specs.Limits.{byte_limit};
 ghost use Rattle.sws_script.specs.Printed.{printed_line, printed_lines, print_input};
 
 use crate::{Input, Item, ScriptConn};

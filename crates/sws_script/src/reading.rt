@@ -18,7 +18,7 @@ use sws_text::read_text;
 const MAX_PIECE: usize = 4_096;
 
 /// The most bytes of a text of so many bytes: each has four at most. A longer one isn't read.
-const LONGEST_TEXT: usize = 16_384;
+const MAX_TEXT: usize = 16_384;
 
 /// The line that a text without its LF spells, or `None` where it spells none.
 pub fn read_line(alloc: Global, text: &[u8]) -> Result<Option<Line>, AllocError>
@@ -117,7 +117,7 @@ fn read_pause(rest: &[u8]) -> Option<Line>
 fn read_send(alloc: Global, rest: &[u8]) -> Result<Option<Line>, AllocError>
     ensures { IfOk result (ReadsBehind word.Send rest.now) }
 {
-    if rest.len() > LONGEST_TEXT {
+    if rest.len() > MAX_TEXT {
         return Ok(None);
     }
     let Some(bytes) = read_text(alloc, rest)? else {

@@ -7,7 +7,7 @@ use Rattle.std.specs.Option.{option_or}
 use Rattle.sws_site.specs.declared.site_faults.SiteFault.{SiteFault}
 use Rattle.sws_site.specs.declared.site_faults.SiteFault.TheVariants.{TooManyFiles, LongName, TooManyBytes}
 use Rattle.sws_site.specs.Files.{File}
-use Rattle.sws_site.specs.Limits.{IsWithinLimits, bytes_of, limit_met, first_limit, limit_of}
+use Rattle.sws_site.specs.Limits.{IsWithinLimits, bytes_of, met_limit, first_limit, limit_of}
 
 pub bytes_of-push : (files : List File) (file : File) → bytes_of (files ++ file ∷ []) ≡ bytes_of files + length file.1
 bytes_of-push files file =
@@ -25,33 +25,33 @@ length-push files file = length-append files (file ∷ [])
 -- ---- one file
 
 -- the file meets no limit
-pub limit_met-none : (before : List File) (file : File) → length before + 1 ≤ 4096 → length file.0 ≤ 1024
-    → bytes_of before + length file.1 ≤ 268435456 → limit_met before file ≡ None
-limit_met-none before file few short fits = λ i.
+pub met_limit-none : (before : List File) (file : File) → length before + 1 ≤ 4096 → length file.0 ≤ 1024
+    → bytes_of before + length file.1 ≤ 268435456 → met_limit before file ≡ None
+met_limit-none before file few short fits = λ i.
     if le-ltb 4096 (length before + 1) few i then Some (TooManyFiles (length before + 1))
     else (if le-ltb 1024 (length file.0) short i then Some (LongName (length before + 1))
     else (if le-ltb 268435456 (bytes_of before + length file.1) fits i then Some (TooManyBytes (length before + 1))
     else None))
 
-pub limit_met-files : (before : List File) (file : File) → 4096 < length before + 1
-    → limit_met before file ≡ Some (TooManyFiles (length before + 1))
-limit_met-files before file many = λ i.
+pub met_limit-files : (before : List File) (file : File) → 4096 < length before + 1
+    → met_limit before file ≡ Some (TooManyFiles (length before + 1))
+met_limit-files before file many = λ i.
     if lt-ltb 4096 (length before + 1) many i then Some (TooManyFiles (length before + 1))
     else (if nat_lt 1024 (length file.0) then Some (LongName (length before + 1))
     else (if nat_lt 268435456 (bytes_of before + length file.1) then Some (TooManyBytes (length before + 1))
     else None))
 
-pub limit_met-name : (before : List File) (file : File) → length before + 1 ≤ 4096 → 1024 < length file.0
-    → limit_met before file ≡ Some (LongName (length before + 1))
-limit_met-name before file few long = λ i.
+pub met_limit-name : (before : List File) (file : File) → length before + 1 ≤ 4096 → 1024 < length file.0
+    → met_limit before file ≡ Some (LongName (length before + 1))
+met_limit-name before file few long = λ i.
     if le-ltb 4096 (length before + 1) few i then Some (TooManyFiles (length before + 1))
     else (if lt-ltb 1024 (length file.0) long i then Some (LongName (length before + 1))
     else (if nat_lt 268435456 (bytes_of before + length file.1) then Some (TooManyBytes (length before + 1))
     else None))
 
-pub limit_met-bytes : (before : List File) (file : File) → length before + 1 ≤ 4096 → length file.0 ≤ 1024
-    → 268435456 < bytes_of before + length file.1 → limit_met before file ≡ Some (TooManyBytes (length before + 1))
-limit_met-bytes before file few short over = λ i.
+pub met_limit-bytes : (before : List File) (file : File) → length before + 1 ≤ 4096 → length file.0 ≤ 1024
+    → 268435456 < bytes_of before + length file.1 → met_limit before file ≡ Some (TooManyBytes (length before + 1))
+met_limit-bytes before file few short over = λ i.
     if le-ltb 4096 (length before + 1) few i then Some (TooManyFiles (length before + 1))
     else (if le-ltb 1024 (length file.0) short i then Some (LongName (length before + 1))
     else (if lt-ltb 268435456 (bytes_of before + length file.1) over i then Some (TooManyBytes (length before + 1))
@@ -65,7 +65,7 @@ first_limit-none : (before files : List File) → length before + length files �
 first_limit-none before [] few short fits = refl
 first_limit-none before (file ∷ files) few short fits =
     let front = bytes_of-front file files in
-    let met : limit_met before file ≡ None = limit_met-none before file (omega arith) (short 0 file (omega arith)) (omega arith) in
+    let met : met_limit before file ≡ None = met_limit-none before file (omega arith) (short 0 file (omega arith)) (omega arith) in
     let long = length-push before file in
     let more = bytes_of-push before file in
     ap (λ (found : Option SiteFault). option_or found (first_limit (before ++ file ∷ []) files)) met

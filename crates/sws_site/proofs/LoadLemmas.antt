@@ -13,10 +13,10 @@ use Rattle.sws_link.specs.declared.NextFile.TheVariants.{File as NextOne}
 use Rattle.sws_site.specs.declared.site_faults.SiteFault.{SiteFault}
 use Rattle.sws_site.specs.declared.site_faults.SiteFault.TheVariants.{TooManyFiles, LongName, TooManyBytes, Fault, Memory}
 use Rattle.sws_site.specs.Files.{File}
-use Rattle.sws_site.specs.Limits.{bytes_of, first_limit, limit_of, limit_met}
+use Rattle.sws_site.specs.Limits.{bytes_of, first_limit, limit_of, met_limit}
 use Rattle.sws_site.specs.Loading.{IsFresh, Loads, IsSameFolder}
 use Rattle.sws_site.specs.Steps.{HasRead, HasReadMore, HasReadAll, StepsTo, StepFails, HasLoaded}
-use Rattle.sws_site.proofs.LimitLemmas.{limit_met-none, limit_met-files, limit_met-name, limit_met-bytes, length-push}
+use Rattle.sws_site.proofs.LimitLemmas.{met_limit-none, met_limit-files, met_limit-name, met_limit-bytes, length-push}
 
 pub HasRead-nil : (folder : Option FolderTells) (bytes : List ℕ) → bytes ≡ [] → HasRead folder folder bytes
 HasRead-nil None bytes none = refl
@@ -68,7 +68,7 @@ from_place files i file at = elim (slice_get_cases files i).1 [
 
 -- the next file decides, where it meets a limit
 next_decides : (first before : FolderTells) (files : List File) (file : File) (found : Option SiteFault) → HasLoaded (Some first) (Some before) files
-    → slice_get before.files before.given ≡ Some file → limit_met files file ≡ found
+    → slice_get before.files before.given ≡ Some file → met_limit files file ≡ found
     → limit_of first.files ≡ option_or found (first_limit (files ++ file ∷ []) (drop (length files + 1) first.files))
 next_decides first before files file found (left, now, is, limit) at met =
     let same : before ≡ record first { given = length files; left = left } = cc in
@@ -89,7 +89,7 @@ HasLoaded-step (Some first) (Some before) after files file (left, now, is, limit
       [],
       next ∙ ap (λ (t : FolderTells). Some (record t { given = t.given + 1; left = [] })) same ∙ ap (λ n. Some (record first { given = n; left = [] })) (sym count),
       ap (λ (f : List File). f ++ file ∷ []) is ∙ sym place.1 ∙ ap (λ n. take n first.files) (sym count),
-      next_decides first before files file None (left, now, is, limit) at (limit_met-none files file few short fits)
+      next_decides first before files file None (left, now, is, limit) at (met_limit-none files file few short fits)
           ∙ ap (λ n. first_limit (files ++ file ∷ []) (drop n first.files)) (sym count),
     )
 
@@ -98,13 +98,13 @@ pub HasLoaded-fails : (first before : Option FolderTells) (files : List File) (n
 HasLoaded-fails None before files number room _ loaded fails n all = tt
 HasLoaded-fails (Some first) None files number room _ (left, now, is, limit) fails n all = cc
 HasLoaded-fails (Some first) (Some before) files number room (TooManyFiles found) loaded (is_found, file, at, many) n all =
-    next_decides first before files file (Some (TooManyFiles (length files + 1))) loaded at (limit_met-files files file (omega arith))
+    next_decides first before files file (Some (TooManyFiles (length files + 1))) loaded at (met_limit-files files file (omega arith))
     ∙ ap (λ k. Some (TooManyFiles k)) (sym (is_found ∙ n))
 HasLoaded-fails (Some first) (Some before) files number room (LongName found) loaded (is_found, file, at, few, long) n all =
-    next_decides first before files file (Some (LongName (length files + 1))) loaded at (limit_met-name files file (omega arith) long)
+    next_decides first before files file (Some (LongName (length files + 1))) loaded at (met_limit-name files file (omega arith) long)
     ∙ ap (λ k. Some (LongName k)) (sym (is_found ∙ n))
 HasLoaded-fails (Some first) (Some before) files number room (TooManyBytes found) loaded (is_found, file, at, few, short, over) n all =
-    next_decides first before files file (Some (TooManyBytes (length files + 1))) loaded at (limit_met-bytes files file (omega arith) short (omega arith))
+    next_decides first before files file (Some (TooManyBytes (length files + 1))) loaded at (met_limit-bytes files file (omega arith) short (omega arith))
     ∙ ap (λ k. Some (TooManyBytes k)) (sym (is_found ∙ n))
 HasLoaded-fails (Some first) (Some before) files number room Fault loaded fails n all = tt
 HasLoaded-fails (Some first) (Some before) files number room Memory loaded fails n all = tt

@@ -58,8 +58,8 @@ abbrev pub status_text : Status → List ℕ
 status_text status = (row_of status).text
 
 -- what the program's row says
-abbrev pub row_shown : StatusRow → Row
-row_shown row =
+abbrev pub row_value : StatusRow → Row
+row_value row =
     record {
       code = row.code;
       text = row.text.now;

@@ -6,7 +6,7 @@ use Rattle.sws_link.specs.declared.Got.TheVariants.{Took, End, Failed}
 use Rattle.sws_site.specs.declared.site_faults.SiteFault.{SiteFault}
 use Rattle.sws_site.specs.declared.site_faults.SiteFault.TheVariants.{TooManyFiles, LongName, TooManyBytes, Fault, Memory}
 use Rattle.sws_site.specs.Files.{File}
-use Rattle.sws_site.specs.Limits.{max_files, max_name, first_limit, limit_of}
+use Rattle.sws_site.specs.Limits.{file_limit, name_limit, first_limit, limit_of}
 
 -- these bytes of the current file were read
 abbrev pub HasRead : Option FolderTells → Option FolderTells → List ℕ → Type 0
@@ -47,8 +47,8 @@ StepsTo (Some before) now (Some file) =
 
 -- a file of this number is within the limits, where there is room for so many bytes
 pub record IsWithin (number room : ℕ) (file : File) : Type 0 where
-  pub count : number ≤ max_files
-  pub name : length file.0 ≤ max_name
+  pub count : number ≤ file_limit
+  pub name : length file.0 ≤ name_limit
   pub bytes : length file.1 ≤ room
 
 -- the limit that the next file meets
@@ -56,14 +56,14 @@ abbrev pub StepFails : ℕ → ℕ → Option FolderTells → SiteFault → Type
 StepFails number room None _ = ⊤
 StepFails number room (Some before) (TooManyFiles found) =
     (found ≡ number) × (file : File) × (slice_get before.files before.given ≡ Some file)
-    × (max_files < number)
+    × (file_limit < number)
 StepFails number room (Some before) (LongName found) =
     (found ≡ number) × (file : File) × (slice_get before.files before.given ≡ Some file)
-    × (number ≤ max_files) × (max_name < length file.0)
+    × (number ≤ file_limit) × (name_limit < length file.0)
 StepFails number room (Some before) (TooManyBytes found) =
     (found ≡ number) × (file : File) × (slice_get before.files before.given ≡ Some file)
-    × (number ≤ max_files)
-    × (length file.0 ≤ max_name) × (room < length file.1)
+    × (number ≤ file_limit)
+    × (length file.0 ≤ name_limit) × (room < length file.1)
 StepFails number room (Some before) Fault = ⊤
 StepFails number room (Some before) Memory = ⊤
 

@@ -2,7 +2,7 @@
 use Rattle.std.specs.Prelude.{◌≡◌, ◌≤◌, [], length}
 use Rattle.sws_site.specs.declared.statuses.Status.TheVariants.{NotModified}
 use Rattle.sws_site.specs.declared.pages.Page.TheInside.{Inside}
-use Rattle.sws_site.specs.Limits.{max_bytes}
+use Rattle.sws_site.specs.Limits.{size_limit}
 use Rattle.sws_site.specs.Page.{PageState}
 use Rattle.sws_site.specs.BuiltResponses.{IsBuilt}
 use Rattle.sws_site.specs.Stored.{file_of, HasHeads}
@@ -16,4 +16,4 @@ pub record IsOfSite (page : Inside) : Type 0 where
   pub heads : HasHeads page.date page.file.now
   pub not_modified : IsBuilt NotModified page.date [] page.not_modified.now
   pub no_content : page.not_modified.now.body.items ≡ []
-  pub short : length page.file.now.response.body.items ≤ max_bytes
+  pub short : length page.file.now.response.body.items ≤ size_limit

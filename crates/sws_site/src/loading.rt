@@ -1,7 +1,7 @@
 //! Reading the files of a folder.
 ghost use Rattle.std.specs.Prelude.{◌≡◌, ◌<◌, ◌≤◌, IfOk, IfErr, OnErr, IfSome, IsTrue, Ok, Err, length, option_map};
 ghost use Rattle.sws_link.specs.Counts.{HasCause};
-ghost use Rattle.sws_site.specs.Limits.{max_bytes, IsWithinLimits};
+ghost use Rattle.sws_site.specs.Limits.{size_limit, IsWithinLimits};
 ghost use Rattle.sws_site.specs.Loading.{IsFresh, IsSameFolder};
 ghost use Rattle.sws_site.specs.Steps.{HasReadMore, HasReadAll, ReadFails, StepsTo, IsWithin, StepFails};
 ghost use Rattle.sws_site.specs.Stored.{file_of, files_of, HasHeads, AllHaveHeads, LoadsStored};
@@ -40,7 +40,7 @@ fn next_piece(filled: usize, spare: usize) -> usize
 /// Reads more of the current file, to behind the bytes that were read of it.
 fn read_more<F: Folder>(folder: &mut F, bytes: &mut Vec<u8>) -> Result<Got, AllocError>
     requires file { IsTrue (F.at_file folder.old) }
-    requires room { length bytes.old.items ≤ max_bytes }
+    requires room { length bytes.old.items ≤ size_limit }
     ensures reads { IfOk result (λ got.
         HasReadMore (F.tells folder.old) (F.tells folder.new) got bytes.old.items bytes.new.items) }
     ensures fails { OnErr result (F.tells folder.new ≡ F.tells folder.old) }
@@ -67,7 +67,7 @@ fn read_file<F: Folder>(
     room: usize,
 ) -> Result<Vec<u8>, SiteFault>
     requires file { IsTrue (F.at_file folder.old) }
-    requires room { room ≤ max_bytes }
+    requires room { room ≤ size_limit }
     ensures reads { IfOk result (λ bytes.
         HasReadAll (F.tells folder.old) (F.tells folder.new) bytes.items) }
     ensures fits { IfOk result (λ bytes. length bytes.items ≤ room) }
@@ -98,7 +98,7 @@ fn next_file<F: Folder>(
     number: u32,
     room: usize,
 ) -> Result<Option<StoredFile>, SiteFault>
-    requires { room ≤ max_bytes }
+    requires { room ≤ size_limit }
     ensures steps { IfOk result (λ file.
         StepsTo (F.tells folder.old) (F.tells folder.new) (option_map file_of file)) }
     ensures within { IfOk result (λ file.

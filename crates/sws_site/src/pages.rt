@@ -1,7 +1,7 @@
 //! One file of a site.
 ghost use Rattle.std.specs.Prelude.{◌≡◌, ◌≤◌, Option, length};
 ghost use Rattle.sws_site.specs.ContentTypes.{content_type};
-ghost use Rattle.sws_site.specs.Limits.{max_bytes};
+ghost use Rattle.sws_site.specs.Limits.{size_limit};
 ghost use Rattle.sws_site.specs.Site.{page_head};
 
 use crate::built_responses::BuiltResponse;
@@ -36,7 +36,7 @@ impl<'s> Page<'s> {
     /// The contents of the file, of at most 268,435,456 bytes.
     pub fn body(&self) -> &'s [u8]
         ensures contents { result.now ≡ self.now.file.1 }
-        ensures within { length result.now ≤ max_bytes }
+        ensures within { length result.now ≤ size_limit }
     {
         &self.file.response.body
     }

@@ -1,6 +1,6 @@
 //! The status of a response.
 ghost use Rattle.std.specs.Prelude.{◌≡◌};
-ghost use Rattle.sws_site.specs.Statuses.{code_of, plain_row, row_of, row_shown};
+ghost use Rattle.sws_site.specs.Statuses.{code_of, plain_row, row_of, row_value};
 
 /// The status of a response (RFC 9110, section 15; RFC 6585, section 5).
 #[derive(Clone, Copy, Debug, PartialEq, Eq)]
@@ -59,7 +59,7 @@ pub struct StatusRow {
 
 /// A status that has no line of its own, and that its content tells.
 fn plain(code: u16, text: &'static [u8]) -> StatusRow
-    ensures { row_shown result ≡ plain_row code text.now }
+    ensures { row_value result ≡ plain_row code text.now }
 {
     StatusRow {
         code,
@@ -75,7 +75,7 @@ fn plain(code: u16, text: &'static [u8]) -> StatusRow
 impl Status {
     /// The row of this status in the table of all.
     pub fn row(self) -> StatusRow
-        ensures { row_shown result ≡ row_of self }
+        ensures { row_value result ≡ row_of self }
     {
         match self {
             Status::Success => StatusRow {

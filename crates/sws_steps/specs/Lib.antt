@@ -1,7 +1,7 @@
 pub mod Protocol
 pub mod Speaking
 pub mod ConnCore
-pub mod Shown
+pub mod ConnCoreFields
 pub mod Step
 pub mod Sound
 pub mod Outcome

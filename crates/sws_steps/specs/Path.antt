@@ -151,18 +151,18 @@ module _ {Hall Answer : Type 0} (p : Protocol Hall Answer) where
   rest_by c (Some script) = Some (rest_of_path c script)
 
   -- the path of a connection over such a link, and the rest of it as the connection stands; none where the link doesn't tell
-  abbrev pub path_told : Hall → Option LinkTells → Option (List Handler)
-  path_told hall tells = path_by hall (answers_to_come tells)
+  abbrev pub known_path : Hall → Option LinkTells → Option (List Handler)
+  known_path hall tells = path_by hall (answers_to_come tells)
 
-  abbrev pub rest_told : {L : Type 0} → LinkWords L → ConnState Hall L → Option (List Handler)
-  rest_told x conn = rest_by conn.standing (answers_to_come (told_by_link x conn.link))
+  abbrev pub known_rest : {L : Type 0} → LinkWords L → ConnState Hall L → Option (List Handler)
+  known_rest x conn = rest_by conn.standing (answers_to_come (told_by_link x conn.link))
 
   -- a step takes its event off the rest of the path, unless memory runs out
   abbrev pub TakesEvent : {L : Type 0} → LinkWords L → ConnState Hall L
       → ConnState Hall L → Type 0
   TakesEvent x before after =
       UnlessMemory after.standing.end
-      (TakesOff (event_of before.standing) (rest_told x before) (rest_told x after))
+      (TakesOff (event_of before.standing) (known_rest x before) (known_rest x after))
 
   abbrev pub FollowsBy : Option Script → ConnCoreState Hall → ConnCoreState Hall → Option LinkTells
       → Type 0

@@ -46,12 +46,12 @@ module _ {Hall Answer : Type 0} (p : Protocol Hall Answer) where
       (end_of (c.closes || is_closed p later) input.stop)
 
   -- by the end, where it is known
-  abbrev pub heading_by : Option End → ConnCoreState Hall → Script → Outcome
-  heading_by (Some end) c script = record { bytes = []; end = end }
-  heading_by None c script = ahead c script.cut (input_to_come c script)
+  abbrev pub rest_outcome_by : Option End → ConnCoreState Hall → Script → Outcome
+  rest_outcome_by (Some end) c script = record { bytes = []; end = end }
+  rest_outcome_by None c script = ahead c script.cut (input_to_come c script)
 
   abbrev pub rest_outcome : ConnCoreState Hall → Script → Outcome
-  rest_outcome c script = heading_by c.end c script
+  rest_outcome c script = rest_outcome_by c.end c script
 
   -- with what was written it comes to this outcome
   abbrev pub HeadsByScript : Option Script → List ℕ → ConnCoreState Hall → Outcome → Type 0

@@ -162,5 +162,5 @@ module _ {Hall Answer : Type 0} (p : Protocol Hall Answer) where
     pub ready : IsReadyTo p c.standing.pending c.standing
     pub linked : IsLinked c.standing.pending c.link
     pub shut : IsShutAtEnd x c.standing.pending c.link
-    pub course : Progress p c.standing taken sent
+    pub progress : Progress p c.standing taken sent
     pub told : IsToldBy x c.standing c.link taken sent

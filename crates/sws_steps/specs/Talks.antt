@@ -41,12 +41,12 @@ abbrev pub opened_view : TalkView
 opened_view = record unopened_view { pending = next.Read }
 
 -- what a step answers that leaves this
-abbrev pub next_told : TalkView → Next
-next_told view = reported_by view.waiting view.pending
+abbrev pub reported_next : TalkView → Next
+reported_next view = reported_by view.waiting view.pending
 
 -- the end, which is told once the link is shut
-abbrev pub end_told : TalkView → Option End
-end_told view = end_at view.pending view.end
+abbrev pub reported_end : TalkView → Option End
+reported_end view = end_at view.pending view.end
 
 -- the event that is due after a step that answered this, if one is
 abbrev pub due_after : Next → Option Handler
@@ -61,7 +61,7 @@ due_after next.Nothing = None
 
 -- the event that does the pending step, if one is pending
 abbrev pub due : TalkView → Option Handler
-due view = due_after (next_told view)
+due view = due_after (reported_next view)
 
 -- ---- to open it
 
@@ -139,7 +139,7 @@ module _ {L : Type 0} (x : LinkWords L) (respond : List ℕ → List ℕ) (outco
     -- the calls that were made of it, whatever it tells
     pub exchange : ExchangesBy x first now view
     -- the outcome, once the link is shut
-    pub outcome_is : (end : End) → end_told view ≡ Some end
+    pub outcome_is : (end : End) → reported_end view ≡ Some end
         → ComesTo (option_map outcome (answers_to_come (x.tells first))) (x.tells now) end
 
 -- the link is there and was served

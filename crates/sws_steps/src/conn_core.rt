@@ -2,7 +2,7 @@
 ghost use Rattle.std.specs.Prelude.{◌≡◌, ◌≢◌, ◌<◌, ◌≤◌, ◌+◌, false, true, length};
 ghost use Rattle.sws_parts.specs.Parts.{front_of, after_sending};
 ghost use Rattle.sws_steps.specs.Protocol.{NotYet};
-ghost use Rattle.sws_steps.specs.Shown.{state_of};
+ghost use Rattle.sws_steps.specs.ConnCoreFields.{state_of};
 ghost use Rattle.sws_steps.specs.ConnCore.{is_sent, reported_step};
 ghost use Rattle.sws_steps.specs.Step.{wait_limit, written_limit, ReadsOnce, WritesOnce, ShutsOnce, not_ready, after_parse, after_look, after_part, after_wrote, ending_as};
 
@@ -39,149 +39,151 @@ pub struct ConnCore<S> {
     pub written: u64,
 }
 
-/// The connection ends, and is closed next.
-fn end_as<S: Speech>(talking: &mut ConnCore<S>, end: End)
-    ensures { state_of S.Speech talking.new ≡ ending_as (state_of S.Speech talking.old) end }
-{
-    talking.end = Some(end);
-    talking.pending = Next::Close;
-}
-
-/// The link was not ready once more.
-fn wait_again<S: Speech>(talking: &mut ConnCore<S>)
-    requires { talking.old.waits < wait_limit }
-    ensures { state_of S.Speech talking.new ≡ not_ready (state_of S.Speech talking.old) }
-{
-    talking.waits += 1;
-    if talking.waits >= MAX_WAITS {
-        talking.end = Some(End::Idle);
-        talking.pending = Next::Close;
-    }
-}
-
-/// Takes a piece of the input, or learns that no more comes.
-pub fn read_step<S: Speech, L: Link>(talking: &mut ConnCore<S>, link: &mut L)
-    requires read { talking.old.read < S.protocol.input_limit }
-    requires not_yet { S.protocol.cut (S.bytes_of talking.old.speech) ≡ NotYet }
-    requires waits { talking.old.waits < wait_limit }
-    requires not_shut { L.is_shut link.old ≡ false }
-    ensures { ReadsOnce S.protocol L.Link (state_of S.Speech talking.old)
-        (state_of S.Speech talking.new) link.old link.new }
-{
-    let most = (talking.speech.input_limit() - talking.read).min(MAX_READ) as usize;
-    match talking.speech.fill(link, most) {
-        LinkRead::Took(count) => {
-            talking.read += count as u64;
-            talking.waits = 0;
-            talking.pending = Next::Parse;
+impl<S: Speech> ConnCore<S> {
+    /// Takes a piece of the input, or learns that no more comes.
+    pub fn read_step<L: Link>(&mut self, link: &mut L)
+        requires read { self.old.read < S.protocol.input_limit }
+        requires not_yet { S.protocol.cut (S.bytes_of self.old.speech) ≡ NotYet }
+        requires waits { self.old.waits < wait_limit }
+        requires not_shut { L.is_shut link.old ≡ false }
+        ensures { ReadsOnce S.protocol L.Link (state_of S.Speech self.old)
+            (state_of S.Speech self.new) link.old link.new }
+    {
+        let most = (self.speech.input_limit() - self.read).min(MAX_READ) as usize;
+        match self.speech.fill(link, most) {
+            LinkRead::Took(count) => {
+                self.read += count as u64;
+                self.waits = 0;
+                self.pending = Next::Parse;
+            }
+            LinkRead::End => {
+                self.input_ended = true;
+                self.waits = 0;
+                self.pending = Next::Parse;
+            }
+            LinkRead::NotReady => self.wait_again(),
+            LinkRead::Failed => self.end_as(End::Fault),
         }
-        LinkRead::End => {
-            talking.input_ended = true;
-            talking.waits = 0;
-            talking.pending = Next::Parse;
+    }
+
+    /// Looks for a whole request.
+    pub fn parse_step(&mut self)
+        ensures { state_of S.Speech self.new
+            ≡ after_parse S.protocol (state_of S.Speech self.old)
+            (S.protocol.cut (S.bytes_of self.old.speech)) }
+    {
+        if self.speech.has_request() {
+            self.pending = Next::Look;
+        } else if self.input_ended || self.read >= self.speech.input_limit() {
+            self.end_as(End::Done);
+        } else {
+            self.pending = Next::Read;
         }
-        LinkRead::NotReady => wait_again(talking),
-        LinkRead::Failed => end_as(talking, End::Fault),
     }
-}
 
-/// Looks for a whole request.
-pub fn parse_step<S: Speech>(talking: &mut ConnCore<S>)
-    ensures { state_of S.Speech talking.new
-        ≡ after_parse S.protocol (state_of S.Speech talking.old)
-        (S.protocol.cut (S.bytes_of talking.old.speech)) }
-{
-    if talking.speech.has_request() {
-        talking.pending = Next::Look;
-    } else if talking.input_ended || talking.read >= talking.speech.input_limit() {
-        end_as(talking, End::Done);
-    } else {
-        talking.pending = Next::Read;
+    /// Answers the request at the front, which the search has found already.
+    pub fn look_step(&mut self)
+        requires answered { self.old.answered < S.protocol.answer_limit }
+        requires there { S.protocol.cut (S.bytes_of self.old.speech) ≢ NotYet }
+        ensures { state_of S.Speech self.new
+            ≡ after_look S.protocol (state_of S.Speech self.old)
+            (S.protocol.cut (S.bytes_of self.old.speech)) }
+    {
+        let most = self.speech.answer_limit();
+        let last = self.answered + 1 == most;
+        self.closes = self.speech.answer(last);
+        self.answered += 1;
+        self.pending = Next::Write;
+        self.go_on();
     }
-}
 
-/// Answers the request at the front, which the search has found already.
-pub fn look_step<S: Speech>(talking: &mut ConnCore<S>)
-    requires answered { talking.old.answered < S.protocol.answer_limit }
-    requires there { S.protocol.cut (S.bytes_of talking.old.speech) ≢ NotYet }
-    ensures { state_of S.Speech talking.new
-        ≡ after_look S.protocol (state_of S.Speech talking.old)
-        (S.protocol.cut (S.bytes_of talking.old.speech)) }
-{
-    let most = talking.speech.answer_limit();
-    let last = talking.answered + 1 == most;
-    talking.closes = talking.speech.answer(last);
-    talking.answered += 1;
-    talking.pending = Next::Write;
-    go_on(talking);
-}
-
-/// Offers the link what is next of the answer.
-pub fn write_step<S: Speech, L: Link>(talking: &mut ConnCore<S>, link: &mut L)
-    requires front { 0 < length (front_of (S.parts_of talking.old.speech)) }
-    requires waits { talking.old.waits < wait_limit }
-    requires written { talking.old.written + length (front_of (S.parts_of talking.old.speech))
-        < written_limit }
-    requires not_shut { L.is_shut link.old ≡ false }
-    ensures { WritesOnce L.Link (state_of S.Speech talking.old)
-        (state_of S.Speech talking.new) link.old link.new }
-{
-    match link.write(talking.speech.front()) {
-        LinkWrite::Wrote(count) => written(talking, count),
-        LinkWrite::NotReady => wait_again(talking),
-        LinkWrite::Failed => end_as(talking, End::Fault),
-        LinkWrite::Memory => end_as(talking, End::Memory),
+    /// Offers the link what is next of the answer.
+    pub fn write_step<L: Link>(&mut self, link: &mut L)
+        requires front { 0 < length (front_of (S.parts_of self.old.speech)) }
+        requires waits { self.old.waits < wait_limit }
+        requires written { self.old.written + length (front_of (S.parts_of self.old.speech))
+            < written_limit }
+        requires not_shut { L.is_shut link.old ≡ false }
+        ensures { WritesOnce L.Link (state_of S.Speech self.old)
+            (state_of S.Speech self.new) link.old link.new }
+    {
+        match link.write(self.speech.front()) {
+            LinkWrite::Wrote(count) => self.advance(count),
+            LinkWrite::NotReady => self.wait_again(),
+            LinkWrite::Failed => self.end_as(End::Fault),
+            LinkWrite::Memory => self.end_as(End::Memory),
+        }
     }
-}
 
-/// So many bytes of the front were written.
-fn written<S: Speech>(talking: &mut ConnCore<S>, count: usize)
-    requires fits { count ≤ length (front_of (S.parts_of talking.old.speech)) }
-    requires written { talking.old.written + length (front_of (S.parts_of talking.old.speech))
-        < written_limit }
-    ensures { state_of S.Speech talking.new
-        ≡ after_wrote (state_of S.Speech talking.old)
-        (after_sending count (S.parts_of talking.old.speech)) count }
-{
-    talking.speech.advance(count);
-    talking.written += count as u64;
-    talking.waits = 0;
-    go_on(talking);
-}
-
-/// Where nothing is left of the answer, the connection ends with it, or goes on behind it.
-fn go_on<S: Speech>(talking: &mut ConnCore<S>)
-    ensures { state_of S.Speech talking.new
-        ≡ after_part (is_sent (S.parts_of talking.old.speech)) talking.old.closes
-        (state_of S.Speech talking.old) }
-{
-    if talking.speech.left() != 0 {
-        return;
+    /// Ends the connection.
+    pub fn close_step<L: Link>(&mut self, link: &mut L)
+        requires { L.is_shut link.old ≡ false }
+        ensures { ShutsOnce L.Link (state_of S.Speech self.old)
+            (state_of S.Speech self.new) link.old link.new }
+    {
+        link.shut();
+        self.pending = Next::Nothing;
     }
-    if talking.closes {
-        talking.end = Some(End::Done);
-        talking.pending = Next::Close;
-    } else {
-        talking.pending = Next::Parse;
-    }
-}
 
-/// Ends the connection.
-pub fn close_step<S: Speech, L: Link>(talking: &mut ConnCore<S>, link: &mut L)
-    requires { L.is_shut link.old ≡ false }
-    ensures { ShutsOnce L.Link (state_of S.Speech talking.old)
-        (state_of S.Speech talking.new) link.old link.new }
-{
-    link.shut();
-    talking.pending = Next::Nothing;
-}
-
-/// What a step answers that leaves this.
-pub fn told<S: Speech>(talking: &ConnCore<S>) -> Next
-    ensures { result ≡ reported_step (state_of S.Speech talking.now) }
-{
-    if talking.end.is_none() && talking.waits > 0 {
-        return Next::Wait;
+    /// What a step answers that leaves this.
+    pub fn next_step(&self) -> Next
+        ensures { result ≡ reported_step (state_of S.Speech self.now) }
+    {
+        if self.end.is_none() && self.waits > 0 {
+            return Next::Wait;
+        }
+        self.pending
     }
-    talking.pending
+
+    /// The connection ends, and is closed next.
+    fn end_as(&mut self, end: End)
+        ensures { state_of S.Speech self.new ≡ ending_as (state_of S.Speech self.old) end }
+    {
+        self.end = Some(end);
+        self.pending = Next::Close;
+    }
+
+    /// The link was not ready once more.
+    fn wait_again(&mut self)
+        requires { self.old.waits < wait_limit }
+        ensures { state_of S.Speech self.new ≡ not_ready (state_of S.Speech self.old) }
+    {
+        self.waits += 1;
+        if self.waits >= MAX_WAITS {
+            self.end = Some(End::Idle);
+            self.pending = Next::Close;
+        }
+    }
+
+    /// So many bytes of the front were written.
+    fn advance(&mut self, count: usize)
+        requires fits { count ≤ length (front_of (S.parts_of self.old.speech)) }
+        requires written { self.old.written + length (front_of (S.parts_of self.old.speech))
+            < written_limit }
+        ensures { state_of S.Speech self.new
+            ≡ after_wrote (state_of S.Speech self.old)
+            (after_sending count (S.parts_of self.old.speech)) count }
+    {
+        self.speech.advance(count);
+        self.written += count as u64;
+        self.waits = 0;
+        self.go_on();
+    }
+
+    /// Where nothing is left of the answer, the connection ends with it, or goes on behind it.
+    fn go_on(&mut self)
+        ensures { state_of S.Speech self.new
+            ≡ after_part (is_sent (S.parts_of self.old.speech)) self.old.closes
+            (state_of S.Speech self.old) }
+    {
+        if self.speech.left() != 0 {
+            return;
+        }
+        if self.closes {
+            self.end = Some(End::Done);
+            self.pending = Next::Close;
+        } else {
+            self.pending = Next::Parse;
+        }
+    }
 }

@@ -6,10 +6,10 @@ use Rattle.sws_text.specs.declared.sign.Sign.{Sign}
 use Rattle.sws_text.specs.declared.sign.Sign.TheVariants.{Plain, LineEnd}
 use Rattle.sws_text.specs.Signs.{IsPlain, spelling_of}
 use Rattle.sws_text.specs.Texts.{sign_of, sign_before, text_of}
-use Rattle.sws_text.specs.Shown.{still_shown, margin}
+use Rattle.sws_text.specs.Shown.{remaining_lines, margin}
 use Rattle.sws_text.proofs.SignLemmas.{found_at, found_none}
 use Rattle.sws_text.proofs.LengthLemmas.{sign_of-plain}
-use Rattle.sws_text.proofs.ShownLemmas.{text_of-signs, sign_before-step, still_shown-sign, still_shown-margin}
+use Rattle.sws_text.proofs.ShownLemmas.{text_of-signs, sign_before-step, remaining_lines-sign, remaining_lines-margin}
 
 sign_before-plain : (byte : ℕ) (bytes : List ℕ) → IsPlain byte → sign_before (byte ∷ bytes) ≡ found_at (Plain byte) bytes
 sign_before-plain byte [] is = ap (λ s. found_at s []) (sign_of-plain byte is)
@@ -27,20 +27,20 @@ text_of-plain (byte ∷ plain) rest all =
     ∙ ap (λ t. byte ∷ t) (text_of-plain plain rest all.1)
 
 -- in a line that has begun it is shown as it is
-still_shown-plain : (plain rest : List ℕ) → AllByRecursion IsPlain plain → still_shown true (plain ++ rest) ≡ plain ++ still_shown true rest
-still_shown-plain [] rest all = refl
-still_shown-plain (byte ∷ plain) rest all =
-    still_shown-sign true (byte ∷ (plain ++ rest)) (Plain byte) (plain ++ rest) (sign_before-plain byte (plain ++ rest) all.0)
-    ∙ ap (λ t. byte ∷ t) (still_shown-plain plain rest all.1)
+remaining_lines-plain : (plain rest : List ℕ) → AllByRecursion IsPlain plain → remaining_lines true (plain ++ rest) ≡ plain ++ remaining_lines true rest
+remaining_lines-plain [] rest all = refl
+remaining_lines-plain (byte ∷ plain) rest all =
+    remaining_lines-sign true (byte ∷ (plain ++ rest)) (Plain byte) (plain ++ rest) (sign_before-plain byte (plain ++ rest) all.0)
+    ∙ ap (λ t. byte ∷ t) (remaining_lines-plain plain rest all.1)
 
 -- a front that stands for itself, in a line that it begins or goes on
-pub still_shown-front : (in_line : Bool) (bytes : List ℕ) (count : ℕ) → count ≤ length bytes → 0 < count → AllByRecursion IsPlain (take count bytes)
-    → still_shown in_line bytes ≡ (margin in_line ++ take count bytes) ++ still_shown true (drop count bytes)
-still_shown-front in_line bytes count there some all =
-    still_shown-margin in_line bytes (omega arith)
-    ∙ ap (λ b. margin in_line ++ still_shown true b) (sym (take-append-drop count bytes))
-    ∙ ap (λ t. margin in_line ++ t) (still_shown-plain (take count bytes) (drop count bytes) all)
-    ∙ sym (append_assoc (margin in_line) (take count bytes) (still_shown true (drop count bytes)))
+pub remaining_lines-front : (in_line : Bool) (bytes : List ℕ) (count : ℕ) → count ≤ length bytes → 0 < count → AllByRecursion IsPlain (take count bytes)
+    → remaining_lines in_line bytes ≡ (margin in_line ++ take count bytes) ++ remaining_lines true (drop count bytes)
+remaining_lines-front in_line bytes count there some all =
+    remaining_lines-margin in_line bytes (omega arith)
+    ∙ ap (λ b. margin in_line ++ remaining_lines true b) (sym (take-append-drop count bytes))
+    ∙ ap (λ t. margin in_line ++ t) (remaining_lines-plain (take count bytes) (drop count bytes) all)
+    ∙ sym (append_assoc (margin in_line) (take count bytes) (remaining_lines true (drop count bytes)))
 
 -- the text of bytes behind such a front
 text_of-front : (bytes : List ℕ) (count : ℕ) → AllByRecursion IsPlain (take count bytes) → text_of bytes ≡ take count bytes ++ text_of (drop count bytes)
@@ -50,7 +50,7 @@ text_of-front bytes count all = ap text_of (sym (take-append-drop count bytes)) 
 pub behind : (bytes : List ℕ) (count : ℕ) → take (length bytes - count) (drop count bytes) ≡ drop count bytes
 behind bytes count = take_all (length bytes - count) (drop count bytes) (omega (arith, length-drop count bytes))
 
--- such a front was written
+-- a front that stands for itself was written
 pub front_written : (rest : List ℕ) (count : ℕ) (text new whole : List ℕ) → AllByRecursion IsPlain (take count rest) → new ≡ text ++ take count rest → text ++ text_of rest ≡ whole
     → new ++ text_of (take (length rest - count) (drop count rest)) ≡ whole
 front_written rest count text new whole all pushed before =
@@ -60,7 +60,7 @@ front_written rest count text new whole all pushed before =
     ∙ ap (λ t. text ++ t) (sym (text_of-front rest count all))
     ∙ before
 
--- and a sign behind it
+-- a sign was written behind what was written before it
 pub sign_written : (bytes : List ℕ) (sign : Sign) (after text new whole : List ℕ) → sign_before bytes ≡ found_at sign after → new ≡ text ++ spelling_of sign → text ++ text_of bytes ≡ whole
     → new ++ text_of after ≡ whole
 sign_written bytes sign after text new whole found pushed before =
@@ -69,7 +69,7 @@ sign_written bytes sign after text new whole found pushed before =
     ∙ ap (λ t. text ++ t) (sym (text_of-signs bytes sign after (sign_before-step bytes sign after found).signs))
     ∙ before
 
--- or nothing, where no sign is left
+-- where no sign is left, all was written
 pub none_written : (bytes text whole : List ℕ) → sign_before bytes ≡ None → text ++ text_of bytes ≡ whole → text ≡ whole
 unfolding text_of
 none_written [] text whole none before = sym (append-nil text) ∙ before

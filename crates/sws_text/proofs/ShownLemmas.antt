@@ -7,7 +7,7 @@ use Rattle.sws_text.specs.declared.sign.Sign.{Sign}
 use Rattle.sws_text.specs.declared.sign.Sign.TheVariants.{Plain, LineEnd, Feed, Return, Tab, Backslash, Tilde, Hex}
 use Rattle.sws_text.specs.Signs.{spelling_of}
 use Rattle.sws_text.specs.Texts.{sign_of, signs_of, sign_before, text_of}
-use Rattle.sws_text.specs.Shown.{pieces_of, shown_line, rest_of_line, still_shown, ends_line, margin, shown_sign}
+use Rattle.sws_text.specs.Shown.{pieces_of, shown_line, rest_of_line, remaining_lines, ends_line, margin, shown_sign}
 use Rattle.sws_text.proofs.SignLemmas.{found_at, found_same, found_none}
 
 -- ---- pieces
@@ -39,7 +39,7 @@ begins byte bytes = by_test (eqb byte 10) refl
 pub record IsStep (bytes : List ℕ) (sign : Sign) (rest : List ℕ) : Type 0 where
   pub signs : signs_of bytes ≡ sign ∷ signs_of rest
   pub shorter : length rest < length bytes
-  pub open_line : still_shown true bytes ≡ shown_sign true sign ++ still_shown (not (ends_line sign)) rest
+  pub open_line : remaining_lines true bytes ≡ shown_sign true sign ++ remaining_lines (not (ends_line sign)) rest
 
 -- only LF ends a line by a sign of its own
 ends_line-sign_of : (byte : ℕ) → false ≡ eqb byte 10 → ends_line (sign_of byte) ≡ false
@@ -57,9 +57,9 @@ ends_line-sign_of byte e = by_tests (eqb byte 10) (eqb byte 13) (eqb byte 9) (eq
 
 -- a sign that ends no line
 goes_on : (sign : Sign) (rest : List ℕ) → ends_line sign ≡ false
-    → shown_sign true sign ++ still_shown (not (ends_line sign)) rest ≡ spelling_of sign ++ rest_of_line (pieces_of rest)
+    → shown_sign true sign ++ remaining_lines (not (ends_line sign)) rest ≡ spelling_of sign ++ rest_of_line (pieces_of rest)
 goes_on sign rest e =
-    ap (λ t. (spelling_of sign ++ cond t (10 ∷ []) []) ++ still_shown (not t) rest) e
+    ap (λ t. (spelling_of sign ++ cond t (10 ∷ []) []) ++ remaining_lines (not t) rest) e
     ∙ ap (λ s. s ++ rest_of_line (pieces_of rest)) (append-nil (spelling_of sign))
 
 text_of-one : (byte : ℕ) → text_of (byte ∷ []) ≡ spelling_of (sign_of byte)
@@ -71,16 +71,16 @@ unfolding text_of
 text_of-signs bytes sign rest e = ap (flat_map spelling_of) e
 
 -- an LF is a line's end, whatever follows
-open_feed : (byte : ℕ) (rest : List ℕ) → true ≡ eqb byte 10 → still_shown true (byte ∷ rest) ≡ shown_sign true (sign_of byte) ++ still_shown (not (ends_line (sign_of byte))) rest
+open_feed : (byte : ℕ) (rest : List ℕ) → true ≡ eqb byte 10 → remaining_lines true (byte ∷ rest) ≡ shown_sign true (sign_of byte) ++ remaining_lines (not (ends_line (sign_of byte))) rest
 unfolding text_of
 open_feed byte rest e =
-    subst (λ b. still_shown true (b ∷ rest) ≡ shown_sign true (sign_of b) ++ still_shown (not (ends_line (sign_of b))) rest) (sym (true-eqb byte 10 e)) refl
+    subst (λ b. remaining_lines true (b ∷ rest) ≡ shown_sign true (sign_of b) ++ remaining_lines (not (ends_line (sign_of b))) rest) (sym (true-eqb byte 10 e)) refl
 
 -- the last byte
 step_last : (byte : ℕ) → IsStep (byte ∷ []) (sign_of byte) []
 step_last byte = record { signs = refl; shorter = omega arith; open_line = by_test (eqb byte 10) refl }
   where
-    by_test : (t : Bool) → t ≡ eqb byte 10 → still_shown true (byte ∷ []) ≡ shown_sign true (sign_of byte) ++ still_shown (not (ends_line (sign_of byte))) []
+    by_test : (t : Bool) → t ≡ eqb byte 10 → remaining_lines true (byte ∷ []) ≡ shown_sign true (sign_of byte) ++ remaining_lines (not (ends_line (sign_of byte))) []
     by_test true e = open_feed byte [] e
     by_test false e =
         ap rest_of_line (pieces_of-test byte [] false e) ∙ ap (λ t. t ++ 10 ∷ []) (text_of-one byte)
@@ -94,7 +94,7 @@ step_alone : (a b : ℕ) (bytes : List ℕ) → false ≡ (eqb a 13 && eqb b 10)
 step_alone a b bytes alone = record { signs = signs_of-alone a b bytes alone; shorter = omega arith; open_line = by_test (eqb a 10) refl }
   where
     by_test : (t : Bool) → t ≡ eqb a 10
-        → still_shown true (a ∷ b ∷ bytes) ≡ shown_sign true (sign_of a) ++ still_shown (not (ends_line (sign_of a))) (b ∷ bytes)
+        → remaining_lines true (a ∷ b ∷ bytes) ≡ shown_sign true (sign_of a) ++ remaining_lines (not (ends_line (sign_of a))) (b ∷ bytes)
     by_test true e = open_feed a (b ∷ bytes) e
     by_test false e =
         let front = begins b bytes in
@@ -134,12 +134,12 @@ sign_before-step (a ∷ b ∷ bytes) sign rest e = by_tests (eqb a 13) (eqb b 10
     by_tests true false is_a is_b e = moved (a ∷ b ∷ bytes) (sign_of a) sign (b ∷ bytes) rest (step_alone a b bytes (alone true false is_a is_b refl)) e
     by_tests false t is_a is_b e = moved (a ∷ b ∷ bytes) (sign_of a) sign (b ∷ bytes) rest (step_alone a b bytes (alone false t is_a is_b refl)) e
 
--- ---- what is still shown
+-- ---- the lines that remain
 
 -- bytes of which no line has begun
-still_shown-begin : (bytes : List ℕ) → 0 < length bytes → still_shown false bytes ≡ codes "| " ++ still_shown true bytes
-still_shown-begin [] some = absurd (omega arith)
-still_shown-begin (byte ∷ bytes) some =
+remaining_lines-begin : (bytes : List ℕ) → 0 < length bytes → remaining_lines false bytes ≡ codes "| " ++ remaining_lines true bytes
+remaining_lines-begin [] some = absurd (omega arith)
+remaining_lines-begin (byte ∷ bytes) some =
     let front = begins byte bytes in
     let behind : List ℕ = flat_map shown_line front.pieces in
     ap (flat_map shown_line) front.is
@@ -147,15 +147,15 @@ still_shown-begin (byte ∷ bytes) some =
     ∙ ap (λ ps. 124 ∷ 32 ∷ rest_of_line ps) (sym front.is)
 
 -- the beginning of the line, where it has not begun
-pub still_shown-margin : (in_line : Bool) (bytes : List ℕ) → 0 < length bytes → still_shown in_line bytes ≡ margin in_line ++ still_shown true bytes
-still_shown-margin true bytes some = refl
-still_shown-margin false bytes some = still_shown-begin bytes some
+pub remaining_lines-margin : (in_line : Bool) (bytes : List ℕ) → 0 < length bytes → remaining_lines in_line bytes ≡ margin in_line ++ remaining_lines true bytes
+remaining_lines-margin true bytes some = refl
+remaining_lines-margin false bytes some = remaining_lines-begin bytes some
 
 -- the first sign, and what is shown behind it
-pub still_shown-sign : (in_line : Bool) (bytes : List ℕ) (sign : Sign) (rest : List ℕ) → sign_before bytes ≡ found_at sign rest
-    → still_shown in_line bytes ≡ shown_sign in_line sign ++ still_shown (not (ends_line sign)) rest
-still_shown-sign true bytes sign rest e = (sign_before-step bytes sign rest e).open_line
-still_shown-sign false bytes sign rest e =
+pub remaining_lines-sign : (in_line : Bool) (bytes : List ℕ) (sign : Sign) (rest : List ℕ) → sign_before bytes ≡ found_at sign rest
+    → remaining_lines in_line bytes ≡ shown_sign in_line sign ++ remaining_lines (not (ends_line sign)) rest
+remaining_lines-sign true bytes sign rest e = (sign_before-step bytes sign rest e).open_line
+remaining_lines-sign false bytes sign rest e =
     let step = sign_before-step bytes sign rest e in
     let some : 0 < length bytes = let shorter = step.shorter in omega arith in
-    still_shown-begin bytes some ∙ ap (λ t. 124 ∷ 32 ∷ t) step.open_line
+    remaining_lines-begin bytes some ∙ ap (λ t. 124 ∷ 32 ∷ t) step.open_line

@@ -17,8 +17,8 @@ abbrev pub shown_line : List ℕ → List ℕ
 shown_line piece = codes "| " ++ text_of piece ++ 10 ∷ []
 
 -- the lines that show bytes: one ends behind each LF that is shown, and one behind the last byte
-abbrev pub shown : List ℕ → List ℕ
-shown bytes = flat_map shown_line (pieces_of bytes)
+abbrev pub shown_lines : List ℕ → List ℕ
+shown_lines bytes = flat_map shown_line (pieces_of bytes)
 
 -- ---- the lines piece by piece
 
@@ -28,9 +28,9 @@ rest_of_line [] = 10 ∷ []
 rest_of_line (piece ∷ pieces) = text_of piece ++ 10 ∷ flat_map shown_line pieces
 
 -- what is still to be written where these bytes are left, in a line that has begun or behind one
-abbrev pub still_shown : Bool → List ℕ → List ℕ
-still_shown true bytes = rest_of_line (pieces_of bytes)
-still_shown false bytes = shown bytes
+abbrev pub remaining_lines : Bool → List ℕ → List ℕ
+remaining_lines true bytes = rest_of_line (pieces_of bytes)
+remaining_lines false bytes = shown_lines bytes
 
 -- the bytes of the sign end with LF
 abbrev pub ends_line : Sign → Bool

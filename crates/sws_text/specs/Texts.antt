@@ -12,7 +12,7 @@ pub record StandsFor (text bytes : List ℕ) : Type 0 where
   pub text_is : text ≡ flat_map spelling_of signs
   pub bytes_are : bytes ≡ flat_map bytes_of signs
 
--- it stands for no bytes
+-- the text stands for no bytes
 abbrev pub IsNoText : List ℕ → Type 0
 IsNoText text = (bytes : List ℕ) → StandsFor text bytes → ⊥
 

@@ -3,7 +3,7 @@
 //! A text is made of signs. Most bytes that can be seen stand for themselves; `~` stands for CR LF, and what begins
 //! with a backslash for one byte. Some bytes have several spellings: [`push_text`] writes the one that is looked for
 //! from the left, which is the shortest, and [`read_text`] reads all of them. [`ShownLines`] are the lines of a transcript,
-//! in which the text of bytes is broken behind each LF.
+//! in which the text of bytes is broken behind each LF. [`read_decimal`] reads the numbers that stand beside texts.
 //!
 //! ```text
 //! let mut text = Vec::new(alloc);
@@ -12,6 +12,7 @@
 #![tactic(auto)]
 
 pub mod laws;
+mod number;
 mod plain;
 mod reading;
 mod showing;
@@ -20,6 +21,7 @@ mod sign;
 mod tests;
 mod writing;
 
+pub use number::read_decimal;
 pub use reading::read_text;
 pub use showing::ShownLines;
 pub use sign::Sign;

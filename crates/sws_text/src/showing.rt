@@ -2,7 +2,7 @@
 ghost use Rattle.std.specs.Prelude.{◌≡◌, ◌≤◌, ◌<◌, ◌+◌, ◌++◌, [], OnOk, IfOk, vec_len};
 ghost use Rattle.std.specs.Bool.{OnTrue, OnFalse};
 ghost use Rattle.sws_text.specs.Signs.{IsSign};
-ghost use Rattle.sws_text.specs.Shown.{shown, margin, shown_sign};
+ghost use Rattle.sws_text.specs.Shown.{shown_lines, margin, shown_sign};
 
 use crate::Sign;
 use crate::plain::plain_front;
@@ -27,17 +27,17 @@ pub struct ShownLines<'b> {
 
 impl<'b> Model for ShownLines<'b> {
     ghost use Rattle.std.specs.Prelude.{List, ℕ};
-    ghost use Rattle.sws_text.specs.Shown.{still_shown};
+    ghost use Rattle.sws_text.specs.Shown.{remaining_lines};
 
     ghost Value = { List ℕ };
 
-    ghost view = { λ lines. still_shown lines.in_line lines.rest.now };
+    ghost view = { λ lines. remaining_lines lines.in_line lines.rest.now };
 }
 
 impl<'b> ShownLines<'b> {
     /// All the lines that show these bytes.
     pub fn new(bytes: &'b [u8]) -> ShownLines<'b>
-        ensures { result ≡ shown bytes.now }
+        ensures { result ≡ shown_lines bytes.now }
     {
         ShownLines {
             rest: bytes,

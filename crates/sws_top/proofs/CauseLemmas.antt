@@ -38,7 +38,7 @@ use Rattle.sws_top.specs.declared.outcomes.Outcome.{Outcome}
 use Rattle.sws_top.specs.Answered.{AnswersInput}
 use Rattle.sws_top.specs.Causes.{TellsInput, HasLost, HasCauses, IsSound, NothingFailed, IsDone}
 use Rattle.sws_top.specs.Checked.{IsServerSetup, TellsDrainedRun, report_text}
-use Rattle.sws_top.specs.Faults.{refusal_of, ended_with, EndsAnswering}
+use Rattle.sws_top.specs.Faults.{refusal_of, fault_of_run, EndsAnswering}
 use Rattle.sws_top.specs.Hands.{Hands}
 use Rattle.sws_top.specs.Ran.{IsUntouched, Ran, RanAs}
 use Rattle.sws_top.specs.RanAnswer.{RanAnswer}
@@ -93,7 +93,7 @@ module _ {R : Type 0} (r : SourceWords R) (schedule : Bool) (cores : ℕ) (befor
   input_reads (Apart conn) lacks = absurd lacks.why
 
 -- the causes of a text's end
-text_ends : {T : Type 0} (answer : Result T RunFault) (fault : Option TopFault) → fault ≡ ended_with answer
+text_ends : {T : Type 0} (answer : Result T RunFault) (fault : Option TopFault) → fault ≡ fault_of_run answer
     → (fault ≢ Some ReadFault) × ((fault ≡ Some WriteFault → answer ≡ Err run_fault.Write) × (answer ≡ Err run_fault.Write → fault ≡ Some WriteFault))
 text_ends (Ok value) fault is = (λ e. cc, (λ e. cc, λ e. cc))
 text_ends (Err run_fault.Write) fault is = (λ e. cc, (λ e. refl, λ e. is))
@@ -160,7 +160,7 @@ answer_kind (Some (NotLegal line)) ends = absurd ends
 answer_kind (Some (NotDrained colour)) ends = absurd ends
 answer_kind (Some (Apart conn)) ends = absurd ends
 
-text_kind : {T : Type 0} (answer : Result T RunFault) (fault : Option TopFault) → fault ≡ ended_with answer → NotTheWorlds fault
+text_kind : {T : Type 0} (answer : Result T RunFault) (fault : Option TopFault) → fault ≡ fault_of_run answer → NotTheWorlds fault
 text_kind (Ok value) fault is = record { unfailed = λ e. cc; unlost = λ conn e. cc }
 text_kind (Err run_fault.Write) fault is = record { unfailed = λ e. cc; unlost = λ conn e. cc }
 text_kind (Err run_fault.Memory) fault is = record { unfailed = λ e. cc; unlost = λ conn e. cc }
@@ -365,7 +365,7 @@ module _ {F R W L O T G : Type 0} (f : FolderWords F) (r : SourceWords R) (x : W
             → (fault ≡ None) ⊎ ((fault ≡ Some Memory) ⊎ ((conn : ℕ) × (fault ≡ Some (Apart conn)) × HasLost outcome conn))
         text_done fault writes unfailed = by_answer writes.answer writes.ended writes.cause.rose
           where
-            by_answer : {T : Type 0} (answer : Result T RunFault) → fault ≡ ended_with answer → (answer ≡ Err run_fault.Write → Rose (o.faults before.out) (o.faults now.out))
+            by_answer : {T : Type 0} (answer : Result T RunFault) → fault ≡ fault_of_run answer → (answer ≡ Err run_fault.Write → Rose (o.faults before.out) (o.faults now.out))
                 → (fault ≡ None) ⊎ ((fault ≡ Some Memory) ⊎ ((conn : ℕ) × (fault ≡ Some (Apart conn)) × HasLost outcome conn))
             by_answer (Ok value) ended rose = inl ended
             by_answer (Err run_fault.Write) ended rose = absurd (unfailed (rose refl))
@@ -475,7 +475,7 @@ module _ {F R W L O T G : Type 0} (f : FolderWords F) (r : SourceWords R) (x : W
   input_done schedule cores (NotDrained colour) is lacks tells nothing = absurd lacks
   input_done schedule cores (Apart conn) is lacks tells nothing = absurd lacks
 
-  text_done : {T : Type 0} (answer : Result T RunFault) → outcome.fault ≡ ended_with answer → (answer ≡ Err run_fault.Write → Rose (o.faults before.out) (o.faults now.out))
+  text_done : {T : Type 0} (answer : Result T RunFault) → outcome.fault ≡ fault_of_run answer → (answer ≡ Err run_fault.Write → Rose (o.faults before.out) (o.faults now.out))
       → Undisturbed → AllDone
   text_done (Ok value) ended rose nothing = inl ended
   text_done (Err run_fault.Write) ended rose nothing = absurd (nothing.out (rose refl))

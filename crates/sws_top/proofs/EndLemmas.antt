@@ -11,8 +11,8 @@ use Rattle.sws_conn.specs.Step.{wait_limit}
 use Rattle.sws_conn.specs.Serving.{RoseBy, Serves, IsAnswered}
 use Rattle.sws_top.specs.declared.faults.TopFault.{TopFault}
 use Rattle.sws_top.specs.declared.faults.TopFault.TheVariants.{ReadFault, WriteFault, Memory}
-use Rattle.sws_top.specs.Faults.{ended_by}
-use Rattle.sws_top.specs.Pipes.{IsWrittenBehind, GoesOn, pipe_tells}
+use Rattle.sws_top.specs.Faults.{fault_at_end}
+use Rattle.sws_top.specs.Duplex.{IsWrittenBehind, GoesOn, duplex_tells}
 use Rattle.sws_top.specs.Answered.{AnswersFrom}
 use Rattle.sws_top.proofs.AnswerLemmas.{answered_by}
 
@@ -51,7 +51,7 @@ module _ (Since : Option Way → Type 0) (Answers : Type 0) where
 
     -- the counts, by the fault with which the run ends
     pub causes : (end : End) → KeptAs Since Answers end
-        → HasCause source source_now (ended_by end fault ≡ Some ReadFault) × HasCause sink sink_now (ended_by end fault ≡ Some WriteFault)
+        → HasCause source source_now (fault_at_end end fault ≡ Some ReadFault) × HasCause sink sink_now (fault_at_end end fault ≡ Some WriteFault)
     causes ending.Done kept = neither (says None kept) None (λ f. cc) (λ f. cc)
     causes ending.Idle kept = neither (says None kept) None (λ f. cc) (λ f. cc)
     causes ending.Fault (inl read) =
@@ -67,7 +67,7 @@ module _ (Since : Option Way → Type 0) (Answers : Type 0) where
     causes ending.Memory kept = neither (says None kept) (Some Memory) (λ f. cc) (λ f. cc)
 
     -- a fault of reading is the source's, and all that was taken has been answered
-    pub read_kept : (end : End) → KeptAs Since Answers end → ended_by end fault ≡ Some ReadFault → Answers
+    pub read_kept : (end : End) → KeptAs Since Answers end → fault_at_end end fault ≡ Some ReadFault → Answers
     read_kept ending.Done kept is = cc
     read_kept ending.Idle kept is = cc
     read_kept ending.Fault (inl read) is = read.1
@@ -78,17 +78,17 @@ module _ (Since : Option Way → Type 0) (Answers : Type 0) where
 pub answered_over : (site : SiteState) (input left before written whole_first first_first whole first : Option (List ℕ)) (end : End) (fault ended : Option TopFault)
     → whole_first ≡ input → first_first ≡ before → whole ≡ input → first ≡ before
     → (end ≡ ending.Idle → ⊥) → (end ≡ ending.Fault → IsSome fault) → IsWrittenBehind first written
-    → Serves site (pipe_tells whole_first input first_first before) (pipe_tells whole left first written) end
-    → (ended_by end fault ≡ Some ReadFault → IsAnswered site (pipe_tells whole left first written))
-    → ended ≡ ended_by end fault → AnswersFrom site input left before written ended
+    → Serves site (duplex_tells whole_first input first_first before) (duplex_tells whole left first written) end
+    → (fault_at_end end fault ≡ Some ReadFault → IsAnswered site (duplex_tells whole left first written))
+    → ended ≡ fault_at_end end fault → AnswersFrom site input left before written ended
 answered_over site input left before written whole_first first_first whole first end fault ended e f g h ready failed behind serves read is =
     subst (AnswersFrom site input left before written) (sym is)
     (answered_by site input left before written end fault ready failed (subst (λ b. IsWrittenBehind b written) h behind)
-    (subst (λ b. Serves site (pipe_tells input input before before) (pipe_tells input left b written) end) h
-    (subst (λ w. Serves site (pipe_tells input input before before) (pipe_tells w left first written) end) g
-    (subst (λ b. Serves site (pipe_tells input input b before) (pipe_tells whole left first written) end) f
-    (subst (λ w. Serves site (pipe_tells w input first_first before) (pipe_tells whole left first written) end) e serves))))
-    (λ faulty. subst (λ b. IsAnswered site (pipe_tells input left b written)) h (subst (λ w. IsAnswered site (pipe_tells w left first written)) g (read faulty))))
+    (subst (λ b. Serves site (duplex_tells input input before before) (duplex_tells input left b written) end) h
+    (subst (λ w. Serves site (duplex_tells input input before before) (duplex_tells w left first written) end) g
+    (subst (λ b. Serves site (duplex_tells input input b before) (duplex_tells whole left first written) end) f
+    (subst (λ w. Serves site (duplex_tells w input first_first before) (duplex_tells whole left first written) end) e serves))))
+    (λ faulty. subst (λ b. IsAnswered site (duplex_tells input left b written)) h (subst (λ w. IsAnswered site (duplex_tells w left first written)) g (read faulty))))
 
 -- the same run by other names
 pub answers_as : (site : SiteState) (input before left left_now written written_now : Option (List ℕ)) (fault fault_now : Option TopFault)

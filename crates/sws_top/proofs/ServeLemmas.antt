@@ -29,7 +29,7 @@ use Rattle.sws_replay.specs.declared.fault.RunFault.TheVariants.{Write}
 use Rattle.sws_report.specs.Summary.{summary}
 use Rattle.sws_site.specs.Site.{SiteState}
 use Rattle.sws_top.specs.declared.outcomes.Outcome.{Outcome}
-use Rattle.sws_top.specs.Faults.{put_fault_of, ended_with}
+use Rattle.sws_top.specs.Faults.{put_fault_of, fault_of_run}
 use Rattle.sws_top.specs.RanServe.{ends_of, summary_of, CanSumUp, EndsBy, HasServed}
 use Rattle.sws_top.specs.Texts.{WritesText}
 
@@ -174,7 +174,7 @@ text_written o out now answer bytes puts cause = record {
   cause = HasCause-as (o.faults out) (o.faults out) (o.faults now) (answer ≡ put.Failed) (result_of answer ≡ Err Write) refl cause (λ e. ap result_of e) (back answer);
 }
   where
-    ended_is : (answer : Put) → put_fault_of answer ≡ ended_with (result_of answer)
+    ended_is : (answer : Put) → put_fault_of answer ≡ fault_of_run (result_of answer)
     ended_is put.Done = refl
     ended_is put.Failed = refl
     ended_is put.Memory = refl

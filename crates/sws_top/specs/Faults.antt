@@ -63,11 +63,11 @@ script_fault_of (script_fault.TooMany line) = TooMany line
 script_fault_of script_fault.Memory = Memory
 
 -- how a run of `answer` ends, by the end of its connection and the fault of the one of source and sink that failed
-abbrev pub ended_by : End → Option TopFault → Option TopFault
-ended_by Done fault = None
-ended_by Idle fault = None
-ended_by Fault fault = fault
-ended_by EndMemory fault = Some Memory
+abbrev pub fault_at_end : End → Option TopFault → Option TopFault
+fault_at_end Done fault = None
+fault_at_end Idle fault = None
+fault_at_end Fault fault = fault
+fault_at_end EndMemory fault = Some Memory
 
 -- how a run ends whose whole output was handed to the sink
 abbrev pub put_fault_of : Put → Option TopFault
@@ -81,9 +81,9 @@ run_fault_of run_fault.Write = WriteFault
 run_fault_of run_fault.Memory = Memory
 
 -- the fault of a run that was written, or was not
-abbrev pub ended_with : {T : Type 0} → Result T RunFault → Option TopFault
-ended_with (Ok value) = None
-ended_with (Err fault) = Some (run_fault_of fault)
+abbrev pub fault_of_run : {T : Type 0} → Result T RunFault → Option TopFault
+fault_of_run (Ok value) = None
+fault_of_run (Err fault) = Some (run_fault_of fault)
 
 -- how a run ends whose journal was not accepted
 abbrev pub check_fault_of : CheckFault → TopFault

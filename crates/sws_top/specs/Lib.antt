@@ -4,8 +4,8 @@ pub mod Faults
 pub mod Sites
 pub mod Scripts
 pub mod Texts
-pub mod Pipes
-pub mod PipeLinks
+pub mod Duplex
+pub mod DuplexLink
 pub mod Answered
 pub mod RanAnswer
 pub mod RanReplay

@@ -19,12 +19,14 @@ use Rattle.sws_top.specs.RanReplay.{RanReplay}
 use Rattle.sws_top.specs.RanServe.{IsBack, RanServe}
 
 -- nothing was touched
-pub record IsUntouched {F R O W L : Type 0} (before now : Hands F R O) (world : W) (outcome : Outcome W L) : Type 0 where
+pub record IsUntouched {F R O W L : Type 0} (before now : Hands F R O) (world : W)
+    (outcome : Outcome W L) : Type 0 where
   pub same : now ≡ before
   pub back : IsBack world outcome
 
 -- the words are no command line, or there was no memory to see that; nothing was touched
-pub record IsRefused {F R O W L : Type 0} (before now : Hands F R O) (world : W) (outcome : Outcome W L) : Type 0 where
+pub record IsRefused {F R O W L : Type 0} (before now : Hands F R O) (world : W)
+    (outcome : Outcome W L) : Type 0 where
   pub fault : (outcome.fault ≡ Some Usage) ⊎ (outcome.fault ≡ Some Memory)
   pub untouched : IsUntouched before now world outcome
 

@@ -23,7 +23,8 @@ WritesFound o out now fault (Err why) = (fault ≡ Some (check_fault_of why)) ×
 
 -- The source was read as a journal of the server with so many connections. What was found of its
 -- bytes is so of them and of no others, and was written.
-pub record RanCheck {R O : Type 0} (r : SourceWords R) (o : SinkWords O) (source source_now : R) (out out_now : O) (fault : Option TopFault) (connections : ℕ) (shape : Shape) : Type 0 where
+pub record RanCheck {R O : Type 0} (r : SourceWords R) (o : SinkWords O) (source source_now : R)
+    (out out_now : O) (fault : Option TopFault) (connections : ℕ) (shape : Shape) : Type 0 where
   pub setup : Setup
   pub of_server : IsServerSetup connections shape setup
   pub found : Result Report CheckFault

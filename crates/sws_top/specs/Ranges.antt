@@ -3,6 +3,7 @@ use Rattle.std.specs.Prelude.{ℕ, ◌≤◌, IfSome, Option}
 use Rattle.mely_history.specs.declared.shape.Shape.{Shape as RunShape}
 use Rattle.sws_site.specs.Site.{last_second}
 use Rattle.sws_words.specs.Orders.{Order, Shape, answer, replay, serve, bench, check}
+use Rattle.sws_engine.specs.Limits.{conn_limit}
 
 -- the number is in the range, whose ends belong to it
 abbrev pub IsBetween : ℕ → ℕ → ℕ → Type 0
@@ -39,6 +40,6 @@ abbrev pub IsInRange : Order → Type 0
 IsInRange (answer folder date) = IsDate date
 IsInRange (replay folder shape date journal schedule) = IsShape shape × IsDate date
 IsInRange (serve folder port connections shape date) = IsBetween 1 65535 port
-    × IsBetween 1 1024 connections × IsShape shape × IsDate date
-IsInRange (bench connections number shape) = IsBetween 1 1024 connections × IsShape shape
-IsInRange (check connections shape) = (connections ≤ 1024) × IsShape shape
+    × IsBetween 1 conn_limit connections × IsShape shape × IsDate date
+IsInRange (bench connections number shape) = IsBetween 1 conn_limit connections × IsShape shape
+IsInRange (check connections shape) = (connections ≤ conn_limit) × IsShape shape

@@ -2,7 +2,8 @@
 use Rattle.std.specs.Prelude.{◌≡◌, ◌≤◌, ◌<◌, ◌++◌, ◌⊎◌, ℕ, Bool, List, [], length, Option, Some, None, Result, Ok, Err}
 use Rattle.sws_link.specs.Counts.{Rose, IsLater, HasCause}
 use Rattle.sws_link.specs.declared.Source.{Ghosts as SourceWords}
-use Rattle.sws_script.specs.Grammar.{Spells, IsCause, byte_limit, conn_limit}
+use Rattle.sws_script.specs.Grammar.{Spells, IsCause}
+use Rattle.sws_script.specs.Limits.{byte_limit, conn_limit}
 use Rattle.sws_script.specs.Inputs.{IsInput}
 use Rattle.sws_script.specs.declared.fault.ScriptFault.TheVariants as script_fault
 use Rattle.sws_script.specs.declared.input.Input.{Input}
@@ -15,14 +16,16 @@ IsReadOf read None now = now ≡ None
 IsReadOf read (Some text) now = (rest : List ℕ) × (now ≡ Some rest) × (text ≡ read ++ rest)
 
 -- These bytes were read: all that there were, or more than a script may have.
-pub record IsTextRead {R : Type 0} (r : SourceWords R) (source now : R) (read : List ℕ) : Type 0 where
+pub record IsTextRead {R : Type 0} (r : SourceWords R) (source now : R)
+    (read : List ℕ) : Type 0 where
   pub front : IsReadOf read (r.left source) (r.left now)
   pub whole : (text : List ℕ) → r.left source ≡ Some text → (read ≡ text)
       ⊎ (byte_limit < length read)
   pub no_fault : r.faults now ≡ r.faults source
 
 -- a front was read before the source failed or memory was refused
-pub record StopsReading {R : Type 0} (r : SourceWords R) (source now : R) (fault : TopFault) : Type 0 where
+pub record StopsReading {R : Type 0} (r : SourceWords R) (source now : R)
+    (fault : TopFault) : Type 0 where
   pub why : (fault ≡ ReadFault) ⊎ (fault ≡ Memory)
   pub cause : HasCause (r.faults source) (r.faults now) (fault ≡ ReadFault)
   pub read : List ℕ

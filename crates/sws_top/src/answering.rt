@@ -2,7 +2,7 @@
 ghost use Rattle.std.specs.Prelude.{◌≡◌, ◌≢◌, false, Some};
 ghost use Rattle.sws_link.specs.Counts.{HasCause};
 ghost use Rattle.sws_top.specs.Answered.{AnswersFrom, AnswersInput};
-ghost use Rattle.sws_top.specs.Faults.{fault_of, ended_by, EndsAnswering};
+ghost use Rattle.sws_top.specs.Faults.{fault_of, fault_at_end, EndsAnswering};
 ghost use Rattle.sws_top.specs.Hands.{hands};
 ghost use Rattle.sws_top.specs.RanAnswer.{RanAnswer};
 ghost use Rattle.sws_top.specs.Ranges.{IsDate};
@@ -29,10 +29,8 @@ pub fn answer<F: Folder, R: Source, O: Sink>(
     ensures { RanAnswer F.Folder R.Source O.Sink (hands folder.old source.old out.old)
         (hands folder.new source.new out.new) (fault_of result) path.now date }
 {
-    match open_site(alloc, path, date, folder) {
-        Ok(site) => answer_input(alloc, &site, source, out),
-        Err(fault) => Err(fault),
-    }
+    let site = open_site(alloc, path, date, folder)?;
+    answer_input(alloc, &site, source, out)
 }
 
 /// Runs the connection whose input the source gives, and whose responses the sink takes.
@@ -49,12 +47,12 @@ fn answer_input<R: Source, O: Sink>(
 {
     let first_source = Snapshot::of(&*source);
     let first_out = Snapshot::of(&*out);
-    let pipe = serve(
+    let link = serve(
         alloc,
         site,
         DuplexLink::new(source, out, &first_source, &first_out),
     );
-    match pipe.fault {
+    match link.fault {
         None => Ok(()),
         Some(fault) => Err(fault),
     }
@@ -64,35 +62,35 @@ fn answer_input<R: Source, O: Sink>(
 fn serve<'f, 'p, R: Source, O: Sink>(
     alloc: Global,
     site: &Site,
-    pipe: DuplexLink<'f, 'p, R, O>,
+    link: DuplexLink<'f, 'p, R, O>,
 ) -> DuplexLink<'f, 'p, R, O>
-    requires source { pipe.first_source.now.value ≡ pipe.source.now }
-    requires out { pipe.first_out.now.value ≡ pipe.out.now }
-    requires not_shut { pipe.shut ≡ false }
-    ensures same_source { result.source.ghost_name ≡ pipe.entry.source.ghost_name }
-    ensures same_out { result.out.ghost_name ≡ pipe.entry.out.ghost_name }
+    requires source { link.first_source.now.value ≡ link.source.now }
+    requires out { link.first_out.now.value ≡ link.out.now }
+    requires not_shut { link.shut ≡ false }
+    ensures same_source { result.source.ghost_name ≡ link.entry.source.ghost_name }
+    ensures same_out { result.out.ghost_name ≡ link.entry.out.ghost_name }
     ensures answered { AnswersFrom site.now
-        (R.left pipe.entry.source.now) (R.left result.source.now)
-        (O.written pipe.entry.out.now) (O.written result.out.now) result.fault }
+        (R.left link.entry.source.now) (R.left result.source.now)
+        (O.written link.entry.out.now) (O.written result.out.now) result.fault }
     ensures ends { EndsAnswering result.fault }
-    ensures read_cause { HasCause (R.faults pipe.entry.source.now) (R.faults result.source.now)
+    ensures read_cause { HasCause (R.faults link.entry.source.now) (R.faults result.source.now)
         (result.fault ≡ Some TopFault.ReadFault) }
-    ensures write_cause { HasCause (O.faults pipe.entry.out.now) (O.faults result.out.now)
+    ensures write_cause { HasCause (O.faults link.entry.out.now) (O.faults result.out.now)
         (result.fault ≡ Some TopFault.WriteFault) }
 {
-    match serve_one(alloc, site, pipe) {
-        Ok((pipe, end)) => {
-            let fault = fault_at(end, pipe.fault);
-            pipe.with_fault(fault)
+    match serve_one(alloc, site, link) {
+        Ok((link, end)) => {
+            let fault = fault_at(end, link.fault);
+            link.with_fault(fault)
         }
-        Err(pipe) => pipe.with_fault(Some(TopFault::Memory)),
+        Err(link) => link.with_fault(Some(TopFault::Memory)),
     }
 }
 
 /// The fault by which a run has ended, by the end of its connection and the fault that the link kept.
 fn fault_at(end: End, kept: Option<TopFault>) -> Option<TopFault>
     requires { end ≢ End.Idle }
-    ensures { result ≡ ended_by end kept }
+    ensures { result ≡ fault_at_end end kept }
 {
     match end {
         End::Done => None,

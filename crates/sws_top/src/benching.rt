@@ -2,6 +2,7 @@
 ghost use Rattle.sws_top.specs.Faults.{fault_of};
 ghost use Rattle.sws_top.specs.RanBench.{RanBench};
 ghost use Rattle.sws_top.specs.Ranges.{IsBetween, IsRunShape};
+ghost use Rattle.sws_engine.specs.Limits.{conn_limit};
 
 use crate::faults::{TopFault, run_fault};
 use mely_history::Shape;
@@ -18,7 +19,7 @@ pub fn bench_shape<T: AllocGlobal + Threads + Wait + Sync, O: Sink>(
     shape: &Shape,
     out: &mut O,
 ) -> Result<(), TopFault>
-    requires connections { IsBetween 1 1024 connections }
+    requires connections { IsBetween 1 conn_limit connections }
     requires shape { IsRunShape shape.now }
     ensures { RanBench O.Sink out.old out.new (fault_of result) connections number }
 {

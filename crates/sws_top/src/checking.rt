@@ -4,6 +4,7 @@ ghost use Rattle.sws_top.specs.Checked.{IsServerSetup};
 ghost use Rattle.sws_top.specs.Faults.{fault_of};
 ghost use Rattle.sws_top.specs.RanCheck.{RanCheck};
 ghost use Rattle.sws_top.specs.Ranges.{IsRunShape};
+ghost use Rattle.sws_engine.specs.Limits.{conn_limit};
 
 use crate::checked::write_report;
 use crate::faults::{TopFault, check_fault};
@@ -21,7 +22,7 @@ pub fn check<R: Source, O: Sink>(
     source: &mut R,
     out: &mut O,
 ) -> Result<(), TopFault>
-    requires connections { connections ≤ 1024 }
+    requires connections { connections ≤ conn_limit }
     requires shape { IsRunShape shape.now }
     ensures { RanCheck R.Source O.Sink source.old source.new out.old out.new (fault_of result)
         connections shape.now }
@@ -35,7 +36,7 @@ pub fn check<R: Source, O: Sink>(
 
 /// The setup of the server's runs with so many connections.
 fn server_setup(connections: u16, shape: &Shape) -> Setup
-    requires connections { connections ≤ 1024 }
+    requires connections { connections ≤ conn_limit }
     requires shape { IsRunShape shape.now }
     ensures { IsServerSetup connections shape.now result }
 {

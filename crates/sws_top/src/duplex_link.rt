@@ -2,7 +2,7 @@
 ghost use Rattle.std.specs.Prelude.{◌≡◌, ◌<◌, false, None, length};
 ghost use Rattle.sws_link.specs.Counts.{no_faults};
 ghost use Rattle.sws_link.specs.Links.{Writes, write_fault};
-ghost use Rattle.sws_top.specs.Pipes.{IsLeftOf, IsWrittenBehind, WritesAll};
+ghost use Rattle.sws_top.specs.Duplex.{IsLeftOf, IsWrittenBehind, WritesAll};
 
 use crate::faults::TopFault;
 use std::snapshot::Snapshot;
@@ -59,25 +59,25 @@ impl<'f, 'p, R: Source, O: Sink> DuplexLink<'f, 'p, R, O> {
         ensures out { result.out.now ≡ self.entry.out.now }
         ensures fault { result.fault ≡ fault }
     {
-        let mut pipe = self;
-        pipe.fault = fault;
-        pipe
+        let mut link = self;
+        link.fault = fault;
+        link
     }
 }
 
 impl<'f, 'p, R: Source, O: Sink> Link for DuplexLink<'f, 'p, R, O> {
-    ghost use Rattle.sws_top.specs.declared.duplex_link.DuplexLink.{DuplexLink as PipeValue};
-    ghost use Rattle.sws_top.specs.PipeLinks.{told_by_pipe, faults_of_pipe, StaysPipe};
+    ghost use Rattle.sws_top.specs.declared.duplex_link.DuplexLink.{DuplexLink as DuplexLinkValue};
+    ghost use Rattle.sws_top.specs.DuplexLink.{told_by_duplex, faults_of_duplex, StaysDuplex};
 
-    ghost tells = { told_by_pipe R.Source O.Sink };
+    ghost tells = { told_by_duplex R.Source O.Sink };
 
-    ghost faults = { faults_of_pipe R.Source O.Sink };
+    ghost faults = { faults_of_duplex R.Source O.Sink };
 
-    ghost is_shut = { λ pipe. pipe.shut };
+    ghost is_shut = { λ link. link.shut };
 
-    ghost waits = { λ pipe. no_faults };
+    ghost waits = { λ link. no_faults };
 
-    ghost since = { StaysPipe R.Source O.Sink };
+    ghost since = { StaysDuplex R.Source O.Sink };
 
     /// Reads the source.
     fn read(&mut self, into: &mut [u8]) -> LinkRead {
@@ -95,12 +95,12 @@ impl<'f, 'p, R: Source, O: Sink> Link for DuplexLink<'f, 'p, R, O> {
     fn write(&mut self, bytes: &[u8]) -> LinkWrite
         requires some { 0 < length bytes.now }
         requires not_shut { self.old.shut ≡ false }
-        ensures writes { Writes (told_by_pipe R.Source O.Sink) (λ pipe.
-            pipe.shut) (faults_of_pipe R.Source O.Sink) (λ pipe. no_faults)
+        ensures writes { Writes (told_by_duplex R.Source O.Sink) (λ link.
+            link.shut) (faults_of_duplex R.Source O.Sink) (λ link. no_faults)
             self.old bytes.now result self.new }
-        ensures since { (first : PipeValue R O R.Source O.Sink)
-            → StaysPipe R.Source O.Sink first None self.old
-            → StaysPipe R.Source O.Sink first (write_fault result) self.new }
+        ensures since { (first : DuplexLinkValue R O R.Source O.Sink)
+            → StaysDuplex R.Source O.Sink first None self.old
+            → StaysDuplex R.Source O.Sink first (write_fault result) self.new }
         ensures whole { WritesAll (O.written self.old.out.now)
             (O.written self.new.out.now) result bytes.now }
     {

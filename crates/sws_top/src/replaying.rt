@@ -2,7 +2,7 @@
 ghost use Rattle.std.specs.Prelude.{◌≡◌, ◌≤◌, Err, length};
 ghost use Rattle.sws_link.specs.Counts.{HasCause};
 ghost use Rattle.sws_replay.specs.Replays.{WritesOne};
-ghost use Rattle.sws_script.specs.Grammar.{conn_limit};
+ghost use Rattle.sws_script.specs.Limits.{conn_limit};
 ghost use Rattle.sws_script.specs.Inputs.{IsInput};
 ghost use Rattle.sws_top.specs.Faults.{fault_of};
 ghost use Rattle.sws_top.specs.Hands.{hands};

@@ -22,10 +22,7 @@ pub fn read_input<R: Source>(
 ) -> Result<Input, TopFault>
     ensures { ReadsInput R.Source schedule cores source.old source.new result }
 {
-    let text = match read_text(alloc, source) {
-        Ok(text) => text,
-        Err(fault) => return Err(fault),
-    };
+    let text = read_text(alloc, source)?;
     match parse(alloc, &text, schedule, cores) {
         Ok(input) => Ok(input),
         Err(fault) => Err(script_fault(fault)),

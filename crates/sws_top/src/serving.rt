@@ -5,6 +5,7 @@ ghost use Rattle.sws_link.specs.Counts.{HasCause};
 ghost use Rattle.sws_top.specs.Faults.{put_fault_of, status_of};
 ghost use Rattle.sws_top.specs.RanServe.{ends_of, summary_of, CanSumUp, EndsBy, IsServeEnd, RanServe};
 ghost use Rattle.sws_top.specs.Ranges.{IsBetween, IsDate, IsRunShape};
+ghost use Rattle.sws_engine.specs.Limits.{conn_limit};
 
 use crate::faults::TopFault;
 use crate::outcomes::Outcome;
@@ -44,7 +45,7 @@ where
     W::Link: Send,
     requires date { IsDate date }
     requires shape { IsRunShape how.now.shape }
-    requires connections { IsBetween 1 1024 how.now.connections }
+    requires connections { IsBetween 1 conn_limit how.now.connections }
     ensures status { result.status ≡ status_of result.fault }
     ensures ran { RanServe F.Folder W.World W.Link.Link O.Sink
         ⟦<Conn<'static, W::Link> as Talk<W::Link>>⟧
@@ -68,7 +69,7 @@ fn serve_site<'s, T: AllocGlobal + Threads + Wait + Sync, W: World + Drop + Send
 where
     W::Link: Send,
     requires shape { IsRunShape how.now.shape }
-    requires connections { IsBetween 1 1024 how.now.connections }
+    requires connections { IsBetween 1 conn_limit how.now.connections }
     ensures status { result.status ≡ status_of result.fault }
     ensures served { IsServeEnd W.World W.Link.Link O.Sink
         ⟦<Conn<'s, W::Link> as Talk<W::Link>>⟧

@@ -2,7 +2,7 @@
 //!
 //! The crate that Debian has is older and takes fewer targets, so it can't be asked.
 
-const MOST_FIELDS: usize = 64;
+const MAX_FIELDS: usize = 64;
 
 pub struct Request<'b> {
     pub method: &'b [u8],
@@ -70,5 +70,5 @@ pub fn request(head: &[u8]) -> Option<Request<'_>> {
         return None;
     }
     let fields: Vec<_> = lines.take_while(|line| !line.is_empty()).map(field).collect::<Option<_>>()?;
-    (fields.len() <= MOST_FIELDS).then_some(Request { method, target, minor, fields })
+    (fields.len() <= MAX_FIELDS).then_some(Request { method, target, minor, fields })
 }

@@ -4,8 +4,8 @@ use super::model::{self, Responses, Site, INPUT_LIMIT};
 use super::script::{self, Connection, Item};
 use super::texts;
 
-pub const MOST_CONNECTIONS: usize = 1_024;
-const MOST_BYTES: usize = 16_777_216;
+pub const MAX_CONNECTIONS: usize = 1_024;
+const MAX_BYTES: usize = 16_777_216;
 const PIECE: usize = 4_096;
 /// Sun, 06 Nov 1994 08:49:37 GMT.
 const DATE: u64 = 784_111_777;
@@ -73,9 +73,9 @@ fn draw_shape(draw: &mut Draw) -> Shape {
 pub fn count_of(seed: u64, number: u64) -> usize {
     let mut draw = Draw::of_part(seed, number);
     if draw.in_hundred(80) {
-        MOST_CONNECTIONS
+        MAX_CONNECTIONS
     } else {
-        draw.between(1, MOST_CONNECTIONS)
+        draw.between(1, MAX_CONNECTIONS)
     }
 }
 
@@ -112,7 +112,7 @@ pub fn draw_script(seed: u64, number: u64, uses: usize, site: &mut Site) -> Scri
         script::write_connection(&mut source, &connection, &mut draw);
         connections.push(connection);
     }
-    assert!(source.len() <= MOST_BYTES, "a script of {} bytes", source.len());
+    assert!(source.len() <= MAX_BYTES, "a script of {} bytes", source.len());
     Script { shape, kind, date: site.date, texts, connections, source }
 }
 

@@ -252,4 +252,4 @@ module _ {S P F X : Type 0} (t : TrailWords S F) (fits : F → Colour → Event 
       shard_line b c (StealAs c k (Ok stolen)) called entry more (after_steal w mark victim (Ok stolen))
       (Landing (mark_by rules (history_for rules (enters (shard c) entry m) c) c))
       (ap (λ (h : List Entry). Landing (mark_by rules h c)) now
-      ∙ (λ i. Landing (record { colour = c; started = sym called.does.started i; worth = (ap (λ (s : Setup). worth_of s called.new.history c) (sym new_setup) ∙ sym called.does.left) i }))) going
+      ∙ (λ i. Landing (record { colour = c; started = sym called.does.started i; worth = (ap (λ (s : Setup). worth_of s called.new.history c) (sym new_setup) ∙ sym called.does.worth) i }))) going

@@ -19,7 +19,7 @@ use Rattle.mely_worker.specs.declared.made.Made.{Made}
 use Rattle.mely_worker.specs.Worker.{WorkerState}
 use Rattle.mely_worker.specs.Step.{in_phase, after_pop, pop_name, after_pick, pick_name}
 use Rattle.mely_weave.specs.Side.{SideState, Readiness, readiness_for}
-use Rattle.mely_weave.specs.Marks.{Placed, MarksStand, held}
+use Rattle.mely_weave.specs.Marks.{Placed, MarksStand, marks_in_system}
 use Rattle.mely_weave.specs.Hands.{held_by, held_in, colour_run_by, colour_in}
 use Rattle.mely_weave.specs.Calls.{AtChain, PushAs, PopAs, RetellAs, PickAs}
 use Rattle.mely_weave.specs.StandsWell.{side_of, PhaseIsTold, ReportIsTold, StandsWell, WasntRefused}
@@ -46,7 +46,7 @@ module _ {S P F : Type 0} (t : TrailWords S F) (fits : F → Colour → Event �
 
   -- a chain and the worker change, and the marks stand
   moved_line : (b : SideState S P) (core : ℕ) (Does : CoreQueueState → CoreQueueState → Type 0) (at : AtChain from b core Does) (v : WorkerState S P) (made : Made) → v.victims ≡ w.victims → colour_run_by v ≡ colour_run_by w → PhaseIsTold weave.setup ready k v.phase
-      → MarksStand ready (held held_by (slice_set weave.chains core at.new) (slice_set weave.workers k v)) → WasntRefused made → Keeps b v made
+      → MarksStand ready (marks_in_system held_by (slice_set weave.chains core at.new) (slice_set weave.workers k v)) → WasntRefused made → Keeps b v made
   moved_line b core Does at v made victims colour said marks never = record {
     shards = weave.shards;
     chains = slice_set weave.chains core at.new;
@@ -67,27 +67,27 @@ module _ {S P F : Type 0} (t : TrailWords S F) (fits : F → Colour → Event �
   push_line core mark v made holds empty victims colour said never b answer pushed =
       let at = (push_enters core mark holds b answer pushed).1 in
       moved_line b core (PushAs mark (Ok tt)) at v made victims colour said
-      (stand_alike ready (held held_by weave.chains weave.workers) (held held_by (slice_set weave.chains core at.new) (slice_set weave.workers k v))
+      (stand_alike ready (marks_in_system held_by weave.chains weave.workers) (marks_in_system held_by (slice_set weave.chains core at.new) (slice_set weave.workers k v))
       (marks_pushed held_by weave.chains weave.workers k core w v at.old at.new here at.was mark (ap (λ (q : CoreQueueState). q.chain) at.does.1) holds empty) well.marks) never
 
   -- the front of the own chain is popped
   pub pop_line : (place : ℕ) → w.phase ≡ Free place → (b : SideState S P) (answer : Option Mark) → AtChain from b k (PopAs answer) → Keeps b (after_pop w answer) (pop_name answer)
   pop_line place phase b None at =
       moved_line b k (PopAs None) at (after_pop w None) (pop_name None) refl (sym (ap colour_in phase)) tt
-      (stand_alike ready (held held_by weave.chains weave.workers) (held held_by (slice_set weave.chains k at.new) (slice_set weave.workers k (after_pop w None)))
+      (stand_alike ready (marks_in_system held_by weave.chains weave.workers) (marks_in_system held_by (slice_set weave.chains k at.new) (slice_set weave.workers k (after_pop w None)))
       (marks_stay held_by weave.chains weave.workers k k w (after_pop w None) at.old at.new here at.was at.does.1 (sym (ap (held_in w.core) phase))) well.marks) tt
   pop_line place phase b (Some mark) at =
       let v : WorkerState S P = in_phase w (Popped mark) in
       let now : held_by v ≡ (k, mark) ∷ [] = ap (λ (n : ℕ). let q : Placed = (n, mark) in q ∷ []) (own t fits weave well k w here low) in
       moved_line b k (PopAs (Some mark)) at v (pop_name (Some mark)) refl (sym (ap colour_in phase)) tt
-      (stand_alike ready (held held_by weave.chains weave.workers) (held held_by (slice_set weave.chains k at.new) (slice_set weave.workers k v))
+      (stand_alike ready (marks_in_system held_by weave.chains weave.workers) (marks_in_system held_by (slice_set weave.chains k at.new) (slice_set weave.workers k v))
       (marks_popped held_by weave.chains weave.workers k k w v at.old at.new here at.was mark at.does.0 (ap (held_in w.core) phase) now) well.marks) tt
 
   -- the best mark of a victim's chain is picked
   pub pick_line : (place victim n : ℕ) → w.phase ≡ Free place → slice_get w.victims n ≡ Some victim → (b : SideState S P) (answer : Option Mark) → AtChain from b victim (PickAs answer) → Keeps b (after_pick w place victim answer) (pick_name victim answer)
   pick_line place victim n phase is b None at =
       moved_line b victim (PickAs None) at (after_pick w place victim None) (pick_name victim None) refl (sym (ap colour_in phase)) tt
-      (stand_alike ready (held held_by weave.chains weave.workers) (held held_by (slice_set weave.chains victim at.new) (slice_set weave.workers k (after_pick w place victim None)))
+      (stand_alike ready (marks_in_system held_by weave.chains weave.workers) (marks_in_system held_by (slice_set weave.chains victim at.new) (slice_set weave.workers k (after_pick w place victim None)))
       (marks_stay held_by weave.chains weave.workers k victim w (after_pick w place victim None) at.old at.new here at.was at.does.1 (sym (ap (held_in w.core) phase))) well.marks) tt
   pick_line place victim n phase is b (Some mark) at =
       let v : WorkerState S P = in_phase w (Picked mark victim) in
@@ -96,18 +96,18 @@ module _ {S P F : Type 0} (t : TrailWords S F) (fits : F → Colour → Event �
       let group : ℕ = (shape_of weave.setup).group in
       let other : IsOther k cores victim = all_at (IsOther k cores) w.victims n victim (subst (λ (l : List ℕ). AllByRecursion (IsOther k cores) l) (sym (well.worker k w here).victims) (victims_are_others k cores group low)) is in
       moved_line b victim (PickAs (Some mark)) at v (pick_name victim (Some mark)) refl (sym (ap colour_in phase)) (other.0, subst (λ (n : ℕ). n < mark.worth) chain.cost at.does.2, subst (λ (n : ℕ). n ≤ mark.colour.0) chain.pinned at.does.3)
-      (stand_alike ready (held held_by weave.chains weave.workers) (held held_by (slice_set weave.chains victim at.new) (slice_set weave.workers k v))
+      (stand_alike ready (marks_in_system held_by weave.chains weave.workers) (marks_in_system held_by (slice_set weave.chains victim at.new) (slice_set weave.workers k v))
       (marks_picked held_by weave.chains weave.workers k victim w v at.old at.new here at.was mark.colour mark chain.together.apart at.does.1 (ap (λ (q : CoreQueueState). q.chain) at.does.4) (ap (held_in w.core) phase) refl) well.marks) tt
 
-  module _ (of' : Colour → Readiness) (stand : MarksStand of' (held held_by weave.chains weave.workers)) (a b : SideState S P) (same_chains : a.chains ≡ weave.chains) (core : ℕ) (c : Colour) (started worth : ℕ) (found : Bool) (at : AtChain a b core (RetellAs c started worth found)) (v : WorkerState S P) (hand : held_by v ≡ held_by w) (said : ReportIsTold of' (Report core c started worth)) where
+  module _ (of' : Colour → Readiness) (stand : MarksStand of' (marks_in_system held_by weave.chains weave.workers)) (a b : SideState S P) (same_chains : a.chains ≡ weave.chains) (core : ℕ) (c : Colour) (started worth : ℕ) (found : Bool) (at : AtChain a b core (RetellAs c started worth found)) (v : WorkerState S P) (hand : held_by v ≡ held_by w) (said : ReportIsTold of' (Report core c started worth)) where
     was_there : slice_get weave.chains core ≡ Some at.old
     was_there = subst (λ (l : List CoreQueueState). slice_get l core ≡ Some at.old) same_chains at.was
 
     -- the marks once a report was told
     retold_from : (was : Option Mark) → was ≡ mark_of c at.old.chain → MatchOption (after_report started worth was) (at.new ≡ at.old) (λ now. at.new ≡ record at.old { chain = after_replacement now at.old.chain; worthy = after_mark_change at.old.cost at.old.pinned now at.old.worthy })
-        → MarksStand of' (held held_by (slice_set weave.chains core at.new) (slice_set weave.workers k v))
+        → MarksStand of' (marks_in_system held_by (slice_set weave.chains core at.new) (slice_set weave.workers k v))
     retold_from None is does =
-        stand_alike of' (held held_by weave.chains weave.workers) (held held_by (slice_set weave.chains core at.new) (slice_set weave.workers k v))
+        stand_alike of' (marks_in_system held_by weave.chains weave.workers) (marks_in_system held_by (slice_set weave.chains core at.new) (slice_set weave.workers k v))
         (marks_stay held_by weave.chains weave.workers k core w v at.old at.new here was_there does hand) stand
     retold_from (Some m) is does = elim (cases_Bool (m.started == started)) [
       | inl hit ↦
@@ -126,11 +126,11 @@ module _ {S P F : Type 0} (t : TrailWords S F) (fits : F → Colour → Event �
       | inr miss ↦
           let stays : at.new ≡ at.old =
           subst (λ (o : Option Mark). MatchOption o (at.new ≡ at.old) (λ n. at.new ≡ record at.old { chain = after_replacement n at.old.chain; worthy = after_mark_change at.old.cost at.old.pinned n at.old.worthy })) (cond-false (m.started == started) (Some (record m { worth = max m.worth worth })) None miss) does in
-          stand_alike of' (held held_by weave.chains weave.workers) (held held_by (slice_set weave.chains core at.new) (slice_set weave.workers k v))
+          stand_alike of' (marks_in_system held_by weave.chains weave.workers) (marks_in_system held_by (slice_set weave.chains core at.new) (slice_set weave.workers k v))
           (marks_stay held_by weave.chains weave.workers k core w v at.old at.new here was_there stays hand) stand
     ]
 
-    pub marks_retold : MarksStand of' (held held_by (slice_set weave.chains core at.new) (slice_set weave.workers k v))
+    pub marks_retold : MarksStand of' (marks_in_system held_by (slice_set weave.chains core at.new) (slice_set weave.workers k v))
     marks_retold = retold_from (mark_of c at.old.chain) refl at.does.1
 
   -- a report is told

@@ -29,7 +29,7 @@ use Rattle.mely_worker.specs.declared.made.Made.{Made}
 use Rattle.mely_worker.specs.Worker.{WorkerState}
 use Rattle.mely_worker.specs.Step.{in_phase, halted_in, after_finish, after_take, after_steal, finish_name, take_name, steal_name}
 use Rattle.mely_weave.specs.Side.{SideState, Readiness, shard_of, history_for, readiness_for}
-use Rattle.mely_weave.specs.Marks.{Placed, MarksStand, held}
+use Rattle.mely_weave.specs.Marks.{Placed, MarksStand, marks_in_system}
 use Rattle.mely_weave.specs.Hands.{held_by, held_in, colour_in}
 use Rattle.mely_weave.specs.Calls.{AtShard, TakeAs, FinishAs, StealAs}
 use Rattle.mely_weave.specs.SideStands.{PartsOf}
@@ -104,9 +104,9 @@ module _ {S P F : Type 0} (t : TrailWords S F) (fits : F → Colour → Event �
       omega (arith, some, few)
 
   -- a worker that has a mark in hand, and has it still
-  pub same_marks : (shards : List (ShardState S P)) (v : WorkerState S P) → held_by v ≡ held_by w → MarksStand (of weave.shards) (held held_by weave.chains (slice_set weave.workers k v))
+  pub same_marks : (shards : List (ShardState S P)) (v : WorkerState S P) → held_by v ≡ held_by w → MarksStand (of weave.shards) (marks_in_system held_by weave.chains (slice_set weave.workers k v))
   same_marks shards v same =
-      stand_alike (of weave.shards) (held held_by weave.chains weave.workers) (held held_by weave.chains (slice_set weave.workers k v)) (λ p. sym (hand_same held_by weave.chains weave.workers k w v here same p)) well.marks
+      stand_alike (of weave.shards) (marks_in_system held_by weave.chains weave.workers) (marks_in_system held_by weave.chains (slice_set weave.workers k v)) (λ p. sym (hand_same held_by weave.chains weave.workers k w v here same p)) well.marks
 
   -- a popped mark's colour is taken
   pub take_line : (mark : Mark) → w.phase ≡ Popped mark → (b : SideState S P) (answer : Result (TurnState S P) NoTake) → AtShard a b mark.colour (TakeAs t mark.colour k answer) → StepKeeps b (after_take w mark answer) (take_name answer)
@@ -125,7 +125,7 @@ module _ {S P F : Type 0} (t : TrailWords S F) (fits : F → Colour → Event �
             (λ d is _. absurd (none-some d (sym (ap colour_in phase) ∙ is)))
             (λ core is. (sym is, ap (λ (u : TurnState S P). Some u.colour) at.does.made))
             (ap (λ (u : TurnState S P). u.core) at.does.made, tt)
-            (take_keeps weave.setup (h weave.shards) (h shards) c k turn.count adds (held held_by weave.chains weave.workers) (held held_by weave.chains (slice_set weave.workers k v)) (w.core, mark) refl
+            (take_keeps weave.setup (h weave.shards) (h shards) c k turn.count adds (marks_in_system held_by weave.chains weave.workers) (marks_in_system held_by weave.chains (slice_set weave.workers k v)) (w.core, mark) refl
             (hand_gives held_by weave.chains weave.workers k w v here (w.core, mark) holds refl) well.marks);
         never = tt;
       }
@@ -175,9 +175,9 @@ module _ {S P F : Type 0} (t : TrailWords S F) (fits : F → Colour → Event �
             (λ d is _. absurd (none-some d (sym (ap colour_in phase) ∙ is)))
             (λ core no. absurd no)
             tt
-            (steal_keeps weave.setup (h weave.shards) (h shards) c stolen.from k adds (held held_by weave.chains weave.workers) (held held_by weave.chains (slice_set weave.workers k v)) (held held_by weave.chains (slice_set weave.workers k u)) (victim, mark) stolen.started stolen.worth refl
+            (steal_keeps weave.setup (h weave.shards) (h shards) c stolen.from k adds (marks_in_system held_by weave.chains weave.workers) (marks_in_system held_by weave.chains (slice_set weave.workers k v)) (marks_in_system held_by weave.chains (slice_set weave.workers k u)) (victim, mark) stolen.started stolen.worth refl
             (at.does.started ∙ ap (λ (l : List Entry). begun_of l c) (sym becomes))
-            (at.does.left ∙ ap (λ (s : Setup). worth_of s at.new.history c) of_setup ∙ ap (λ (l : List Entry). worth_of weave.setup l c) (sym becomes))
+            (at.does.worth ∙ ap (λ (s : Setup). worth_of s at.new.history c) of_setup ∙ ap (λ (l : List Entry). worth_of weave.setup l c) (sym becomes))
             (hand_gives held_by weave.chains weave.workers k w u here (victim, mark) holds refl)
             (hand_swaps held_by weave.chains weave.workers k w v here u (victim, mark) (k, new_mark) holds now refl) well.marks);
         never = tt;
@@ -211,17 +211,17 @@ module _ {S P F : Type 0} (t : TrailWords S F) (fits : F → Colour → Event �
       absurd (not_running (victim, mark) at.old.history (ap (held_in w.core) phase) (history_was a b mark.colour (StealAs mark.colour k (Err (no_steal.Busy core))) at) at.does.1.2)
   steal_line mark victim phase b (Err (no_steal.Empty registered)) at =
       absurd (not_empty (victim, mark) at.old.history (ap (held_in w.core) phase) (history_was a b mark.colour (StealAs mark.colour k (Err (no_steal.Empty registered))) at) at.does.1.3)
-  steal_line mark victim phase b (Err (no_steal.Cheap left)) at =
+  steal_line mark victim phase b (Err (no_steal.Cheap worth)) at =
       let c : Colour = mark.colour in
       let holds : held_by w ≡ (victim, mark) ∷ [] = ap (held_in w.core) phase in
       let of_setup = (well.shard (shard_of weave.setup c) at.old at.was).of_setup in
       let over = (subst (PhaseIsTold weave.setup (of weave.shards) k) phase told).1 in
       let most : mark.worth ≤ worth_of weave.setup (h weave.shards c) c = (in_hand_sound (victim, mark) holds).worth in
-      let is : worth_of weave.setup (h weave.shards c) c ≡ worth_of at.old.setup at.old.history c = ap (λ (l : List Entry). worth_of weave.setup l c) (history_was a b c (StealAs c k (Err (no_steal.Cheap left))) at) ∙ ap (λ (s : Setup). worth_of s at.old.history c) (sym of_setup) in
+      let is : worth_of weave.setup (h weave.shards c) c ≡ worth_of at.old.setup at.old.history c = ap (λ (l : List Entry). worth_of weave.setup l c) (history_was a b c (StealAs c k (Err (no_steal.Cheap worth))) at) ∙ ap (λ (s : Setup). worth_of s at.old.history c) (sym of_setup) in
       let cheap = at.does.1.4 in
-      let worth = at.does.1.3 in
+      let worth_is = at.does.1.3 in
       let cost : (shape_of at.old.setup).steal_cost ≡ (shape_of weave.setup).steal_cost = ap (λ (s : Setup). (shape_of s).steal_cost) of_setup in
-      absurd (omega (arith, over, most, is, cheap, worth, cost))
+      absurd (omega (arith, over, most, is, cheap, worth_is, cost))
 
   -- a turn is finished
   pub finish_line : (turn : TurnState S P) → w.phase ≡ Turning turn Nothing [] → (b : SideState S P) (answer : After) → AtShard a b turn.colour (FinishAs turn answer) → StepKeeps b (after_finish w turn.colour answer) (finish_name turn.colour answer)
@@ -248,7 +248,7 @@ module _ {S P F : Type 0} (t : TrailWords S F) (fits : F → Colour → Event �
             (λ d is other. absurd (other (sym (ap (λ (e : Colour). e.0) (same_Some c d (sym (ap colour_in phase) ∙ is)))) of_turn))
             (λ core no. absurd no)
             tt
-            (more_keeps weave.setup (h weave.shards) (h shards) c turn.core turn.count adds runs.running (held held_by weave.chains weave.workers) (held held_by weave.chains (slice_set weave.workers k v)) started worth
+            (more_keeps weave.setup (h weave.shards) (h shards) c turn.core turn.count adds runs.running (marks_in_system held_by weave.chains weave.workers) (marks_in_system held_by weave.chains (slice_set weave.workers k v)) started worth
             (subst (λ (l : List Entry). 0 < length (queued_of l c)) (sym becomes) at.does.2.0) owner
             (at.does.2.1 ∙ ap (λ (l : List Entry). begun_of l c) (sym becomes))
             (at.does.2.2 ∙ ap (λ (s : Setup). worth_of s at.new.history c) old_setup ∙ ap (λ (l : List Entry). worth_of weave.setup l c) (sym becomes))
@@ -273,7 +273,7 @@ module _ {S P F : Type 0} (t : TrailWords S F) (fits : F → Colour → Event �
             (λ d is other. absurd (other (sym (ap (λ (e : Colour). e.0) (same_Some c d (sym (ap colour_in phase) ∙ is)))) of_turn))
             (λ core no. absurd no)
             tt
-            (idle_keeps weave.setup (h weave.shards) (h shards) c turn.core turn.count adds runs.running (held held_by weave.chains weave.workers) (held held_by weave.chains (slice_set weave.workers k v))
+            (idle_keeps weave.setup (h weave.shards) (h shards) c turn.core turn.count adds runs.running (marks_in_system held_by weave.chains weave.workers) (marks_in_system held_by weave.chains (slice_set weave.workers k v))
             (subst (λ (l : List Entry). queued_of l c ≡ []) (sym becomes) at.does.2)
             (hand_same held_by weave.chains weave.workers k w v here (sym (ap (held_in w.core) phase))) well.marks);
         never = tt;

@@ -21,14 +21,14 @@ use Rattle.mely_core.specs.CoreQueue.{CoreQueueState}
 use Rattle.mely_worker.specs.Worker.{WorkerState}
 use Rattle.mely_worker.specs.Conditions.{MayStep}
 use Rattle.mely_weave.specs.Side.{SideState, Readiness, shard_of, history_for, readiness_for}
-use Rattle.mely_weave.specs.Marks.{Placed, MarksStand, held}
+use Rattle.mely_weave.specs.Marks.{Placed, MarksStand, marks_in_system}
 use Rattle.mely_weave.specs.Hands.{held_by}
-use Rattle.mely_weave.specs.Calls.{AtShard, AtChain, RegisterAs, PushAs, RetellAs, IsOut}
-use Rattle.mely_weave.specs.Trying.{TriesToPost}
+use Rattle.mely_weave.specs.Calls.{AtShard, AtChain, RegisterAs, PushAs, RetellAs, IsOut, side_words, weave_words}
+use Rattle.mely_weave.specs.Posting.{PostAs}
 use Rattle.mely_weave.specs.SideStands.{SideStands, PartsOf}
 use Rattle.mely_weave.specs.StandsWell.{side_of, PhaseIsTold, WorkerStands, StandsWell}
 use Rattle.mely_weave.specs.Weave.{WeaveState}
-use Rattle.mely_weave.specs.Steps.{PostAs, with_workers}
+use Rattle.mely_weave.specs.Steps.{with_workers}
 use Rattle.mely_weave.proofs.Marks.CountsLemmas.{Alike}
 use Rattle.mely_history.specs.ColourAccount.{account_of}
 use Rattle.mely_weave.proofs.Entries.EntryLemmas.{Adds, none_unready, none_waits}
@@ -45,8 +45,8 @@ set_itself (y ∷ ys) zero x h = ap (λ z. z ∷ ys) (sym (same_Some y x h))
 set_itself (y ∷ ys) (suc i) x h = ap (λ zs. y ∷ zs) (set_itself ys i x h)
 
 -- nothing is in hand that was not, where a worker is as it was
-same_list : {W : Type 0} (in_hand : W → List Placed) (chains : List CoreQueueState) (ws : List W) (k : ℕ) (w : W) (of : Colour → Readiness) → slice_get ws k ≡ Some w → MarksStand of (held in_hand chains ws) → MarksStand of (held in_hand chains (slice_set ws k w))
-same_list in_hand chains ws k w of here stands = subst (λ l. MarksStand of (held in_hand chains l)) (sym (set_itself ws k w here)) stands
+same_list : {W : Type 0} (in_hand : W → List Placed) (chains : List CoreQueueState) (ws : List W) (k : ℕ) (w : W) (of : Colour → Readiness) → slice_get ws k ≡ Some w → MarksStand of (marks_in_system in_hand chains ws) → MarksStand of (marks_in_system in_hand chains (slice_set ws k w))
+same_list in_hand chains ws k w of here stands = subst (λ l. MarksStand of (marks_in_system in_hand chains l)) (sym (set_itself ws k w here)) stands
 
 module _ {S P F : Type 0} (t : TrailWords S F) (fits : F → Colour → Event → Option P → Type 0) (weave : WeaveState S P) (well : StandsWell t fits weave) (w : WorkerState S P) (here : slice_get weave.workers 0 ≡ Some w) (low : 0 < (shape_of weave.setup).cores)
     (c : Colour) (event : Event) (load : Option P) (may : MayRegister weave.setup c event) where
@@ -72,7 +72,7 @@ module _ {S P F : Type 0} (t : TrailWords S F) (fits : F → Colour → Event �
     pub becomes : b ≡ to shards chains
     pub kept : KeptBy t fits weave well 0 w here shards chains w
     pub owes : (d : Colour) (core count : ℕ) (trail : List Event) → IsOut from d core count trail → IsOut (to shards chains) d core count trail
-    pub posts : PostAs t c event load answer from b
+    pub posts : PostAs (weave_words t) c event load answer from b
 
   told : PhaseIsTold weave.setup (ready weave.shards) 0 w.phase
   told = (well.worker 0 w here).told
@@ -104,7 +104,7 @@ module _ {S P F : Type 0} (t : TrailWords S F) (fits : F → Colour → Event �
     leads_to core Does b to_chain = to_chain.becomes ∙ ap (λ (s : SideState S P). record s { chains = slice_set s.chains core to_chain.new }) at.becomes
 
     -- whatever the chains are then, if the marks stand the post keeps what stands
-    registered_keeps : (chains : List CoreQueueState) → MarksStand (ready shards') (held held_by chains weave.workers) → KeptBy t fits weave well 0 w here shards' chains w
+    registered_keeps : (chains : List CoreQueueState) → MarksStand (ready shards') (marks_in_system held_by chains weave.workers) → KeptBy t fits weave well 0 w here shards' chains w
     registered_keeps chains marks =
         entry_keeps t fits weave well 0 w here shards' chains w (Reg c event by) adds refl (λ core no. absurd no) (λ d is _. is) (λ core no. absurd no)
         (phase_onward weave.setup (ready weave.shards) (ready shards') 0 (onward weave.setup (history_for weave.setup weave.shards) (history_for weave.setup shards') (Reg c event by) adds) w.phase told)
@@ -118,7 +118,7 @@ module _ {S P F : Type 0} (t : TrailWords S F) (fits : F → Colour → Event �
   pushed_post : (owner started worth : ℕ) (b between : SideState S P) (at : AtShard from between c (RegisterAs c event load by (Ok (Woke owner started worth)))) (answer : Result (Unit {0}) There)
       (pushed : AtChain between b owner (PushAs (record { colour = c; started = started; worth = worth }) answer)) → begun_of (history_for weave.setup weave.shards c) c ≡ ended_of (history_for weave.setup weave.shards c) c → queued_of (history_for weave.setup weave.shards c) c ≡ []
       → slice_get weave.chains owner ≡ Some pushed.old
-      → (Alike (held held_by (slice_set weave.chains owner pushed.new) weave.workers) ((owner, record { colour = c; started = started; worth = worth }) ∷ held held_by weave.chains weave.workers) → MarksStand (ready (slice_set weave.shards (shard_of weave.setup c) at.new)) (held held_by (slice_set weave.chains owner pushed.new) weave.workers))
+      → (Alike (marks_in_system held_by (slice_set weave.chains owner pushed.new) weave.workers) ((owner, record { colour = c; started = started; worth = worth }) ∷ marks_in_system held_by weave.chains weave.workers) → MarksStand (ready (slice_set weave.shards (shard_of weave.setup c) at.new)) (marks_in_system held_by (slice_set weave.chains owner pushed.new) weave.workers))
       → PostKeeps (Ok (Woke owner started worth)) b
   pushed_post owner started worth b between at (Ok done) pushed at_rest none there marks =
       let reply : Registered = Woke owner started worth in
@@ -149,7 +149,7 @@ module _ {S P F : Type 0} (t : TrailWords S F) (fits : F → Colour → Event �
       let shards : List (ShardState S P) = slice_set weave.shards (shard_of weave.setup c) at.new in
       let chains : List CoreQueueState = slice_set weave.chains owner pushed.new in
       pushed_post owner started worth b between at answer pushed at_rest none there
-      (λ alike. woke_keeps weave.setup (history_for weave.setup weave.shards) (history_for weave.setup shards) c event by (adds reply between at) (held held_by weave.chains weave.workers) (held held_by chains weave.workers) owner started worth at_rest none
+      (λ alike. woke_keeps weave.setup (history_for weave.setup weave.shards) (history_for weave.setup shards) c event by (adds reply between at) (marks_in_system held_by weave.chains weave.workers) (marks_in_system held_by chains weave.workers) owner started worth at_rest none
       (at.does.1.2 ∙ ap (λ (s : Setup). owner_of s at.new.history c) (old_setup reply between at) ∙ ap (λ (l : List Entry). owner_of weave.setup l c) (sym h'))
       (at.does.1.3 ∙ ap (λ (l : List Entry). begun_of l c) (sym h'))
       (at.does.1.4 ∙ ap (λ (s : Setup). worth_of s at.new.history c) (old_setup reply between at) ∙ ap (λ (l : List Entry). worth_of weave.setup l c) (sym h'))
@@ -164,16 +164,16 @@ module _ {S P F : Type 0} (t : TrailWords S F) (fits : F → Colour → Event �
       let chains : List CoreQueueState = slice_set weave.chains owner retold.new in
       let begun : started ≡ begun_of (history_for weave.setup shards c) c = at.does.1.3 ∙ ap (λ (l : List Entry). begun_of l c) (sym h') in
       let most : worth ≡ worth_of weave.setup (history_for weave.setup shards c) c = at.does.1.4 ∙ ap (λ (s : Setup). worth_of s at.new.history c) (old_setup reply between at) ∙ ap (λ (l : List Entry). worth_of weave.setup l c) (sym h') in
-      let first : MarksStand (ready shards) (held held_by weave.chains weave.workers) =
-      told_keeps weave.setup (history_for weave.setup weave.shards) (history_for weave.setup shards) c event by (adds reply between at) (held held_by weave.chains weave.workers) (held held_by weave.chains weave.workers)
+      let first : MarksStand (ready shards) (marks_in_system held_by weave.chains weave.workers) =
+      told_keeps weave.setup (history_for weave.setup weave.shards) (history_for weave.setup shards) c event by (adds reply between at) (marks_in_system held_by weave.chains weave.workers) (marks_in_system held_by weave.chains weave.workers)
       (ap (λ (l : List Entry). begun_of l c) h ∙ at.does.1.0 ∙ ap (λ (l : List Entry). ended_of l c) (sym h)) (subst (λ (l : List Entry). 0 < length (queued_of l c)) (sym h) at.does.1.1) (λ p. refl) well.marks in
-      let then : MarksStand (ready shards) (held held_by chains (slice_set weave.workers 0 w)) =
+      let then : MarksStand (ready shards) (marks_in_system held_by chains (slice_set weave.workers 0 w)) =
       marks_retold t fits weave well 0 w here low (ready shards) first between b (chains_were reply between at) owner c started worth found retold w refl (omega (arith, begun), λ _. omega (arith, most)) in
       record {
         shards = shards;
         chains = chains;
         becomes = leads_to reply between at owner (RetellAs c started worth found) b retold;
-        kept = registered_keeps reply between at chains (subst (λ (l : List (WorkerState S P)). MarksStand (ready shards) (held held_by chains l)) (set_itself weave.workers 0 w here) then);
+        kept = registered_keeps reply between at chains (subst (λ (l : List (WorkerState S P)). MarksStand (ready shards) (marks_in_system held_by chains l)) (set_itself weave.workers 0 w here) then);
         owes = registered_owes reply between at chains;
         posts = (between, at, (found, retold));
       }
@@ -188,13 +188,13 @@ module _ {S P F : Type 0} (t : TrailWords S F) (fits : F → Colour → Event �
         chains = weave.chains;
         becomes = same ∙ at.becomes;
         kept = registered_keeps reply between at weave.chains
-            (running_keeps weave.setup (history_for weave.setup weave.shards) (history_for weave.setup shards) c event by (adds reply between at) (held held_by weave.chains weave.workers) (held held_by weave.chains weave.workers)
+            (running_keeps weave.setup (history_for weave.setup weave.shards) (history_for weave.setup shards) c event by (adds reply between at) (marks_in_system held_by weave.chains weave.workers) (marks_in_system held_by weave.chains weave.workers)
             (subst (λ (l : List Entry). IsRunning l c) (sym h) at.does.1.0) (λ p. refl) well.marks);
         owes = registered_owes reply between at weave.chains;
         posts = (between, at, (true, (same, refl)));
       }
 
-  pub post_keeps : (Keep : SideState S P → Type 0) (answer : Result Registered (Unregistered P)) (b : SideState S P) → TriesToPost t Keep c event load answer from b → PostKeeps answer b
+  pub post_keeps : (Keep : SideState S P → Type 0) (answer : Result Registered (Unregistered P)) (b : SideState S P) → PostAs (side_words t Keep) c event load answer from b → PostKeeps answer b
   post_keeps Keep (Err back) b at =
       let shards : List (ShardState S P) = slice_set weave.shards (shard_of weave.setup c) at.new in
       let at' : AtShard from (to shards weave.chains) c (RegisterAs c event load by (Err back)) = record { old = at.old; new = at.new; was = at.was; does = at.does; becomes = refl } in
@@ -212,7 +212,7 @@ module _ {S P F : Type 0} (t : TrailWords S F) (fits : F → Colour → Event �
   post_keeps Keep (Ok (Running core)) b posted = running_keeps_post core b posted.0 posted.1 posted.2.1.0
 
   -- and so all stands well after it
-  pub post_stands : (Keep : SideState S P → Type 0) (answer : Result Registered (Unregistered P)) (b : SideState S P) → TriesToPost t Keep c event load answer from b → SideStands t fits b → StandsWell t fits (with_workers b weave.workers)
+  pub post_stands : (Keep : SideState S P → Type 0) (answer : Result Registered (Unregistered P)) (b : SideState S P) → PostAs (side_words t Keep) c event load answer from b → SideStands t fits b → StandsWell t fits (with_workers b weave.workers)
   post_stands Keep answer b tries side =
       let keeps = post_keeps Keep answer b tries in
       let is : WorkerStands t fits weave 0 w = well.worker 0 w here in

@@ -22,7 +22,7 @@ use Rattle.mely_worker.specs.declared.delivery.Delivery.TheVariants.{Nothing, Pu
 use Rattle.mely_worker.specs.Worker.{WorkerState}
 use Rattle.mely_worker.specs.Conditions.{MayStep, PhaseMayStep}
 use Rattle.mely_weave.specs.Side.{SideState, Readiness, readiness_of, history_for, readiness_for}
-use Rattle.mely_weave.specs.Marks.{MarksStand, held}
+use Rattle.mely_weave.specs.Marks.{MarksStand, marks_in_system}
 use Rattle.mely_weave.specs.Hands.{held_by, colour_run_by}
 use Rattle.mely_weave.specs.Calls.{IsOut}
 use Rattle.mely_weave.specs.SideStands.{SideStands}
@@ -99,7 +99,7 @@ module _ {S P F : Type 0} (t : TrailWords S F) (fits : F → Colour → Event �
 
   -- what a step that leaves these shards, these chains and this worker keeps
   pub record KeptBy (shards : List (ShardState S P)) (chains : List CoreQueueState) (v : WorkerState S P) : Type 0 where
-    pub marks : MarksStand (of shards) (held held_by chains (slice_set weave.workers k v))
+    pub marks : MarksStand (of shards) (marks_in_system held_by chains (slice_set weave.workers k v))
     pub told : PhaseIsTold weave.setup (of shards) k v.phase
     pub led : (d : Colour) → IsOnward (of weave.shards d) (of shards d)
     pub owed : (d : Colour) (core count : ℕ) (trail : List Event) → (core ≡ k → ⊥) → IsOut (side_of weave k) d core count trail → IsOut (side shards chains) d core count trail
@@ -125,12 +125,12 @@ module _ {S P F : Type 0} (t : TrailWords S F) (fits : F → Colour → Event �
 
   -- each colour's history is as it was
   pub same_keeps : (shards : List (ShardState S P)) (chains : List CoreQueueState) (v : WorkerState S P) → ((d : Colour) → h shards d ≡ h weave.shards d) → v.victims ≡ w.victims → colour_run_by v ≡ colour_run_by w
-      → PhaseIsTold weave.setup (of weave.shards) k v.phase → MarksStand (of weave.shards) (held held_by chains (slice_set weave.workers k v)) → KeptBy shards chains v
+      → PhaseIsTold weave.setup (of weave.shards) k v.phase → MarksStand (of weave.shards) (marks_in_system held_by chains (slice_set weave.workers k v)) → KeptBy shards chains v
   same_keeps shards chains v same victims colour told marks =
       let readies : (d : Colour) → of weave.shards d ≡ of shards d = λ d. ap (λ (l : List Entry). readiness_of weave.setup (account_of weave.setup l d)) (sym (same d)) in
       let led : (d : Colour) → IsOnward (of weave.shards d) (of shards d) = λ d. subst (IsOnward (of weave.shards d)) (readies d) (record { begun = omega arith; worth = λ _. omega arith }) in
       record {
-        marks = stand_grown (of weave.shards) (of shards) (held held_by chains (slice_set weave.workers k v)) (λ d. subst (IsGrown (of weave.shards d)) (readies d) (record { ready = refl; owner = refl; begun = refl; worth = omega arith })) marks;
+        marks = stand_grown (of weave.shards) (of shards) (marks_in_system held_by chains (slice_set weave.workers k v)) (λ d. subst (IsGrown (of weave.shards d)) (readies d) (record { ready = refl; owner = refl; begun = refl; worth = omega arith })) marks;
         told = phase_onward weave.setup (of weave.shards) (of shards) k led v.phase told;
         led = led;
         owed = λ d core count trail _ out. still_out_same (side_of weave k) (side shards chains) refl same d core count trail out;
@@ -143,7 +143,7 @@ module _ {S P F : Type 0} (t : TrailWords S F) (fits : F → Colour → Event �
       → ((core : ℕ) → IsFinishBy core entry → core ≡ k)
       → ((d : Colour) → colour_run_by w ≡ Some d → (d.0 ≡ (colour_of entry).0 → IsFinishBy k entry → ⊥) → colour_run_by v ≡ Some d)
       → ((core : ℕ) → IsTakeBy core entry → (core ≡ k) × (colour_run_by v ≡ Some (colour_of entry)))
-      → PhaseIsTold weave.setup (of shards) k v.phase → MarksStand (of shards) (held held_by chains (slice_set weave.workers k v)) → KeptBy shards chains v
+      → PhaseIsTold weave.setup (of shards) k v.phase → MarksStand (of shards) (marks_in_system held_by chains (slice_set weave.workers k v)) → KeptBy shards chains v
   entry_keeps shards chains v entry adds victims finish turn_on take_on told marks = record {
     marks = marks;
     told = told;

@@ -22,7 +22,7 @@ use Rattle.mely_worker.specs.declared.made.Made.{Made}
 use Rattle.mely_worker.specs.Worker.{WorkerState}
 use Rattle.mely_worker.specs.Step.{in_phase, after_register, register_name}
 use Rattle.mely_weave.specs.Side.{SideState, shard_of, history_for, readiness_for}
-use Rattle.mely_weave.specs.Marks.{held}
+use Rattle.mely_weave.specs.Marks.{marks_in_system}
 use Rattle.mely_weave.specs.Hands.{held_by, held_in, colour_in}
 use Rattle.mely_weave.specs.Calls.{AtShard, RegisterAs}
 use Rattle.mely_weave.specs.StandsWell.{side_of, PhaseIsTold, StandsWell, WasntRefused}
@@ -65,7 +65,7 @@ module _ {S P F : Type 0} (t : TrailWords S F) (fits : F → Colour → Event �
           chains = weave.chains;
           becomes = at.becomes;
           kept = entry_keeps t fits weave well k w here shards weave.chains v (Reg c event k) adds refl (λ core no. absurd no) (λ d is _. sym (ap colour_in phase) ∙ is) (λ core no. absurd no) (of_turn, tt)
-              (woke_keeps weave.setup (history_for weave.setup weave.shards) (history_for weave.setup shards) c event k adds (held held_by weave.chains weave.workers) (held held_by weave.chains (slice_set weave.workers k v)) owner started worth
+              (woke_keeps weave.setup (history_for weave.setup weave.shards) (history_for weave.setup shards) c event k adds (marks_in_system held_by weave.chains weave.workers) (marks_in_system held_by weave.chains (slice_set weave.workers k v)) owner started worth
               (ap (λ (l : List Entry). begun_of l c) was ∙ at.does.1.0 ∙ ap (λ (l : List Entry). ended_of l c) (sym was))
               (ap (λ (l : List Entry). queued_of l c) was ∙ at.does.1.1)
               (at.does.1.2 ∙ ap (λ (s : Setup). owner_of s at.new.history c) old_setup ∙ ap (λ (l : List Entry). owner_of weave.setup l c) (sym becomes))
@@ -89,7 +89,7 @@ module _ {S P F : Type 0} (t : TrailWords S F) (fits : F → Colour → Event �
           chains = weave.chains;
           becomes = at.becomes;
           kept = entry_keeps t fits weave well k w here shards weave.chains v (Reg c event k) adds refl (λ core no. absurd no) (λ d is _. sym (ap colour_in phase) ∙ is) (λ core no. absurd no) (of_turn, (omega (arith, begun), λ _. omega (arith, most)))
-              (told_keeps weave.setup (history_for weave.setup weave.shards) (history_for weave.setup shards) c event k adds (held held_by weave.chains weave.workers) (held held_by weave.chains (slice_set weave.workers k v))
+              (told_keeps weave.setup (history_for weave.setup weave.shards) (history_for weave.setup shards) c event k adds (marks_in_system held_by weave.chains weave.workers) (marks_in_system held_by weave.chains (slice_set weave.workers k v))
               (ap (λ (l : List Entry). begun_of l c) was ∙ at.does.1.0 ∙ ap (λ (l : List Entry). ended_of l c) (sym was))
               (subst (λ (l : List Entry). 0 < length (queued_of l c)) (sym was) at.does.1.1)
               (λ p. sym (hand_same held_by weave.chains weave.workers k w v here (sym (ap (held_in w.core) phase)) p)) well.marks);
@@ -106,7 +106,7 @@ module _ {S P F : Type 0} (t : TrailWords S F) (fits : F → Colour → Event �
           chains = weave.chains;
           becomes = at.becomes;
           kept = entry_keeps t fits weave well k w here shards weave.chains v (Reg c event k) adds refl (λ core no. absurd no) (λ d is _. sym (ap colour_in phase) ∙ is) (λ core no. absurd no) (of_turn, tt)
-              (running_keeps weave.setup (history_for weave.setup weave.shards) (history_for weave.setup shards) c event k adds (held held_by weave.chains weave.workers) (held held_by weave.chains (slice_set weave.workers k v))
+              (running_keeps weave.setup (history_for weave.setup weave.shards) (history_for weave.setup shards) c event k adds (marks_in_system held_by weave.chains weave.workers) (marks_in_system held_by weave.chains (slice_set weave.workers k v))
               (subst (λ (l : List Entry). IsRunning l c) (sym was) at.does.1.0)
               (hand_same held_by weave.chains weave.workers k w v here (sym (ap (held_in w.core) phase))) well.marks);
           never = tt;

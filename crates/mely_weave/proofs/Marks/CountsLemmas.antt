@@ -5,7 +5,7 @@ use Rattle.std.specs.Prelude.{slice_get, slice_set, flat_map}
 use Rattle.std.specs.List.{count_by}
 use Rattle.mely_event.specs.declared.mark.Mark.{Mark}
 use Rattle.mely_core.specs.CoreQueue.{CoreQueueState}
-use Rattle.mely_weave.specs.Marks.{Placed, in_chains, held, bit}
+use Rattle.mely_weave.specs.Marks.{Placed, in_chains, marks_in_system, bit}
 
 -- the same marks, in whatever order
 abbrev pub Alike : List Placed → List Placed → Type 0
@@ -67,18 +67,18 @@ module _ {W : Type 0} (in_hand : W → List Placed) where
 
   -- one chain and one worker change
   pub count_held : (p : Placed → Bool) (chains : List CoreQueueState) (ws : List W) (core k : ℕ) (old new : CoreQueueState) (w v : W) → slice_get chains core ≡ Some old → slice_get ws k ≡ Some w
-      → count_by p (held in_hand (slice_set chains core new) (slice_set ws k v)) + (count_by p (lying core old.chain) + count_by p (in_hand w)) ≡ count_by p (held in_hand chains ws) + (count_by p (lying core new.chain) + count_by p (in_hand v))
+      → count_by p (marks_in_system in_hand (slice_set chains core new) (slice_set ws k v)) + (count_by p (lying core old.chain) + count_by p (in_hand w)) ≡ count_by p (marks_in_system in_hand chains ws) + (count_by p (lying core new.chain) + count_by p (in_hand v))
   count_held p chains ws core k old new w v g h =
       omega (arith, count_chains p 0 core core chains old new (omega arith) g, count_hands p k ws w v h, count_append p (in_chains 0 chains) (flat_map in_hand ws), count_append p (in_chains 0 (slice_set chains core new)) (flat_map in_hand (slice_set ws k v)))
 
   -- only one worker changes
   pub count_held_hand : (p : Placed → Bool) (chains : List CoreQueueState) (ws : List W) (k : ℕ) (w v : W) → slice_get ws k ≡ Some w
-      → count_by p (held in_hand chains (slice_set ws k v)) + count_by p (in_hand w) ≡ count_by p (held in_hand chains ws) + count_by p (in_hand v)
+      → count_by p (marks_in_system in_hand chains (slice_set ws k v)) + count_by p (in_hand w) ≡ count_by p (marks_in_system in_hand chains ws) + count_by p (in_hand v)
   count_held_hand p chains ws k w v h =
       omega (arith, count_hands p k ws w v h, count_append p (in_chains 0 chains) (flat_map in_hand ws), count_append p (in_chains 0 chains) (flat_map in_hand (slice_set ws k v)))
 
   -- only one chain changes
   pub count_held_chain : (p : Placed → Bool) (chains : List CoreQueueState) (ws : List W) (core : ℕ) (old new : CoreQueueState) → slice_get chains core ≡ Some old
-      → count_by p (held in_hand (slice_set chains core new) ws) + count_by p (lying core old.chain) ≡ count_by p (held in_hand chains ws) + count_by p (lying core new.chain)
+      → count_by p (marks_in_system in_hand (slice_set chains core new) ws) + count_by p (lying core old.chain) ≡ count_by p (marks_in_system in_hand chains ws) + count_by p (lying core new.chain)
   count_held_chain p chains ws core old new g =
       omega (arith, count_chains p 0 core core chains old new (omega arith) g, count_append p (in_chains 0 chains) (flat_map in_hand ws), count_append p (in_chains 0 (slice_set chains core new)) (flat_map in_hand ws))

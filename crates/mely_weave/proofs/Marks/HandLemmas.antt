@@ -11,7 +11,7 @@ use Rattle.mely_steal.specs.Marks.{mark_of, without, after_replacement, IsOneEac
 use Rattle.mely_steal.proofs.MarkLemmas.{mark_of-same, without-none}
 use Rattle.mely_core.specs.CoreQueue.{CoreQueueState}
 use Rattle.mely_weave.specs.Side.{Readiness}
-use Rattle.mely_weave.specs.Marks.{Placed, is_of, is_told, bit, MarksStand, held, in_chains}
+use Rattle.mely_weave.specs.Marks.{Placed, is_of, is_told, bit, MarksStand, marks_in_system, in_chains}
 use Rattle.mely_weave.proofs.Marks.CountsLemmas.{Alike, lying, count_append, count_cons, count_held, count_held_hand, count_held_chain, count_one_hand, count_one_chain}
 use Rattle.mely_weave.proofs.Marks.MarkLemmas.{stand_changed}
 
@@ -108,17 +108,17 @@ sound_mark of marks m among stands =
       worth = leb-true m.1.worth (of c).worth (and_second (m.1.started == (of c).begun) (nat_le m.1.worth (of c).worth) more);
     }
 
-module _ {W : Type 0} (in_hand : W → List Placed) (of : Colour → Readiness) (chains : List CoreQueueState) (ws : List W) (stands : MarksStand of (held in_hand chains ws)) where
+module _ {W : Type 0} (in_hand : W → List Placed) (of : Colour → Readiness) (chains : List CoreQueueState) (ws : List W) (stands : MarksStand of (marks_in_system in_hand chains ws)) where
   -- a mark in a hand is sound
   pub hand_sound : (k : ℕ) (w : W) (m : Placed) → slice_get ws k ≡ Some w → in_hand w ≡ m ∷ [] → IsSoundMark of m
   hand_sound k w m here holds =
-      sound_mark of (held in_hand chains ws) m
+      sound_mark of (marks_in_system in_hand chains ws) m
       (λ p. omega (arith, count_one_hand in_hand p k ws w here, ap (λ (l : List Placed). count_by p l) holds, count_cons p m [], count_append p (in_chains 0 chains) (flat_map in_hand ws))) stands
 
   -- so is a mark of a chain
   pub chain_sound : (core : ℕ) (queue : CoreQueueState) (c : Colour) (mark : Mark) → slice_get chains core ≡ Some queue → IsOneEach queue.chain → mark_of c queue.chain ≡ Some mark → IsSoundMark of (core, mark)
   chain_sound core queue c mark there one is =
-      sound_mark of (held in_hand chains ws) (core, mark)
+      sound_mark of (marks_in_system in_hand chains ws) (core, mark)
       (λ p. omega (arith, count_one_chain p 0 core core chains queue (omega arith) there, count_without p core c queue.chain mark one is, count_append p (in_chains 0 chains) (flat_map in_hand ws))) stands
 
   -- no chain has a mark of the colour of a mark in a hand
@@ -141,10 +141,10 @@ module _ {W : Type 0} (in_hand : W → List Placed) (of : Colour → Readiness) 
 
 module _ {W : Type 0} (in_hand : W → List Placed) (chains : List CoreQueueState) (ws : List W) (k : ℕ) (w v : W) (here : slice_get ws k ≡ Some w) where
   abbrev before : List Placed
-  before = held in_hand chains ws
+  before = marks_in_system in_hand chains ws
 
   abbrev after : List Placed
-  after = held in_hand chains (slice_set ws k v)
+  after = marks_in_system in_hand chains (slice_set ws k v)
 
   of_list : (p : Placed → Bool) (l l' : List Placed) → l ≡ l' → count_by p l ≡ count_by p l'
   of_list p l l' e = ap (λ (x : List Placed). count_by p x) e
@@ -162,28 +162,28 @@ module _ {W : Type 0} (in_hand : W → List Placed) (chains : List CoreQueueStat
   hand_gives m one none p = omega (arith, count_held_hand in_hand p chains ws k w v here, of_list p (in_hand w) (m ∷ []) one, of_list p (in_hand v) [] none, count_cons p m after, count_cons p m [])
 
   -- it has another mark in the place of its own; the rest is what there is without it
-  pub hand_swaps : (u : W) (m n : Placed) → in_hand w ≡ m ∷ [] → in_hand v ≡ n ∷ [] → in_hand u ≡ [] → Alike after (n ∷ held in_hand chains (slice_set ws k u))
-  hand_swaps u m n was is none p = omega (arith, count_held_hand in_hand p chains ws k w v here, count_held_hand in_hand p chains ws k w u here, of_list p (in_hand w) (m ∷ []) was, of_list p (in_hand v) (n ∷ []) is, of_list p (in_hand u) [] none, count_cons p n (held in_hand chains (slice_set ws k u)), count_cons p m [], count_cons p n [])
+  pub hand_swaps : (u : W) (m n : Placed) → in_hand w ≡ m ∷ [] → in_hand v ≡ n ∷ [] → in_hand u ≡ [] → Alike after (n ∷ marks_in_system in_hand chains (slice_set ws k u))
+  hand_swaps u m n was is none p = omega (arith, count_held_hand in_hand p chains ws k w v here, count_held_hand in_hand p chains ws k w u here, of_list p (in_hand w) (m ∷ []) was, of_list p (in_hand v) (n ∷ []) is, of_list p (in_hand u) [] none, count_cons p n (marks_in_system in_hand chains (slice_set ws k u)), count_cons p m [], count_cons p n [])
 
 module _ {W : Type 0} (in_hand : W → List Placed) (chains : List CoreQueueState) (ws : List W) (k core : ℕ) (w v : W) (old new : CoreQueueState) (here : slice_get ws k ≡ Some w) (there : slice_get chains core ≡ Some old) where
   abbrev moved : List Placed
-  moved = held in_hand (slice_set chains core new) (slice_set ws k v)
+  moved = marks_in_system in_hand (slice_set chains core new) (slice_set ws k v)
 
   of_marks : (p : Placed → Bool) (l l' : List Placed) → l ≡ l' → count_by p l ≡ count_by p l'
   of_marks p l l' e = ap (λ (x : List Placed). count_by p x) e
 
   -- the front of a chain goes into a hand
-  pub marks_popped : (mark : Mark) → old.chain ≡ mark ∷ new.chain → in_hand w ≡ [] → in_hand v ≡ (core, mark) ∷ [] → Alike (held in_hand chains ws) moved
+  pub marks_popped : (mark : Mark) → old.chain ≡ mark ∷ new.chain → in_hand w ≡ [] → in_hand v ≡ (core, mark) ∷ [] → Alike (marks_in_system in_hand chains ws) moved
   marks_popped mark front none one p =
       omega (arith, count_held in_hand p chains ws core k old new w v there here, of_marks p (in_hand w) [] none, of_marks p (in_hand v) ((core, mark) ∷ []) one, ap (λ (l : List Mark). count_by p (lying core l)) front, count_cons p (core, mark) (lying core new.chain), count_cons p (core, mark) [])
 
   -- a mark within a chain goes into a hand
-  pub marks_picked : (c : Colour) (mark : Mark) → IsOneEach old.chain → mark_of c old.chain ≡ Some mark → new.chain ≡ without c old.chain → in_hand w ≡ [] → in_hand v ≡ (core, mark) ∷ [] → Alike (held in_hand chains ws) moved
+  pub marks_picked : (c : Colour) (mark : Mark) → IsOneEach old.chain → mark_of c old.chain ≡ Some mark → new.chain ≡ without c old.chain → in_hand w ≡ [] → in_hand v ≡ (core, mark) ∷ [] → Alike (marks_in_system in_hand chains ws) moved
   marks_picked c mark one_each is rest none one p =
       omega (arith, count_held in_hand p chains ws core k old new w v there here, of_marks p (in_hand w) [] none, of_marks p (in_hand v) ((core, mark) ∷ []) one, count_without p core c old.chain mark one_each is, ap (λ (l : List Mark). count_by p (lying core l)) rest, count_cons p (core, mark) [])
 
   -- a mark in a hand goes to the back of a chain
-  pub marks_pushed : (mark : Mark) → new.chain ≡ old.chain ++ mark ∷ [] → in_hand w ≡ (core, mark) ∷ [] → in_hand v ≡ [] → Alike (held in_hand chains ws) moved
+  pub marks_pushed : (mark : Mark) → new.chain ≡ old.chain ++ mark ∷ [] → in_hand w ≡ (core, mark) ∷ [] → in_hand v ≡ [] → Alike (marks_in_system in_hand chains ws) moved
   marks_pushed mark back one none p =
       omega (
         arith,
@@ -197,18 +197,18 @@ module _ {W : Type 0} (in_hand : W → List Placed) (chains : List CoreQueueStat
       )
 
   -- nothing moves
-  pub marks_stay : new ≡ old → in_hand v ≡ in_hand w → Alike (held in_hand chains ws) moved
+  pub marks_stay : new ≡ old → in_hand v ≡ in_hand w → Alike (marks_in_system in_hand chains ws) moved
   marks_stay same hand p =
       omega (arith, count_held in_hand p chains ws core k old new w v there here, of_marks p (in_hand v) (in_hand w) hand, ap (λ (q : CoreQueueState). count_by p (lying core q.chain)) same)
 
   -- a mark is raised where it lies, as far as a report that is told
   pub marks_raised : (of : Colour → Readiness) (was now : Mark) → now.colour ≡ was.colour → now.started ≡ was.started → now.worth ≤ (of was.colour).worth → IsOneEach old.chain → mark_of now.colour old.chain ≡ Some was → new.chain ≡ after_replacement now old.chain → in_hand v ≡ in_hand w
-      → (told : is_told of (core, now) ≡ true) → MarksStand of (held in_hand chains ws) → MarksStand of moved
+      → (told : is_told of (core, now) ≡ true) → MarksStand of (marks_in_system in_hand chains ws) → MarksStand of moved
   marks_raised of was now of_colour started worth one_each is rest hand told stands =
       let c : Colour = now.colour in
-      let others : List Placed = held in_hand (slice_set chains core (record old { chain = without c old.chain })) ws in
+      let others : List Placed = marks_in_system in_hand (slice_set chains core (record old { chain = without c old.chain })) ws in
       let ready : (of c).ready ≡ true = subst (λ (d : Colour). (of d).ready ≡ true) (sym of_colour) (chain_sound in_hand of chains ws stands core old c was there one_each is).ready in
-      stand_changed of of c (held in_hand chains ws) moved ((core, was) ∷ []) ((core, now) ∷ []) others (λ d _. refl) (ap (λ (d : Colour). d.0) (sym of_colour), tt) (refl, tt) (sym (ap bit ready)) (sym (ap bit ready)) (told, tt)
+      stand_changed of of c (marks_in_system in_hand chains ws) moved ((core, was) ∷ []) ((core, now) ∷ []) others (λ d _. refl) (ap (λ (d : Colour). d.0) (sym of_colour), tt) (refl, tt) (sym (ap bit ready)) (sym (ap bit ready)) (told, tt)
       (λ p. omega (arith, count_held_chain in_hand p chains ws core old (record old { chain = without c old.chain }) there, count_without p core c old.chain was one_each is, count_cons p (core, was) others))
       (λ p. omega (
         arith,
@@ -223,7 +223,7 @@ module _ {W : Type 0} (in_hand : W → List Placed) (chains : List CoreQueueStat
 
 module _ {W : Type 0} (in_hand : W → List Placed) (chains : List CoreQueueState) (ws : List W) (core : ℕ) (old new : CoreQueueState) (there : slice_get chains core ≡ Some old) where
   -- a chain gains a mark at its back
-  pub chain_gains : (mark : Mark) → new.chain ≡ old.chain ++ mark ∷ [] → Alike (held in_hand (slice_set chains core new) ws) ((core, mark) ∷ held in_hand chains ws)
+  pub chain_gains : (mark : Mark) → new.chain ≡ old.chain ++ mark ∷ [] → Alike (marks_in_system in_hand (slice_set chains core new) ws) ((core, mark) ∷ marks_in_system in_hand chains ws)
   chain_gains mark back p =
       omega (
         arith,
@@ -232,11 +232,11 @@ module _ {W : Type 0} (in_hand : W → List Placed) (chains : List CoreQueueStat
         ap (λ (l : List Placed). count_by p l) (map-append (λ (m : Mark). let q : Placed = (core, m) in q) old.chain (mark ∷ [])),
         count_append p (lying core old.chain) ((core, mark) ∷ []),
         count_cons p (core, mark) [],
-        count_cons p (core, mark) (held in_hand chains ws),
+        count_cons p (core, mark) (marks_in_system in_hand chains ws),
       )
 
   -- an unready colour has no mark in a chain
-  pub none_in_chain : (of : Colour → Readiness) (c : Colour) → (of c).ready ≡ false → MarksStand of (held in_hand chains ws) → IsSome (mark_of c old.chain) → ⊥
+  pub none_in_chain : (of : Colour → Readiness) (c : Colour) → (of c).ready ≡ false → MarksStand of (marks_in_system in_hand chains ws) → IsSome (mark_of c old.chain) → ⊥
   none_in_chain of c unready stands is =
       omega (
         arith,

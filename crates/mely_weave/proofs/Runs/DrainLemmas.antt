@@ -32,7 +32,7 @@ use Rattle.mely_core.specs.CoreQueue.{CoreQueueState}
 use Rattle.mely_worker.specs.declared.phase.Phase.{Phase}
 use Rattle.mely_worker.specs.declared.phase.Phase.TheVariants.{Free, Popped, Picked, Landing, Pushing, Turning}
 use Rattle.mely_weave.specs.Side.{shard_of, history_in, history_for, readiness_of}
-use Rattle.mely_weave.specs.Marks.{Placed, in_chains, held, is_of, bit}
+use Rattle.mely_weave.specs.Marks.{Placed, in_chains, marks_in_system, is_of, bit}
 use Rattle.mely_weave.specs.Hands.{held_in, held_by, colour_in, colour_run_by}
 use Rattle.mely_weave.specs.StandsWell.{IsTurningOn}
 use Rattle.mely_weave.proofs.Entries.EntryLemmas.{is_ready}
@@ -212,7 +212,7 @@ no_bit true h = absurd (omega (arith, h))
 no_bit false h = refl
 
 module _ {S P F : Type 0} (t : TrailWords S F) (fits : F → Colour → Event → Option P → Type 0) (weave : WeaveState S P) (well : StandsWell t fits weave) (quiet : IsQuiet weave) where
-  no_marks : held (λ (w : WorkerState S P). held_by w) weave.chains weave.workers ≡ []
+  no_marks : marks_in_system (λ (w : WorkerState S P). held_by w) weave.chains weave.workers ≡ []
   no_marks = ap (λ (l : List Placed). l ++ flat_map (λ (w : WorkerState S P). held_by w) weave.workers) (empty_chains 0 weave.chains quiet.empty) ∙ free_hands weave.workers quiet.free
 
   abbrev of_colour : Colour → ColourAccount

@@ -17,10 +17,9 @@ use Rattle.mely_weave.specs.Calls.{AtChain, PushAs, RetellAs, side_words, weave_
 use Rattle.mely_weave.specs.Side.{SideState, readiness_for}
 use Rattle.mely_weave.specs.Hands.{held_by}
 use Rattle.mely_weave.proofs.Runs.SidedStepLemmas.{step_on_side}
-use Rattle.mely_weave.specs.Trying.{TriesToPost}
 use Rattle.mely_weave.specs.StandsWell.{side_of, StandsWell, WasntRefused}
 use Rattle.mely_weave.specs.Weave.{WeaveState}
-use Rattle.mely_weave.specs.Steps.{PostAs}
+use Rattle.mely_weave.specs.Posting.{PostAs}
 use Rattle.mely_weave.specs.WeaveRun.{StepCall, PostCall, SomeStep, SomePost, Call, WeaveRun, HistoriesGrow, NoneIsThere}
 use Rattle.mely_weave.proofs.Marks.HandLemmas.{none_there}
 use Rattle.mely_weave.proofs.Lines.WholeStepLemmas.{step_keeps, step_stands}
@@ -37,7 +36,7 @@ delivers_tries t Keep a b (PushMark core mark) arrived does = (does.0, push_trie
 delivers_tries t Keep a b (Report core colour started worth) arrived does = does
 
 -- a post that delivers tries to
-posts_tries : {S P F : Type 0} (t : TrailWords S F) (Keep : SideState S P → Type 0) (a b : SideState S P) (c : Colour) (event : Event) (load : Option P) (answer : Result Registered (Unregistered P)) → PostAs t c event load answer a b → TriesToPost t Keep c event load answer a b
+posts_tries : {S P F : Type 0} (t : TrailWords S F) (Keep : SideState S P → Type 0) (a b : SideState S P) (c : Colour) (event : Event) (load : Option P) (answer : Result Registered (Unregistered P)) → PostAs (weave_words t) c event load answer a b → PostAs (side_words t Keep) c event load answer a b
 posts_tries t Keep a b c event load (Ok reply) does = (does.0, does.1, (does.2.0, delivers_tries t Keep does.0 b (delivery_after c reply) does.2.0 does.2.1))
 posts_tries t Keep a b c event load (Err back) does = does
 
@@ -46,7 +45,7 @@ delivers_grow t a b Nothing arrived does = (same_stays a b does.0).2
 delivers_grow t a b (PushMark core mark) arrived does = (chain_stays a b core (PushAs mark (Ok tt)) does.1.1).2
 delivers_grow t a b (Report core colour started worth) arrived does = (chain_stays a b core (RetellAs colour started worth arrived) does).2
 
-posts_grow : {S P F : Type 0} (t : TrailWords S F) (a b : SideState S P) (c : Colour) (event : Event) (load : Option P) (answer : Result Registered (Unregistered P)) → PostAs t c event load answer a b → ShardsGrow a.shards b.shards
+posts_grow : {S P F : Type 0} (t : TrailWords S F) (a b : SideState S P) (c : Colour) (event : Event) (load : Option P) (answer : Result Registered (Unregistered P)) → PostAs (weave_words t) c event load answer a b → ShardsGrow a.shards b.shards
 posts_grow t a b c event load (Ok reply) does = shards_onward a.shards does.0.shards b.shards (shard_stays a does.0 c _ (register_grows c event load (shape_of a.setup).cores (Ok reply)) does.1).2 (delivers_grow t does.0 b (delivery_after c reply) does.2.0 does.2.1)
 posts_grow t a b c event load (Err back) does = (shard_stays a b c _ (register_grows c event load (shape_of a.setup).cores (Err back)) does).2
 

@@ -30,7 +30,7 @@ use Rattle.mely_weave.specs.Calls.{IsOut}
 use Rattle.mely_weave.specs.Lanes.{lane_in, lane_for}
 use Rattle.mely_weave.specs.StandsWell.{StandsWell, PhaseIsTold, side_of}
 use Rattle.mely_weave.specs.Weave.{WeaveState}
-use Rattle.mely_weave.specs.WeaveStands.{IsWhole, HistoriesStand, MarksAreOne, MarksAreForOwners, MarksAreTold, ReportsAreTold, TurnsStand, StatesStand, RegistrationsFit, WeaveStands, IsHeld, IsHomeState, Turns, history_of, marks_held}
+use Rattle.mely_weave.specs.WeaveStands.{IsWhole, HistoriesStand, MarksAreOne, MarksAreForOwners, MarksAreTold, ReportsAreTold, TurnsStand, StatesStand, RegistrationsFit, WeaveStands, IsHeld, IsHomeState, Turns, history_of, placed_marks}
 use Rattle.mely_weave.proofs.Marks.CountsLemmas.{count_cons}
 use Rattle.mely_weave.proofs.Entries.EntryLemmas.{is_ready, ready_rests, some_waits}
 use Rattle.mely_weave.proofs.Wholes.GatherLemmas.{get_there}
@@ -124,7 +124,7 @@ module _ {S P F : Type 0} (t : TrailWords S F) (fits : F → Colour → Event �
   }
 
   sound : (core : ℕ) (mark : Mark) → IsHeld t fits weave core mark → IsSoundMark of (core, mark)
-  sound core mark at = sound_mark of (marks_held t fits weave) (core, mark) (count_member (marks_held t fits weave) at.0 (core, mark) at.1) well.marks
+  sound core mark at = sound_mark of (placed_marks t fits weave) (core, mark) (count_member (placed_marks t fits weave) at.0 (core, mark) at.1) well.marks
 
   told : (core : ℕ) (w : WorkerState S P) (phase : Phase S P) → slice_get weave.workers core ≡ Some w → w.phase ≡ phase → PhaseIsTold weave.setup of core phase
   told core w phase there is = subst (PhaseIsTold weave.setup of core) is (well.worker core w there).told

@@ -7,7 +7,7 @@ use Rattle.sws_engine.specs.declared.place.Role.{Role}
 use Rattle.sws_engine.specs.declared.place.Role.TheVariants.{Polling, Accepting, Talking}
 use Rattle.sws_conn.specs.declared.talk.Talk.{Ghosts as TalkWords}
 use Rattle.sws_engine.specs.Place.{PlaceState}
-use Rattle.sws_engine.specs.RunStands.{Way, if_held, is_any, is_late, at_desk, worlds, beyond, early, unended_count, asks_for, misplaced_count, desks, seats, rests, rests_beyond, rests_unended, rests_in_vain, is_last, waits_for, strays, is_at, is_opened, RunStands}
+use Rattle.sws_engine.specs.RunStands.{Way, if_held, is_any, is_late, at_desk, worlds, beyond, early, unended_count, asks_for, misplaced_count, desks, seats, rests, rests_beyond, unended_rests, rests_in_vain, is_last, waits_for, strays, is_at, is_opened, RunStands}
 use Rattle.sws_engine.specs.Counting.{bit}
 use Rattle.sws_engine.specs.Loads.{world_of}
 
@@ -77,7 +77,7 @@ module _ {W L T G H : Type 0} (y : TalkWords T L G H) (total : ℕ) where
     pub waits : (i : ℕ) → i < total → sum_by (asks_for 9 i) puts + sum_by (asks_for 1 i) puts + waits_for i becomes + is_at y i 9 s ≡ asks_for 9 i e + asks_for 1 i e + waits_for i s + is_at y i 9 becomes
     pub stray : strays becomes ≡ strays s
     pub none_unended : sum_by (unended_count total) puts ≡ 0
-    pub not_unended : rests_unended total becomes ≡ 0
+    pub not_unended : unended_rests total becomes ≡ 0
     pub late : (sum_by early puts + is_last becomes ≤ early e + is_last s) ⊎ ((worlds e ≡ 1) × (desks s ≡ 1) × (sum_by early puts + is_last becomes ≤ 1))
     pub not_in_vain : rests_in_vain becomes ≡ 0
 
@@ -160,7 +160,7 @@ module _ {W L T G H : Type 0} (y : TalkWords T L G H) (total : ℕ) where
           let h = stands.ended in
           let none = balance.none_unended in
           let not = balance.not_unended in
-          omega (arith, before_is (rests_unended total), after_is (rests_unended total), swaps.ways_are (unended_count total), h, none, not);
+          omega (arith, before_is (unended_rests total), after_is (unended_rests total), swaps.ways_are (unended_count total), h, none, not);
       late = late_after stands balance;
       not_in_vain = let h = stands.not_in_vain in let c = balance.not_in_vain in omega (arith, before_is rests_in_vain, after_is rests_in_vain, h, c);
     }

@@ -14,7 +14,7 @@ use Rattle.sws_engine.specs.declared.load.Load.{Load}
 use Rattle.sws_engine.specs.Place.{PlaceState}
 use Rattle.sws_engine.specs.RunLeaves.{resting_in, VerdictIs}
 use Rattle.sws_engine.specs.LeftKept.{KeepsStates}
-use Rattle.sws_engine.specs.Handing.{served_with, world_with, HandsOut}
+use Rattle.sws_engine.specs.Handing.{served_with_loads, world_with_loads, HandsOut}
 use Rattle.sws_engine.specs.Conclusion.{is_whole, accepted_of, failed_of, IsConcluded}
 use Rattle.sws_engine.proofs.Ends.HandingLemmas.{hand_more}
 
@@ -31,12 +31,12 @@ pub concluded : {W L T G H : Type 0} (y : TalkWords T L G H) (total : ℕ) (how 
     → IsConcluded y total how parts (record { verdict = verdict; world = world; accepted = accepted; failed = failed; served = c.served; histories = parts.histories; trails = c.trails })
 concluded {W} {L} {T} {G} {H} y total how parts room a b c world accepted failed whole there verdict none_served no_trail keeps queued lost world_is accepted_is failed_is whole_is there_is told =
     let hands = hand_more (flat_map (λ events. events) (map (λ events. events.items) parts.queued.items)) (carried_by parts.lost.items) a b c queued lost in
-    let found : c.world ≡ world_with (flat_map (λ events. events) (map (λ events. events.items) parts.queued.items) ++ carried_by parts.lost.items) (resting_in None parts.states.items) =
-    hands.world ∙ ap (λ (o : Option (WorldLoad W)). world_with (flat_map (λ events. events) (map (λ events. events.items) parts.queued.items) ++ carried_by parts.lost.items) o) keeps.world in
+    let found : c.world ≡ world_with_loads (flat_map (λ events. events) (map (λ events. events.items) parts.queued.items) ++ carried_by parts.lost.items) (resting_in None parts.states.items) =
+    hands.world ∙ ap (λ (o : Option (WorldLoad W)). world_with_loads (flat_map (λ events. events) (map (λ events. events.items) parts.queued.items) ++ carried_by parts.lost.items) o) keeps.world in
     record {
       found = keeps.added;
       shows = keeps.shows;
-      served = hands.served ∙ ap (λ (l : List (Served L)). served_with (flat_map (λ events. events) (map (λ events. events.items) parts.queued.items) ++ carried_by parts.lost.items) l) (keeps.served ∙ ap (λ (l : List (Served L)). l ++ keeps.added) none_served);
+      served = hands.served ∙ ap (λ (l : List (Served L)). served_with_loads (flat_map (λ events. events) (map (λ events. events.items) parts.queued.items) ++ carried_by parts.lost.items) l) (keeps.served ∙ ap (λ (l : List (Served L)). l ++ keeps.added) none_served);
       world = world_is ∙ ap (λ (o : Option (WorldLoad W)). option_map (λ held. held.world) o) found;
       accepted = accepted_is ∙ ap (λ (o : Option (WorldLoad W)). accepted_of o) found;
       failed = failed_is ∙ ap (λ (o : Option (WorldLoad W)). failed_of o) found;

@@ -42,7 +42,7 @@ use Rattle.sws_engine.specs.declared.place.Seat.{Seat}
 use Rattle.sws_engine.specs.declared.place.Role.{Role}
 use Rattle.sws_engine.specs.declared.place.Role.TheVariants.{Talking}
 use Rattle.sws_engine.specs.RunLeaves.{talkers, resting_in, ShowsSeat, RoleTells, StateTells, is_lacking, is_out_of_memory, IsJudged, VerdictIs}
-use Rattle.sws_engine.specs.Handing.{place_link, served_with_load, served_with}
+use Rattle.sws_engine.specs.Handing.{place_link, served_with_load, served_with_loads}
 use Rattle.sws_engine.specs.Conclusion.{is_empty, is_whole, accepted_of, failed_of, ways_of, world_found, IsConcluded}
 use Rattle.sws_engine.proofs.Ends.FreshServedLemmas.{fresh_served}
 use Rattle.sws_engine.proofs.Paths.ScriptFollowedLemmas.{followed}
@@ -69,7 +69,7 @@ load_length i None served = refl
 load_length i (Some (load.World held)) served = refl
 load_length i (Some (load.Link link)) served = place_length link i served
 
-served_length : {W L : Type 0} (events : List (Event × Option (Load W L))) (served : List (Served L)) → length (served_with events served) ≡ length served
+served_length : {W L : Type 0} (events : List (Event × Option (Load W L))) (served : List (Served L)) → length (served_with_loads events served) ≡ length served
 served_length [] served = refl
 served_length (e ∷ events) served = served_length events (served_with_load e.0.arg e.1 served) ∙ load_length e.0.arg e.1 served
 

@@ -18,7 +18,7 @@ use Rattle.sws_engine.specs.declared.task.Task.TheVariants as task
 use Rattle.sws_engine.specs.Tasks.{task_of}
 use Rattle.sws_engine.specs.Loads.{Fit, TaskFits, WorldStands, LinkStands}
 use Rattle.sws_engine.specs.Place.{PlaceState}
-use Rattle.sws_engine.specs.Handing.{give_link, place_link, served_with_load, world_with_load, served_with, world_with}
+use Rattle.sws_engine.specs.Handing.{give_link, place_link, served_with_load, world_with_load, served_with_loads, world_with_loads}
 use Rattle.sws_engine.specs.RunFits.{CarriesStanding, RunFits}
 use Rattle.sws_engine.specs.RunLeaves.{or_else}
 use Rattle.sws_engine.proofs.Events.WaitingListsLemmas.{each_append}
@@ -67,7 +67,7 @@ module _ {W L : Type 0} (x : WorldWords W L) (l : LinkWords L) (first : W) where
   world_load i (Some (load.World held)) world carries stands = carries
   world_load i (Some (load.Link link)) world carries stands = stands
 
-  pub world_stands : (events : List Way) (world : Option (WorldLoad W)) → AllByRecursion (λ (e : Way). CarriesStanding x l first e.0.arg e.1) events → IfSome world (WorldStands x l first) → IfSome (world_with events world) (WorldStands x l first)
+  pub world_stands : (events : List Way) (world : Option (WorldLoad W)) → AllByRecursion (λ (e : Way). CarriesStanding x l first e.0.arg e.1) events → IfSome world (WorldStands x l first) → IfSome (world_with_loads events world) (WorldStands x l first)
   world_stands [] world all stands = stands
   world_stands (e ∷ events) world all stands = world_stands events (world_with_load e.1 world) all.1 (world_load e.0.arg e.1 world all.0 stands)
 
@@ -110,7 +110,7 @@ module _ {W L : Type 0} (x : WorldWords W L) (l : LinkWords L) (first : W) where
   onward i a b c (inr got) (inl same) = inr (subst (λ (s : Served L). GotLink i a s) (sym same) got)
   onward i a b c (inr got) (inr again) = let both : Some got.link ≡ None = sym (ap (λ (s : Served L). s.link) got.becomes) ∙ again.none in cc
 
-  pub served_given : (i : ℕ) (events : List Way) (served : List (Served L)) (after : Served L) → AllByRecursion (λ (e : Way). CarriesStanding x l first e.0.arg e.1) events → slice_get (served_with events served) i ≡ Some after → IsGiven i served after
+  pub served_given : (i : ℕ) (events : List Way) (served : List (Served L)) (after : Served L) → AllByRecursion (λ (e : Way). CarriesStanding x l first e.0.arg e.1) events → slice_get (served_with_loads events served) i ≡ Some after → IsGiven i served after
   served_given i [] served after all is = record { before = after; there = is; given = inl refl }
   served_given i (e ∷ events) served after all is =
       let later = served_given i events (served_with_load e.0.arg e.1 served) after all.1 is in

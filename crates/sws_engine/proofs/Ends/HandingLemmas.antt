@@ -11,7 +11,7 @@ use Rattle.sws_engine.specs.declared.left.Left.{Left}
 use Rattle.sws_engine.specs.declared.load.WorldLoad.{WorldLoad}
 use Rattle.sws_engine.specs.declared.load.Load.{Load}
 use Rattle.sws_engine.specs.RunLeaves.{or_else}
-use Rattle.sws_engine.specs.Handing.{give_link, place_link, served_with_load, world_with_load, served_with, world_with, HandsOut}
+use Rattle.sws_engine.specs.Handing.{give_link, place_link, served_with_load, world_with_load, served_with_loads, world_with_loads, HandsOut}
 
 -- nothing is given where there is no connection, or one that has a link
 pub place_past : {L : Type 0} (link : L) (i : ℕ) (served : List (Served L)) → length served ≤ i → place_link link i served ≡ served
@@ -47,18 +47,18 @@ lists_push [] queue = append-nil queue.items
 lists_push (first ∷ queues) queue = ap (λ l. first.items ++ l) (lists_push queues queue) ∙ sym (append_assoc first.items (flat_map (λ events. events) (map (λ events. events.items) queues)) queue.items)
 
 module _ {W L : Type 0} where
-  pub served_more : (xs ys : List (Event × Option (Load W L))) (served : List (Served L)) → served_with (xs ++ ys) served ≡ served_with ys (served_with xs served)
+  pub served_more : (xs ys : List (Event × Option (Load W L))) (served : List (Served L)) → served_with_loads (xs ++ ys) served ≡ served_with_loads ys (served_with_loads xs served)
   served_more [] ys served = refl
   served_more (x ∷ xs) ys served = served_more xs ys (served_with_load x.0.arg x.1 served)
 
-  pub world_more : (xs ys : List (Event × Option (Load W L))) (world : Option (WorldLoad W)) → world_with (xs ++ ys) world ≡ world_with ys (world_with xs world)
+  pub world_more : (xs ys : List (Event × Option (Load W L))) (world : Option (WorldLoad W)) → world_with_loads (xs ++ ys) world ≡ world_with_loads ys (world_with_loads xs world)
   world_more [] ys world = refl
   world_more (x ∷ xs) ys world = world_more xs ys (world_with_load x.1 world)
 
   pub hand_more : (xs ys : List (Event × Option (Load W L))) (a b c : Left W L) → HandsOut xs a b → HandsOut ys b c → HandsOut (xs ++ ys) a c
   hand_more xs ys a b c one other = record {
-    served = other.served ∙ ap (λ (l : List (Served L)). served_with ys l) one.served ∙ sym (served_more xs ys a.served.items);
-    world = other.world ∙ ap (λ (o : Option (WorldLoad W)). world_with ys o) one.world ∙ sym (world_more xs ys a.world);
+    served = other.served ∙ ap (λ (l : List (Served L)). served_with_loads ys l) one.served ∙ sym (served_more xs ys a.served.items);
+    world = other.world ∙ ap (λ (o : Option (WorldLoad W)). world_with_loads ys o) one.world ∙ sym (world_more xs ys a.world);
     trails = other.trails ∙ one.trails;
   }
 

@@ -35,7 +35,7 @@ use Rattle.sws_engine.specs.RunFits.{RunFits}
 use Rattle.sws_engine.specs.declared.place.Seat.{Seat}
 use Rattle.sws_engine.specs.declared.place.Role.TheVariants.{Talking}
 use Rattle.sws_engine.specs.RunLeaves.{Talker, talkers, resting_in, ShowsSeat, StateTells, is_lacking, links_owed, AreWhole, VerdictIs}
-use Rattle.sws_engine.specs.Handing.{served_with, world_with}
+use Rattle.sws_engine.specs.Handing.{served_with_loads, world_with_loads}
 use Rattle.sws_engine.specs.Conclusion.{is_whole, accepted_of, failed_of, ways_of, world_found, IsConcluded}
 use Rattle.sws_engine.specs.StepsLeave.{HasRun}
 use Rattle.sws_engine.proofs.Ends.RunLeftLemmas.{run_left, told_as as told_of}
@@ -108,10 +108,10 @@ module _ {W L T G H : Type 0} (x : WorldWords W L) (l : LinkWords L) (y : TalkWo
     none_left = ap (λ (l : List (Event × Option (Load W L))). l ++ carried_by parts.lost.items) (ran.emptied empty) ∙ ap (λ l. carried_by l) none_lost
 
     served_are : ended.served.items ≡ is.found
-    served_are = is.served ∙ ap (λ (l : List (Event × Option (Load W L))). served_with l is.found) none_left
+    served_are = is.served ∙ ap (λ (l : List (Event × Option (Load W L))). served_with_loads l is.found) none_left
 
     world_is : world_found y total how parts ended ≡ Some ends.held
-    world_is = ap (λ (l : List (Event × Option (Load W L))). world_with l (resting_in None parts.states.items)) none_left ∙ seats.resting ∙ ends.rests
+    world_is = ap (λ (l : List (Event × Option (Load W L))). world_with_loads l (resting_in None parts.states.items)) none_left ∙ seats.resting ∙ ends.rests
 
     there_is : is_some ended.world ≡ true
     there_is = ap is_some (is.world ∙ ap (λ (o : Option (WorldLoad W)). option_map (λ held. held.world) o) world_is)

@@ -39,7 +39,7 @@ use Rattle.sws_engine.specs.RunEnds.{IsPlacedAs}
 use Rattle.sws_engine.specs.ServerRun.{server_rules}
 use Rattle.sws_engine.specs.RunFits.{RunFits}
 use Rattle.sws_engine.specs.RunLeaves.{links_owed, AreWhole, VerdictIs, StateTells}
-use Rattle.sws_engine.specs.Handing.{served_with}
+use Rattle.sws_engine.specs.Handing.{served_with_loads}
 use Rattle.sws_engine.specs.Conclusion.{is_whole, ways_of, IsConcluded}
 use Rattle.sws_engine.specs.PartsKept.{PartsKept}
 use Rattle.sws_engine.specs.ThreadsLeave.{HasRunThreads}
@@ -114,7 +114,7 @@ module _ {W L T G H : Type 0} (x : WorldWords W L) (l : LinkWords L) (y : TalkWo
         let many = served_many x l y hall first how parts ended kept.many kept.placed kept.of_world fits is tell in
         let under : i < total = (let within = slice_get_within ended.served.items i s there in omega (arith, within, many)) in
         let none_left : ways_of y total how parts ended ≡ [] = ap (λ (l : List (Event × Option (Load W L))). l ++ carried_by parts.lost.items) (kept.emptied run.0) ∙ ap (λ l. carried_by l) run.1 in
-        let served_are : ended.served.items ≡ is.found = is.served ∙ ap (λ (l : List (Event × Option (Load W L))). served_with l is.found) none_left in
+        let served_are : ended.served.items ≡ is.found = is.served ∙ ap (λ (l : List (Event × Option (Load W L))). served_with_loads l is.found) none_left in
         conn_follows x l y hall first how parts ended kept.many kept.placed kept.of_world fits is tell served_are i
         (λ place seat at talks nothing some. ap (λ (w : Bool). due_after (reported_by w (y.view_of seat.talk).pending)) (unkept seat.talk some) ∙ ap (λ (n : Next). due_after (reported_by false n)) nothing)
         coming one script s trail known at answers there run_of (whole i s under there) (told.0.enough i s there);

@@ -11,7 +11,7 @@ use Rattle.sws_link.specs.declared.Link.{Ghosts as LinkWords}
 use Rattle.sws_link.specs.declared.world.World.{Ghosts as WorldWords}
 use Rattle.sws_conn.specs.declared.talk.Talk.{Ghosts as TalkWords}
 use Rattle.sws_conn.specs.Path.{Handler, open_link, read_piece, parse, look, write_part, resume, close}
-use Rattle.sws_conn.specs.Talks.{TalkView, unopened_view, next_told, due}
+use Rattle.sws_conn.specs.Talks.{TalkView, unopened_view, reported_next, due}
 use Rattle.sws_engine.specs.declared.load.Load.{Load}
 use Rattle.sws_engine.specs.declared.load.Load.TheVariants as load
 use Rattle.sws_engine.specs.declared.place.Seat.{Seat}
@@ -61,7 +61,7 @@ module _ {W L T G H : Type 0} (x : WorldWords W L) (l : LinkWords L) (y : TalkWo
   ran_more (h ∷ hs) close before after carried is at does fits no_twice = (is.0, is.1, does is.0 (h ∷ hs) is.2)
 
   module _ (seat after : Seat T) (trail : List Event) (event : Event) (carried : Option (Load W L)) (puts : List (Put W L)) (stands : SeatStands x l y hall first i trail seat)
-      (next : after.next ≡ next_told (y.view_of after.talk))
+      (next : after.next ≡ reported_next (y.view_of after.talk))
       (fits : (link : L) → carried ≡ Some (load.Link link) → LinkStands x l first i link)
       (no_twice : HasRunSome y seat.talk → due (y.view_of seat.talk) ≡ Some open_link → ⊥) where
     more_trail : (stray : Option Event) (step : Handler) → event ≡ event_for i step → TrailIs x l y hall first i trail stands.ran stray → TrailIs x l y hall first i (trail ++ event ∷ []) (stands.ran ++ step ∷ []) stray
@@ -114,7 +114,7 @@ module _ {W L T G H : Type 0} (x : WorldWords W L) (l : LinkWords L) (y : TalkWo
     seat_kept false is does =
         let kept : SeatStands x l y hall first i (trail ++ event ∷ []) (record { talk = seat.talk; next = after.next; stray = stray_of seat.stray event }) = record {
           hall_is = stands.hall_is;
-          next = next ∙ ap (λ (t : T). next_told (y.view_of t)) does.0;
+          next = next ∙ ap (λ (t : T). reported_next (y.view_of t)) does.0;
           ran = stands.ran;
           runs = stands.runs;
           trailed = stray_trail seat.stray is stands.trailed;

@@ -8,7 +8,7 @@ use Rattle.sws_link.specs.declared.Link.{Ghosts as LinkWords}
 use Rattle.sws_link.specs.declared.world.World.{Ghosts as WorldWords}
 use Rattle.sws_conn.specs.declared.talk.Talk.{Ghosts as TalkWords}
 use Rattle.sws_conn.specs.Path.{open_link}
-use Rattle.sws_conn.specs.Talks.{next_told, due}
+use Rattle.sws_conn.specs.Talks.{reported_next, due}
 use Rattle.sws_engine.specs.declared.load.Load.{Load}
 use Rattle.sws_engine.specs.declared.load.Load.TheVariants as load
 use Rattle.sws_engine.specs.declared.place.Desk.{Desk}
@@ -85,7 +85,7 @@ module _ {W L : Type 0} (x : WorldWords W L) (l : LinkWords L) (first : W) where
 
   module _ {T G H : Type 0} (y : TalkWords T L G H) (hall : H) where
     pub seat_after : (c : Colour) (event : Event) (carried : Option (Load W L)) (trail : List Event) (seat after : Seat T) (puts : List (Put W L)) → 2 ≤ c.0 → SeatStands x l y hall first (conn_of c) trail seat → Fit x l first c event carried
-        → RunsSeat y (is_due (conn_of c) (due (y.view_of seat.talk)) event) (conn_of c) seat event carried after puts → after.next ≡ next_told (y.view_of after.talk) → (HasRunSome y seat.talk → due (y.view_of seat.talk) ≡ Some open_link → ⊥)
+        → RunsSeat y (is_due (conn_of c) (due (y.view_of seat.talk)) event) (conn_of c) seat event carried after puts → after.next ≡ reported_next (y.view_of after.talk) → (HasRunSome y seat.talk → due (y.view_of seat.talk) ≡ Some open_link → ⊥)
         → SeatStands x l y hall first (conn_of c) (trail ++ event ∷ []) after × PutsFit puts
     seat_after c event carried trail seat after puts high stands fit does next never =
         let own = conn_fit x l first c event.arg (task_of event.handler) carried high fit in

@@ -38,7 +38,7 @@ use Rattle.sws_engine.specs.declared.place.Seat.{Seat}
 use Rattle.sws_engine.specs.declared.place.Role.{Role}
 use Rattle.sws_engine.specs.declared.place.Role.TheVariants.{Polling, Accepting, Talking}
 use Rattle.sws_engine.specs.Place.{PlaceState}
-use Rattle.sws_engine.specs.PlaceShown.{IsAlike}
+use Rattle.sws_engine.specs.PlaceFields.{IsAlike}
 use Rattle.sws_engine.specs.Loads.{Fit}
 use Rattle.sws_engine.specs.Fresh.{FreshRole, AreFirstPlaces as AreFresh, first_poll, first_load}
 use Rattle.sws_engine.specs.Handling.{Runs}

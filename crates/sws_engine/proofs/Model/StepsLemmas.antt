@@ -34,7 +34,7 @@ use Rattle.sws_engine.specs.declared.place.Role.TheVariants.{Polling, Accepting,
 use Rattle.sws_engine.specs.Place.{PlaceState}
 use Rattle.sws_engine.specs.RunParts.{RunParts}
 use Rattle.sws_engine.specs.RunLeaves.{Talker, talkers, is_out_of_memory, links_owed, AreWhole, VerdictIs}
-use Rattle.sws_engine.specs.Handing.{served_with}
+use Rattle.sws_engine.specs.Handing.{served_with_loads}
 use Rattle.sws_engine.specs.Conclusion.{is_empty, is_whole, IsConcluded}
 use Rattle.sws_engine.specs.PathStates.{TellsPaths, is_memory, is_spoilt_role, is_spoilt}
 use Rattle.sws_engine.specs.Agrees.{AreOpened}
@@ -77,7 +77,7 @@ module _ {W L T G H : Type 0} (x : WorldWords W L) (l : LinkWords L) (y : TalkWo
   served_are : ended.served.items ≡ is.found
   served_are =
       is.served
-      ∙ ap (λ (w : List (Event × Option (Load W L))). served_with w is.found)
+      ∙ ap (λ (w : List (Event × Option (Load W L))). served_with_loads w is.found)
       (ap (λ (w : List (Event × Option (Load W L))). w ++ carried_by parts.lost.items) (ran.emptied whole.0) ∙ ap (λ l. carried_by l) whole.1)
 
   seats : SeatsStand total parts.states.items

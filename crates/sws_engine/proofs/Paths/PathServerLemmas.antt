@@ -20,7 +20,7 @@ use Rattle.sws_engine.specs.declared.place.Role.TheVariants.{Polling, Accepting,
 use Rattle.sws_engine.specs.declared.task.Task.{Task}
 use Rattle.sws_engine.specs.declared.task.Task.TheVariants as task
 use Rattle.sws_engine.specs.Place.{PlaceState}
-use Rattle.sws_engine.specs.PlaceShown.{IsAlike}
+use Rattle.sws_engine.specs.PlaceFields.{IsAlike}
 use Rattle.sws_engine.specs.Tasks.{task_of}
 use Rattle.sws_engine.specs.Loads.{TaskFits, Fit}
 use Rattle.sws_engine.specs.Handling.{Put, is_due, conn_of, RunsDesk, RunsAccepting, RunsSeat, RunsRole}

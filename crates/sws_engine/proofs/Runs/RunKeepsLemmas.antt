@@ -22,7 +22,7 @@ use Rattle.sws_engine.specs.Tasks.{task_of, number_of_task}
 use Rattle.sws_engine.specs.Place.{PlaceState}
 use Rattle.sws_engine.specs.Loads.{Fit, at_first, world_of}
 use Rattle.sws_engine.specs.Handling.{Put, number_of, next_puts, is_due, conn_of, RunsDesk, RunsAccepting, RunsSeat, RunsRole, Runs}
-use Rattle.sws_engine.specs.RunStands.{Way, if_held, is_any, is_beyond, is_late, is_unended, at_desk, at_seat, misplaced_at, first_number, due_number, worlds, beyond, early, unended_count, asks_for, misplaced_count, desks, seats, rests, rests_beyond, rests_unended, is_last, waits_for, is_at, is_opened, RunStands}
+use Rattle.sws_engine.specs.RunStands.{Way, if_held, is_any, is_beyond, is_late, is_unended, at_desk, at_seat, misplaced_at, first_number, due_number, worlds, beyond, early, unended_count, asks_for, misplaced_count, desks, seats, rests, rests_beyond, unended_rests, is_last, waits_for, is_at, is_opened, RunStands}
 use Rattle.sws_engine.proofs.Balances.BalanceLemmas.{Balance, Swaps, sum_below, others, before_is, desk_alone, seat_alone, stands_after}
 use Rattle.sws_engine.proofs.Balances.ConnBalanceLemmas.{conn_balance}
 use Rattle.sws_engine.proofs.Balances.DeskBalanceLemmas.{wait_balance}
@@ -254,7 +254,7 @@ module _ {W L T G H : Type 0} (x : WorldWords W L) (l : LinkWords L) (y : TalkWo
           let one = stands.one_seat e.0.arg conn in
           let not_there : times e.0.arg desk.waiting.items ≡ 0 = omega (arith, law, held, once, few, one, before (waits_for e.0.arg), desk_mine (λ d. times e.0.arg d.waiting.items)) in
           let ended = stands.ended in
-          let not_early : if_held (is_unended total) desk.resting ≡ 0 = omega (arith, ended, before (rests_unended total), desk_mine (λ d. if_held (is_unended total) d.resting)) in
+          let not_early : if_held (is_unended total) desk.resting ≡ 0 = omega (arith, ended, before (unended_rests total), desk_mine (λ d. if_held (is_unended total) d.resting)) in
           stands_after y total states after ways later s becomes e (carried_by puts) swaps stands (wait_balance y x l total s becomes desk next e e.0.arg puts was is runs.colour number refl (ap world_of wait.carries) not_there not_early does2)
 
       desk_keeps : (role : Role W T) → becomes.role ≡ role → RunsRole x l y s.colour (Polling desk) e.0 e.1 role puts total → RunStands y total after later

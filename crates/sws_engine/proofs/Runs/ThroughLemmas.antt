@@ -19,7 +19,7 @@ use Rattle.sws_engine.specs.declared.place.Frame.{Frame}
 use Rattle.sws_engine.specs.Place.{PlaceState}
 use Rattle.sws_engine.specs.Loads.{Fit, at_first}
 use Rattle.sws_engine.specs.Handling.{Put, Runs}
-use Rattle.sws_engine.specs.PlaceShown.{IsAlike}
+use Rattle.sws_engine.specs.PlaceFields.{IsAlike}
 use Rattle.sws_engine.specs.RunFact.{RunFact}
 use Rattle.sws_engine.proofs.Runs.WeaveKeepsLemmas.{WeaveFact, weave_keeps}
 

@@ -20,7 +20,7 @@ use Rattle.sws_engine.specs.declared.place.Frame.{Frame}
 use Rattle.sws_engine.specs.Place.{PlaceState}
 use Rattle.sws_engine.specs.Loads.{Fit, at_first}
 use Rattle.sws_engine.specs.Handling.{Put, Runs}
-use Rattle.sws_engine.specs.PlaceShown.{IsAlike}
+use Rattle.sws_engine.specs.PlaceFields.{IsAlike}
 use Rattle.sws_engine.specs.RunStands.{RunStands}
 use Rattle.sws_engine.proofs.Runs.RunKeepsLemmas.{run_keeps}
 use Rattle.sws_engine.proofs.Runs.SameStandsLemmas.{same_stands}

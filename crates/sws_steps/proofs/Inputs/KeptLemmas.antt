@@ -112,7 +112,7 @@ module _ {Hall Answer L : Type 0} (p : Protocol Hall Answer) (orderly : IsOrderl
           by_tells : (tells : Option LinkTells) → IsTold c tells sound.taken sound.sent → IsAnswered p hall tells
           by_tells None told = tt
           by_tells (Some tells) told =
-              answered-read p orderly c tells sound.taken sound.sent sound.course told ready ∙ ap (λ s. p.responses_of s tells.taken) same
+              answered-read p orderly c tells sound.taken sound.sent sound.progress told ready ∙ ap (λ s. p.responses_of s tells.taken) same
 
       parse_end : (cut : Cut) → c.end ≡ None → ((after_parse p c cut).end ≡ None) ⊎ ((after_parse p c cut).end ≡ Some ending.Done)
       parse_end (Whole len) none = inl none

@@ -172,15 +172,15 @@ module _ {Hall Answer : Type 0} (p : Protocol Hall Answer) (orderly : IsOrderly 
               is,
               record {
                 input = input;
-                few = subst (λ t. length t ≤ p.input_limit) (sym says.0) (taken-few c sound.taken sound.sent sound.course);
-                prefix = subst (λ s. IsPrefix tells.written (p.responses_of s tells.taken)) same (written-first c tells sound.taken sound.sent sound.course says);
+                few = subst (λ t. length t ≤ p.input_limit) (sym says.0) (taken-few c sound.taken sound.sent sound.progress);
+                prefix = subst (λ s. IsPrefix tells.written (p.responses_of s tells.taken)) same (written-first c tells sound.taken sound.sent sound.progress says);
                 whole = λ e.
                     let done : c.end ≡ Some ending.Done = end_is ∙ ap Some e in
-                    written-whole c tells sound.taken sound.sent sound.course says done (ended.done done)
+                    written-whole c tells sound.taken sound.sent sound.progress says done (ended.done done)
                     ∙ ap (λ s. p.responses_of s (input_of tells)) same ∙ ap (p.responses_of hall) input;
                 last = λ e.
                     let done : c.end ≡ Some ending.Done = end_is ∙ ap Some e in
-                    subst (λ s. IsLast p s tells) same (nothing-more c tells sound.taken sound.sent sound.course says (ended.done done));
+                    subst (λ s. IsLast p s tells) same (nothing-more c tells sound.taken sound.sent sound.progress says (ended.done done));
               },
             )
 
@@ -206,7 +206,7 @@ module _ {Hall Answer : Type 0} (p : Protocol Hall Answer) (orderly : IsOrderly 
       where
         by_tells : (tells : Option LinkTells) → IsTold k.standing tells sound.taken sound.sent → BeginsResponses p k.standing.hall tells
         by_tells None told = tt
-        by_tells (Some tells) told = written-first k.standing tells sound.taken sound.sent sound.course told
+        by_tells (Some tells) told = written-first k.standing tells sound.taken sound.sent sound.progress told
 
         by_link : (link : Option L) → IsToldBy x k.standing link sound.taken sound.sent → BeginsResponses p k.standing.hall (told_by_link x link)
         by_link None told = tt

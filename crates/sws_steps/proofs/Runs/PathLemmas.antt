@@ -18,7 +18,7 @@ use Rattle.sws_steps.specs.declared.Next.TheVariants as next
 use Rattle.sws_steps.specs.Step.{StepsFrom, going_to, ending_as, still_waiting, room_of, wait_limit, has_all_input, after_read, after_parse, after_answer, with_answer, is_last, after_look, after_part, after_write}
 use Rattle.sws_steps.specs.Sound.{core_before_open, IsSound, IsReadyTo, IsLinked, IsEnded}
 use Rattle.sws_steps.specs.Outcome.{UnlessMemory}
-use Rattle.sws_steps.specs.Path.{Handler, open_link, read_piece, parse, look, write_part, resume, close, handler_of, event_of, Scripted, scripted_at, scripted_step, IsPathFrom, events, rank_of, steps_left, rest_of_path, path_of, path_by, rest_by, answers_to_come, told_by_link, path_told, rest_told, TakesOff, TakesEvent, HasNoEvents, Follows, FollowsBy, FollowsTold, FollowsScript}
+use Rattle.sws_steps.specs.Path.{Handler, open_link, read_piece, parse, look, write_part, resume, close, handler_of, event_of, Scripted, scripted_at, scripted_step, IsPathFrom, events, rank_of, steps_left, rest_of_path, path_of, path_by, rest_by, answers_to_come, told_by_link, known_path, known_rest, TakesOff, TakesEvent, HasNoEvents, Follows, FollowsBy, FollowsTold, FollowsScript}
 use Rattle.sws_steps.proofs.Inputs.PartLemmas.{something-front}
 use Rattle.sws_steps.proofs.Steps.ReadyLemmas.{Ready, parse-ready, look-ready, read-ready, write-ready, close-ready}
 use Rattle.sws_steps.proofs.Steps.MeasureLemmas.{read_less, parse_less, look_less, write_less}
@@ -457,7 +457,7 @@ module _ {Hall Answer : Type 0} (p : Protocol Hall Answer) (orderly : IsOrderly 
                 let later = scripted_step p (record { standing = c; script = script }) in (
                   rest_of_path p d later.script,
                   ap (rest_by p d) (ap answers_to_come follows.is ∙ follows.to_come),
-                  rest-step (record { standing = c; script = script }) sound.course.limits sound.ready
+                  rest-step (record { standing = c; script = script }) sound.progress.limits sound.ready
                       ∙ ap (λ s. event_of c ++ rest_of_path p s later.script) (sym follows.standing),
                 )
 
@@ -467,7 +467,7 @@ module _ {Hall Answer : Type 0} (p : Protocol Hall Answer) (orderly : IsOrderly 
         by_told (Some tells) now follows untold = by_script tells.to_come now follows untold
 
     -- no event is left where no step is pending
-    pub none-left : (conn : ConnState Hall L) → IsSound p x conn → conn.standing.pending ≡ next.Nothing → HasNoEvents (rest_told p x conn)
+    pub none-left : (conn : ConnState Hall L) → IsSound p x conn → conn.standing.pending ≡ next.Nothing → HasNoEvents (known_rest p x conn)
     none-left conn sound pending = by_script (answers_to_come (told_by_link x conn.link))
       where
         by_script : (script : Option Script) → HasNoEvents (rest_by p conn.standing script)
@@ -494,9 +494,9 @@ module _ {Hall Answer : Type 0} (p : Protocol Hall Answer) (orderly : IsOrderly 
 
   -- opening takes the first event off the path
   pub opens-path : {L : Type 0} (x : LinkWords L) (c : ConnCoreState Hall) (before : Option L) (link : L) → Ready p c → IsLinked c.pending before → false ≡ is_some before
-      → TakesOff (open_link ∷ []) (path_told p c.hall (x.tells link)) (rest_told p x (record { standing = going_to c next.Read; link = Some link }))
+      → TakesOff (open_link ∷ []) (known_path p c.hall (x.tells link)) (known_rest p x (record { standing = going_to c next.Read; link = Some link }))
   opens-path x c before link ready linked none =
-      subst (λ s. TakesOff (open_link ∷ []) (path_told p c.hall (x.tells link)) (rest_told p x (record { standing = going_to s next.Read; link = Some link })))
+      subst (λ s. TakesOff (open_link ∷ []) (known_path p c.hall (x.tells link)) (known_rest p x (record { standing = going_to s next.Read; link = Some link })))
       (sym (not_opened c before ready linked none)) (by_script c.hall (answers_to_come (x.tells link)))
     where
       by_script : (hall : Hall) (script : Option Script) → TakesOff (open_link ∷ []) (path_by p hall script) (rest_by p (going_to (core_before_open hall) next.Read) script)

@@ -15,7 +15,7 @@ use Rattle.sws_steps.specs.Step.{Steps, going_to}
 use Rattle.sws_steps.specs.Sound.{core_before_open, IsSound, IsShutAtEnd, IsTold, IsReadyTo}
 use Rattle.sws_steps.specs.Outcome.{Outcome, UnlessMemory}
 use Rattle.sws_steps.specs.RestOutcome.{HeadsFor, HeadsForLink}
-use Rattle.sws_steps.specs.Path.{Handler, open_link, read_piece, parse, look, write_part, resume, close, handler_of, event_of, path_by, path_told, rest_by, rest_told, answers_to_come, rest_of_path, TakesOff, HasNoEvents}
+use Rattle.sws_steps.specs.Path.{Handler, open_link, read_piece, parse, look, write_part, resume, close, handler_of, event_of, path_by, known_path, rest_by, known_rest, answers_to_come, rest_of_path, TakesOff, HasNoEvents}
 use Rattle.sws_steps.specs.Run.{conn_at_open, RunsBy, IsWhole, HasRun, HasEnded, EndsRun}
 use Rattle.sws_steps.proofs.Steps.SoundLemmas.{step_sound, step_linked}
 use Rattle.sws_steps.proofs.Steps.RestOutcomeLemmas.{heads_step, ends_as}
@@ -45,7 +45,7 @@ module _ {Hall Answer : Type 0} (p : Protocol Hall Answer) (orderly : IsOrderly 
     ready = refl;
     linked = refl;
     shut = tt;
-    course = record {
+    progress = record {
       consumed = [];
       given = [];
       taken_is = refl;
@@ -102,17 +102,17 @@ module _ {Hall Answer : Type 0} (p : Protocol Hall Answer) (orderly : IsOrderly 
 
     -- the events so far were taken off the path, unless memory ran out
     abbrev RunsOff : Option (List Handler) → List Handler → ConnState Hall L → Type 0
-    RunsOff path front conn = UnlessMemory conn.standing.end (TakesOff front path (rest_told p x conn))
+    RunsOff path front conn = UnlessMemory conn.standing.end (TakesOff front path (known_rest p x conn))
 
     off-step : (path : Option (List Handler)) (front : List Handler) (before after : ConnState Hall L) → IsSound p x before → Steps p x before after
         → RunsOff path front before → RunsOff path (front ++ event_of before.standing) after
     off-step path front before after sound steps off =
         unless-both before.standing.end after.standing.end
-        (TakesOff front path (rest_told p x before))
-        (TakesOff (event_of before.standing) (rest_told p x before) (rest_told p x after))
-        (TakesOff (front ++ event_of before.standing) path (rest_told p x after))
+        (TakesOff front path (known_rest p x before))
+        (TakesOff (event_of before.standing) (known_rest p x before) (known_rest p x after))
+        (TakesOff (front ++ event_of before.standing) path (known_rest p x after))
         (end-stays p orderly x before.standing after.standing before.link after.link ending.Memory sound.ready steps)
-        (takes-both front (event_of before.standing) path (rest_told p x before) (rest_told p x after))
+        (takes-both front (event_of before.standing) path (known_rest p x before) (known_rest p x after))
         off (takes-event p orderly x before after sound steps (step_follows p x before after sound.linked steps))
 
     off-run : (path : Option (List Handler)) (trail front : List Handler) (first last : ConnState Hall L) → RunsBy p x trail first last → IsSound p x first
@@ -136,7 +136,7 @@ module _ {Hall Answer : Type 0} (p : Protocol Hall Answer) (orderly : IsOrderly 
         ready = opened-ready p orderly hall;
         linked = refl;
         shut = not_shut;
-        course = record {
+        progress = record {
           consumed = [];
           given = [];
           taken_is = refl;
@@ -166,12 +166,12 @@ module _ {Hall Answer : Type 0} (p : Protocol Hall Answer) (orderly : IsOrderly 
           → IsFresh (x.tells first) → x.is_shut first ≡ false
           → IsSound p x (record { standing = going_to before.standing next.Read; link = Some first })
       opens-sound before same sound none fresh not_shut =
-          let limits : p.IsHall hall = subst p.IsHall same sound.course.limits in
+          let limits : p.IsHall hall = subst p.IsHall same sound.progress.limits in
           let is : before.standing ≡ core_before_open hall =
           not_opened p orderly before.standing before.link sound.ready sound.linked none ∙ ap core_before_open same in
           subst (λ (c : ConnCoreState Hall). IsSound p x (record { standing = going_to c next.Read; link = Some first })) (sym is) (opened-sound limits fresh not_shut)
 
-      opened-off : RunsOff (path_told p hall (x.tells first)) (open_link ∷ []) (conn_at_open hall first)
+      opened-off : RunsOff (known_path p hall (x.tells first)) (open_link ∷ []) (conn_at_open hall first)
       opened-off = by_script (answers_to_come (x.tells first))
         where
           by_script : (script : Option Script) → TakesOff (open_link ∷ []) (path_by p hall script) (rest_by p (going_to (core_before_open hall) next.Read) script)
@@ -186,9 +186,9 @@ module _ {Hall Answer : Type 0} (p : Protocol Hall Answer) (orderly : IsOrderly 
           trail (conn_at_open hall first) conn run.runs (opened-sound run.limits run.fresh run.not_shut)
 
       pub run-path : (trail : List Handler) (conn : ConnState Hall L) → HasRun p x hall first trail conn
-          → UnlessMemory conn.standing.end (TakesOff (open_link ∷ trail) (path_told p hall (x.tells first)) (rest_told p x conn))
+          → UnlessMemory conn.standing.end (TakesOff (open_link ∷ trail) (known_path p hall (x.tells first)) (known_rest p x conn))
       run-path trail conn run =
-          off-run (path_told p hall (x.tells first)) trail (open_link ∷ []) (conn_at_open hall first) conn run.runs (opened-sound run.limits run.fresh run.not_shut) opened-off
+          off-run (known_path p hall (x.tells first)) trail (open_link ∷ []) (conn_at_open hall first) conn run.runs (opened-sound run.limits run.fresh run.not_shut) opened-off
 
       pub run-start : p.IsHall hall → IsFresh (x.tells first) → x.is_shut first ≡ false → HasRun p x hall first [] (conn_at_open hall first)
       unfolding RunsBy
@@ -230,18 +230,18 @@ module _ {Hall Answer : Type 0} (p : Protocol Hall Answer) (orderly : IsOrderly 
             serves = facts.0;
             outcome = ends_as p orderly hall (x.tells first) (x.tells now) conn.standing end run.fresh end_is
                 (λ o h. subst (λ l. HeadsForLink p x l conn.standing o) link_is (kept.heads o h));
-            path = subst (λ e. UnlessMemory e (IsWhole (open_link ∷ trail) (path_told p hall (x.tells first)))) end_is
+            path = subst (λ e. UnlessMemory e (IsWhole (open_link ∷ trail) (known_path p hall (x.tells first)))) end_is
                 (unless-map conn.standing.end
-                (TakesOff (open_link ∷ trail) (path_told p hall (x.tells first)) (rest_told p x conn))
-                (IsWhole (open_link ∷ trail) (path_told p hall (x.tells first)))
-                (whole (path_told p hall (x.tells first)))
+                (TakesOff (open_link ∷ trail) (known_path p hall (x.tells first)) (known_rest p x conn))
+                (IsWhole (open_link ∷ trail) (known_path p hall (x.tells first)))
+                (whole (known_path p hall (x.tells first)))
                 (run-path trail conn run));
             shut = subst (λ l. IsShutAtEnd x next.Nothing l) link_is (subst (λ stage. IsShutAtEnd x stage conn.link) pending kept.sound.shut);
             fault = facts.1;
             idle = facts.2;
           }
         where
-          whole : (path : Option (List Handler)) → TakesOff (open_link ∷ trail) path (rest_told p x conn) → IsWhole (open_link ∷ trail) path
+          whole : (path : Option (List Handler)) → TakesOff (open_link ∷ trail) path (known_rest p x conn) → IsWhole (open_link ∷ trail) path
           whole None takes = tt
           whole (Some path) (left, is, split) =
               let none : left ≡ [] = subst HasNoEvents is (none-left p orderly x conn (run-sound trail conn run) pending) in

@@ -16,7 +16,7 @@ use Rattle.sws_steps.specs.ConnCore.{ConnCoreState, ConnState, reported_by, end_
 use Rattle.sws_steps.specs.Step.{Steps, Opens, OpensAt}
 use Rattle.sws_steps.specs.Sound.{IsSound, IsReadyTo, IsEnded, IsTold}
 use Rattle.sws_steps.specs.Outcome.{outcome_of, UnlessMemory}
-use Rattle.sws_steps.specs.Path.{Handler, open_link, read_piece, parse, look, write_part, resume, close, handler_of, event_of, path_of, path_by, path_told, rest_by, rest_told, rest_of_path, answers_to_come, told_by_link, TakesOff, HasNoEvents, scripted_step}
+use Rattle.sws_steps.specs.Path.{Handler, open_link, read_piece, parse, look, write_part, resume, close, handler_of, event_of, path_of, path_by, known_path, rest_by, known_rest, rest_of_path, answers_to_come, told_by_link, TakesOff, HasNoEvents, scripted_step}
 use Rattle.sws_steps.specs.Run.{HasRun, RunsBy}
 use Rattle.sws_steps.specs.RestOutcome.{HeadsForLink}
 use Rattle.sws_steps.specs.Serving.{EndsAs, EndsByScript, RoseBy}
@@ -141,18 +141,18 @@ module _ {Hall Answer : Type 0} (p : Protocol Hall Answer) (orderly : IsOrderly 
               record {
                 input = input;
                 consumes = subst (λ s. Consumes (p.responses_of s) tells) same (record {
-                  consumed = sound.course.consumed;
+                  consumed = sound.progress.consumed;
                   buffer = c.buffer;
-                  taken_is = says.0 ∙ sound.course.taken_is;
-                  begins = consumed-first p orderly c tells sound.taken sound.sent sound.course says;
+                  taken_is = says.0 ∙ sound.progress.taken_is;
+                  begins = consumed-first p orderly c tells sound.taken sound.sent sound.progress says;
                 });
-                begins = subst (λ s. IsPrefix tells.written (p.responses_of s tells.taken)) same (written-first p orderly c tells sound.taken sound.sent sound.course says);
+                begins = subst (λ s. IsPrefix tells.written (p.responses_of s tells.taken)) same (written-first p orderly c tells sound.taken sound.sent sound.progress says);
                 whole = λ done.
-                    written-whole p orderly c tells sound.taken sound.sent sound.course says done ((ended-at c ending.Done sound.ready done).done done)
+                    written-whole p orderly c tells sound.taken sound.sent sound.progress says done ((ended-at c ending.Done sound.ready done).done done)
                     ∙ ap (λ s. p.responses_of s (input_of tells)) same ∙ ap (p.responses_of hall) input;
-                read = sound.course.read_is ∙ ap length (sym says.0);
+                read = sound.progress.read_is ∙ ap length (sym says.0);
                 written = λ sure. elim sure [
-                  | inl uncut ↦ sound.course.written_is ∙ ap length (sent-all says.1.front says.1.is (says.1.none uncut))
+                  | inl uncut ↦ sound.progress.written_is ∙ ap length (sent-all says.1.front says.1.is (says.1.none uncut))
                   | inr all ↦ exchanged.written ∙ said before.says_all refl all
                 ];
               },
@@ -216,7 +216,7 @@ module _ {Hall Answer : Type 0} (p : Protocol Hall Answer) (orderly : IsOrderly 
 
     -- ---- the path
 
-    path-same : (hall : Hall) (tells : Option LinkTells) → path_told p hall tells ≡ path_to_come (path_of p hall) tells
+    path-same : (hall : Hall) (tells : Option LinkTells) → known_path p hall tells ≡ path_to_come (path_of p hall) tells
     path-same hall tells = by_script (answers_to_come tells)
       where
         by_script : (script : Option Script) → path_by p hall script ≡ option_map (path_of p hall) script
@@ -224,15 +224,15 @@ module _ {Hall Answer : Type 0} (p : Protocol Hall Answer) (orderly : IsOrderly 
         by_script (Some script) = refl
 
     pub open-run-path : (first : L) (trail : List Handler) (conn : ConnState Hall L) → HasRunOpen p x first trail conn
-        → UnlessMemory conn.standing.end (TakesOff trail (path_to_come (path_of p conn.standing.hall) (x.tells first)) (rest_told p x conn))
+        → UnlessMemory conn.standing.end (TakesOff trail (path_to_come (path_of p conn.standing.hall) (x.tells first)) (known_rest p x conn))
     open-run-path first trail conn (later, trail_is, run) =
         let hall = conn.standing.hall in
-        let Off : List Handler → Option (List Handler) → Type 0 = (λ t stage. UnlessMemory conn.standing.end (TakesOff t stage (rest_told p x conn))) in
+        let Off : List Handler → Option (List Handler) → Type 0 = (λ t stage. UnlessMemory conn.standing.end (TakesOff t stage (known_rest p x conn))) in
         subst (λ t. Off t (path_to_come (path_of p hall) (x.tells first))) (sym trail_is)
         (subst (Off (open_link ∷ later)) (path-same hall (x.tells first)) (run-path p orderly x hall first later conn run))
 
     pub open-run-due : (first : L) (trail : List Handler) (conn : ConnState Hall L) → HasRunOpen p x first trail conn
-        → IsDue (due (talk_view conn.standing)) (rest_told p x conn)
+        → IsDue (due (talk_view conn.standing)) (known_rest p x conn)
     open-run-due first trail conn (later, trail_is, run) = by_script (answers_to_come (told_by_link x conn.link)) refl
       where
         c : ConnCoreState Hall
@@ -250,7 +250,7 @@ module _ {Hall Answer : Type 0} (p : Protocol Hall Answer) (orderly : IsOrderly 
                 let after = scripted_step p (record { standing = c; script = script }) in
                 subst (λ d. BeginsWith d (rest_of_path p c script)) (sym due_is) (
                   rest_of_path p after.standing after.script,
-                  rest-step p orderly (record { standing = c; script = script }) sound.course.limits sound.ready
+                  rest-step p orderly (record { standing = c; script = script }) sound.progress.limits sound.ready
                       ∙ ap (λ front. front ++ rest_of_path p after.standing after.script) event_is,
                 )
             by_cases (inr (due_is, closed)) =

@@ -18,7 +18,7 @@ use Rattle.sws_steps.specs.declared.Next.TheVariants as next
 use Rattle.sws_steps.specs.Step.{StepsFrom, ReadsOnce, WritesOnce, ShutsOnce, OverLink, going_to, ending_as, still_waiting, room_of, wait_limit, after_read, after_parse, after_answer, with_answer, is_last, after_look, after_part, after_wrote, after_write}
 use Rattle.sws_steps.specs.Sound.{core_before_open, IsReadyTo, IsBetween, IsToParse, IsToRead, IsToLook, IsToWrite}
 use Rattle.sws_steps.specs.Outcome.{Outcome, outcome_of, Input, Stop, at_end, at_limit, at_fault, at_pause, empty_input, input_from, limit_input, cut_off, end_of, UnlessMemory}
-use Rattle.sws_steps.specs.RestOutcome.{ahead, rest_outcome, heading_by, input_by, input_to_come, waits_at, with_written, HeadsFor, HeadsForLink, HeadsByScript}
+use Rattle.sws_steps.specs.RestOutcome.{ahead, rest_outcome, rest_outcome_by, input_by, input_to_come, waits_at, with_written, HeadsFor, HeadsForLink, HeadsByScript}
 use Rattle.sws_steps.specs.Serving.{EndsByScript, EndsAs}
 use Rattle.sws_steps.proofs.Inputs.PartLemmas.{sent-rest, nothing-rest, something-rest}
 use Rattle.sws_steps.proofs.Inputs.AnswerLemmas.{first-whole, first-refused}
@@ -100,11 +100,11 @@ unless (Some ending.Fault) Fact h = h
 unless (Some ending.Memory) Fact h = tt
 
 module _ {Hall Answer : Type 0} (p : Protocol Hall Answer) (orderly : IsOrderly p) where
-  heading-no_end : (c : ConnCoreState Hall) (script : Script) → c.end ≡ None → rest_outcome p c script ≡ ahead p c script.cut (input_to_come p c script)
-  heading-no_end c script none = ap (λ e. heading_by p e c script) none
+  rest_outcome-no_end : (c : ConnCoreState Hall) (script : Script) → c.end ≡ None → rest_outcome p c script ≡ ahead p c script.cut (input_to_come p c script)
+  rest_outcome-no_end c script none = ap (λ e. rest_outcome_by p e c script) none
 
-  heading-end : (c : ConnCoreState Hall) (script : Script) (end : End) → c.end ≡ Some end → rest_outcome p c script ≡ record { bytes = []; end = end }
-  heading-end c script end is = ap (λ e. heading_by p e c script) is
+  rest_outcome-end : (c : ConnCoreState Hall) (script : Script) (end : End) → c.end ≡ Some end → rest_outcome p c script ≡ record { bytes = []; end = end }
+  rest_outcome-end c script end is = ap (λ e. rest_outcome_by p e c script) is
 
   -- ---- a read
 
@@ -127,20 +127,20 @@ module _ {Hall Answer : Type 0} (p : Protocol Hall Answer) (orderly : IsOrderly 
       ∙ ap (λ t. cut_off cut [] (end_of (t || false) stop)) between.goes_on
       ∙ cut_off-nil cut (end_of false stop)
 
-  read_heading : (c : ConnCoreState Hall) (script : Script) (answer : LinkRead) (into : List ℕ) (items : List Item) → c.pending ≡ next.Read → IsToRead p c
+  rest_outcome-read : (c : ConnCoreState Hall) (script : Script) (answer : LinkRead) (into : List ℕ) (items : List Item) → c.pending ≡ next.Read → IsToRead p c
       → Gives c.waits answer (given_by answer into) items (input_from c.waits script.items)
       → length into ≡ room_of p c
       → (now : Script) → now ≡ record script { items = items }
       → rest_outcome p (after_read c answer into) now ≡ rest_outcome p c script
   unfolding Gives
-  read_heading c script (read.Took count) into items pending ready gives size now is =
+  rest_outcome-read c script (read.Took count) into items pending ready gives size now is =
       let between = ready.between in
       let room = ready.room in
       let bytes = take count into in
       let long : length bytes ≡ count = sym gives.1 in
       let fits : length bytes ≤ p.input_limit - c.read = omega (arith, length-take count into) in
       let less : p.input_limit - (c.read + count) ≡ p.input_limit - c.read - length bytes = omega arith in
-      heading-no_end (after_read c (read.Took count) into) now between.no_end
+      rest_outcome-no_end (after_read c (read.Took count) into) now between.no_end
       ∙ ap (λ (s : Script). ahead p (after_read c (read.Took count) into) s.cut (limit_input (p.input_limit - (c.read + count)) (input_by c.input_ended 0 s))) is
       ∙ ap (λ e. ahead p (after_read c (read.Took count) into) script.cut (limit_input (p.input_limit - (c.read + count)) (input_by e 0 (record script { items = items })))) ready.goes_on
       ∙ ap (λ n. ahead p (after_read c (read.Took count) into) script.cut (limit_input n (input_from 0 items))) less
@@ -150,21 +150,21 @@ module _ {Hall Answer : Type 0} (p : Protocol Hall Answer) (orderly : IsOrderly 
       ∙ ap (ahead p c script.cut) (sym (limited-preceded (p.input_limit - c.read) bytes (input_from 0 items) fits))
       ∙ ap (λ i. ahead p c script.cut (limit_input (p.input_limit - c.read) i)) (sym gives.0)
       ∙ ap (ahead p c script.cut) (sym (input-read c script pending ready.goes_on))
-      ∙ sym (heading-no_end c script between.no_end)
-  read_heading c script read.End into items pending ready gives size now is =
+      ∙ sym (rest_outcome-no_end c script between.no_end)
+  rest_outcome-read c script read.End into items pending ready gives size now is =
       let between = ready.between in
-      heading-no_end (after_read c read.End into) now between.no_end
+      rest_outcome-no_end (after_read c read.End into) now between.no_end
       ∙ ap (λ (s : Script). ahead p c s.cut (limit_input (p.input_limit - c.read) (empty_input at_end))) is
       ∙ ap (λ i. ahead p c script.cut (limit_input (p.input_limit - c.read) i)) (sym gives)
       ∙ ap (ahead p c script.cut) (sym (input-read c script pending ready.goes_on))
-      ∙ sym (heading-no_end c script between.no_end)
-  read_heading c script read.Failed into items pending ready gives size now is =
+      ∙ sym (rest_outcome-no_end c script between.no_end)
+  rest_outcome-read c script read.Failed into items pending ready gives size now is =
       let room = ready.room in
       sym (ap (ahead p c script.cut) (input-read c script pending ready.goes_on
       ∙ ap (limit_input (p.input_limit - c.read)) gives ∙ limited-stopped (p.input_limit - c.read) at_fault (omega arith))
       ∙ ahead-stopped c script.cut at_fault ready.between ready.not_yet)
-      ∙ sym (heading-no_end c script ready.between.no_end)
-  read_heading c script read.NotReady into items pending ready gives size now is = by_limit (nat_le wait_limit (c.waits + 1)) gives
+      ∙ sym (rest_outcome-no_end c script ready.between.no_end)
+  rest_outcome-read c script read.NotReady into items pending ready gives size now is = by_limit (nat_le wait_limit (c.waits + 1)) gives
     where
       by_limit : (all : Bool) → input_from c.waits script.items ≡ (if all then empty_input at_pause else input_from (c.waits + 1) items)
           → rest_outcome p (still_waiting c all) now ≡ rest_outcome p c script
@@ -173,18 +173,18 @@ module _ {Hall Answer : Type 0} (p : Protocol Hall Answer) (orderly : IsOrderly 
           sym (ap (ahead p c script.cut) (input-read c script pending ready.goes_on
           ∙ ap (limit_input (p.input_limit - c.read)) gives ∙ limited-stopped (p.input_limit - c.read) at_pause (omega arith))
           ∙ ahead-stopped c script.cut at_pause ready.between ready.not_yet)
-          ∙ sym (heading-no_end c script ready.between.no_end)
+          ∙ sym (rest_outcome-no_end c script ready.between.no_end)
       by_limit false gives =
-          heading-no_end (still_waiting c false) now ready.between.no_end
+          rest_outcome-no_end (still_waiting c false) now ready.between.no_end
           ∙ ap (λ (s : Script). ahead p c s.cut (input_to_come p (still_waiting c false) s)) is
           ∙ ap (ahead p c script.cut) (input-read (still_waiting c false) (record script { items = items }) pending ready.goes_on
           ∙ ap (limit_input (p.input_limit - c.read)) (sym gives) ∙ sym (input-read c script pending ready.goes_on))
-          ∙ sym (heading-no_end c script ready.between.no_end)
+          ∙ sym (rest_outcome-no_end c script ready.between.no_end)
 
   -- ---- a look into the buffer
 
-  parse_heading : (c : ConnCoreState Hall) (script : Script) → c.pending ≡ next.Parse → IsToParse p c → rest_outcome p (after_parse p c (p.cut c.buffer)) script ≡ rest_outcome p c script
-  parse_heading c script pending ready = by_cut (p.cut c.buffer) refl
+  rest_outcome-parse : (c : ConnCoreState Hall) (script : Script) → c.pending ≡ next.Parse → IsToParse p c → rest_outcome p (after_parse p c (p.cut c.buffer)) script ≡ rest_outcome p c script
+  rest_outcome-parse c script pending ready = by_cut (p.cut c.buffer) refl
     where
       between : IsBetween p c
       between = ready.between
@@ -192,14 +192,14 @@ module _ {Hall Answer : Type 0} (p : Protocol Hall Answer) (orderly : IsOrderly 
       -- the input is the same
       moved : (stage : Next) → waits_at stage c.waits ≡ 0 → rest_outcome p (going_to c stage) script ≡ rest_outcome p c script
       moved stage none =
-          heading-no_end (going_to c stage) script between.no_end
+          rest_outcome-no_end (going_to c stage) script between.no_end
           ∙ ap (λ w. ahead p c script.cut (limit_input (p.input_limit - c.read) (input_by c.input_ended w script))) (none ∙ sym (ap (λ stage. waits_at stage c.waits) pending))
-          ∙ sym (heading-no_end c script between.no_end)
+          ∙ sym (rest_outcome-no_end c script between.no_end)
 
       done : (stop : Stop) → end_of false stop ≡ ending.Done → p.cut c.buffer ≡ NotYet → input_to_come p c script ≡ empty_input stop
           → rest_outcome p (ending_as c ending.Done) script ≡ rest_outcome p c script
       done stop is_done not_yet is = sym (
-          heading-no_end c script between.no_end ∙ ap (ahead p c script.cut) is ∙ ahead-stopped c script.cut stop between not_yet
+          rest_outcome-no_end c script between.no_end ∙ ap (ahead p c script.cut) is ∙ ahead-stopped c script.cut stop between not_yet
           ∙ ap (λ e. record { bytes = []; end = e }) is_done)
 
       by_input : (ended full : Bool) → ended ≡ c.input_ended → full ≡ nat_le p.input_limit c.read → NotYet ≡ p.cut c.buffer
@@ -251,8 +251,8 @@ module _ {Hall Answer : Type 0} (p : Protocol Hall Answer) (orderly : IsOrderly 
       ∙ ap (λ t. cut_off cut (unsent_bytes c.parts ++ texts_of p (answers_from p answer later)) (end_of (t || is_closed p (answers_from p answer later)) input.stop)) (sym between.goes_on)
       ∙ ap (λ (l : List Answer). cut_off cut (unsent_bytes c.parts ++ texts_of p l) (end_of (c.closes || is_closed p l) input.stop)) (sym all)
 
-  look_heading : (c : ConnCoreState Hall) (script : Script) → c.pending ≡ next.Look → IsToLook p c → rest_outcome p (after_look p c (p.cut c.buffer)) script ≡ rest_outcome p c script
-  look_heading c script pending ready = by_cut (p.cut c.buffer) refl
+  rest_outcome-look : (c : ConnCoreState Hall) (script : Script) → c.pending ≡ next.Look → IsToLook p c → rest_outcome p (after_look p c (p.cut c.buffer)) script ≡ rest_outcome p c script
+  rest_outcome-look c script pending ready = by_cut (p.cut c.buffer) refl
     where
       between : IsBetween p c
       between = ready.between
@@ -274,12 +274,12 @@ module _ {Hall Answer : Type 0} (p : Protocol Hall Answer) (orderly : IsOrderly 
           same : ahead p (with_answer p c (p.answer c.hall asked (is_last p c)) rest) script.cut input ≡ rest_outcome p c script
           same = ahead-answer c script.cut (p.answer c.hall asked (is_last p c)) rest input between first
               ∙ ap (ahead p c script.cut) (sym same_input)
-              ∙ sym (heading-no_end c script between.no_end)
+              ∙ sym (rest_outcome-no_end c script between.no_end)
 
           goes_on : (stage : Next) → waits_at stage c.waits ≡ 0
               → rest_outcome p (record (with_answer p c (p.answer c.hall asked (is_last p c)) rest) { pending = stage }) script ≡ rest_outcome p c script
           goes_on stage none =
-              heading-no_end (record (with_answer p c (p.answer c.hall asked (is_last p c)) rest) { pending = stage }) script between.no_end
+              rest_outcome-no_end (record (with_answer p c (p.answer c.hall asked (is_last p c)) rest) { pending = stage }) script between.no_end
               ∙ ap (λ w. ahead p (with_answer p c (p.answer c.hall asked (is_last p c)) rest) script.cut
               (limit_input (p.input_limit - c.read) (input_by c.input_ended w script))) none
               ∙ same
@@ -314,10 +314,10 @@ module _ {Hall Answer : Type 0} (p : Protocol Hall Answer) (orderly : IsOrderly 
       ∙ ap (λ b. cut_off cut b end) (sym (append_assoc (take count (front_of c.parts)) (unsent_bytes (after_sending count c.parts)) (texts_of p later))
       ∙ ap (λ r. r ++ texts_of p later) (sent-rest c.parts count le))
 
-  wrote_heading : (c : ConnCoreState Hall) (script now : Script) (count : ℕ) → c.pending ≡ next.Write → IsToWrite p c → count ≤ length (front_of c.parts)
+  rest_outcome-wrote : (c : ConnCoreState Hall) (script now : Script) (count : ℕ) → c.pending ≡ next.Write → IsToWrite p c → count ≤ length (front_of c.parts)
       → FitsCut script.cut count → now ≡ record script { cut = left_of_limit script.cut count }
       → with_written (take count (front_of c.parts)) (rest_outcome p (after_wrote c (after_sending count c.parts) count) now) ≡ rest_outcome p c script
-  wrote_heading c script now count pending ready le fits is = by_rest (is_sent (after_sending count c.parts)) c.closes refl refl
+  rest_outcome-wrote c script now count pending ready le fits is = by_rest (is_sent (after_sending count c.parts)) c.closes refl refl
     where
       front : List ℕ
       front = take count (front_of c.parts)
@@ -332,14 +332,14 @@ module _ {Hall Answer : Type 0} (p : Protocol Hall Answer) (orderly : IsOrderly 
           → with_written front (rest_outcome p (record c { parts = after_sending count c.parts; written = c.written + count; waits = 0; pending = stage }) now) ≡ rest_outcome p c script
       goes_on stage none =
           ap (with_written front) (
-          heading-no_end (record c { parts = after_sending count c.parts; written = c.written + count; waits = 0; pending = stage }) now ready.no_end
+          rest_outcome-no_end (record c { parts = after_sending count c.parts; written = c.written + count; waits = 0; pending = stage }) now ready.no_end
           ∙ ap (λ (s : Script). ahead p (record c { parts = after_sending count c.parts }) s.cut (limit_input (p.input_limit - c.read) (input_by c.input_ended (waits_at stage 0) s))) is
           ∙ ap (λ w. ahead p (record c { parts = after_sending count c.parts }) (left_of_limit script.cut count)
           (limit_input (p.input_limit - c.read) (input_by c.input_ended w (record script { cut = left_of_limit script.cut count })))) none
           ∙ ap (ahead p (record c { parts = after_sending count c.parts }) (left_of_limit script.cut count)) (by_ended c.input_ended))
           ∙ ahead-wrote c script.cut count input le fits
           ∙ ap (ahead p c script.cut) (sym same_input)
-          ∙ sym (heading-no_end c script ready.no_end)
+          ∙ sym (rest_outcome-no_end c script ready.no_end)
         where
           by_ended : (ended : Bool) → limit_input (p.input_limit - c.read) (input_by ended 0 (record script { cut = left_of_limit script.cut count }))
               ≡ limit_input (p.input_limit - c.read) (input_by ended 0 script)
@@ -356,12 +356,12 @@ module _ {Hall Answer : Type 0} (p : Protocol Hall Answer) (orderly : IsOrderly 
           ap (with_written front) (sym all)
           ∙ ahead-wrote c script.cut count input le fits
           ∙ ap (ahead p c script.cut) (sym same_input)
-          ∙ sym (heading-no_end c script ready.no_end)
+          ∙ sym (rest_outcome-no_end c script ready.no_end)
 
   -- a write fails where no more may be written
-  failed_heading : (c : ConnCoreState Hall) (script : Script) (size : ℕ) → IsToWrite p c → write.Failed ≡ (write_of script size).answer
+  rest_outcome-failed : (c : ConnCoreState Hall) (script : Script) (size : ℕ) → IsToWrite p c → write.Failed ≡ (write_of script size).answer
       → record { bytes = []; end = ending.Fault } ≡ rest_outcome p c script
-  failed_heading c script size ready answer = by_cut script.cut refl answer
+  rest_outcome-failed c script size ready answer = by_cut script.cut refl answer
     where
       by_cut : (cut : Option ℕ) → cut ≡ script.cut → write.Failed ≡ (write_by cut script size).answer → record { bytes = []; end = ending.Fault } ≡ rest_outcome p c script
       by_cut None e answer = cc
@@ -371,7 +371,7 @@ module _ {Hall Answer : Type 0} (p : Protocol Hall Answer) (orderly : IsOrderly 
           let later = later_unless c.closes (p.answers (p.answer_limit - c.answered) c.hall (c.buffer ++ input.bytes)) in
           let end = end_of (c.closes || is_closed p later) input.stop in
           let some = something-rest c.parts ready.something in
-          sym (heading-no_end c script ready.no_end
+          sym (rest_outcome-no_end c script ready.no_end
           ∙ ap (λ o. cut_off o (unsent_bytes c.parts ++ texts_of p later) end) (sym e)
           ∙ ap (λ t. if t then record { bytes = take 0 (unsent_bytes c.parts ++ texts_of p later); end = ending.Fault }
           else record { bytes = unsent_bytes c.parts ++ texts_of p later; end = end })
@@ -412,7 +412,7 @@ module _ {Hall Answer : Type 0} (p : Protocol Hall Answer) (orderly : IsOrderly 
           subst (λ s. HeadsByScript p s before.written (after_read c answer into) o) (sym said_items)
           (unless (after_read c answer into).end (with_written before.written (rest_outcome p (after_read c answer into) (record script { items = said.items })) ≡ o)
           (ap (with_written before.written)
-          (read_heading c script answer into said.items pending ready gives (size ∙ is_room) (record script { items = said.items }) refl)
+          (rest_outcome-read c script answer into said.items pending ready gives (size ∙ is_room) (record script { items = said.items }) refl)
           ∙ subst (λ e. UnlessMemory e (with_written before.written (rest_outcome p c script) ≡ o)) ready.between.no_end heads))
 
   heads_write : (c : ConnCoreState Hall) (before now : Option LinkTells) (o : Outcome) (answer : LinkWrite) → c.pending ≡ next.Write → IsToWrite p c
@@ -441,13 +441,13 @@ module _ {Hall Answer : Type 0} (p : Protocol Hall Answer) (orderly : IsOrderly 
               (unless (after_write c (write.Wrote count)).end
               (with_written (before.written ++ take count (front_of c.parts)) (rest_outcome p (after_write c (write.Wrote count)) said.script) ≡ o)
               (with_written-append before.written (take count (front_of c.parts)) (rest_outcome p (after_write c (write.Wrote count)) said.script)
-              ∙ ap (with_written before.written) (wrote_heading c script said.script count pending ready fits.1 wrote.1 wrote.0)
+              ∙ ap (with_written before.written) (rest_outcome-wrote c script said.script count pending ready fits.1 wrote.1 wrote.0)
               ∙ came_to))
           by_answer write.NotReady fits (answer, is) = absurd (never_waits script (length (front_of c.parts)) answer)
           by_answer write.Failed fits (answer, is) =
               subst (λ s. HeadsByScript p s (before.written ++ []) (ending_as c ending.Fault) o) (sym is)
               (ap (λ w. with_written w (record { bytes = []; end = ending.Fault })) (append-nil before.written)
-              ∙ ap (with_written before.written) (failed_heading c script (length (front_of c.parts)) ready answer)
+              ∙ ap (with_written before.written) (rest_outcome-failed c script (length (front_of c.parts)) ready answer)
               ∙ came_to)
           by_answer write.Memory fits is = subst (λ s. HeadsByScript p s (before.written ++ []) (ending_as c ending.Memory) o) (sym is) tt
 
@@ -461,7 +461,7 @@ module _ {Hall Answer : Type 0} (p : Protocol Hall Answer) (orderly : IsOrderly 
         where
           by_end : (end : Option End) → end ≡ c.end → rest_outcome p (going_to c next.Nothing) script ≡ rest_outcome p c script
           by_end None e = absurd (ended (sym e))
-          by_end (Some end) e = heading-end (going_to c next.Nothing) script end (sym e) ∙ sym (heading-end c script end (sym e))
+          by_end (Some end) e = rest_outcome-end (going_to c next.Nothing) script end (sym e) ∙ sym (rest_outcome-end c script end (sym e))
 
       by_script : (to_come : Option Script) → HeadsByScript p to_come tells.written c o → HeadsByScript p to_come tells.written (going_to c next.Nothing) o
       by_script None heads = absurd heads
@@ -503,9 +503,9 @@ module _ {Hall Answer : Type 0} (p : Protocol Hall Answer) (orderly : IsOrderly 
         by_pending next.Open e ready steps = subst (λ l. HeadsForLink p x l d o) (sym steps.1) (subst (λ s. HeadsForLink p x link s o) (sym steps.0) heads)
         by_pending next.Read e ready steps = read_over link now heads (sym e) ready steps
         by_pending next.Parse e ready steps = heads_link c d link now o ready.between.no_end steps.1
-            (λ script. ap (λ s. rest_outcome p s script) steps.0 ∙ parse_heading c script (sym e) ready) heads
+            (λ script. ap (λ s. rest_outcome p s script) steps.0 ∙ rest_outcome-parse c script (sym e) ready) heads
         by_pending next.Look e ready steps = heads_link c d link now o ready.between.no_end steps.1
-            (λ script. ap (λ s. rest_outcome p s script) steps.0 ∙ look_heading c script (sym e) ready) heads
+            (λ script. ap (λ s. rest_outcome p s script) steps.0 ∙ rest_outcome-look c script (sym e) ready) heads
         by_pending next.Write e ready steps = write_over link now heads (sym e) ready steps
         by_pending next.Wait e ready steps = absurd steps
         by_pending next.Close e ready steps = close_over link now heads ready.ended steps
@@ -514,8 +514,8 @@ module _ {Hall Answer : Type 0} (p : Protocol Hall Answer) (orderly : IsOrderly 
   -- ---- the start and the end
 
   -- a connection that was opened comes to the outcome
-  pub heading-opened : (hall : Hall) (script : Script) → rest_outcome p (going_to (core_before_open hall) next.Read) script ≡ outcome_of p hall script
-  heading-opened hall script =
+  pub rest_outcome-opened : (hall : Hall) (script : Script) → rest_outcome p (going_to (core_before_open hall) next.Read) script ≡ outcome_of p hall script
+  rest_outcome-opened hall script =
       let input = limit_input p.input_limit (input_from 0 script.items) in
       let given : p.answers_to hall input.bytes ≡ p.answers p.answer_limit hall input.bytes =
       orderly.all hall input.bytes ∙ ap (p.answers p.answer_limit hall) (take_all p.input_limit input.bytes (limited-few p.input_limit (input_from 0 script.items))) in
@@ -544,8 +544,8 @@ module _ {Hall Answer : Type 0} (p : Protocol Hall Answer) (orderly : IsOrderly 
           (λ e. (
             tells,
             refl,
-            sym (append-nil tells.written) ∙ ap (λ (o : Outcome). tells.written ++ o.bytes) (sym (heading-end c rest end is)) ∙ ap (λ (o : Outcome). o.bytes) e,
-            ap (λ (o : Outcome). o.end) (sym (heading-end c rest end is)) ∙ ap (λ (o : Outcome). o.end) e,
+            sym (append-nil tells.written) ∙ ap (λ (o : Outcome). tells.written ++ o.bytes) (sym (rest_outcome-end c rest end is)) ∙ ap (λ (o : Outcome). o.bytes) e,
+            ap (λ (o : Outcome). o.end) (sym (rest_outcome-end c rest end is)) ∙ ap (λ (o : Outcome). o.end) e,
           ))
           (subst (λ e. UnlessMemory e (with_written tells.written (rest_outcome p c rest) ≡ outcome_of p hall script)) is heads)
 
@@ -554,7 +554,7 @@ module _ {Hall Answer : Type 0} (p : Protocol Hall Answer) (orderly : IsOrderly 
       → HeadsFor p (Some tells) (going_to (core_before_open hall) next.Read) (outcome_of p hall script)
   heads_start hall tells script to_come none =
       subst (λ s. HeadsByScript p s tells.written (going_to (core_before_open hall) next.Read) (outcome_of p hall script)) (sym to_come)
-      (ap (λ w. with_written w (rest_outcome p (going_to (core_before_open hall) next.Read) script)) none ∙ heading-opened hall script)
+      (ap (λ w. with_written w (rest_outcome p (going_to (core_before_open hall) next.Read) script)) none ∙ rest_outcome-opened hall script)
 
   -- a connection that comes to the outcome from the start comes to it at the end
   pub ends_as : (hall : Hall) (first now : Option LinkTells) (c : ConnCoreState Hall) (end : End) → IsFresh first → c.end ≡ Some end

@@ -27,12 +27,12 @@ abbrev pub IsSoundAt : {Hall Answer L : Type 0} → Protocol Hall Answer → Lin
 IsSoundAt p x c link = IsSound p x (record { standing = c; link = link })
 
 module _ {Hall Answer : Type 0} (p : Protocol Hall Answer) (orderly : IsOrderly p) where
-  -- ---- the course
+  -- ---- the progress
 
   -- it doesn't depend on the step that is pending, the end, the waits, nor on whether the input has ended
-  course_goes_on : (c : ConnCoreState Hall) (taken sent : List ℕ) (pending : Next) (end : Option End) (waits : ℕ) (input_ended : Bool)
+  progress_goes_on : (c : ConnCoreState Hall) (taken sent : List ℕ) (pending : Next) (end : Option End) (waits : ℕ) (input_ended : Bool)
       → Progress p c taken sent → Progress p (record c { pending = pending; end = end; waits = waits; input_ended = input_ended }) taken sent
-  course_goes_on c taken sent pending end waits input_ended k = record {
+  progress_goes_on c taken sent pending end waits input_ended k = record {
     consumed = k.consumed;
     given = k.given;
     taken_is = k.taken_is;
@@ -48,10 +48,10 @@ module _ {Hall Answer : Type 0} (p : Protocol Hall Answer) (orderly : IsOrderly 
   }
 
   -- a piece was taken
-  course_took : (c : ConnCoreState Hall) (taken sent piece : List ℕ) (count waits : ℕ) (pending : Next) → length piece ≡ count
+  progress_took : (c : ConnCoreState Hall) (taken sent piece : List ℕ) (count waits : ℕ) (pending : Next) → length piece ≡ count
       → c.read + count ≤ p.input_limit → Progress p c taken sent
       → Progress p (record c { buffer = c.buffer ++ piece; read = c.read + count; waits = waits; pending = pending }) (taken ++ piece) sent
-  course_took c taken sent piece count waits pending long few k = record {
+  progress_took c taken sent piece count waits pending long few k = record {
     consumed = k.consumed;
     given = k.given;
     taken_is = ap (λ t. t ++ piece) k.taken_is ∙ append_assoc k.consumed c.buffer piece;
@@ -67,11 +67,11 @@ module _ {Hall Answer : Type 0} (p : Protocol Hall Answer) (orderly : IsOrderly 
   }
 
   -- some of the parts was sent
-  course_wrote : (c : ConnCoreState Hall) (taken sent : List ℕ) (count waits : ℕ) (pending : Next) (end : Option End) → count ≤ length (front_of c.parts)
+  progress_wrote : (c : ConnCoreState Hall) (taken sent : List ℕ) (count waits : ℕ) (pending : Next) (end : Option End) → count ≤ length (front_of c.parts)
       → Progress p c taken sent
       → Progress p (record c { parts = after_sending count c.parts; written = c.written + count; waits = waits; pending = pending; end = end })
       taken (sent ++ take count (front_of c.parts))
-  course_wrote c taken sent count waits pending end fits k = record {
+  progress_wrote c taken sent count waits pending end fits k = record {
     consumed = k.consumed;
     given = k.given;
     taken_is = k.taken_is;
@@ -99,12 +99,12 @@ module _ {Hall Answer : Type 0} (p : Protocol Hall Answer) (orderly : IsOrderly 
       by_first false later = later
 
   -- one more request was answered: the bytes of it left the buffer, and it is answered first, whatever comes behind it
-  course_answered : (c : ConnCoreState Hall) (taken sent head rest : List ℕ) (answer : Answer) → IsBetween p c → c.buffer ≡ head ++ rest
+  progress_answered : (c : ConnCoreState Hall) (taken sent head rest : List ℕ) (answer : Answer) → IsBetween p c → c.buffer ≡ head ++ rest
       → ((more : List ℕ) → p.answers (p.answer_limit - c.answered) c.hall (head ++ more)
       ≡ answers_from p answer (p.answers (p.answer_limit - (c.answered + 1)) c.hall more))
       → length (text_of p answer) ≤ p.text_limit
       → Progress p c taken sent → Progress p (with_answer p c answer rest) taken sent
-  course_answered c taken sent head rest answer between split first few k = record {
+  progress_answered c taken sent head rest answer between split first few k = record {
     consumed = k.consumed ++ head;
     given = k.given ++ answer ∷ [];
     taken_is = k.taken_is ∙ ap (λ b. k.consumed ++ b) split ∙ sym (append_assoc k.consumed head rest);
@@ -240,7 +240,7 @@ module _ {Hall Answer : Type 0} (p : Protocol Hall Answer) (orderly : IsOrderly 
       ready = ready;
       linked = linked;
       shut = shut_on c.pending pending link over s.shut;
-      course = course_goes_on c s.taken s.sent pending end c.waits c.input_ended s.course;
+      progress = progress_goes_on c s.taken s.sent pending end c.waits c.input_ended s.progress;
       told = by_link link s.told;
     }
       where
@@ -273,19 +273,19 @@ module _ {Hall Answer : Type 0} (p : Protocol Hall Answer) (orderly : IsOrderly 
         not_over : false ≡ is_over c.pending
         not_over = ap is_over (sym pending)
 
-        -- what follows from a course that goes on with an answer, whatever is next
+        -- what follows from progress that goes on with an answer, whatever is next
         sent : (asked : Asked) (rest : List ℕ) → Progress p (with_answer p c (p.answer c.hall asked (is_last p c)) rest) s.taken s.sent
             → (pending : Next) (end : Option End)
             → IsReadyTo p pending (record (with_answer p c (p.answer c.hall asked (is_last p c)) rest) { pending = pending; end = end })
             → IsLinked pending link → is_over pending ≡ false
             → IsSoundAt p x (record (with_answer p c (p.answer c.hall asked (is_last p c)) rest) { pending = pending; end = end }) link
-        sent asked rest course pending end ready linked over = record {
+        sent asked rest progress pending end ready linked over = record {
           taken = s.taken;
           sent = s.sent;
           ready = ready;
           linked = linked;
           shut = shut_on c.pending pending link (over ∙ not_over) s.shut;
-          course = course_goes_on (with_answer p c (p.answer c.hall asked (is_last p c)) rest) s.taken s.sent pending end c.waits c.input_ended course;
+          progress = progress_goes_on (with_answer p c (p.answer c.hall asked (is_last p c)) rest) s.taken s.sent pending end c.waits c.input_ended progress;
           told = by_link link s.told;
         }
           where
@@ -310,25 +310,25 @@ module _ {Hall Answer : Type 0} (p : Protocol Hall Answer) (orderly : IsOrderly 
 
         answered : (asked : Asked) (rest : List ℕ) → Progress p (with_answer p c (p.answer c.hall asked (is_last p c)) rest) s.taken s.sent
             → IsSoundAt p x (after_answer p c (p.answer c.hall asked (is_last p c)) rest) link
-        answered asked rest course =
+        answered asked rest progress =
             by_bytes (p.is_empty (p.answer c.hall asked (is_last p c))) (p.closes (p.answer c.hall asked (is_last p c)))
             (answering-ready p orderly c asked rest look.between)
           where
             by_bytes : (empty closes : Bool) → Ready p (after_part empty closes (with_answer p c (p.answer c.hall asked (is_last p c)) rest))
                 → IsSoundAt p x (after_part empty closes (with_answer p c (p.answer c.hall asked (is_last p c)) rest)) link
-            by_bytes false closes ready = sent asked rest course next.Write c.end ready some refl
-            by_bytes true true ready = sent asked rest course next.Close (Some ending.Done) ready some refl
-            by_bytes true false ready = sent asked rest course next.Parse c.end ready some refl
+            by_bytes false closes ready = sent asked rest progress next.Write c.end ready some refl
+            by_bytes true true ready = sent asked rest progress next.Close (Some ending.Done) ready some refl
+            by_bytes true false ready = sent asked rest progress next.Parse c.end ready some refl
 
         by_cut : (cut : Cut) → cut ≡ p.cut c.buffer → IsSoundAt p x (after_look p c cut) link
         by_cut (Whole len) e = answered (request (take len c.buffer)) (drop len c.buffer)
-            (course_answered c s.taken s.sent (take len c.buffer) (drop len c.buffer) (p.answer c.hall (request (take len c.buffer)) (is_last p c)) look.between
+            (progress_answered c s.taken s.sent (take len c.buffer) (drop len c.buffer) (p.answer c.hall (request (take len c.buffer)) (is_last p c)) look.between
             (sym (take-append-drop len c.buffer)) (λ more. first-whole p orderly c look.between.more len more (sym e))
-            (orderly.short c.hall (request (take len c.buffer)) (is_last p c) s.course.limits) s.course)
+            (orderly.short c.hall (request (take len c.buffer)) (is_last p c) s.progress.limits) s.progress)
         by_cut TooLong e = answered too_long []
-            (course_answered c s.taken s.sent c.buffer [] (p.answer c.hall too_long (is_last p c)) look.between
+            (progress_answered c s.taken s.sent c.buffer [] (p.answer c.hall too_long (is_last p c)) look.between
             (sym (append-nil c.buffer)) (λ more. first-refused p orderly c look.between.more more (sym e))
-            (orderly.short c.hall too_long (is_last p c) s.course.limits) s.course)
+            (orderly.short c.hall too_long (is_last p c) s.progress.limits) s.progress)
         by_cut NotYet e = absurd (look.whole (sym e))
 
     pub read_sound : (c d : ConnCoreState Hall) (link now : L) → IsSoundAt p x c (Some link) → c.pending ≡ next.Read → IsToRead p c → ReadsOnce p x c d link now → IsSoundAt p x d (Some now)
@@ -355,7 +355,7 @@ module _ {Hall Answer : Type 0} (p : Protocol Hall Answer) (orderly : IsOrderly 
           ready = read_waits-ready p orderly c pending to_read true e;
           linked = refl;
           shut = not_shut;
-          course = course_goes_on c s.taken s.sent next.Close (Some ending.Idle) (c.waits + 1) c.input_ended s.course;
+          progress = progress_goes_on c s.taken s.sent next.Close (Some ending.Idle) (c.waits + 1) c.input_ended s.progress;
           told = told_same (still_waiting c true) refl refl told;
         }
         by_wait false e told = record {
@@ -364,7 +364,7 @@ module _ {Hall Answer : Type 0} (p : Protocol Hall Answer) (orderly : IsOrderly 
           ready = read_waits-ready p orderly c pending to_read false e;
           linked = subst (λ stage. IsLinked stage (Some now)) (sym pending) refl;
           shut = not_shut ∙ ap is_over (sym pending);
-          course = course_goes_on c s.taken s.sent c.pending c.end (c.waits + 1) c.input_ended s.course;
+          progress = progress_goes_on c s.taken s.sent c.pending c.end (c.waits + 1) c.input_ended s.progress;
           told = told_same (still_waiting c false) refl refl told;
         }
 
@@ -379,7 +379,7 @@ module _ {Hall Answer : Type 0} (p : Protocol Hall Answer) (orderly : IsOrderly 
               ready = read-ready p orderly c (read.Took count) once.into pending to_read;
               linked = refl;
               shut = not_shut;
-              course = course_took c s.taken s.sent (take count once.into) count 0 next.Parse (omega (arith, length-take count once.into)) (omega arith) s.course;
+              progress = progress_took c s.taken s.sent (take count once.into) count 0 next.Parse (omega (arith, length-take count once.into)) (omega arith) s.progress;
               told = told_goes_on c (after_read c (read.Took count) once.into) (x.tells now) (s.taken ++ take count once.into) s.sent refl refl (λ u. u)
                   (told_by (read.Took count) called);
             }
@@ -389,7 +389,7 @@ module _ {Hall Answer : Type 0} (p : Protocol Hall Answer) (orderly : IsOrderly 
           ready = read-ready p orderly c read.End once.into pending to_read;
           linked = refl;
           shut = not_shut;
-          course = course_goes_on c s.taken s.sent next.Parse c.end 0 true s.course;
+          progress = progress_goes_on c s.taken s.sent next.Parse c.end 0 true s.progress;
           told = told_ended c (x.tells link) (x.tells now) (room_of p c) once.into s.taken s.sent next.Parse called.takes s.told;
         }
         by_answer read.NotReady called = by_wait (nat_le wait_limit (c.waits + 1)) refl (told_by read.NotReady called)
@@ -399,7 +399,7 @@ module _ {Hall Answer : Type 0} (p : Protocol Hall Answer) (orderly : IsOrderly 
           ready = read-ready p orderly c read.Failed once.into pending to_read;
           linked = refl;
           shut = not_shut;
-          course = course_goes_on c s.taken s.sent next.Close (Some ending.Fault) c.waits c.input_ended s.course;
+          progress = progress_goes_on c s.taken s.sent next.Close (Some ending.Fault) c.waits c.input_ended s.progress;
           told = told_same (ending_as c ending.Fault) refl refl (told_by read.Failed called);
         }
 
@@ -417,7 +417,7 @@ module _ {Hall Answer : Type 0} (p : Protocol Hall Answer) (orderly : IsOrderly 
           ready = write_waits-ready p orderly c pending to_write true e;
           linked = refl;
           shut = not_shut;
-          course = course_goes_on c s.taken s.sent next.Close (Some ending.Idle) (c.waits + 1) c.input_ended s.course;
+          progress = progress_goes_on c s.taken s.sent next.Close (Some ending.Idle) (c.waits + 1) c.input_ended s.progress;
           told = told_unwritten c (still_waiting c true) (x.tells link) (x.tells now) s.taken s.sent refl to_write.no_end puts s.told;
         }
         by_wait false e puts = record {
@@ -426,7 +426,7 @@ module _ {Hall Answer : Type 0} (p : Protocol Hall Answer) (orderly : IsOrderly 
           ready = write_waits-ready p orderly c pending to_write false e;
           linked = subst (λ stage. IsLinked stage (Some now)) (sym pending) refl;
           shut = not_shut ∙ ap is_over (sym pending);
-          course = course_goes_on c s.taken s.sent c.pending c.end (c.waits + 1) c.input_ended s.course;
+          progress = progress_goes_on c s.taken s.sent c.pending c.end (c.waits + 1) c.input_ended s.progress;
           told = told_unwritten c (still_waiting c false) (x.tells link) (x.tells now) s.taken s.sent refl to_write.no_end puts s.told;
         }
 
@@ -442,7 +442,7 @@ module _ {Hall Answer : Type 0} (p : Protocol Hall Answer) (orderly : IsOrderly 
           ready = ready;
           linked = linked;
           shut = not_shut ∙ over;
-          course = course_wrote c s.taken s.sent count 0 next end fits s.course;
+          progress = progress_wrote c s.taken s.sent count 0 next end fits s.progress;
           told = told_wrote c (record c { parts = after_sending count c.parts; written = c.written + count; waits = 0; pending = next; end = end })
               (x.tells link) (x.tells now) count s.taken s.sent refl to_write.no_end puts s.told;
         }
@@ -464,7 +464,7 @@ module _ {Hall Answer : Type 0} (p : Protocol Hall Answer) (orderly : IsOrderly 
           ready = write-ready p orderly c write.Failed pending to_write;
           linked = refl;
           shut = not_shut;
-          course = course_goes_on c s.taken s.sent next.Close (Some ending.Fault) c.waits c.input_ended s.course;
+          progress = progress_goes_on c s.taken s.sent next.Close (Some ending.Fault) c.waits c.input_ended s.progress;
           told = told_cut c (ending_as c ending.Fault) (x.tells link) (x.tells now) write.Failed s.taken s.sent refl to_write.no_end (λ u. u) refl (λ front piece is. is)
               called.puts s.told;
         }
@@ -474,7 +474,7 @@ module _ {Hall Answer : Type 0} (p : Protocol Hall Answer) (orderly : IsOrderly 
           ready = write-ready p orderly c write.Memory pending to_write;
           linked = refl;
           shut = not_shut;
-          course = course_goes_on c s.taken s.sent next.Close (Some ending.Memory) c.waits c.input_ended s.course;
+          progress = progress_goes_on c s.taken s.sent next.Close (Some ending.Memory) c.waits c.input_ended s.progress;
           told = told_cut c (ending_as c ending.Memory) (x.tells link) (x.tells now) write.Memory s.taken s.sent refl to_write.no_end (λ u. u) refl (λ front piece is. is)
               called.puts s.told;
         }
@@ -486,7 +486,7 @@ module _ {Hall Answer : Type 0} (p : Protocol Hall Answer) (orderly : IsOrderly 
       ready = close-ready p orderly c ended;
       linked = refl;
       shut = once.called.shut;
-      course = course_goes_on c s.taken s.sent next.Nothing c.end c.waits c.input_ended s.course;
+      progress = progress_goes_on c s.taken s.sent next.Nothing c.end c.waits c.input_ended s.progress;
       told = told_goes_on c (going_to c next.Nothing) (x.tells now) s.taken s.sent refl refl (λ u. u)
           (subst (λ t. IsTold c t s.taken s.sent) (sym once.called.same) s.told);
     })

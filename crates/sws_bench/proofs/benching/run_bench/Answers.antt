@@ -5,44 +5,44 @@ use Rattle.sws_bench.proofs.benching.run_bench.Goals as goal
 
 pub run_script-requires-clause-shape : goal.run_script-requires-clause-shape
 run_script-requires-clause-shape g c =
-    λ _ _. in_range c.args.shape.now c.args.number c.args.connections c.deref.result.now (c.deref.ensures.value ∙ c.in-Ok.ensures.conns) c.requires.shape
+    λ _ _. in_range c.args.shape.now c.args.number c.args.connections c.deref.result.now (c.deref.ensures.value ∙ c.in_ok-made.ensures.conns) c.requires.shape
 
 pub run_script-requires-clause-few : goal.run_script-requires-clause-few
 run_script-requires-clause-few g c =
-    let long = many c.args.number c.args.connections c.deref.result.now (c.deref.ensures.value ∙ c.in-Ok.ensures.conns) in
+    let long = many c.args.number c.args.connections c.deref.result.now (c.deref.ensures.value ∙ c.in_ok-made.ensures.conns) in
     omega arith
 
 pub run_script-requires-clause-conns : goal.run_script-requires-clause-conns
-run_script-requires-clause-conns g c = λ _ _. of_input c.args.number c.args.connections c.deref.result.now (c.deref.ensures.value ∙ c.in-Ok.ensures.conns)
+run_script-requires-clause-conns g c = λ _ _. of_input c.args.number c.args.connections c.deref.result.now (c.deref.ensures.value ∙ c.in_ok-made.ensures.conns)
 
 pub tally_of-requires-clause-ended : goal.tally_of-requires-clause-ended
 tally_of-requires-clause-ended g c =
-    bench_ended c.args.number c.args.connections c.in_ok-site.site c.deref.result.now c.in-Ok-run_script.ended c.deref-in-Ok-run_script.result.now
-    c.in_ok-site.ensures (c.deref.ensures.value ∙ c.in-Ok.ensures.conns) c.in-Ok-run_script.ensures.ran.serves c.deref-in-Ok-run_script.ensures.value
+    bench_ended c.args.number c.args.connections c.in_ok-site.site c.deref.result.now c.in-Ok.ended c.deref-in-Ok.result.now
+    c.in_ok-site.ensures (c.deref.ensures.value ∙ c.in_ok-made.ensures.conns) c.in-Ok.ensures.ran.serves c.deref-in-Ok.ensures.value
 
 pub tally_of-requires-clause-few : goal.tally_of-requires-clause-few
 tally_of-requires-clause-few g c =
-    bench_fits c.args.number c.args.connections c.in_ok-site.site c.deref.result.now c.in-Ok-run_script.ended c.deref-in-Ok-run_script.result.now
-    c.in_ok-site.ensures (c.deref.ensures.value ∙ c.in-Ok.ensures.conns) c.in-Ok-run_script.ensures.ran.serves c.deref-in-Ok-run_script.ensures.value c.requires.few
+    bench_fits c.args.number c.args.connections c.in_ok-site.site c.deref.result.now c.in-Ok.ended c.deref-in-Ok.result.now
+    c.in_ok-site.ensures (c.deref.ensures.value ∙ c.in_ok-made.ensures.conns) c.in-Ok.ensures.ran.serves c.deref-in-Ok.ensures.value c.requires.few
 
 -- a fact of what is Ok follows from another
 then : {A E : Type 0} (P Q : A → Type 0) (r : Result A E) → ((a : A) → P a → Q a) → IfOk r P → IfOk r Q
 then P Q (Ok a) step holds = step a holds
 then P Q (Err e) step holds = tt
 
-pub returns-in-Ok-run_script-clause-ends : goal.returns-in-Ok-run_script-clause-ends
-returns-in-Ok-run_script-clause-ends g c =
+pub returns-in-Ok-clause-ends : goal.returns-in-Ok-clause-ends
+returns-in-Ok-clause-ends g c =
     then _ _ c.tally_of.result
-    (λ tally same. bench_ends_are c.args.number c.args.connections c.in_ok-site.site c.deref.result.now c.in-Ok-run_script.ended c.deref-in-Ok-run_script.result.now
-    c.in_ok-site.ensures (c.deref.ensures.value ∙ c.in-Ok.ensures.conns) c.in-Ok-run_script.ensures.ran.serves c.deref-in-Ok-run_script.ensures.value tally.ends.items same)
+    (λ tally same. bench_ends_are c.args.number c.args.connections c.in_ok-site.site c.deref.result.now c.in-Ok.ended c.deref-in-Ok.result.now
+    c.in_ok-site.ensures (c.deref.ensures.value ∙ c.in_ok-made.ensures.conns) c.in-Ok.ensures.ran.serves c.deref-in-Ok.ensures.value tally.ends.items same)
     c.tally_of.ensures.ends
 
-pub returns-in-Ok-run_script-clause-read : goal.returns-in-Ok-run_script-clause-read
-returns-in-Ok-run_script-clause-read g c = then _ _ c.tally_of.result (λ tally same. same ∙ c.in-Ok.ensures.bytes) c.tally_of.ensures.read
+pub returns-in-Ok-clause-read : goal.returns-in-Ok-clause-read
+returns-in-Ok-clause-read g c = then _ _ c.tally_of.result (λ tally same. same ∙ c.in_ok-made.ensures.bytes) c.tally_of.ensures.read
 
-pub returns-in-Ok-run_script-clause-written : goal.returns-in-Ok-run_script-clause-written
-returns-in-Ok-run_script-clause-written g c =
+pub returns-in-Ok-clause-written : goal.returns-in-Ok-clause-written
+returns-in-Ok-clause-written g c =
     then _ _ c.tally_of.result
-    (λ tally same. bench_written_is c.args.number c.args.connections c.in_ok-site.site c.deref.result.now c.in-Ok-run_script.ended c.deref-in-Ok-run_script.result.now
-    c.in_ok-site.ensures (c.deref.ensures.value ∙ c.in-Ok.ensures.conns) c.in-Ok-run_script.ensures.ran.serves c.deref-in-Ok-run_script.ensures.value tally.written same)
+    (λ tally same. bench_written_is c.args.number c.args.connections c.in_ok-site.site c.deref.result.now c.in-Ok.ended c.deref-in-Ok.result.now
+    c.in_ok-site.ensures (c.deref.ensures.value ∙ c.in_ok-made.ensures.conns) c.in-Ok.ensures.ran.serves c.deref-in-Ok.ensures.value tally.written same)
     c.tally_of.ensures.written

@@ -5,8 +5,8 @@ use Rattle.sws_text.proofs.LengthLemmas.{StandsFor-few}
 use Rattle.sws_script.proofs.reading.read_send.Goals as goal
 use Rattle.sws_script.proofs.reading.read_send.Goals.{then-is_empty-via-then-is_empty, then-is_empty-via-else-is_empty+then-len-gt-MAX_PIECE}
 
-pub returns-then-rest-gt-LONGEST_TEXT : goal.returns-then-rest-gt-LONGEST_TEXT
-returns-then-rest-gt-LONGEST_TEXT c says of = let few = StandsFor-few c.args.rest.now of.0 of.2 in omega (arith, of.3.1)
+pub returns-then-rest-gt-MAX_TEXT : goal.returns-then-rest-gt-MAX_TEXT
+returns-then-rest-gt-MAX_TEXT c says of = let few = StandsFor-few c.args.rest.now of.0 of.2 in omega (arith, of.3.1)
 
 pub returns-in_default : goal.returns-in_default
 returns-in_default c says of =

@@ -2,7 +2,7 @@ use Rattle.std.proofs.Common.{◌++◌, ℕ, List, length, ap, ◌∙◌, arith}
 use Rattle.std.specs.Prelude.{codes}
 use Rattle.sws_site.specs.HeadParts.{head_of}
 use Rattle.sws_site.specs.ResponseHeads.{line_end, lines_text, connection_lines, last_modified_lines, allow_lines, range_lines, content_lines}
-use Rattle.sws_site.specs.Statuses.{row_shown}
+use Rattle.sws_site.specs.Statuses.{row_value}
 use Rattle.sws_site.proofs.HeadLemmas.{head_text-parts, head-fits, length-added}
 use Rattle.sws_site.proofs.heads.write_head.Goals as goal
 
@@ -10,7 +10,7 @@ pub add_last_modified-requires : goal.add_last_modified-requires
 add_last_modified-requires c =
     omega (
       arith,
-      head-fits (head_of c.args.parts.now) (row_shown c.row-row.result) c.row-row.ensures c.requires,
+      head-fits (head_of c.args.parts.now) (row_value c.row-row.result) c.row-row.ensures c.requires,
       ap length c.new-head.ensures,
       length-added c.add_line.new.head c.new-head.result ((codes "HTTP/1.1 " ++ c.row-row.result.text.now) ++ line_end) c.add_line.ensures,
       length-added c.add_line-2.new.head c.add_line.new.head ((codes "Server: " ++ codes "sws") ++ line_end) c.add_line-2.ensures,
@@ -21,7 +21,7 @@ pub add_allow-requires : goal.add_allow-requires
 add_allow-requires c =
     omega (
       arith,
-      head-fits (head_of c.args.parts.now) (row_shown c.row-row.result) c.row-row.ensures c.requires,
+      head-fits (head_of c.args.parts.now) (row_value c.row-row.result) c.row-row.ensures c.requires,
       ap length c.new-head.ensures,
       length-added c.add_line.new.head c.new-head.result ((codes "HTTP/1.1 " ++ c.row-row.result.text.now) ++ line_end) c.add_line.ensures,
       length-added c.add_line-2.new.head c.add_line.new.head ((codes "Server: " ++ codes "sws") ++ line_end) c.add_line-2.ensures,
@@ -33,7 +33,7 @@ pub add_range-requires : goal.add_range-requires
 add_range-requires c =
     omega (
       arith,
-      head-fits (head_of c.args.parts.now) (row_shown c.row-row.result) c.row-row.ensures c.requires,
+      head-fits (head_of c.args.parts.now) (row_value c.row-row.result) c.row-row.ensures c.requires,
       ap length c.new-head.ensures,
       length-added c.add_line.new.head c.new-head.result ((codes "HTTP/1.1 " ++ c.row-row.result.text.now) ++ line_end) c.add_line.ensures,
       length-added c.add_line-2.new.head c.add_line.new.head ((codes "Server: " ++ codes "sws") ++ line_end) c.add_line-2.ensures,
@@ -46,7 +46,7 @@ pub add_content-requires : goal.add_content-requires
 add_content-requires c =
     omega (
       arith,
-      head-fits (head_of c.args.parts.now) (row_shown c.row-row.result) c.row-row.ensures c.requires,
+      head-fits (head_of c.args.parts.now) (row_value c.row-row.result) c.row-row.ensures c.requires,
       ap length c.new-head.ensures,
       length-added c.add_line.new.head c.new-head.result ((codes "HTTP/1.1 " ++ c.row-row.result.text.now) ++ line_end) c.add_line.ensures,
       length-added c.add_line-2.new.head c.add_line.new.head ((codes "Server: " ++ codes "sws") ++ line_end) c.add_line-2.ensures,
@@ -60,7 +60,7 @@ pub put-requires : goal.put-requires
 put-requires c =
     omega (
       arith,
-      head-fits (head_of c.args.parts.now) (row_shown c.row-row.result) c.row-row.ensures c.requires,
+      head-fits (head_of c.args.parts.now) (row_value c.row-row.result) c.row-row.ensures c.requires,
       ap length c.new-head.ensures,
       length-added c.add_line.new.head c.new-head.result ((codes "HTTP/1.1 " ++ c.row-row.result.text.now) ++ line_end) c.add_line.ensures,
       length-added c.add_line-2.new.head c.add_line.new.head ((codes "Server: " ++ codes "sws") ++ line_end) c.add_line-2.ensures,
@@ -72,7 +72,7 @@ put-requires c =
     )
 
 pub returns : goal.returns
-returns c = head_text-parts (head_of c.args.parts.now) (row_shown c.row-row.result) c.add_line.new.head c.add_line-2.new.head c.add_connection.new.head
+returns c = head_text-parts (head_of c.args.parts.now) (row_value c.row-row.result) c.add_line.new.head c.add_line-2.new.head c.add_connection.new.head
     c.add_last_modified.new.head c.add_allow.new.head c.add_range.new.head c.add_content.new.head c.put.new.self c.row-row.ensures
     (c.add_line.ensures ∙ ap (λ (old : List ℕ). old ++ ((codes "HTTP/1.1 " ++ c.row-row.result.text.now) ++ line_end)) c.new-head.ensures)
     c.add_line-2.ensures c.add_connection.ensures c.add_last_modified.ensures c.add_allow.ensures c.add_range.ensures c.add_content.ensures c.put.ensures

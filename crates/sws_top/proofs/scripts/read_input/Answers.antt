@@ -7,6 +7,6 @@ use Rattle.sws_top.proofs.scripts.read_input.Goals as goal
 pub returns : goal.returns
 returns g c =
     let r = g.R.Source in
-    let cause = subst (λ text. IsCause c.args.schedule c.args.cores text c.in-Err-parse.fault) c.deref.ensures.value c.in-Err-parse.ensures.fault in
+    let cause = subst (λ text. IsCause c.args.schedule c.args.cores text c.in-Err.fault) c.deref.ensures.value c.in-Err.ensures.fault in
     subst (HasNoInput r c.args.schedule c.args.cores c.args.source.now c.read_text.new.source) (sym c.script_fault.ensures)
-    (no_input r c.args.schedule c.args.cores c.args.source.now c.read_text.new.source c.in-Ok.text.items c.in-Ok.ensures.read c.in-Err-parse.fault cause)
+    (no_input r c.args.schedule c.args.cores c.args.source.now c.read_text.new.source c.in_ok-text.text.items c.in_ok-text.ensures.read c.in-Err.fault cause)

@@ -3,7 +3,7 @@ use Rattle.std.proofs.Common.{subst, sym}
 use Rattle.sws_steps.specs.declared.Next.TheVariants as next
 use Rattle.sws_conn.specs.Path.{open_link}
 use Rattle.hang_up.specs.HangUp.{WaitingState, HasRunOver}
-use Rattle.hang_up.specs.Shown.{state_of}
+use Rattle.hang_up.specs.WaitingFields.{state_of}
 use Rattle.hang_up.proofs.HangLemmas.{no-link, not-opened, opened-run}
 use Rattle.hang_up.proofs.waiting.HangUp.open.Goals as goal
 

@@ -1,5 +1,5 @@
 use Rattle.std.proofs.Common.{arith, ap, ◌∙◌, refl, Some, None}
-use Rattle.mely_lock.specs.Steps.{having_seen}
+use Rattle.mely_lock.specs.Steps.{claim_with_front}
 use Rattle.mely_lock.proofs.CallsLemmas.{notes_at, leaves_at, put_in, as_seen, went_out}
 use Rattle.mely_lock.proofs.ticketed.Ticketed.put_back.Goals as goal
 use Rattle.mely_lock.proofs.ticketed.Ticketed.put_back.Goals.{then-grown, else-grown}
@@ -15,12 +15,12 @@ store-requires g c = let t = c.requires.inside in let e = c.exchange-taken.ensur
       | then-grown w ↦ (
         ap (λ s. s.table_id) w.place-is ∙ (w.fetch_add.ensures.0 ∙ (e.0 ∙ c.requires.table)),
         omega arith,
-        leaves_at g.V.Kept.history_of g.V.Kept.pass_of g.V.Kept.frame_of _ _ _ _ _ (having_seen t.0 (g.V.Kept.history_of x)) x size.1 (ap (λ s. s.me) w.place-is ∙ w.fetch_add.ensures.2 t.0 x back) refl t.2,
+        leaves_at g.V.Kept.history_of g.V.Kept.pass_of g.V.Kept.frame_of _ _ _ _ _ (claim_with_front t.0 (g.V.Kept.history_of x)) x size.1 (ap (λ s. s.me) w.place-is ∙ w.fetch_add.ensures.2 t.0 x back) refl t.2,
       )
       | else-grown w ↦ (
         ap (λ s. s.table_id) w.place-is ∙ (e.0 ∙ c.requires.table),
         omega arith,
-        leaves_at g.V.Kept.history_of g.V.Kept.pass_of g.V.Kept.frame_of _ _ _ _ _ (having_seen t.0 (g.V.Kept.history_of x)) x size.1 (ap (λ s. s.me) w.place-is ∙ (back ∙ as_seen g.V.Kept.history_of g.V.Kept.pass_of g.V.Kept.frame_of t.0 x (t.3.1 w.if-grown.false))) refl t.2,
+        leaves_at g.V.Kept.history_of g.V.Kept.pass_of g.V.Kept.frame_of _ _ _ _ _ (claim_with_front t.0 (g.V.Kept.history_of x)) x size.1 (ap (λ s. s.me) w.place-is ∙ (back ∙ as_seen g.V.Kept.history_of g.V.Kept.pass_of g.V.Kept.frame_of t.0 x (t.3.1 w.if-grown.false))) refl t.2,
       )
     ]
 

@@ -6,8 +6,8 @@ use Rattle.mely_history.specs.Setup.{shape_of, colours_of}
 use Rattle.mely_history.specs.ColourAccount.{account_of}
 use Rattle.mely_history.specs.Legal.{IsRunningOn}
 use Rattle.mely_history.specs.declared.entry.Entry.TheVariants.{Fin}
-use Rattle.mely_shard.specs.Invariant.{CellStands, lane_of}
-use Rattle.mely_shard.proofs.RegisterLemmas.{cell_there, lane_there}
+use Rattle.mely_shard.specs.Invariant.{SlotStands, lane_of}
+use Rattle.mely_shard.proofs.RegisterLemmas.{slot_there, lane_there}
 use Rattle.mely_shard.proofs.FinishLemmas.{finish_whole, running_positive, kept_finished, told_finished}
 use Rattle.mely_shard.proofs.SlotLemmas.{has_room_set}
 use Rattle.mely_shard.proofs.ExposeLemmas.{kept_contents, givens_set, given_there}
@@ -32,23 +32,23 @@ away g c =
       some = running_positive c.self.invariant.0 c.args.turn.colour c.args.turn.core c.args.turn.count own.there own.here runs;
     }
 
--- what is known of the colour's cell
+-- what is known of the colour's slot
 record Found (g : _) (c : After-index_mut g) : Type 0 where
-  pub is : c.index_mut.result.now ≡ get_or c.self.inside.cells.items (c.args.turn.colour.0 / (shape_of c.self.inside.setup).shards) c.index_mut.result.now
-  pub lane : slice_get (map lane_of c.self.inside.cells.items) (c.args.turn.colour.0 / (shape_of c.self.inside.setup).shards) ≡ Some (lane_of c.index_mut.result.now)
-  pub stands : CellStands g.S.Trail g.S.Fits.fits_under c.self.inside.setup c.args.turn.colour (account_of c.self.inside.setup c.self.inside.history.items c.args.turn.colour) c.index_mut.result.now
+  pub is : c.index_mut.result.now ≡ get_or c.self.inside.slots.items (c.args.turn.colour.0 / (shape_of c.self.inside.setup).shards) c.index_mut.result.now
+  pub lane : slice_get (map lane_of c.self.inside.slots.items) (c.args.turn.colour.0 / (shape_of c.self.inside.setup).shards) ≡ Some (lane_of c.index_mut.result.now)
+  pub stands : SlotStands g.S.Trail g.S.Fits.fits_under c.self.inside.setup c.args.turn.colour (account_of c.self.inside.setup c.self.inside.history.items c.args.turn.colour) c.index_mut.result.now
   pub history : c.push_reserved.new.self.items ≡ c.self.inside.history.items ++ Fin c.args.turn.colour c.args.turn.core c.args.turn.count ∷ []
 
 found : (g : _) (c : After-index_mut g) → Found g c
 found g c =
     let own = rw (← c.self.view_is) at c.requires.own in
-    let cells = c.self.inside.cells.items in
-    let cell = c.index_mut.result.now in
-    let is = c.index_mut.ensures.value ∙ ap (λ n. get_or cells n cell) c.place_of-place.ensures ∙ ap (λ k. get_or cells (k.0 / (shape_of c.self.inside.setup).shards) cell) c.colour-colour.ensures in
+    let slots = c.self.inside.slots.items in
+    let slot = c.index_mut.result.now in
+    let is = c.index_mut.ensures.value ∙ ap (λ n. get_or slots n slot) c.place_of-place.ensures ∙ ap (λ k. get_or slots (k.0 / (shape_of c.self.inside.setup).shards) slot) c.colour-colour.ensures in
     record {
       is = is;
-      lane = lane_there c.self.invariant.0 c.args.turn.colour cell own.there own.here is;
-      stands = cell_there c.self.invariant.0 c.args.turn.colour cell own.there own.here is;
+      lane = lane_there c.self.invariant.0 c.args.turn.colour slot own.there own.here is;
+      stands = slot_there c.self.invariant.0 c.args.turn.colour slot own.there own.here is;
       history = rw (c.push_reserved.ensures.items, c.colour-colour.ensures, c.core-core.ensures, c.count-count.ensures) refl;
     }
 
@@ -56,7 +56,7 @@ pub index_mut-requires : goal.index_mut-requires
 index_mut-requires g c =
     let a = away g (goal.at.index_mut-requires g c).After-push_reserved-arg-1 in
     let there = c.self.invariant.0.whole c.args.turn.colour.0 a.there a.here in
-    rw (c.place_of-place.ensures, c.colour-colour.ensures) (omega (arith, there, c.self.inside.cells.ok.0))
+    rw (c.place_of-place.ensures, c.colour-colour.ensures) (omega (arith, there, c.self.inside.slots.ok.0))
 
 pub finish-requires : goal.finish-requires
 finish-requires g c =
@@ -77,20 +77,20 @@ pub invariant_of-self : goal.invariant_of-self
 invariant_of-self g c =
     let a = away g (goal.at.invariant_of-self g c).After-push_reserved-arg-1 in
     let f = found g (goal.at.invariant_of-self g c).After-index_mut in
-    let cell = c.index_mut.result.now in
+    let slot = c.index_mut.result.now in
     let i = c.args.turn.colour.0 / (shape_of c.self.inside.setup).shards in
     let whole = rw (← c.self.view_is) at c.requires.stands.trailed in
     let of_trail = sym (ap (λ es. g.S.Trail.trail_of c.args.turn.state ++ map (λ e. e.0) es) c.requires.spent ∙ append-nil (g.S.Trail.trail_of c.args.turn.state)) ∙ whole in
     let of_frame = rw (← c.self.view_is) at c.requires.stands.framed in
-    let kept = kept_finished c.self.invariant.0 c.args.turn.colour c.args.turn.core c.args.turn.count c.args.turn.state cell a.there a.here f.is a.runs c.requires.stands.coloured (of_frame i cell.given.value (given_there (map lane_of c.self.inside.cells.items) i (lane_of cell) f.lane)) of_trail in
+    let kept = kept_finished c.self.invariant.0 c.args.turn.colour c.args.turn.core c.args.turn.count c.args.turn.state slot a.there a.here f.is a.runs c.requires.stands.coloured (of_frame i slot.given.value (given_there (map lane_of c.self.inside.slots.items) i (lane_of slot) f.lane)) of_trail in
     let emptied = c.into_parts-state.result.1.items in
     let none : emptied ≡ [] = sym (reverse-reverse emptied) ∙ ap reverse (c.into_parts-state.ensures.left ∙ c.requires.spent) in
-    rw (f.history, c.push_reserved.ensures.capacity, c.finish.ensures.cell, c.into_parts-state.ensures.state, c.place_of-place.ensures, c.colour-colour.ensures, c.count-count.ensures) (kept.1, has_room_set _ _ _ _ _ _ _ c.self.invariant.1, none)
+    rw (f.history, c.push_reserved.ensures.capacity, c.finish.ensures.slot, c.into_parts-state.ensures.state, c.place_of-place.ensures, c.colour-colour.ensures, c.count-count.ensures) (kept.1, has_room_set _ _ _ _ _ _ _ c.self.invariant.1, none)
 
 pub returns-clause-home : goal.returns-clause-home
 returns-clause-home g c =
     let f = found g (goal.at.returns-clause-home g c).After-index_mut in
-    let cells = c.self.inside.cells.items in
+    let slots = c.self.inside.slots.items in
     let i = c.args.turn.colour.0 / (shape_of c.self.inside.setup).shards in
     rw (← c.self.view_is) (record {
       before = lane_of c.index_mut.result.now;
@@ -99,7 +99,7 @@ returns-clause-home g c =
         same_setup = refl;
         same_shard = refl;
         history = f.history;
-        lanes = rw (c.place_of-place.ensures, c.colour-colour.ensures) (map-set lane_of cells i c.finish.new.self ∙ ap (λ b. set (map lane_of cells) i (lane_of b)) c.finish.ensures.cell ∙ rw c.into_parts-state.ensures.state refl);
+        lanes = rw (c.place_of-place.ensures, c.colour-colour.ensures) (map-set lane_of slots i c.finish.new.self ∙ ap (λ b. set (map lane_of slots) i (lane_of b)) c.finish.ensures.slot ∙ rw c.into_parts-state.ensures.state refl);
       };
     })
 
@@ -121,5 +121,5 @@ returns-clause-kept g c = kept_contents (invariant_of-self g c).0
 
 pub returns-clause-frame : goal.returns-clause-frame
 returns-clause-frame g c =
-    let cell = c.index_mut.result.now in
-    rw (← c.self.view_is) (record { same_setup = refl; same_shard = refl; same_givens = givens_set c.self.inside.cells.items _ c.finish.new.self cell (ap (λ b. b.given.value) c.finish.ensures.cell ∙ ap (λ b. b.given.value) c.index_mut.ensures.value) })
+    let slot = c.index_mut.result.now in
+    rw (← c.self.view_is) (record { same_setup = refl; same_shard = refl; same_givens = givens_set c.self.inside.slots.items _ c.finish.new.self slot (ap (λ b. b.given.value) c.finish.ensures.slot ∙ ap (λ b. b.given.value) c.index_mut.ensures.value) })

@@ -11,12 +11,12 @@ take_apart-requires-clause-at_home g c =
 
 pub returns-clause-states : goal.returns-clause-states
 returns-clause-states g c =
-    let cells = c.self.inside.cells.items in
+    let slots = c.self.inside.slots.items in
     let none : c.self.inside.states.items ≡ [] = nil_from_length c.self.inside.states.items (sym c.self.inside.states.ok.0 ∙ c.self.invariant.1.no_state) in
-    rw (← c.self.view_is) (c.take_apart.ensures.states ∙ ap (λ states. map (λ state. Some state) states ++ map (λ cell. cell.home) cells) none ∙ sym (map_twice (λ lane. lane.state) lane_of cells))
+    rw (← c.self.view_is) (c.take_apart.ensures.states ∙ ap (λ states. map (λ state. Some state) states ++ map (λ slot. slot.home) slots) none ∙ sym (map_twice (λ lane. lane.state) lane_of slots))
 
 pub returns-clause-queues : goal.returns-clause-queues
 returns-clause-queues g c =
-    let cells = c.self.inside.cells.items in
+    let slots = c.self.inside.slots.items in
     let none : c.self.inside.queues.items ≡ [] = nil_from_length c.self.inside.queues.items (sym c.self.inside.queues.ok.0 ∙ c.self.invariant.1.no_queue) in
-    rw (← c.self.view_is) (c.take_apart.ensures.queues ∙ ap (λ queues. map (λ queue. queue.items) queues ++ map (λ cell. cell.queue.events) cells) none ∙ sym (map_twice (λ lane. lane.events) lane_of cells))
+    rw (← c.self.view_is) (c.take_apart.ensures.queues ∙ ap (λ queues. map (λ queue. queue.items) queues ++ map (λ slot. slot.queue.events) slots) none ∙ sym (map_twice (λ lane. lane.events) lane_of slots))

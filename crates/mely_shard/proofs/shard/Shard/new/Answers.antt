@@ -5,11 +5,11 @@ use Rattle.mely_shard.proofs.shard.Shard.new.Goals as goal
 
 pub invariant_of-result : goal.invariant_of-result
 invariant_of-result g c =
-    let cells = c.in_ok-cells.cells.items in
-    let kept = kept_first g.S.Trail g.S.Fits.fits_under c.args.setup.now c.args.shard c.args.states.items cells c.requires.numbered c.requires.first c.in_ok-cells.ensures.many c.in_ok-cells.ensures.first in
-    let many = c.in_ok-cells.cells.ok.0 in
-    let states = c.in-Ok.ensures in
-    let queues = c.in-Ok-with_capacity.ensures in
+    let slots = c.in_ok-slots.slots.items in
+    let kept = kept_first g.S.Trail g.S.Fits.fits_under c.args.setup.now c.args.shard c.args.states.items slots c.requires.numbered c.requires.first c.in_ok-slots.ensures.many c.in_ok-slots.ensures.first in
+    let many = c.in_ok-slots.slots.ok.0 in
+    let states = c.in_ok-states.ensures in
+    let queues = c.in_ok-queues.ensures in
     let states_room = states.capacity in
     let queues_room = queues.capacity in
     (rw c.new.ensures.items (kept _ (omega arith)), record { no_state = states.len; no_queue = queues.len; room_for_states = omega (arith, many, states_room, c.len.ensures); room_for_queues = omega (arith, many, queues_room, c.len-2.ensures) }, c.new-2.ensures.items)
@@ -19,7 +19,7 @@ returns-clause-made g c = record {
   of_setup = refl;
   of_shard = refl;
   no_entry = c.new.ensures.items;
-  lanes = lanes_first g.S.Trail g.S.Fits.fits_under c.args.setup.now c.args.shard c.args.states.items c.in_ok-cells.cells.items c.requires.numbered c.requires.first c.in_ok-cells.ensures.many c.in_ok-cells.ensures.first;
+  lanes = lanes_first g.S.Trail g.S.Fits.fits_under c.args.setup.now c.args.shard c.args.states.items c.in_ok-slots.slots.items c.requires.numbered c.requires.first c.in_ok-slots.ensures.many c.in_ok-slots.ensures.first;
 }
 
 pub returns-clause-kept : goal.returns-clause-kept

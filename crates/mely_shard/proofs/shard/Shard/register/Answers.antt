@@ -7,20 +7,20 @@ use Rattle.mely_history.specs.Setup.{shape_of, colours_of}
 use Rattle.mely_history.specs.History.{weight}
 use Rattle.mely_history.specs.ColourAccount.{account_of}
 use Rattle.mely_history.specs.declared.entry.Entry.TheVariants.{Reg}
-use Rattle.mely_shard.specs.Invariant.{CellStands, lane_of, most_of}
-use Rattle.mely_shard.proofs.RegisterLemmas.{kept_with_room, cell_there, registered_few, kept_registered, lane_there, told_registered}
+use Rattle.mely_shard.specs.Invariant.{SlotStands, lane_of, most_of}
+use Rattle.mely_shard.proofs.RegisterLemmas.{kept_with_room, slot_there, registered_few, kept_registered, lane_there, told_registered}
 use Rattle.mely_shard.proofs.SlotLemmas.{has_room_set}
 use Rattle.mely_shard.proofs.ExposeLemmas.{kept_contents, givens_set}
 use Rattle.mely_shard.proofs.shard.Shard.register.Goals as goal
 use Rattle.mely_shard.proofs.shard.Shard.register.Goals.{After-index_mut, After-push_reserved, In_err-reply}
 
--- what is known of the colour's cell before the event joins it
+-- what is known of the colour's slot before the event joins it
 record Found (g : _) (c : After-index_mut g) : Type 0 where
   pub there : c.args.colour.0 < colours_of c.self.inside.setup
   pub here : c.args.colour.0 % (shape_of c.self.inside.setup).shards ≡ c.self.inside.shard
-  pub is : c.index_mut.result.now ≡ get_or c.self.inside.cells.items (c.args.colour.0 / (shape_of c.self.inside.setup).shards) c.index_mut.result.now
-  pub lane : slice_get (map lane_of c.self.inside.cells.items) (c.args.colour.0 / (shape_of c.self.inside.setup).shards) ≡ Some (lane_of c.index_mut.result.now)
-  pub stands : CellStands g.S.Trail g.S.Fits.fits_under c.self.inside.setup c.args.colour (account_of c.self.inside.setup c.self.inside.history.items c.args.colour) c.index_mut.result.now
+  pub is : c.index_mut.result.now ≡ get_or c.self.inside.slots.items (c.args.colour.0 / (shape_of c.self.inside.setup).shards) c.index_mut.result.now
+  pub lane : slice_get (map lane_of c.self.inside.slots.items) (c.args.colour.0 / (shape_of c.self.inside.setup).shards) ≡ Some (lane_of c.index_mut.result.now)
+  pub stands : SlotStands g.S.Trail g.S.Fits.fits_under c.self.inside.setup c.args.colour (account_of c.self.inside.setup c.self.inside.history.items c.args.colour) c.index_mut.result.now
   pub fit : g.S.Fits.fits_under (g.S.Trail.frame_of c.index_mut.result.now.given.value) c.args.colour c.args.event c.args.load
   pub weighed : c.weight-weight.result ≡ weight c.self.inside.setup c.args.event
 
@@ -28,16 +28,16 @@ found : (g : _) (c : After-index_mut g) → Found g c
 found g c =
     let own = rw (← c.self.view_is) at c.requires.own in
     let fit = rw (← c.self.view_is) at c.requires.fit in
-    let cells = c.self.inside.cells.items in
-    let cell = c.index_mut.result.now in
-    let is = c.index_mut.ensures.value ∙ ap (λ n. get_or cells n cell) c.place_of-place.ensures in
-    let lane = lane_there c.self.invariant.0 c.args.colour cell own.there own.here is in
+    let slots = c.self.inside.slots.items in
+    let slot = c.index_mut.result.now in
+    let is = c.index_mut.ensures.value ∙ ap (λ n. get_or slots n slot) c.place_of-place.ensures in
+    let lane = lane_there c.self.invariant.0 c.args.colour slot own.there own.here is in
     record {
       there = own.there;
       here = own.here;
       is = is;
       lane = lane;
-      stands = cell_there c.self.invariant.0 c.args.colour cell own.there own.here is;
+      stands = slot_there c.self.invariant.0 c.args.colour slot own.there own.here is;
       fit = fit _ lane;
       weighed = c.weight-weight.ensures ∙ ap (λ h. weight_of (rows_of h) c.args.event.handler) c.handlers.ensures;
     }
@@ -60,7 +60,7 @@ pub index_mut-requires : goal.index_mut-requires
 index_mut-requires g c =
     let own = rw (← c.self.view_is) at c.requires.own in
     let there = c.self.invariant.0.whole c.args.colour.0 own.there own.here in
-    rw c.place_of-place.ensures (omega (arith, there, c.self.inside.cells.ok.0))
+    rw c.place_of-place.ensures (omega (arith, there, c.self.inside.slots.ok.0))
 
 pub register-requires : goal.register-requires
 register-requires g c =
@@ -73,17 +73,17 @@ invariant_of-self g c =
     let more = c.make_room.ensures.not_lower in
     rw c.make_room.ensures.same (kept_with_room c.self.invariant.0 (most_of (vec_capacity c.make_room.new.history)) (omega (arith, more)) (omega arith), c.self.invariant.1, c.self.invariant.2)
 
--- a refused push leaves the cells as they were
-same_cells : (g : _) (c : In_err-reply g) → set c.self.inside.cells.items c.place_of-place.result c.register.new.self ≡ c.self.inside.cells.items
-same_cells g c =
-    let cells = c.self.inside.cells.items in
+-- a refused push leaves the slots as they were
+same_slots : (g : _) (c : In_err-reply g) → set c.self.inside.slots.items c.place_of-place.result c.register.new.self ≡ c.self.inside.slots.items
+same_slots g c =
+    let slots = c.self.inside.slots.items in
     let k = c.place_of-place.result in
-    ap (set cells k) (c.in_err-reply.ensures.err ∙ c.index_mut.ensures.value) ∙ set-get_or cells k c.index_mut.result.now
+    ap (set slots k) (c.in_err-reply.ensures.err ∙ c.index_mut.ensures.value) ∙ set-get_or slots k c.index_mut.result.now
 
 pub invariant_of-self-in_err-reply : goal.invariant_of-self-in_err-reply
 invariant_of-self-in_err-reply g c =
     let more = c.make_room.ensures.not_lower in
-    rw (c.make_room.ensures.same, same_cells g (goal.at.invariant_of-self-in_err-reply g c).In_err-reply) (kept_with_room c.self.invariant.0 (most_of (vec_capacity c.make_room.new.history)) (omega (arith, more)) (omega arith), c.self.invariant.1, c.self.invariant.2)
+    rw (c.make_room.ensures.same, same_slots g (goal.at.invariant_of-self-in_err-reply g c).In_err-reply) (kept_with_room c.self.invariant.0 (most_of (vec_capacity c.make_room.new.history)) (omega (arith, more)) (omega arith), c.self.invariant.1, c.self.invariant.2)
 
 -- what holds anyway holds where there is an error
 on_err : {T E P : Type 0} (r : Result T E) → P → OnErr r P
@@ -92,7 +92,7 @@ on_err (Err error) holds = holds
 
 pub returns-in_err-reply-clause-err : goal.returns-in_err-reply-clause-err
 returns-in_err-reply-clause-err g c =
-    let same = same_cells g (goal.at.returns-in_err-reply-clause-err g c).In_err-reply in
+    let same = same_slots g (goal.at.returns-in_err-reply-clause-err g c).In_err-reply in
     rw (← c.self.view_is) (on_err c.from_residual.result (record {
       same_setup = refl;
       same_shard = refl;
@@ -115,17 +115,17 @@ pub returns-clause-ok : goal.returns-clause-ok
 returns-clause-ok g c =
     let f = found g (goal.at.returns-clause-ok g c).After-index_mut in
     let p = pushed g c in
-    let cells = c.self.inside.cells.items in
-    let cell = c.index_mut.result.now in
+    let slots = c.self.inside.slots.items in
+    let slot = c.index_mut.result.now in
     let i = c.args.colour.0 / (shape_of c.self.inside.setup).shards in
     rw (← c.self.view_is) (record {
-      before = lane_of cell;
+      before = lane_of slot;
       was = f.lane;
       after = record {
         same_setup = refl;
         same_shard = refl;
         history = p.history;
-        lanes = ap (λ n. map lane_of (set cells n c.register.new.self)) c.place_of-place.ensures ∙ map-set lane_of cells i c.register.new.self ∙ ap (λ b. set (map lane_of cells) i (lane_of b)) c.in_ok-reply.ensures.ok;
+        lanes = ap (λ n. map lane_of (set slots n c.register.new.self)) c.place_of-place.ensures ∙ map-set lane_of slots i c.register.new.self ∙ ap (λ b. set (map lane_of slots) i (lane_of b)) c.in_ok-reply.ensures.ok;
       };
     })
 
@@ -147,5 +147,5 @@ returns-clause-kept g c = kept_contents (invariant_of-self-2 g c).0
 
 pub returns-clause-frame : goal.returns-clause-frame
 returns-clause-frame g c =
-    let cell = c.index_mut.result.now in
-    rw (← c.self.view_is) (record { same_setup = refl; same_shard = refl; same_givens = givens_set c.self.inside.cells.items c.place_of-place.result c.register.new.self cell (ap (λ b. b.given.value) c.in_ok-reply.ensures.ok ∙ ap (λ b. b.given.value) c.index_mut.ensures.value) })
+    let slot = c.index_mut.result.now in
+    rw (← c.self.view_is) (record { same_setup = refl; same_shard = refl; same_givens = givens_set c.self.inside.slots.items c.place_of-place.result c.register.new.self slot (ap (λ b. b.given.value) c.in_ok-reply.ensures.ok ∙ ap (λ b. b.given.value) c.index_mut.ensures.value) })

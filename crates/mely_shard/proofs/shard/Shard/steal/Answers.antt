@@ -9,47 +9,47 @@ use Rattle.mely_history.specs.History.{weight, queued_of}
 use Rattle.mely_history.specs.ColourAccount.{ColourAccount, account_of}
 use Rattle.mely_history.specs.declared.entry.Entry.TheVariants.{Steal}
 use Rattle.mely_history.proofs.ColourAccountLemmas.{account-own}
-use Rattle.mely_shard.specs.Invariant.{CellStands, lane_of, most_of}
-use Rattle.mely_shard.proofs.RegisterLemmas.{cell_there, kept_with_room}
-use Rattle.mely_shard.proofs.StealLemmas.{Refuses, cell_refuses, kept_stolen}
+use Rattle.mely_shard.specs.Invariant.{SlotStands, lane_of, most_of}
+use Rattle.mely_shard.proofs.RegisterLemmas.{slot_there, kept_with_room}
+use Rattle.mely_shard.proofs.StealLemmas.{Refuses, slot_refuses, kept_stolen}
 use Rattle.mely_shard.proofs.SlotLemmas.{has_room_set}
 use Rattle.mely_shard.proofs.ExposeLemmas.{kept_contents, givens_set}
 use Rattle.mely_shard.proofs.shard.Shard.steal.Goals as goal
 use Rattle.mely_shard.proofs.shard.Shard.steal.Goals.{After-no_steal, After-push_reserved}
 
--- what is known once the colour's cell was asked
+-- what is known once the colour's slot was asked
 record Asked (g : _) (c : After-no_steal g) : Type 0 where
   pub free : pinned_of c.self.inside.setup ≤ c.args.colour.0
   pub there : c.args.colour.0 < colours_of c.self.inside.setup
   pub here : c.args.colour.0 % (shape_of c.self.inside.setup).shards ≡ c.self.inside.shard
-  pub is : c.index_mut-cell.result.now ≡ get_or c.self.inside.cells.items (c.args.colour.0 / (shape_of c.self.inside.setup).shards) c.index_mut-cell.result.now
-  pub stands : CellStands g.S.Trail g.S.Fits.fits_under c.self.inside.setup c.args.colour (account_of c.self.inside.setup c.self.inside.history.items c.args.colour) c.index_mut-cell.result.now
+  pub is : c.index_mut-slot.result.now ≡ get_or c.self.inside.slots.items (c.args.colour.0 / (shape_of c.self.inside.setup).shards) c.index_mut-slot.result.now
+  pub stands : SlotStands g.S.Trail g.S.Fits.fits_under c.self.inside.setup c.args.colour (account_of c.self.inside.setup c.self.inside.history.items c.args.colour) c.index_mut-slot.result.now
   pub refuses : Refuses c.self.invariant.0 c.args.colour c.args.to c.no_steal.result
-  pub same : set c.self.inside.cells.items c.place_of-place.result c.index_mut-cell.result.now ≡ c.self.inside.cells.items
+  pub same : set c.self.inside.slots.items c.place_of-place.result c.index_mut-slot.result.now ≡ c.self.inside.slots.items
 
 asked : (g : _) (c : After-no_steal g) → Asked g c
 asked g c =
     let own = rw (← c.self.view_is) at c.requires.own in
-    let cells = c.self.inside.cells.items in
-    let cell = c.index_mut-cell.result.now in
+    let slots = c.self.inside.slots.items in
+    let slot = c.index_mut-slot.result.now in
     let free : pinned_of c.self.inside.setup ≤ c.args.colour.0 = omega (arith, c.pinned.ensures.value, c.from.ensures, c.if-from-pinned.false) in
-    let is = c.index_mut-cell.ensures.value ∙ ap (λ n. get_or cells n cell) c.place_of-place.ensures in
-    let stands = cell_there c.self.invariant.0 c.args.colour cell own.there own.here is in
+    let is = c.index_mut-slot.ensures.value ∙ ap (λ n. get_or slots n slot) c.place_of-place.ensures in
+    let stands = slot_there c.self.invariant.0 c.args.colour slot own.there own.here is in
     record {
       free = free;
       there = own.there;
       here = own.here;
       is = is;
       stands = stands;
-      refuses = rw c.no_steal.ensures (cell_refuses c.self.invariant.0 c.args.colour free c.args.to c.steal_cost.result cell stands c.steal_cost.ensures);
-      same = ap (set cells c.place_of-place.result) c.index_mut-cell.ensures.value ∙ set-get_or cells c.place_of-place.result cell;
+      refuses = rw c.no_steal.ensures (slot_refuses c.self.invariant.0 c.args.colour free c.args.to c.steal_cost.result slot stands c.steal_cost.ensures);
+      same = ap (set slots c.place_of-place.result) c.index_mut-slot.ensures.value ∙ set-get_or slots c.place_of-place.result slot;
     }
 
-pub index_mut-cell-requires : goal.index_mut-cell-requires
-index_mut-cell-requires g c =
+pub index_mut-slot-requires : goal.index_mut-slot-requires
+index_mut-slot-requires g c =
     let own = rw (← c.self.view_is) at c.requires.own in
     let there = c.self.invariant.0.whole c.args.colour.0 own.there own.here in
-    rw c.place_of-place.ensures (omega (arith, there, c.self.inside.cells.ok.0))
+    rw c.place_of-place.ensures (omega (arith, there, c.self.inside.slots.ok.0))
 
 pub returns-then-from-pinned-clause-kept : goal.returns-then-from-pinned-clause-kept
 returns-then-from-pinned-clause-kept g c = rw (← c.self.view_is) (kept_contents c.self.invariant.0)
@@ -87,7 +87,7 @@ returns-in_default-make_room-clause-spare g c =
 
 -- what is known once the entry was pushed
 record Pushed (g : _) (c : After-push_reserved g) : Type 0 where
-  pub history : c.push_reserved.new.self.items ≡ c.self.inside.history.items ++ Steal c.args.colour c.index_mut-cell.result.now.owner c.args.to ∷ []
+  pub history : c.push_reserved.new.self.items ≡ c.self.inside.history.items ++ Steal c.args.colour c.index_mut-slot.result.now.owner c.args.to ∷ []
   pub room : length c.self.inside.history.items + 1 + c.self.inside.running ≤ most_of (vec_capacity c.push_reserved.new.self)
 
 pushed : (g : _) (c : After-push_reserved g) → Pushed g c
@@ -105,27 +105,27 @@ invariant_of-self-2 g c =
     let p = pushed g c in
     let core = rw (← c.self.view_is) at c.requires.core in
     let ready = rw c.in_default.is at a.refuses in
-    rw (p.history, c.steal-stolen.ensures.cell, c.place_of-place.ensures)
-    ((kept_stolen c.self.invariant.0 c.args.colour a.free c.args.to (most_of (vec_capacity c.push_reserved.new.self)) c.index_mut-cell.result.now a.there a.here a.is core ready p.room (omega arith)).1, has_room_set _ _ _ _ _ _ _ c.self.invariant.1, c.self.invariant.2)
+    rw (p.history, c.steal-stolen.ensures.slot, c.place_of-place.ensures)
+    ((kept_stolen c.self.invariant.0 c.args.colour a.free c.args.to (most_of (vec_capacity c.push_reserved.new.self)) c.index_mut-slot.result.now a.there a.here a.is core ready p.room (omega arith)).1, has_room_set _ _ _ _ _ _ _ c.self.invariant.1, c.self.invariant.2)
 
 pub returns-clause-ok : goal.returns-clause-ok
 returns-clause-ok g c =
     let a = asked g (goal.at.returns-clause-ok g c).After-no_steal in
     let p = pushed g c in
-    let cells = c.self.inside.cells.items in
-    let cell = c.index_mut-cell.result.now in
+    let slots = c.self.inside.slots.items in
+    let slot = c.index_mut-slot.result.now in
     let core = rw (← c.self.view_is) at c.requires.core in
     let ready = rw c.in_default.is at a.refuses in
-    let stolen = kept_stolen c.self.invariant.0 c.args.colour a.free c.args.to (most_of (vec_capacity c.push_reserved.new.self)) cell a.there a.here a.is core ready p.room (omega arith) in
-    let next = account-own c.self.inside.setup c.self.inside.history.items (Steal c.args.colour cell.owner c.args.to) c.args.colour refl in
+    let stolen = kept_stolen c.self.invariant.0 c.args.colour a.free c.args.to (most_of (vec_capacity c.push_reserved.new.self)) slot a.there a.here a.is core ready p.room (omega arith) in
+    let next = account-own c.self.inside.setup c.self.inside.history.items (Steal c.args.colour slot.owner c.args.to) c.args.colour refl in
     rw (← c.self.view_is, c.steal-stolen.ensures.reply) (record {
       allowed = stolen.0;
       same_setup = refl;
       same_shard = refl;
       history = p.history;
-      lanes = map-set_same lane_of cells c.place_of-place.result _ cell (ap lane_of c.steal-stolen.ensures.cell ∙ ap lane_of c.index_mut-cell.ensures.value);
+      lanes = map-set_same lane_of slots c.place_of-place.result _ slot (ap lane_of c.steal-stolen.ensures.slot ∙ ap lane_of c.index_mut-slot.ensures.value);
       started = rw p.history (a.stands.started ∙ ap (λ (s : ColourAccount). s.begun) (sym next));
-      left = rw p.history (ap sum a.stands.weights ∙ sum-map (weight c.self.inside.setup) (queued_of c.self.inside.history.items c.args.colour) ∙ ap (λ (s : ColourAccount). sum_by (weight c.self.inside.setup) (drop s.begun s.registered)) (sym next));
+      worth = rw p.history (ap sum a.stands.weights ∙ sum-map (weight c.self.inside.setup) (queued_of c.self.inside.history.items c.args.colour) ∙ ap (λ (s : ColourAccount). sum_by (weight c.self.inside.setup) (drop s.begun s.registered)) (sym next));
     })
 
 pub returns-clause-kept : goal.returns-clause-kept
@@ -133,5 +133,5 @@ returns-clause-kept g c = kept_contents (invariant_of-self-2 g c).0
 
 pub returns-clause-frame : goal.returns-clause-frame
 returns-clause-frame g c =
-    let cell = c.index_mut-cell.result.now in
-    rw (← c.self.view_is) (record { same_setup = refl; same_shard = refl; same_givens = givens_set c.self.inside.cells.items _ c.steal-stolen.new.self cell (ap (λ b. b.given.value) c.steal-stolen.ensures.cell ∙ ap (λ b. b.given.value) c.index_mut-cell.ensures.value) })
+    let slot = c.index_mut-slot.result.now in
+    rw (← c.self.view_is) (record { same_setup = refl; same_shard = refl; same_givens = givens_set c.self.inside.slots.items _ c.steal-stolen.new.self slot (ap (λ b. b.given.value) c.steal-stolen.ensures.slot ∙ ap (λ b. b.given.value) c.index_mut-slot.ensures.value) })

@@ -8,40 +8,40 @@ use Rattle.mely_history.specs.Legal.{MayTake}
 use Rattle.mely_history.specs.declared.entry.Entry.TheVariants.{Take}
 use Rattle.mely_queue.specs.ColourQueue.{after_take}
 use Rattle.mely_queue.specs.Turn.{EachFits}
-use Rattle.mely_shard.specs.Invariant.{CellStands, IsKeptShard, lane_of, most_of}
-use Rattle.mely_shard.proofs.RegisterLemmas.{kept_with_room, cell_there, lane_there}
-use Rattle.mely_shard.proofs.TakeLemmas.{RoomierLaws, Refuses, cell_refuses, ready_home, kept_taken, kept_alike, each_alike, taken_turn, all_by_recursion-take, lanes_as_they_are}
+use Rattle.mely_shard.specs.Invariant.{SlotStands, IsKeptShard, lane_of, most_of}
+use Rattle.mely_shard.proofs.RegisterLemmas.{kept_with_room, slot_there, lane_there}
+use Rattle.mely_shard.proofs.TakeLemmas.{RoomierLaws, Refuses, slot_refuses, ready_home, kept_taken, kept_alike, each_alike, taken_turn, all_by_recursion-take, lanes_as_they_are}
 use Rattle.mely_shard.proofs.SlotLemmas.{has_room_set}
 use Rattle.mely_shard.proofs.ExposeLemmas.{kept_contents, givens_set, given_frame}
 use Rattle.mely_shard.proofs.shard.Shard.take.Goals as goal
 use Rattle.mely_shard.proofs.shard.Shard.take.Goals.{After-no_take, After-push_reserved}
 
--- what is known once the colour's cell was asked
+-- what is known once the colour's slot was asked
 record Asked (g : _) (c : After-no_take g) : Type 0 where
   pub there : c.args.colour.0 < colours_of c.self.inside.setup
   pub here : c.args.colour.0 % (shape_of c.self.inside.setup).shards ≡ c.self.inside.shard
-  pub place : c.args.colour.0 / (shape_of c.self.inside.setup).shards < length c.self.inside.cells.items
-  pub is : c.index_mut-cell.result.now ≡ get_or c.self.inside.cells.items (c.args.colour.0 / (shape_of c.self.inside.setup).shards) c.index_mut-cell.result.now
-  pub stands : CellStands g.S.Trail g.S.Fits.fits_under c.self.inside.setup c.args.colour (account_of c.self.inside.setup c.self.inside.history.items c.args.colour) c.index_mut-cell.result.now
-  pub refuses : Refuses c.self.invariant.0 c.args.colour c.args.core c.index_mut-cell.result.now.given.value c.index_mut-cell.result.now.home c.no_take.result
-  pub same : set c.self.inside.cells.items c.place_of-place.result c.index_mut-cell.result.now ≡ c.self.inside.cells.items
+  pub place : c.args.colour.0 / (shape_of c.self.inside.setup).shards < length c.self.inside.slots.items
+  pub is : c.index_mut-slot.result.now ≡ get_or c.self.inside.slots.items (c.args.colour.0 / (shape_of c.self.inside.setup).shards) c.index_mut-slot.result.now
+  pub stands : SlotStands g.S.Trail g.S.Fits.fits_under c.self.inside.setup c.args.colour (account_of c.self.inside.setup c.self.inside.history.items c.args.colour) c.index_mut-slot.result.now
+  pub refuses : Refuses c.self.invariant.0 c.args.colour c.args.core c.index_mut-slot.result.now.given.value c.index_mut-slot.result.now.home c.no_take.result
+  pub same : set c.self.inside.slots.items c.place_of-place.result c.index_mut-slot.result.now ≡ c.self.inside.slots.items
   pub laws : RoomierLaws g.S.Trail
 
 asked : (g : _) (c : After-no_take g) → Asked g c
 asked g c =
     let own = rw (← c.self.view_is) at c.requires.own in
-    let cells = c.self.inside.cells.items in
-    let cell = c.index_mut-cell.result.now in
-    let is = c.index_mut-cell.ensures.value ∙ ap (λ n. get_or cells n cell) c.place_of-place.ensures in
-    let stands = cell_there c.self.invariant.0 c.args.colour cell own.there own.here is in
+    let slots = c.self.inside.slots.items in
+    let slot = c.index_mut-slot.result.now in
+    let is = c.index_mut-slot.ensures.value ∙ ap (λ n. get_or slots n slot) c.place_of-place.ensures in
+    let stands = slot_there c.self.invariant.0 c.args.colour slot own.there own.here is in
     record {
       there = own.there;
       here = own.here;
       place = c.self.invariant.0.whole c.args.colour.0 own.there own.here;
       is = is;
       stands = stands;
-      refuses = rw c.no_take.ensures (cell_refuses c.self.invariant.0 c.args.colour c.args.core cell stands);
-      same = ap (set cells c.place_of-place.result) c.index_mut-cell.ensures.value ∙ set-get_or cells c.place_of-place.result cell;
+      refuses = rw c.no_take.ensures (slot_refuses c.self.invariant.0 c.args.colour c.args.core slot stands);
+      same = ap (set slots c.place_of-place.result) c.index_mut-slot.ensures.value ∙ set-get_or slots c.place_of-place.result slot;
       laws = record {
         itself = λ s. (g.met.S.Trail.alike_itself s, omega arith);
         trail = λ s u same. g.met.S.Trail.alike_trail s u same.0;
@@ -52,29 +52,29 @@ asked g c =
 
 -- what is known once the entry was pushed
 record Pushed (g : _) (c : After-push_reserved g) : Type 0 where
-  pub first : c.count-count.result ≡ min c.batch-batch.result (length c.index_mut-cell.result.now.queue.events)
-  pub counted : c.in-Ok-take.turn.count ≡ min c.batch-batch.result (length c.index_mut-cell.result.now.queue.events)
-  pub whole : c.count-count.result ≡ min (shape_of c.self.inside.setup).batch (length c.index_mut-cell.result.now.queue.events)
-  pub after : c.take.new.self ≡ record c.index_mut-cell.result.now { queue = after_take c.index_mut-cell.result.now.queue c.count-count.result; home = None; core = c.args.core; count = c.count-count.result }
+  pub first : c.count-count.result ≡ min c.batch-batch.result (length c.index_mut-slot.result.now.queue.events)
+  pub counted : c.in-Ok-take.turn.count ≡ min c.batch-batch.result (length c.index_mut-slot.result.now.queue.events)
+  pub whole : c.count-count.result ≡ min (shape_of c.self.inside.setup).batch (length c.index_mut-slot.result.now.queue.events)
+  pub after : c.take.new.self ≡ record c.index_mut-slot.result.now { queue = after_take c.index_mut-slot.result.now.queue c.count-count.result; home = None; core = c.args.core; count = c.count-count.result }
   pub history : c.push_reserved.new.self.items ≡ c.self.inside.history.items ++ Take c.args.colour c.args.core c.count-count.result ∷ []
   pub allowed : MayTake c.self.inside.setup c.self.inside.history.items c.args.colour c.args.core c.count-count.result
-  pub kept : IsKeptShard g.S.Trail g.S.Fits.fits_under c.self.inside.setup c.self.inside.shard (c.self.inside.history.items ++ Take c.args.colour c.args.core c.count-count.result ∷ []) (set c.self.inside.cells.items (c.args.colour.0 / (shape_of c.self.inside.setup).shards) c.take.new.self) (c.self.inside.running + 1) (most_of (vec_capacity c.push_reserved.new.self))
+  pub kept : IsKeptShard g.S.Trail g.S.Fits.fits_under c.self.inside.setup c.self.inside.shard (c.self.inside.history.items ++ Take c.args.colour c.args.core c.count-count.result ∷ []) (set c.self.inside.slots.items (c.args.colour.0 / (shape_of c.self.inside.setup).shards) c.take.new.self) (c.self.inside.running + 1) (most_of (vec_capacity c.push_reserved.new.self))
 
 pushed : (g : _) (c : After-push_reserved g) → c.args.colour.0 < colours_of c.self.inside.setup → c.args.colour.0 % (shape_of c.self.inside.setup).shards ≡ c.self.inside.shard
-    → c.index_mut-cell.result.now ≡ get_or c.self.inside.cells.items (c.args.colour.0 / (shape_of c.self.inside.setup).shards) c.index_mut-cell.result.now
-    → Refuses c.self.invariant.0 c.args.colour c.args.core c.index_mut-cell.result.now.given.value c.index_mut-cell.result.now.home None
+    → c.index_mut-slot.result.now ≡ get_or c.self.inside.slots.items (c.args.colour.0 / (shape_of c.self.inside.setup).shards) c.index_mut-slot.result.now
+    → Refuses c.self.invariant.0 c.args.colour c.args.core c.index_mut-slot.result.now.given.value c.index_mut-slot.result.now.home None
     → Pushed g c
 pushed g c there here is ready =
-    let cell = c.index_mut-cell.result.now in
+    let slot = c.index_mut-slot.result.now in
     let takes = c.in-Ok-take.ensures.ok in
     let n = c.count-count.result in
-    let first : n ≡ min c.batch-batch.result (length cell.queue.events) = c.count-count.ensures ∙ ap (λ t. t.count) takes.made in
-    let whole : n ≡ min (shape_of c.self.inside.setup).batch (length cell.queue.events) = first ∙ ap (λ b. min b (length cell.queue.events)) c.batch-batch.ensures.value in
-    let after : c.take.new.self ≡ record cell { queue = after_take cell.queue n; home = None; core = c.args.core; count = n } = rw first takes.left in
+    let first : n ≡ min c.batch-batch.result (length slot.queue.events) = c.count-count.ensures ∙ ap (λ t. t.count) takes.made in
+    let whole : n ≡ min (shape_of c.self.inside.setup).batch (length slot.queue.events) = first ∙ ap (λ b. min b (length slot.queue.events)) c.batch-batch.ensures.value in
+    let after : c.take.new.self ≡ record slot { queue = after_take slot.queue n; home = None; core = c.args.core; count = n } = rw first takes.left in
     let same = ap length c.make_room.ensures.same in
     let room = c.in-Ok.ensures.room in
     let roomy : length c.self.inside.history.items + 2 + c.self.inside.running ≤ most_of (vec_capacity c.push_reserved.new.self) = rw c.push_reserved.ensures.capacity (omega (arith, same, room)) in
-    let both = kept_taken c.self.invariant.0 c.args.colour c.args.core (most_of (vec_capacity c.push_reserved.new.self)) cell c.take.new.self there here is ready n whole c.self.inside.setup.batch_in.0 after roomy (omega arith) in
+    let both = kept_taken c.self.invariant.0 c.args.colour c.args.core (most_of (vec_capacity c.push_reserved.new.self)) slot c.take.new.self there here is ready n whole c.self.inside.setup.batch_in.0 after roomy (omega arith) in
     record {
       first = first;
       counted = ap (λ t. t.count) takes.made;
@@ -101,7 +101,7 @@ returns-in-Some-clause-err g c =
       same_shard = refl;
       history = refl;
       many = ap (λ all. length (map lane_of all)) a.same;
-      lanes = λ j d lt. rw a.same (lanes_as_they_are c.self.invariant.0 a.laws (map lane_of c.self.inside.cells.items) j d);
+      lanes = λ j d lt. rw a.same (lanes_as_they_are c.self.invariant.0 a.laws (map lane_of c.self.inside.slots.items) j d);
     })
 
 pub returns-in-Some-clause-kept : goal.returns-in-Some-clause-kept
@@ -121,7 +121,7 @@ returns-in_default-make_room-clause-err g c =
       same_shard = refl;
       history = c.make_room.ensures.same;
       many = ap (λ all. length (map lane_of all)) a.same;
-      lanes = λ j d lt. rw a.same (lanes_as_they_are c.self.invariant.0 a.laws (map lane_of c.self.inside.cells.items) j d);
+      lanes = λ j d lt. rw a.same (lanes_as_they_are c.self.invariant.0 a.laws (map lane_of c.self.inside.slots.items) j d);
     })
 
 pub returns-in_default-make_room-clause-refusal : goal.returns-in_default-make_room-clause-refusal
@@ -139,15 +139,15 @@ take-requires-clause-emptied g c = c.self.invariant.2
 pub take-requires-clause-home : goal.take-requires-clause-home
 take-requires-clause-home g c =
     let a = asked g (goal.at.take-requires-clause-home g c).After-no_take in
-    let cell = c.index_mut-cell.result.now in
+    let slot = c.index_mut-slot.result.now in
     let ready = rw c.in_default.is at a.refuses in
-    ready_home c.self.invariant.0 c.args.colour cell.given.value cell.home ready.2
+    ready_home c.self.invariant.0 c.args.colour slot.given.value slot.home ready.2
 
 pub take-requires-clause-waiting : goal.take-requires-clause-waiting
 take-requires-clause-waiting g c =
     let a = asked g (goal.at.take-requires-clause-waiting g c).After-no_take in
     let ready = rw c.in_default.is at a.refuses in
-    omega (arith, ready.1.waiting, ap length a.stands.events, length-map c.index_mut-cell.result.now.queue.events (λ e. e.0))
+    omega (arith, ready.1.waiting, ap length a.stands.events, length-map c.index_mut-slot.result.now.queue.events (λ e. e.0))
 
 pub take-requires-clause-fit : goal.take-requires-clause-fit
 take-requires-clause-fit g c = (asked g (goal.at.take-requires-clause-fit g c).After-no_take).stands.fit
@@ -157,20 +157,20 @@ invariant_of-self-in_default-take g c =
     let a = asked g (goal.at.invariant_of-self-in_default-take g c).After-no_take in
     let more = c.make_room.ensures.not_lower in
     rw (c.make_room.ensures.same, c.place_of-place.ensures)
-    (kept_alike c.self.invariant.0 a.laws c.args.colour c.index_mut-cell.result.now c.take.new.self (most_of (vec_capacity c.make_room.new.history)) a.there a.here a.is c.in_default-take.ensures.err (omega (arith, more)) (omega arith), has_room_set _ _ _ _ _ _ _ c.self.invariant.1, c.take.ensures.emptied)
+    (kept_alike c.self.invariant.0 a.laws c.args.colour c.index_mut-slot.result.now c.take.new.self (most_of (vec_capacity c.make_room.new.history)) a.there a.here a.is c.in_default-take.ensures.err (omega (arith, more)) (omega arith), has_room_set _ _ _ _ _ _ _ c.self.invariant.1, c.take.ensures.emptied)
 
 pub returns-in_default-take-clause-err : goal.returns-in_default-take-clause-err
 returns-in_default-take-clause-err g c =
     let a = asked g (goal.at.returns-in_default-take-clause-err g c).After-no_take in
-    let cells = c.self.inside.cells.items in
+    let slots = c.self.inside.slots.items in
     let k = c.place_of-place.result in
-    let place : k < length cells = rw c.place_of-place.ensures a.place in
+    let place : k < length slots = rw c.place_of-place.ensures a.place in
     rw (← c.self.view_is) (record {
       same_setup = refl;
       same_shard = refl;
       history = c.make_room.ensures.same;
-      many = length-map (set cells k c.take.new.self) lane_of ∙ length-set cells k c.take.new.self ∙ sym (length-map cells lane_of);
-      lanes = each_alike c.self.invariant.0 a.laws k c.index_mut-cell.result.now c.take.new.self place c.index_mut-cell.ensures.value c.in_default-take.ensures.err;
+      many = length-map (set slots k c.take.new.self) lane_of ∙ length-set slots k c.take.new.self ∙ sym (length-map slots lane_of);
+      lanes = each_alike c.self.invariant.0 a.laws k c.index_mut-slot.result.now c.take.new.self place c.index_mut-slot.ensures.value c.in_default-take.ensures.err;
     })
 
 pub returns-in_default-take-clause-refusal : goal.returns-in_default-take-clause-refusal
@@ -184,8 +184,8 @@ returns-in_default-take-clause-kept g c = kept_contents (invariant_of-self-in_de
 
 pub returns-in_default-take-clause-frame : goal.returns-in_default-take-clause-frame
 returns-in_default-take-clause-frame g c =
-    let cell = c.index_mut-cell.result.now in
-    rw (← c.self.view_is) (record { same_setup = refl; same_shard = refl; same_givens = givens_set c.self.inside.cells.items _ c.take.new.self cell (ap (λ b. b.given.value) c.in_default-take.ensures.err.left ∙ ap (λ b. b.given.value) c.index_mut-cell.ensures.value) })
+    let slot = c.index_mut-slot.result.now in
+    rw (← c.self.view_is) (record { same_setup = refl; same_shard = refl; same_givens = givens_set c.self.inside.slots.items _ c.take.new.self slot (ap (λ b. b.given.value) c.in_default-take.ensures.err.left ∙ ap (λ b. b.given.value) c.index_mut-slot.ensures.value) })
 
 pub invariant_of-self-2 : goal.invariant_of-self-2
 invariant_of-self-2 g c =
@@ -199,24 +199,24 @@ returns-clause-ok g c =
     let a = asked g (goal.at.returns-clause-ok g c).After-no_take in
     let ready = rw c.in_default.is at a.refuses in
     let p = pushed g (goal.at.returns-clause-ok g c).After-push_reserved a.there a.here a.is ready in
-    let cells = c.self.inside.cells.items in
-    let cell = c.index_mut-cell.result.now in
+    let slots = c.self.inside.slots.items in
+    let slot = c.index_mut-slot.result.now in
     let i = c.args.colour.0 / (shape_of c.self.inside.setup).shards in
     let takes = c.in-Ok-take.ensures.ok in
     rw (← c.self.view_is) (record {
-      before = lane_of cell;
-      was = lane_there c.self.invariant.0 c.args.colour cell a.there a.here a.is;
+      before = lane_of slot;
+      was = lane_there c.self.invariant.0 c.args.colour slot a.there a.here a.is;
       home = takes.home;
       at_home = takes.was;
       allowed = rw (← c.count-count.ensures) p.allowed;
       alike = takes.alike;
       room = rw (← c.count-count.ensures, p.first) takes.room;
-      made = takes.made ∙ rw (p.counted, ← take_min c.batch-batch.result cell.queue.events) refl;
+      made = takes.made ∙ rw (p.counted, ← take_min c.batch-batch.result slot.queue.events) refl;
       after = record {
         same_setup = refl;
         same_shard = refl;
         history = rw (p.history, c.count-count.ensures) refl;
-        lanes = ap (λ m. map lane_of (set cells m c.take.new.self)) c.place_of-place.ensures ∙ map-set lane_of cells i c.take.new.self ∙ ap (λ b. set (map lane_of cells) i (lane_of b)) p.after ∙ rw c.count-count.ensures refl;
+        lanes = ap (λ m. map lane_of (set slots m c.take.new.self)) c.place_of-place.ensures ∙ map-set lane_of slots i c.take.new.self ∙ ap (λ b. set (map lane_of slots) i (lane_of b)) p.after ∙ rw c.count-count.ensures refl;
       };
     })
 
@@ -225,19 +225,19 @@ returns-clause-stands g c =
     let a = asked g (goal.at.returns-clause-stands g c).After-no_take in
     let ready = rw c.in_default.is at a.refuses in
     let p = pushed g (goal.at.returns-clause-stands g c).After-push_reserved a.there a.here a.is ready in
-    let cells = c.self.inside.cells.items in
-    let cell = c.index_mut-cell.result.now in
+    let slots = c.self.inside.slots.items in
+    let slot = c.index_mut-slot.result.now in
     let takes = c.in-Ok-take.ensures.ok in
-    let some : 1 ≤ c.count-count.result = omega (arith, p.whole, c.self.inside.setup.batch_in.0, ready.1.waiting, ap length a.stands.events, length-map cell.queue.events (λ e. e.0)) in
-    let turn = taken_turn c.self.invariant.0 a.laws c.args.colour c.args.core c.count-count.result cell a.stands ready some takes.home c.in-Ok-take.turn.state takes.was takes.alike in
-    let given : c.take.new.self.given.value ≡ cell.given.value = ap (λ b. b.given.value) p.after in
+    let some : 1 ≤ c.count-count.result = omega (arith, p.whole, c.self.inside.setup.batch_in.0, ready.1.waiting, ap length a.stands.events, length-map slot.queue.events (λ e. e.0)) in
+    let turn = taken_turn c.self.invariant.0 a.laws c.args.colour c.args.core c.count-count.result slot a.stands ready some takes.home c.in-Ok-take.turn.state takes.was takes.alike in
+    let given : c.take.new.self.given.value ≡ slot.given.value = ap (λ b. b.given.value) p.after in
     rw takes.made (record {
       away = rw (p.history, ← p.first) turn.0;
-      trailed = rw (p.history, ← take_min c.batch-batch.result cell.queue.events, ← p.first) turn.1;
+      trailed = rw (p.history, ← take_min c.batch-batch.result slot.queue.events, ← p.first) turn.1;
       coloured = turn.2;
-      framed = λ j given_j there. turn.3 ∙ given_frame c.self.invariant.0 (c.args.colour.0 / (shape_of c.self.inside.setup).shards) cell a.place a.is j given_j
-          (subst (λ gs. slice_get gs j ≡ Some given_j) (givens_set cells c.place_of-place.result c.take.new.self cell (given ∙ ap (λ b. b.given.value) c.index_mut-cell.ensures.value)) there);
-      fit = subst (λ f. EachFits (g.S.Fits.fits_under f c.args.colour) (take c.batch-batch.result cell.queue.events)) (sym turn.3) (all_by_recursion-take _ c.batch-batch.result cell.queue.events a.stands.fit);
+      framed = λ j given_j there. turn.3 ∙ given_frame c.self.invariant.0 (c.args.colour.0 / (shape_of c.self.inside.setup).shards) slot a.place a.is j given_j
+          (subst (λ gs. slice_get gs j ≡ Some given_j) (givens_set slots c.place_of-place.result c.take.new.self slot (given ∙ ap (λ b. b.given.value) c.index_mut-slot.ensures.value)) there);
+      fit = subst (λ f. EachFits (g.S.Fits.fits_under f c.args.colour) (take c.batch-batch.result slot.queue.events)) (sym turn.3) (all_by_recursion-take _ c.batch-batch.result slot.queue.events a.stands.fit);
     })
 
 pub returns-clause-kept : goal.returns-clause-kept
@@ -245,5 +245,5 @@ returns-clause-kept g c = kept_contents (invariant_of-self-2 g c).0
 
 pub returns-clause-frame : goal.returns-clause-frame
 returns-clause-frame g c =
-    let cell = c.index_mut-cell.result.now in
-    rw (← c.self.view_is) (record { same_setup = refl; same_shard = refl; same_givens = givens_set c.self.inside.cells.items _ c.take.new.self cell (ap (λ b. b.given.value) c.in-Ok-take.ensures.ok.left ∙ ap (λ b. b.given.value) c.index_mut-cell.ensures.value) })
+    let slot = c.index_mut-slot.result.now in
+    rw (← c.self.view_is) (record { same_setup = refl; same_shard = refl; same_givens = givens_set c.self.inside.slots.items _ c.take.new.self slot (ap (λ b. b.given.value) c.in-Ok-take.ensures.ok.left ∙ ap (λ b. b.given.value) c.index_mut-slot.ensures.value) })

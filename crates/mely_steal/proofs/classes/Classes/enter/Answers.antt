@@ -3,7 +3,7 @@ use Rattle.std.specs.Vec.{with_items}
 use Rattle.std.proofs.lemmas.List.{with_items_is}
 use Rattle.mely_steal.specs.declared.links.Link.{Link}
 use Rattle.mely_steal.specs.Links.{list_at, places_of, SparesOthers, MovesOnly}
-use Rattle.mely_steal.specs.Entering.{Ranked, Ranking, class_in, entries_of, StandInOrder}
+use Rattle.mely_steal.specs.Entering.{Ranked, ClassesState, class_in, entries_of, StandInOrder}
 use Rattle.mely_steal.proofs.OrderLemmas.{class-from, class-is, enter-stands, list_of}
 use Rattle.mely_steal.proofs.classes.Classes.enter.Goals as goal
 
@@ -11,9 +11,9 @@ pub push_back-requires-clause-free : goal.push_back-requires-clause-free
 push_back-requires-clause-free c =
     let Free : List Link → Type 0 = λ l. list_at l c.args.colour ≡ 0 in
     let L = c.self.inside.links.items in
-    let Within : Ranking → Type 0 = λ v. c.args.colour < v.places in
+    let Within : ClassesState → Type 0 = λ v. c.args.colour < v.places in
     let within : c.args.colour < length L = subst Within (sym c.self.view_is) c.requires.place in
-    let Absent : Ranking → Type 0 = λ v. class_in c.args.colour v.entries ≡ 0 in
+    let Absent : ClassesState → Type 0 = λ v. class_in c.args.colour v.entries ≡ 0 in
     subst Free (sym c.deref_mut-2.ensures.value)
     (sym (class-is L c.self.inside.ends c.self.inside.numbers.items c.self.inside.next c.args.colour c.self.invariant within)
     ∙ subst Absent (sym c.self.view_is) c.requires.absent)
@@ -33,9 +33,9 @@ entered c =
     let k = c.args.class in
     let now = c.push_back.new.ends in
     let r : Ranked = record { colour = colour; class = k } in
-    let Within : Ranking → Type 0 = λ v. colour < v.places in
+    let Within : ClassesState → Type 0 = λ v. colour < v.places in
     let within : colour < length L = subst Within (sym c.self.view_is) c.requires.place in
-    let Absent : Ranking → Type 0 = λ v. class_in colour v.entries ≡ 0 in
+    let Absent : ClassesState → Type 0 = λ v. class_in colour v.entries ≡ 0 in
     let off : list_at L colour ≡ 0 = sym (class-is L ends N c.self.inside.next colour c.self.invariant within) ∙ subst Absent (sym c.self.view_is) c.requires.absent in
     let Stands : List Link → Type 0 = λ l. StandInOrder l ends O next in
     let Same : List Link → Type 0 = λ l. entries_of l ends O ≡ entries_of l ends c.deref_mut.result.now in
@@ -71,8 +71,8 @@ returns c =
     let links : (with_items c.self.inside.links M).items ≡ M = with_items_is c.self.inside.links M (c.push_back.auto.links ∙ c.deref_mut-2.ensures.len) in
     let numbers : (with_items c.self.inside.numbers O).items ≡ O = with_items_is c.self.inside.numbers O (c.next_number-number.auto.numbers ∙ c.deref_mut.ensures.len) in
     let long : length M ≡ length L = c.push_back.auto.links ∙ ap (λ (l : List Link). length l) c.deref_mut-2.ensures.value in
-    let seen : List Link → List ℕ → Ranking = λ l n. record { entries = entries_of l late (set n c.args.colour next); places = length l } in
-    let Entered : Ranking → Type 0 = λ v. seen M O ≡ record { entries = v.entries ++ r ∷ []; places = v.places } in
+    let seen : List Link → List ℕ → ClassesState = λ l n. record { entries = entries_of l late (set n c.args.colour next); places = length l } in
+    let Entered : ClassesState → Type 0 = λ v. seen M O ≡ record { entries = v.entries ++ r ∷ []; places = v.places } in
     ap (λ l. seen l (with_items c.self.inside.numbers O).items) links
     ∙ (ap (seen M) numbers
     ∙ subst Entered c.self.view_is (λ i. record { entries = (entered c).0 i; places = long i }))

@@ -2,9 +2,9 @@ use Rattle.std.proofs.Common.{◌≡◌, ◌<◌, ◌-◌, ℕ, List, length, ge
 use Rattle.std.specs.Vec.{with_items}
 use Rattle.std.proofs.lemmas.List.{get_or_read, with_items_is}
 use Rattle.mely_steal.specs.declared.links.Link.{Link}
-use Rattle.mely_steal.specs.Links.{unlinked, list_at, places_of, without_place, IsStrung, SparesOthers, MovesOnly}
-use Rattle.mely_steal.specs.Entering.{Ranked, Ranking, gone, entries_of, StandInOrder}
-use Rattle.mely_steal.proofs.OrderLemmas.{IsClass, class-cases, class-is, has-none, gone-absent, leave-stands, list_of}
+use Rattle.mely_steal.specs.Links.{blank_link, list_at, places_of, without_place, IsStrung, SparesOthers, MovesOnly}
+use Rattle.mely_steal.specs.Entering.{Ranked, ClassesState, entries_without, entries_of, StandInOrder}
+use Rattle.mely_steal.proofs.OrderLemmas.{IsClass, class-cases, class-is, has-none, entries_without-absent, leave-stands, list_of}
 use Rattle.mely_steal.proofs.classes.Classes.remove.Goals as goal
 
 pub returns-then-class-eq0 : goal.returns-then-class-eq0
@@ -14,17 +14,17 @@ returns-then-class-eq0 c =
     let N = c.self.inside.numbers.items in
     let s = c.self.invariant in
     let g = entries_of L ends N in
-    let Within : Ranking → Type 0 = λ v. c.args.colour < v.places in
+    let Within : ClassesState → Type 0 = λ v. c.args.colour < v.places in
     let within : c.args.colour < length L = subst Within (sym c.self.view_is) c.requires in
-    let read : c.index.result.now ≡ get_or L c.args.colour unlinked = get_or_read L c.args.colour c.index.result.now within c.index.ensures unlinked in
+    let read : c.index.result.now ≡ get_or L c.args.colour blank_link = get_or_read L c.args.colour c.index.result.now within c.index.ensures blank_link in
     let free : list_at L c.args.colour ≡ 0 = sym (ap (λ (l : Link). l.list) read) ∙ c.if-class-eq0.true in
     let none = has-none c.args.colour g s.merge.classed (class-is L ends N c.self.inside.next c.args.colour s within ∙ free) in
-    let like : List Ranked → Ranking = λ h. record { entries = h; places = length L } in
-    let Stays : Ranking → Type 0 = λ v. v ≡ record { entries = gone c.args.colour v.entries; places = v.places } in
-    subst Stays c.self.view_is (ap like (sym (gone-absent c.args.colour g none)))
+    let like : List Ranked → ClassesState = λ h. record { entries = h; places = length L } in
+    let Stays : ClassesState → Type 0 = λ v. v ≡ record { entries = entries_without c.args.colour v.entries; places = v.places } in
+    subst Stays c.self.view_is (ap like (sym (entries_without-absent c.args.colour g none)))
 
 -- what is left once the colour is unlinked
-left : (c : goal.After-self-1) → (entries_of c.unlink.new.links (set c.self.inside.ends (c.index.result.now.list - 1) c.unlink.new.ends) c.self.inside.numbers.items ≡ gone c.args.colour (entries_of c.self.inside.links.items c.self.inside.ends c.self.inside.numbers.items))
+left : (c : goal.After-self-1) → (entries_of c.unlink.new.links (set c.self.inside.ends (c.index.result.now.list - 1) c.unlink.new.ends) c.self.inside.numbers.items ≡ entries_without c.args.colour (entries_of c.self.inside.links.items c.self.inside.ends c.self.inside.numbers.items))
     × StandInOrder c.unlink.new.links (set c.self.inside.ends (c.index.result.now.list - 1) c.unlink.new.ends) c.self.inside.numbers.items c.self.inside.next
 left c =
     let L = c.self.inside.links.items in
@@ -34,9 +34,9 @@ left c =
     let s = c.self.invariant in
     let colour = c.args.colour in
     let k = c.index.result.now.list in
-    let Within : Ranking → Type 0 = λ v. colour < v.places in
+    let Within : ClassesState → Type 0 = λ v. colour < v.places in
     let within : colour < length L = subst Within (sym c.self.view_is) c.requires in
-    let read : c.index.result.now ≡ get_or L colour unlinked = get_or_read L colour c.index.result.now within c.index.ensures unlinked in
+    let read : c.index.result.now ≡ get_or L colour blank_link = get_or_read L colour c.index.result.now within c.index.ensures blank_link in
     let at : list_at L colour ≡ k = sym (ap (λ (l : Link). l.list) read) in
     let isk : IsClass k = elim (class-cases k (let le = s.classes colour in rw (sym at) le)) [ inl none ↦ absurd (c.if-class-eq0.false none) | inr is ↦ is ] in
     let begins : c.deref_mut.result.now ≡ L = c.deref_mut.ensures.value in
@@ -66,6 +66,6 @@ returns c =
     let late = set c.self.inside.ends (c.index.result.now.list - 1) c.unlink.new.ends in
     let written : (with_items c.self.inside.links M).items ≡ M = with_items_is c.self.inside.links M (c.unlink.auto.links ∙ c.deref_mut.ensures.len) in
     let long : length M ≡ length L = c.unlink.auto.links ∙ ap (λ (l : List Link). length l) c.deref_mut.ensures.value in
-    let seen : List Link → Ranking = λ l. record { entries = entries_of l late c.self.inside.numbers.items; places = length l } in
-    let Left : Ranking → Type 0 = λ v. seen M ≡ record { entries = gone c.args.colour v.entries; places = v.places } in
+    let seen : List Link → ClassesState = λ l. record { entries = entries_of l late c.self.inside.numbers.items; places = length l } in
+    let Left : ClassesState → Type 0 = λ v. seen M ≡ record { entries = entries_without c.args.colour v.entries; places = v.places } in
     ap seen written ∙ subst Left c.self.view_is (λ i. record { entries = (left c).0 i; places = long i })

@@ -3,7 +3,7 @@ use Rattle.std.proofs.lemmas.Grind.{common_steps}
 use Rattle.std.proofs.lemmas.List.{get_or_read}
 use Rattle.std.proofs.lemmas.Option.{slice_get_past}
 use Rattle.mely_steal.specs.declared.links.Link.{Link}
-use Rattle.mely_steal.specs.Links.{unlinked, after_at, places_of}
+use Rattle.mely_steal.specs.Links.{blank_link, after_at, places_of}
 use Rattle.mely_steal.specs.ColourList.{ColourListState}
 use Rattle.mely_steal.proofs.LinkLemmas.{walked, walked-more, walked-at, length-followed}
 use Rattle.mely_steal.proofs.TableLemmas.{walked-below}
@@ -31,7 +31,7 @@ places-preserved c =
     let first = c.self.inside.ends.first in
     let lt : c.places.counter < c.self.inside.ends.len = (let one = c.places-test.true in let two = c.if-place-self.false in omega arith) in
     let within : c.places.colour < length c.self.inside.links.items = rw c.places.invariant (walked-below c.self.invariant.strung c.places.counter lt) in
-    let read : c.index.result.now ≡ get_or L c.places.colour unlinked = get_or_read L c.places.colour c.index.result.now within c.index.ensures unlinked in
+    let read : c.index.result.now ≡ get_or L c.places.colour blank_link = get_or_read L c.places.colour c.index.result.now within c.index.ensures blank_link in
     rw add-one (ap (λ (l : Link). l.after) read ∙ (ap (after_at L) c.places.invariant ∙ walked-more (after_at L) c.places.counter first))
 
 pub returns-clause-value : goal.returns-clause-value

@@ -1,6 +1,6 @@
 use Rattle.std.proofs.Common.{◌≡◌, ◌<◌, List, sym, ap, subst, ◌∙◌}
 use Rattle.mely_steal.specs.StealQueue.{after_mark_change}
-use Rattle.mely_steal.specs.Entering.{Ranking, Ranked, moved_to}
+use Rattle.mely_steal.specs.Entering.{ClassesState, Ranked, moved_to}
 use Rattle.mely_steal.specs.StealTable.{StealTableState, AreStealable, marks_of, worthy_of}
 use Rattle.mely_steal.proofs.StealableLemmas.{stealing_class, change-stealable}
 use Rattle.mely_steal.proofs.steal_table.StealTable.change.Goals as goal
@@ -14,13 +14,13 @@ settled c =
     let Below : StealTableState → Type 0 = λ v. m.colour.0 < v.colours in
     let done = change-stealable t.marks c.set.new.self t.classes.entries t.colours t.cost t.pinned m c.self.invariant.0 c.set.ensures (subst Below (sym c.self.view_is) c.requires) in
     let is : c.move_to.new.classes.entries ≡ moved_to (stealing_class t.cost t.pinned m) m.colour.0 t.classes.entries =
-    ap (λ (r : Ranking). r.entries) c.move_to.ensures ∙ ap (λ k. moved_to k m.colour.0 t.classes.entries) c.stealing_class-class.ensures in
+    ap (λ (r : ClassesState). r.entries) c.move_to.ensures ∙ ap (λ k. moved_to k m.colour.0 t.classes.entries) c.stealing_class-class.ensures in
     let Done : List Ranked → Type 0 = λ g. (marks_of c.set.new.self g ≡ after_mark_change t.cost t.pinned m (marks_of t.marks t.classes.entries))
     × AreStealable (record { told = c.set.new.self; entries = g; colours = t.colours; cost = t.cost; pinned = t.pinned }) in
     subst Done (sym is) done
 
 pub invariant_of-self : goal.invariant_of-self
-invariant_of-self c = ((settled c).1, c.set.ensures.long ∙ c.self.invariant.1, ap (λ (r : Ranking). r.places) c.move_to.ensures ∙ c.self.invariant.2)
+invariant_of-self c = ((settled c).1, c.set.ensures.long ∙ c.self.invariant.1, ap (λ (r : ClassesState). r.places) c.move_to.ensures ∙ c.self.invariant.2)
 
 pub returns-clause-worthy : goal.returns-clause-worthy
 returns-clause-worthy c =

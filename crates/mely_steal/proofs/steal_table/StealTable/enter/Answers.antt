@@ -1,7 +1,7 @@
 use Rattle.std.proofs.Common.{◌≡◌, ◌<◌, List, None, sym, ap, subst, ◌∙◌}
 use Rattle.mely_steal.specs.Marks.{mark_of}
 use Rattle.mely_steal.specs.StealQueue.{after_entry}
-use Rattle.mely_steal.specs.Entering.{Ranking, Ranked, joined_by}
+use Rattle.mely_steal.specs.Entering.{ClassesState, Ranked, joined_by}
 use Rattle.mely_steal.specs.StealTable.{StealTableState, AreStealable, marks_of, worthy_of}
 use Rattle.mely_steal.proofs.TableMarksLemmas.{absent-has, class-none}
 use Rattle.mely_steal.proofs.StealableLemmas.{stealing_class, enter-stealable}
@@ -25,13 +25,13 @@ settled c =
     let done = enter-stealable t.marks c.set.new.self t.classes.entries t.colours t.cost t.pinned m c.self.invariant.0 c.set.ensures (subst Below (sym c.self.view_is) c.requires.below)
     (absent-has t.marks m.colour t.classes.entries none) none in
     let is : c.add_to.new.classes.entries ≡ joined_by (stealing_class t.cost t.pinned m) m.colour.0 t.classes.entries =
-    ap (λ (r : Ranking). r.entries) c.add_to.ensures ∙ ap (λ k. joined_by k m.colour.0 t.classes.entries) c.stealing_class-class.ensures in
+    ap (λ (r : ClassesState). r.entries) c.add_to.ensures ∙ ap (λ k. joined_by k m.colour.0 t.classes.entries) c.stealing_class-class.ensures in
     let Done : List Ranked → Type 0 = λ g. (marks_of c.set.new.self g ≡ after_entry t.cost t.pinned m (marks_of t.marks t.classes.entries))
     × AreStealable (record { told = c.set.new.self; entries = g; colours = t.colours; cost = t.cost; pinned = t.pinned }) in
     subst Done (sym is) done
 
 pub invariant_of-self : goal.invariant_of-self
-invariant_of-self c = ((settled c).1, c.set.ensures.long ∙ c.self.invariant.1, ap (λ (r : Ranking). r.places) c.add_to.ensures ∙ c.self.invariant.2)
+invariant_of-self c = ((settled c).1, c.set.ensures.long ∙ c.self.invariant.1, ap (λ (r : ClassesState). r.places) c.add_to.ensures ∙ c.self.invariant.2)
 
 pub returns-clause-worthy : goal.returns-clause-worthy
 returns-clause-worthy c =

@@ -4,7 +4,7 @@ use Rattle.mely_event.specs.declared.colour.Colour.{Colour}
 use Rattle.mely_event.specs.declared.mark.Mark.{Mark}
 use Rattle.mely_steal.specs.Marks.{without}
 use Rattle.mely_steal.specs.StealQueue.{pick_of}
-use Rattle.mely_steal.specs.Entering.{Ranking, gone}
+use Rattle.mely_steal.specs.Entering.{ClassesState, entries_without}
 use Rattle.mely_steal.specs.StealTable.{StealTableState, mark_in, marks_of, worthy_of}
 use Rattle.mely_steal.proofs.StealLemmas.{pick_of-All}
 use Rattle.mely_steal.proofs.TableMarksLemmas.{pick-entries, without-entries}
@@ -54,7 +54,7 @@ returns-clause-worthy c =
     let g = c.remove.new.self.entries in
     let colour : Colour = record { 0 = c.in_ok-colour.colour } in
     let same : colour ≡ c.of-mark.result.colour = sym (ap (λ (m : Mark). m.colour) c.of-mark.ensures) in
-    let is : g ≡ gone c.in_ok-colour.colour t.classes.entries = ap (λ (r : Ranking). r.entries) c.remove.ensures in
+    let is : g ≡ entries_without c.in_ok-colour.colour t.classes.entries = ap (λ (r : ClassesState). r.entries) c.remove.ensures in
     let marks : marks_of t.marks g ≡ without c.of-mark.result.colour (marks_of t.marks t.classes.entries) =
     ap (marks_of t.marks) is ∙ (sym (without-entries t.marks colour t.classes.entries) ∙ ap (λ x. without x (marks_of t.marks t.classes.entries)) same) in
     let Left : StealTableState → Type 0 = λ v. worthy_of (record { told = t.marks; entries = g; colours = t.colours; cost = t.cost; pinned = t.pinned })

@@ -4,7 +4,7 @@ use Rattle.mely_worker.specs.Access.{FitsIn}
 use Rattle.sws_engine.specs.declared.place.Place.TheInside.{Inside}
 use Rattle.sws_engine.specs.Invariant.{IsConsistent}
 use Rattle.sws_engine.specs.Loads.{Fit}
-use Rattle.sws_engine.specs.PlaceShown.{state_of}
+use Rattle.sws_engine.specs.PlaceFields.{state_of}
 use Rattle.sws_engine.proofs.Events.StateKeptLemmas.{accept_back, seat_back, first_few, fit_of, desk_of, accept_of, seat_of, desk_after, desk_known, desk_few, seat_after, puts_of, first_total, accept_after_of}
 use Rattle.sws_engine.proofs.app.SwsApp.run.Goals as goal
 use Rattle.sws_engine.proofs.app.SwsApp.run.Goals.{in-Polling, in-Accepting, in-Talking}

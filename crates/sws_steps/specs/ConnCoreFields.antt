@@ -5,16 +5,16 @@ use Rattle.sws_steps.specs.ConnCore.{ConnCoreState}
 
 -- a connection without its link, of its fields
 abbrev pub state_of : {S C : Type 0} → SpeechWords S C → ConnCore S → ConnCoreState C
-state_of y talking = record {
-  hall = y.hall_of talking.speech;
-  pending = talking.pending;
-  buffer = y.bytes_of talking.speech;
-  input_ended = talking.input_ended;
-  waits = talking.waits;
-  parts = y.parts_of talking.speech;
-  closes = talking.closes;
-  answered = talking.answered;
-  end = talking.end;
-  read = talking.read;
-  written = talking.written;
+state_of y core = record {
+  hall = y.hall_of core.speech;
+  pending = core.pending;
+  buffer = y.bytes_of core.speech;
+  input_ended = core.input_ended;
+  waits = core.waits;
+  parts = y.parts_of core.speech;
+  closes = core.closes;
+  answered = core.answered;
+  end = core.end;
+  read = core.read;
+  written = core.written;
 }

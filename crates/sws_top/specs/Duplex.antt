@@ -29,8 +29,8 @@ IsWrittenBehind first bytes =
     bytes ≡ option_map (λ front. front ++ written_behind front bytes) first
 
 -- what the link tells, where both its source and its sink do
-abbrev pub pipe_tells : (whole left first bytes : Option (List ℕ)) → Option LinkTells
-pipe_tells whole left first bytes = option_and_then (λ rest. option_map (λ front. record {
+abbrev pub duplex_tells : (whole left first bytes : Option (List ℕ)) → Option LinkTells
+duplex_tells whole left first bytes = option_and_then (λ rest. option_map (λ front. record {
   taken = taken_before rest whole;
   left = rest;
   written = written_behind front bytes;

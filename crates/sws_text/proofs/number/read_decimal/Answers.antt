@@ -1,5 +1,5 @@
 use Rattle.std.proofs.Common.{arith}
-use Rattle.mely_check.proofs.reading.number.Goals as goal
+use Rattle.sws_text.proofs.number.read_decimal.Goals as goal
 
 pub returns-else-value-from : goal.returns-else-value-from
 returns-else-value-from c n is few =
