@@ -54,7 +54,7 @@ fn push(queue: &mut CoreQueue, colour: u16) -> bool
     let mark = Mark {
         colour: Colour(colour),
         started: 0,
-        worth: u128::from(colour % 5) * 20 + 10,
+        worth: u128::from(colour % 5) * u128::from(COST) + u128::from(COST / 2),
     };
     queue.push(mark).is_ok()
 }
@@ -89,7 +89,8 @@ pub fn make(alloc: Global, call: Call, marks: u32, count: u32) -> Result<u32, Me
     Ok(made)
 }
 
-/// Tells of the next colour in turn, with the worth that its mark has; whether there is one.
+/// Tells of the next colour in turn, with a worth that goes by the number of the call; whether
+/// there is such a colour.
 fn tell(queue: &mut CoreQueue, marks: u32, number: u32) -> bool
     requires colours { queue.old.colours ≡ marks }
     requires most { marks ≤ MAX_MARKS }

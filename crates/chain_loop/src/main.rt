@@ -1,8 +1,9 @@
 //! `chain_loop CALL MARKS COUNT`: one call on the chain of a core, many times.
 //!
-//! It fills a chain with so many marks, at most 65,536, one a colour, of all classes in turn. Then it makes the call so many times: `pop` and
-//! `pick` take a mark out and push it again, so that the chain keeps its length, and `retell` reports on the colours in turn.
-//! It is what the cost of a chain is measured by.
+//! It fills a chain with so many marks, at most 65,536, one a colour, of all classes in turn.
+//! Then it makes the call so many times: `pop` and `pick` take a mark out and push it again, so
+//! that the chain keeps its length, and `retell` reports on the colours in turn. It is what the
+//! cost of a chain is measured by.
 #![tactic(auto)]
 
 ghost use Rattle.std.specs.Prelude.{◌≤◌, IfSome};

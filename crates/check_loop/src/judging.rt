@@ -25,8 +25,8 @@ fn push_turn(history: &mut Vec<Entry>, colour: Colour, core: u16) -> Result<(), 
     Ok(())
 }
 
-/// Makes a history of so many turns, on one colour after the other, each by its owner. How many entries it has, and whether it is
-/// judged legal.
+/// Makes a history of so many turns, on one colour after the other, each by its owner. How many
+/// entries it has, and whether it is judged legal.
 pub fn judge_turns(alloc: Global, setup: &Setup, turns: u32) -> Result<(usize, bool), AllocError> {
     let colours = setup.colours().max(1);
     let mut history = Vec::new(alloc);

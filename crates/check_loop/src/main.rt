@@ -1,8 +1,10 @@
-//! `check_loop CONNECTIONS WORKERS SHARDS BATCH COST [TURNS] < JOURNAL`: checking a printed journal.
+//! `check_loop CONNECTIONS WORKERS SHARDS BATCH COST [TURNS] < JOURNAL`:
+//! checking a printed journal.
 //!
-//! The file is read as the journal of a run of the server with so many connections, and it prints how many entries that has, and
-//! what each core ran and stole; or it says what is wrong, and ends with a status of its own for each fault. Where TURNS is given it
-//! reads nothing: it makes a legal history of three times as many entries, and judges that as it lies in memory. It is the smallest
+//! The file is read as the journal of a run of the server with so many connections, and it prints
+//! how many entries that has, and what each core ran and stole; or it says what is wrong, and ends
+//! with a status of its own for each fault. Where TURNS is given it reads nothing: it makes a legal
+//! history of three times as many entries, and judges that as it lies in memory. It is the smallest
 //! program that uses the checker, and what that is measured by.
 #![tactic(auto)]
 

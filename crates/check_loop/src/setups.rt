@@ -3,7 +3,8 @@
 use mely_event::Handlers;
 use mely_history::{Setup, Shape};
 
-/// The times and the penalties of the server's handlers.
+/// The times and the penalties of the server's handlers, written out, so that this crate needn't
+/// stand on the engine.
 const HANDLERS: [(u32, u32); 10] = [
     (40, 4),
     (10, 1),
@@ -17,7 +18,8 @@ const HANDLERS: [(u32, u32); 10] = [
     (60, 2),
 ];
 
-/// The setup of so many connections, workers and shards, with this batch and this cost of a steal, where they are in their ranges.
+/// The setup of so many connections, workers and shards, with this batch and this cost of a steal,
+/// where they are in their ranges.
 pub fn setup(numbers: [u32; 5]) -> Option<Setup> {
     let [connections, cores, shards, batch, steal_cost] = numbers;
     let shape = Shape {

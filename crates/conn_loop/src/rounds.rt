@@ -1,6 +1,6 @@
 //! The rounds: a link, and a connection over it.
 ghost use Rattle.std.specs.Prelude.{◌≡◌, false, IfSome};
-ghost use Rattle.sws_link.specs.Links.{IsFresh};
+ghost use Rattle.sws_link.specs.Links.{IsInitialLink};
 ghost use Rattle.sws_link.specs.MemLinks.{mem_link_tells};
 
 use std::alloc::Global;
@@ -51,7 +51,7 @@ fn items_of(alloc: Global, bytes: &[u8], piece: usize) -> Option<Vec<LinkItem>> 
 
 /// A link that gives the bytes in such pieces.
 fn link_of(alloc: Global, bytes: &[u8], piece: usize) -> Option<MemLink>
-    ensures fresh { IfSome result (λ link. IsFresh (mem_link_tells link)) }
+    ensures initial { IfSome result (λ link. IsInitialLink (mem_link_tells link)) }
     ensures not_shut { IfSome result (λ link. link.shut ≡ false) }
 {
     let size = if piece == 0 { bytes.len() } else { piece };

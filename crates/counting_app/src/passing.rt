@@ -9,7 +9,8 @@ use mely_event::{Colour, Event};
 use mely_worker::{App, Outs};
 use std::sync::atomic::{AtomicU64, Ordering};
 
-/// One handler, which passes its event on until its argument has come down to 0: to a colour that is drawn, or to its own.
+/// One handler, which passes its event on until its argument has come down to 0: to a colour that
+/// is drawn, or to its own.
 #[derive(Drop)]
 pub struct Passing {
     pub colours: u16,

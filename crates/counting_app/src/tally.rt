@@ -1,6 +1,6 @@
 //! The state of one colour.
 ghost use Rattle.std.specs.Prelude.{◌≡◌, ◌≤◌, ◌-◌, ◌++◌, ◌∷◌, [], IfOk};
-ghost use Rattle.mely_weave.specs.Making.{AreBlank};
+ghost use Rattle.mely_weave.specs.Making.{AreInitialBelow};
 
 use mely_event::{Colour, Event, Fits, Memory, Trail, TrailLog};
 use std::alloc::Global;
@@ -53,7 +53,7 @@ impl Fits<u8> for Tally {
 }
 
 /// A state on which nothing was run.
-pub fn blank(alloc: Global, colour: u16) -> Tally
+pub fn initial_tally(alloc: Global, colour: u16) -> Tally
     ensures { result.log ≡ record { colour = record { 0 = colour }; events = []; spare = 0 } }
 {
     Tally {
@@ -67,13 +67,14 @@ pub fn blank(alloc: Global, colour: u16) -> Tally
 /// # Errors
 ///
 /// There was no memory.
-pub fn blank_states(alloc: Global, colours: u16) -> Result<Vec<Tally>, Memory>
+pub fn initial_states(alloc: Global, colours: u16) -> Result<Vec<Tally>, Memory>
     ensures { IfOk result (λ states.
-        AreBlank (λ state. state.log.colour) (λ state. state.log.events) colours states.items) }
+        AreInitialBelow (λ state. state.log.colour) (λ state. state.log.events)
+        colours states.items) }
 {
     let mut states = Vec::new(alloc);
     'colours: for colour in 0..colours {
-        states.push(blank(alloc, colour))?;
+        states.push(initial_tally(alloc, colour))?;
     }
     Ok(states)
 }

@@ -1,9 +1,11 @@
-//! `engine_loop KIND CONNECTIONS REQUESTS WORKERS SHARDS`: connections over links in memory, served by the runtime.
+//! `engine_loop KIND CONNECTIONS REQUESTS WORKERS SHARDS`: connections over links in
+//! memory, served by the runtime.
 //!
-//! Each of so many links gives so many heads of a browser in one piece, and all are served by so many workers over so many
-//! shards. KIND is `steps`, where one thread makes a step of each worker in turn, or `threads`, where each worker has a thread
-//! of its own. It prints how many bytes were written. It is the smallest program that uses the engine, and what an event of it
-//! is measured by, beside `conn_loop`, which serves the same heads without a runtime.
+//! Each of so many links gives so many heads of a browser in one piece, and all are served by so
+//! many workers over so many shards. KIND is `steps`, where one thread makes a step of each worker
+//! in turn, or `threads`, where each worker has a thread of its own. It prints how many bytes were
+//! written. It is the smallest program that uses the engine, and what an event of it is measured
+//! by, beside `conn_loop`, which serves the same heads without a runtime.
 #![tactic(auto)]
 
 mod serving;

@@ -1,7 +1,7 @@
 //! The links, and the run that serves them.
 ghost use Rattle.std.specs.Prelude.{◌≡◌, ◌≤◌, IfSome, length};
 ghost use Rattle.std.specs.List.{AllByRecursion};
-ghost use Rattle.sws_link.specs.MemWorlds.{IsFreshMemLink};
+ghost use Rattle.sws_link.specs.MemWorlds.{IsInitialMemLink};
 
 use mely_event::Handlers;
 use mely_history::{Setup, Shape};
@@ -23,7 +23,8 @@ pub enum Kind {
     Threads,
 }
 
-/// How many connections there are, how many requests each sends, and how many workers serve them over how many shards.
+/// How many connections there are, how many requests each sends, and how many workers serve
+/// them over how many shards.
 #[derive(Drop)]
 pub struct Order {
     pub kind: Kind,
@@ -32,6 +33,9 @@ pub struct Order {
     pub workers: u16,
     pub shards: u16,
 }
+
+/// The most connections that a run of the engine serves.
+const MAX_CONNECTIONS: u16 = 1024;
 
 /// What a browser asks for the page of a folder.
 const HEAD: &[u8] = b"GET / HTTP/1.1\r\nHost: localhost:8080\r\n\
@@ -53,7 +57,7 @@ fn small_site(alloc: Global) -> Option<Site> {
 
 /// A link that gives so many heads, one after another, in one piece.
 fn link_of(alloc: Global, requests: u16) -> Option<MemLink>
-    ensures { IfSome result IsFreshMemLink }
+    ensures { IfSome result IsInitialMemLink }
 {
     let mut bytes = Vec::new(alloc);
     for _ in 0..requests {
@@ -67,7 +71,7 @@ fn link_of(alloc: Global, requests: u16) -> Option<MemLink>
 /// So many such links.
 fn links_of(alloc: Global, connections: u16, requests: u16) -> Option<Vec<MemLink>>
     ensures many { IfSome result (λ links. length links.items ≡ connections) }
-    ensures fresh { IfSome result (λ links. AllByRecursion IsFreshMemLink links.items) }
+    ensures initial { IfSome result (λ links. AllByRecursion IsInitialMemLink links.items) }
 {
     let mut links = Vec::new(alloc);
     'links: for _number in 0..connections {
@@ -76,10 +80,10 @@ fn links_of(alloc: Global, connections: u16, requests: u16) -> Option<Vec<MemLin
     Some(links)
 }
 
-/// Serves all of them, and answers how many bytes were written in all; nothing for want of memory, or where a number is out of
-/// its range.
+/// Serves all of them, and answers how many bytes were written in all; nothing for want of memory,
+/// or where a number is out of its range.
 pub fn run<R: Threads + Wait + Sync>(rt: &R, alloc: Global, order: &Order) -> Option<u64> {
-    if order.connections > 1024 {
+    if order.connections > MAX_CONNECTIONS {
         return None;
     }
     let site = small_site(alloc)?;

@@ -1,6 +1,8 @@
-//! The web server over a weave at work, as tests: worked rows, printed as a replay prints them.
+//! The web server at work over a weave and on threads, as tests: worked rows, printed as a replay
+//! prints them; links that fail or wait, and want of memory.
 //!
-//! They stand in a crate of their own, since the engine is large and a crate with tests is proved twice.
+//! They stand in a crate of their own, since the engine is large and a crate
+//! with tests is proved twice.
 #![tactic(auto)]
 
 #[cfg(test)]

@@ -1,5 +1,6 @@
 //! Worked rows: whatever the runtime does, each connection is served as if it were alone.
 
+mod counted;
 mod failing;
 mod replaying;
 mod starving;
@@ -35,6 +36,12 @@ const BAD: &[u8] =
 const TOO_LARGE: &[u8] =
     b"HTTP/1.1 431 Request Header Fields Too Large\r\nServer: sws\r\nConnection: close\r\nContent-Type: text/plain\r\nContent-Length: 36\r\n\r\n431 Request Header Fields Too Large\n";
 
+const NOT_ALLOWED: &[u8] =
+    b"HTTP/1.1 405 Method Not Allowed\r\nServer: sws\r\nConnection: close\r\nAllow: GET, HEAD\r\nContent-Type: text/plain\r\nContent-Length: 23\r\n\r\n405 Method Not Allowed\n";
+
+const NOT_IMPLEMENTED: &[u8] =
+    b"HTTP/1.1 501 Not Implemented\r\nServer: sws\r\nContent-Type: text/plain\r\nContent-Length: 20\r\n\r\n501 Not Implemented\n";
+
 /// The shape that a replay has where nothing is said.
 const PLAIN: Shape = Shape {
     cores: 1,
@@ -44,7 +51,8 @@ const PLAIN: Shape = Shape {
     group: 4,
 };
 
-/// One connection whose link gives these parts ends so, and exactly these bytes are written, one list after another.
+/// One connection whose link gives these parts ends so, and exactly these bytes are
+/// written, one list after another.
 fn alone(
     rt: &(impl AllocGlobal + Abort + Wait),
     site: &Site,
@@ -131,47 +139,15 @@ fn refusals_close_or_go_on(rt: HostRuntime) {
     let two_hosts: &[u8] = b"GET / HTTP/1.1\r\nHost: x\r\nHost: x\r\n\r\n";
     let with_body: &[u8] = b"POST / HTTP/1.1\r\nHost: x\r\nContent-Length: 5\r\n\r\nhello";
     let unknown: &[u8] = b"BREW / HTTP/1.1\r\nHost: x\r\n\r\n";
-    let not_allowed: &[u8] =
-        b"HTTP/1.1 405 Method Not Allowed\r\nServer: sws\r\nConnection: close\r\nAllow: GET, HEAD\r\nContent-Type: text/plain\r\nContent-Length: 23\r\n\r\n405 Method Not Allowed\n";
-    let not_implemented: &[u8] =
-        b"HTTP/1.1 501 Not Implemented\r\nServer: sws\r\nContent-Type: text/plain\r\nContent-Length: 20\r\n\r\n501 Not Implemented\n";
-    alone(
-        &rt,
-        &site,
-        &[Part::Send(no_host), Part::Send(G)],
-        None,
-        None,
-        End::Done,
-        &[BAD],
-    );
-    alone(
-        &rt,
-        &site,
-        &[Part::Send(two_hosts), Part::Send(G)],
-        None,
-        None,
-        End::Done,
-        &[BAD],
-    );
-    alone(
-        &rt,
-        &site,
-        &[Part::Send(with_body)],
-        None,
-        None,
-        End::Done,
-        &[not_allowed],
-    );
+    let parts = [Part::Send(no_host), Part::Send(G)];
+    alone(&rt, &site, &parts, None, None, End::Done, &[BAD]);
+    let parts = [Part::Send(two_hosts), Part::Send(G)];
+    alone(&rt, &site, &parts, None, None, End::Done, &[BAD]);
+    let parts = [Part::Send(with_body)];
+    alone(&rt, &site, &parts, None, None, End::Done, &[NOT_ALLOWED]);
     let parts = [Part::Send(unknown), Part::Send(G)];
-    alone(
-        &rt,
-        &site,
-        &parts,
-        None,
-        None,
-        End::Done,
-        &[not_implemented, A],
-    );
+    let answers = [NOT_IMPLEMENTED, A];
+    alone(&rt, &site, &parts, None, None, End::Done, &answers);
 }
 
 #[test]

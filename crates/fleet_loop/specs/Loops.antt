@@ -15,12 +15,16 @@ pub record IsLoop (count : ℕ) (setup : Setup) : Type 0 where
   pub handlers : length (rows_of (handlers_of setup)) ≡ 1
 
 -- each of these are passes of the fleet
-pub record AreSeats {V F : Type 0} {g : _} (kept_frame : V → ShardFrame F) (fleet : FleetOf V Entry (ShardFrame F)) (seats : List (PassesOf V Entry (ShardFrame F) g)) : Type 0 where
+pub record AreSeats {V F : Type 0} {g : _} (kept_frame : V → ShardFrame F)
+    (fleet : FleetOf V Entry (ShardFrame F))
+    (seats : List (PassesOf V Entry (ShardFrame F) g)) : Type 0 where
   pub each : (k : ℕ) (own : PassesOf V Entry (ShardFrame F) g) → slice_get seats k ≡ Some own
       → ArePasses kept_frame fleet own
 
 -- a core may work with these passes in the fleet of this setup
-pub record MayWorkHere {V F : Type 0} {g : _} (kept_frame : V → ShardFrame F) (colours : ℕ) (setup : Setup) (fleet : FleetOf V Entry (ShardFrame F)) (own : PassesOf V Entry (ShardFrame F) g) : Type 0 where
+pub record MayWorkHere {V F : Type 0} {g : _} (kept_frame : V → ShardFrame F) (colours : ℕ)
+    (setup : Setup) (fleet : FleetOf V Entry (ShardFrame F))
+    (own : PassesOf V Entry (ShardFrame F) g) : Type 0 where
   pub shaped : IsLoop colours setup
   pub of_setup : fleet.setup ≡ setup
   pub passes : ArePasses kept_frame fleet own

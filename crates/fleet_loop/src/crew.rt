@@ -4,7 +4,7 @@ ghost use Rattle.mely_fleet.specs.Fleets.{ArePasses};
 ghost use Rattle.mely_fleet.specs.Frames.{shard_frame};
 ghost use Rattle.fleet_loop.specs.Loops.{IsLoop, AreSeats, MayWorkHere};
 
-use counting_app::{Passing, Tally, blank_states};
+use counting_app::{Passing, Tally, initial_states};
 use mely_event::{Colour, Event, Handlers, Memory, Trail};
 use mely_fleet::{Fleet, Passes, Worked};
 use mely_history::{Setup, Shape};
@@ -76,8 +76,9 @@ fn post_all<R: Wait>(
     true
 }
 
-/// The work of one core, in its thread, with an app of its own: a count that the workers shared would be a line of memory that each
-/// event takes from another core. How it ended, and `ran` has the handlers that it ran besides; nothing for want of memory.
+/// The work of one core, in its thread, with an app of its own: a count that the workers shared
+/// would be a line of memory that each event takes from another core. How it ended, and `ran` has
+/// the handlers that it ran besides; nothing for want of memory.
 fn work_one<R: Wait>(
     rt: &R,
     alloc: Global,
@@ -148,7 +149,7 @@ fn work_all<R: Threads + Wait + Sync>(
 /// Nothing for want of memory, or where a number is out of its range.
 pub fn run<R: Threads + Wait + Sync>(rt: &R, alloc: Global, order: &Order) -> Option<u64> {
     let setup = setup_of(order)?;
-    let states = blank_states(alloc, order.colours).ok()?;
+    let states = initial_states(alloc, order.colours).ok()?;
     let Ok((fleet, mut passes)) = Fleet::new(alloc, &setup, states, 1) else {
         return None;
     };

@@ -1,11 +1,12 @@
-//! `fleet_loop WORKERS SHARDS COLOURS PASSES ROUNDS BATCH [stay]`: events that are passed on, over a fleet with a thread for each
-//! worker.
+//! `fleet_loop WORKERS SHARDS COLOURS PASSES ROUNDS BATCH [stay]`: events that are passed on, over
+//! a fleet with a thread for each worker.
 //!
-//! It registers one event on each of so many colours. The handler of an event computes so many rounds,
-//! draws a colour and registers an event there, until an event was passed on so often; with the word `stay`
-//! it registers it on its own colour, as a handler of a connection does. The workers take
-//! up to BATCH events of a colour at a time, and end once all were run. It prints how many handlers ran,
-//! which are as many in whatever order. It is the smallest program that uses a fleet, and what a fleet is measured by.
+//! It registers one event on each of so many colours. The handler of an event computes so many
+//! rounds, draws a colour and registers an event there, until an event was passed on so often; with
+//! the word `stay` it registers it on its own colour, as a handler of a connection does. The
+//! workers take up to BATCH events of a colour at a time, and end once all were run. It prints how
+//! many handlers ran, which are as many in whatever order. It makes the calls of a fleet itself,
+//! which `run_app` makes for an app, and is what a fleet is measured by.
 #![tactic(auto)]
 
 mod crew;

@@ -15,7 +15,7 @@ use Rattle.mely_history.specs.Owing.{IsOwed}
 use Rattle.mely_history.specs.Setup.{shape_of, colours_of}
 use Rattle.mely_queue.specs.Turn.{TurnState}
 use Rattle.mely_weave.proofs.Wholes.DealLemmas.{push_at, push_other}
-use Rattle.mely_weave.specs.Making.{first_rest}
+use Rattle.mely_weave.specs.Making.{initial_idle_worker}
 use Rattle.mely_weave.specs.Side.{shard_of}
 use Rattle.mely_worker.specs.Access.{events_of}
 use Rattle.mely_worker.specs.IdleWorker.{IdleWorkerState}
@@ -26,7 +26,7 @@ use Rattle.mely_fleet.specs.Calls.{TakesAt, front_for}
 use Rattle.mely_fleet.specs.Frames.{shard_frame}
 use Rattle.mely_fleet.specs.KeptShard.{KeptShardState}
 use Rattle.mely_fleet.specs.Fleets.{SeesOn, frame_in, owed_by}
-use Rattle.mely_fleet.specs.Opening.{AreFirstPasses}
+use Rattle.mely_fleet.specs.Opening.{AreInitialPasses}
 use Rattle.mely_fleet.specs.Rows.{fronts}
 use Rattle.mely_fleet.specs.Seats.{IsOutsider, IsSeatOf}
 use Rattle.mely_fleet.proofs.SideLemmas.{is_taken, owes_kept, takes_no_finish}
@@ -90,11 +90,11 @@ may_onward t fleet own old new e may next colour core count trail coloured frame
     }
 
 -- a caller at first
-pub first_caller : {S P F : Type 0} {g : _} (t : TrailWords S F) (fits : F → Colour → Event → Option P → Type 0) (fleet : FleetOf (KeptShardState S P) Entry (ShardFrame F)) (n : ℕ) (own : PassesOf (KeptShardState S P) Entry (ShardFrame F) g) (worker : Option (IdleWorkerState P)) → AreFirstPasses (shard_frame t.frame_of) fleet n own → (own.number < (shape_of fleet.setup).cores → worker ≡ Some (first_rest fleet.setup own.number)) → IsCaller t.frame_of fits fleet n own worker
+pub first_caller : {S P F : Type 0} {g : _} (t : TrailWords S F) (fits : F → Colour → Event → Option P → Type 0) (fleet : FleetOf (KeptShardState S P) Entry (ShardFrame F)) (n : ℕ) (own : PassesOf (KeptShardState S P) Entry (ShardFrame F) g) (worker : Option (IdleWorkerState P)) → AreInitialPasses (shard_frame t.frame_of) fleet n own → (own.number < (shape_of fleet.setup).cores → worker ≡ Some (initial_idle_worker fleet.setup own.number)) → IsCaller t.frame_of fits fleet n own worker
 first_caller t fits fleet n own worker first is = record {
   passes = first.are;
   numbered = first.numbered;
-  sits = λ low. (first_seat t fits fleet n own worker low first (is (subst (λ k. k < (shape_of fleet.setup).cores) (sym first.numbered) low) ∙ ap (λ k. Some (first_rest fleet.setup k)) first.numbered)).sits;
+  sits = λ low. (first_seat t fits fleet n own worker low first (is (subst (λ k. k < (shape_of fleet.setup).cores) (sym first.numbered) low) ∙ ap (λ k. Some (initial_idle_worker fleet.setup k)) first.numbered)).sits;
 }
 
 module _ {S P F : Type 0} {g : _} (frame_of : S → F) (fits : F → Colour → Event → Option P → Type 0) (fleet : FleetOf (KeptShardState S P) Entry (ShardFrame F)) (n : ℕ) (own : PassesOf (KeptShardState S P) Entry (ShardFrame F) g) (worker : Option (IdleWorkerState P)) (is : IsCaller frame_of fits fleet n own worker) where
@@ -106,7 +106,8 @@ module _ {S P F : Type 0} {g : _} (frame_of : S → F) (fits : F → Colour → 
   pub caller_outside : (shape_of fleet.setup).cores ≤ n → IsOutsider (shard_frame frame_of) fleet own
   caller_outside high = record { passes = is.passes; outside = subst (λ k. (shape_of fleet.setup).cores ≤ k) (sym is.numbered) high }
 
--- what holds at each place of a list holds at each place of it without its last element, and of that
+-- what holds at each place of a list holds at each place of it without its
+-- last element, and of that
 pub each_but_last : {A : Type 0} (Has : ℕ → A → Type 0) (xs : List A) (x : A) → ((n : ℕ) (y : A) → slice_get (xs ++ x ∷ []) n ≡ Some y → Has n y) → ((n : ℕ) (y : A) → slice_get xs n ≡ Some y → Has n y) × Has (length xs) x
 each_but_last Has xs x each = (
   λ n y is. each n y (push_other xs x n (λ same. let within = slice_get_within xs n y is in omega (arith, within, same)) ∙ is),

@@ -10,7 +10,7 @@ mod crowd;
 mod grudging;
 mod wanting;
 
-use counting_app::{Tally, blank_states};
+use counting_app::{Tally, initial_states};
 use mely_event::{Colour, Event, Fits, Handlers, Kept, Trail};
 use mely_fleet::{Fleet, Passes};
 use mely_history::{Setup, Shape};
@@ -46,7 +46,7 @@ fn fleet_of(
         AreCallers (shard_frame ⟦<Tally as Trail>⟧.frame_of) setup.now callers
         opened.0 opened.1.items) }
 {
-    let Ok(states) = blank_states(alloc, colours) else {
+    let Ok(states) = initial_states(alloc, colours) else {
         return Err(Fail::from("no states"));
     };
     match Fleet::new(alloc, setup, states, outsiders) {

@@ -6,7 +6,7 @@ use Rattle.sws_link.specs.declared.LinkRead.{LinkRead}
 use Rattle.sws_link.specs.declared.LinkRead.TheVariants as read
 use Rattle.sws_link.specs.Contents.{IsPrefix}
 use Rattle.sws_link.specs.Counts.{Count, Rose, IsLater}
-use Rattle.sws_link.specs.Links.{LinkTells, LinkTakes, ReadsAs, IsFresh, IsReadWithin, given_by}
+use Rattle.sws_link.specs.Links.{LinkContents, LinkTakes, ReadsAs, IsInitialLink, IsReadWithin, given_by}
 use Rattle.sws_link.specs.Scripts.{Script, Item, read_of}
 use Rattle.sws_link.specs.Exchanges.{read_call, shut_call, took, taken_in, written_in, Exchanges}
 use Rattle.sws_link.proofs.CountLemmas.{IsLater-same, IsLater-trans, Rose-earlier}
@@ -67,14 +67,14 @@ read-taken s read.NotReady = by_wait (nat_le 30 (s.waits + 1))
     by_wait false = (let none : s.read ≡ s.read + 0 = omega arith in none)
 read-taken s read.Failed = (let none : s.read ≡ s.read + 0 = omega arith in none)
 
-taken-told : (first before after : Option LinkTells) (s d : WaitingState) (answer : LinkRead) (into : List ℕ) → length into ≡ 16 → IsReadWithin answer 16
+taken-told : (first before after : Option LinkContents) (s d : WaitingState) (answer : LinkRead) (into : List ℕ) → length into ≡ 16 → IsReadWithin answer 16
     → LinkTakes before after 16 answer into → d.read ≡ s.read + took answer → HasTakenTold first before s → HasTakenTold first after d
 taken-told None None after s d answer into size fits takes is told = takes
 taken-told None (Some before) after s d answer into size fits takes is told = cc
 taken-told (Some first) None after s d answer into size fits takes is (tells, same, taken) = cc
 taken-told (Some first) (Some before) after s d answer into size fits takes is (tells, same, taken) =
     let before_is : before ≡ tells = cc in
-    let now : HasTaken first before s = subst (λ (t : LinkTells). HasTaken first t s) (sym before_is) taken in (
+    let now : HasTaken first before s = subst (λ (t : LinkContents). HasTaken first t s) (sym before_is) taken in (
       takes.after,
       takes.is,
       record {
@@ -308,14 +308,14 @@ module _ {L : Type 0} (x : LinkWords L) where
 
   -- ---- to open it
 
-  pub opened-run : (first : L) → IsFresh (x.tells first) → x.is_shut first ≡ false
+  pub opened-run : (first : L) → IsInitialLink (x.tells first) → x.is_shut first ≡ false
       → HasRun x first (open_link ∷ []) (record { standing = record waiting_at_first { pending = next.Read }; link = Some first })
   unfolding Exchanges
-  opened-run first fresh not_shut = record {
+  opened-run first initial not_shut = record {
     ready = (refl, omega arith);
     opened = λ e. cc;
     shut = not_shut;
-    told = by_tells (x.tells first) fresh;
+    told = by_tells (x.tells first) initial;
     faults = IsLater-same (x.faults first);
     waits = IsLater-same (x.waits first);
     fault = λ e. cc;
@@ -330,9 +330,9 @@ module _ {L : Type 0} (x : LinkWords L) where
       s : WaitingState
       s = record waiting_at_first { pending = next.Read }
 
-      by_tells : (tells : Option LinkTells) → IsFresh tells → HasTakenTold tells tells (record waiting_at_first { pending = next.Read })
-      by_tells None fresh = refl
-      by_tells (Some tells) fresh = (tells, refl, record { input = refl; taken = ap length fresh.0; written = fresh.1 })
+      by_tells : (tells : Option LinkContents) → IsInitialLink tells → HasTakenTold tells tells (record waiting_at_first { pending = next.Read })
+      by_tells None initial = refl
+      by_tells (Some tells) initial = (tells, refl, record { input = refl; taken = ap length initial.0; written = initial.1 })
 
       by_script : (script : Option Script) → FollowsTold script script (open_link ∷ []) (record waiting_at_first { pending = next.Read })
       by_script None = refl
@@ -341,7 +341,7 @@ module _ {L : Type 0} (x : LinkWords L) where
   -- ---- a step
 
   -- the answers to come that are told, over a read
-  reads-as : (before after : Option LinkTells) (answer : LinkRead) (into : List ℕ) → LinkTakes before after 16 answer into
+  reads-as : (before after : Option LinkContents) (answer : LinkRead) (into : List ℕ) → LinkTakes before after 16 answer into
       → ReadsAs (answers_to_come before) 16 answer into (answers_to_come after)
   reads-as None after answer into takes = ap answers_to_come takes
   reads-as (Some before) after answer into takes =
@@ -391,7 +391,7 @@ module _ {L : Type 0} (x : LinkWords L) where
         },
       )
 
-  shut-told : (first before after : Option LinkTells) (s : WaitingState) → after ≡ before → HasTakenTold first before s
+  shut-told : (first before after : Option LinkContents) (s : WaitingState) → after ≡ before → HasTakenTold first before s
       → HasTakenTold first after (record s { pending = next.Nothing })
   shut-told None before after s same told = same ∙ told
   shut-told (Some first) before after s same (tells, is, taken) =
@@ -479,7 +479,7 @@ module _ {L : Type 0} (x : LinkWords L) where
       by_pending next.Write ready = absurd ready
       by_pending next.Wait ready = absurd ready
 
-  serves-told : (before now : Option LinkTells) (s : WaitingState) → HasTakenTold before now s → ServesTold (hang_responses tt) before now (hang_view s)
+  serves-told : (before now : Option LinkContents) (s : WaitingState) → HasTakenTold before now s → ServesTold (hang_responses tt) before now (hang_view s)
   serves-told None now s told = told
   serves-told (Some before) now s (tells, is, taken) = (
     tells,
@@ -508,7 +508,7 @@ module _ {L : Type 0} (x : LinkWords L) where
   end-known next.Wait known end e = cc
   end-known next.Close known end e = cc
 
-  comes-to : (first now : Option LinkTells) (trail : List Handler) (s : WaitingState) (end : End) → s.pending ≡ next.Nothing → s.end ≡ Some end
+  comes-to : (first now : Option LinkContents) (trail : List Handler) (s : WaitingState) (end : End) → s.pending ≡ next.Nothing → s.end ≡ Some end
       → HasTakenTold first now s → FollowsTold (answers_to_come first) (answers_to_come now) trail s
       → ComesTo (option_map (hang_outcome tt) (answers_to_come first)) now end
   comes-to None now trail s end pending is told follows = tt
@@ -518,7 +518,7 @@ module _ {L : Type 0} (x : LinkWords L) where
           → ComesTo (option_map (hang_outcome tt) script) now end
       by_script None follows = tt
       by_script (Some script) (left, same, progress) =
-          unless (Some end) ((tells : LinkTells) × (now ≡ Some tells) × (tells.written ≡ []) × (end ≡ (whole_progress script).end)) (
+          unless (Some end) ((tells : LinkContents) × (now ≡ Some tells) × (tells.written ≡ []) × (end ≡ (whole_progress script).end)) (
             tells,
             now_is,
             taken.written,

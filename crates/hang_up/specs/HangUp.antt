@@ -1,10 +1,11 @@
--- A talk that says nothing: it waits for the first bytes of its link, or the end of them, and shuts it.
+-- A talk that says nothing: it waits for the first bytes of its link, or the
+-- end of them, and shuts it.
 use Rattle.std.specs.Prelude.{◌≡◌, ◌≢◌, ℕ, ◌+◌, ◌-◌, ◌<◌, ◌≤◌, nat_le, zero, suc, Bool, true, false, List, [], ◌∷◌, ◌++◌, length, Option, Some, None, option_map}
 use Rattle.sws_link.specs.declared.Link.{Ghosts as LinkWords}
 use Rattle.sws_link.specs.declared.LinkRead.{LinkRead}
 use Rattle.sws_link.specs.declared.LinkRead.TheVariants as read
 use Rattle.sws_link.specs.Counts.{Rose, IsLater}
-use Rattle.sws_link.specs.Links.{LinkTells, Reads, Shuts, input_of}
+use Rattle.sws_link.specs.Links.{LinkContents, Reads, Shuts, input_of}
 use Rattle.sws_link.specs.Scripts.{Script, Item, read_of}
 use Rattle.sws_link.specs.Exchanges.{LinkCall, Exchanges, taken_in, written_in}
 use Rattle.sws_steps.specs.declared.End.{End}
@@ -16,6 +17,14 @@ use Rattle.sws_conn.specs.Path.{Handler, open_link, read_piece, resume, close, a
 use Rattle.sws_conn.specs.Serving.{RoseBy}
 use Rattle.sws_conn.specs.Sound.{is_over, IsShutAtEnd}
 use Rattle.sws_conn.specs.Talks.{TalkView}
+
+-- so many answers in succession that the link isn't ready end it
+abbrev pub wait_limit : ℕ
+wait_limit = 30
+
+-- the most bytes that a read takes
+abbrev pub read_limit : ℕ
+read_limit = 16
 
 -- how it stands, besides its link
 pub record WaitingState : Type 0 where
@@ -64,15 +73,15 @@ after_wait false s = record s { waits = s.waits + 1 }
 abbrev pub after_read : WaitingState → LinkRead → WaitingState
 after_read s (read.Took count) = record (ending_as s ending.Done) { read = s.read + count }
 after_read s read.End = ending_as s ending.Done
-after_read s read.NotReady = after_wait (nat_le 30 (s.waits + 1)) s
+after_read s read.NotReady = after_wait (nat_le wait_limit (s.waits + 1)) s
 after_read s read.Failed = ending_as s ending.Fault
 
 module _ {L : Type 0} (x : LinkWords L) (before after : WaitingState) where
-  -- it reads once, of 16 bytes at most
+  -- it reads once, of `read_limit` bytes at most
   pub record ReadsOnce (link now : L) : Type 0 where
     pub answer : LinkRead
     pub into : List ℕ
-    pub called : Reads x.tells x.is_shut x.faults x.waits link 16 answer into now
+    pub called : Reads x.tells x.is_shut x.faults x.waits link read_limit answer into now
     pub becomes : after ≡ after_read before answer
 
   -- it shuts its link, and has nothing more to do
@@ -105,9 +114,9 @@ Steps x before after =
 -- where it stands as it may
 abbrev pub IsReadyTo : Next → WaitingState → Type 0
 IsReadyTo next.Open s = s ≡ waiting_at_first
-IsReadyTo next.Read s = (s.end ≡ None) × (s.waits < 30)
-IsReadyTo next.Close s = (s.end ≢ None) × (s.end ≡ Some ending.Idle → s.waits ≡ 30)
-IsReadyTo next.Nothing s = (s.end ≢ None) × (s.end ≡ Some ending.Idle → s.waits ≡ 30)
+IsReadyTo next.Read s = (s.end ≡ None) × (s.waits < wait_limit)
+IsReadyTo next.Close s = (s.end ≢ None) × (s.end ≡ Some ending.Idle → s.waits ≡ wait_limit)
+IsReadyTo next.Nothing s = (s.end ≢ None) × (s.end ≡ Some ending.Idle → s.waits ≡ wait_limit)
 IsReadyTo next.Parse s = ⊥
 IsReadyTo next.Look s = ⊥
 IsReadyTo next.Write s = ⊥
@@ -129,7 +138,7 @@ pub record IsSound {L : Type 0} (x : LinkWords L) (s : HangUpState L) : Type 0 w
   pub ready : IsReadyTo s.standing.pending s.standing
   pub linked : IsLinked s.standing.pending s.link
   pub shut : IsShutAtEnd x s.standing.pending s.link
-  pub few : s.standing.read ≤ 16
+  pub few : s.standing.read ≤ read_limit
   pub none_yet : s.standing.end ≡ None → s.standing.read ≡ 0
 
 -- ---- what a scripted link gets
@@ -160,13 +169,13 @@ after_try event progress = record { events = event ∷ progress.events; end = pr
 unfoldable pub progress_from : ℕ → ℕ → List Item → Progress
 progress_from zero waits items = record { events = []; end = ending.Idle }
 progress_from (suc more) waits items =
-    let said = read_of 16 items in
-    after_try (try_of waits) (progress_after said.answer (nat_le 30 (waits + 1))
+    let said = read_of read_limit items in
+    after_try (try_of waits) (progress_after said.answer (nat_le wait_limit (waits + 1))
     (progress_from more (waits + 1) said.items))
 
 -- what is left from the first read on
 abbrev pub whole_progress : Script → Progress
-whole_progress script = progress_from 30 0 script.items
+whole_progress script = progress_from wait_limit 0 script.items
 
 -- nothing is written, and the end is the one from the first read on
 abbrev pub hang_outcome : Unit {0} → Script → Outcome
@@ -187,8 +196,8 @@ known_or_idle (Some end) = end
 
 -- what is left, by what is pending, how it stands and the items that its link has left
 abbrev pub progress_at : Next → WaitingState → List Item → Progress
-progress_at next.Open s items = after_try open_link (progress_from 30 0 items)
-progress_at next.Read s items = progress_from (30 - s.waits) s.waits items
+progress_at next.Open s items = after_try open_link (progress_from wait_limit 0 items)
+progress_at next.Read s items = progress_from (wait_limit - s.waits) s.waits items
 progress_at next.Close s items = record { events = close ∷ []; end = known_or_idle s.end }
 progress_at next.Nothing s items = record { events = []; end = known_or_idle s.end }
 progress_at next.Parse s items = record { events = []; end = known_or_idle s.end }
@@ -208,29 +217,33 @@ known_rest x s = option_map (λ script. (progress_of s.standing script).events)
 -- ---- what it has run
 
 -- what the link told, and tells now
-pub record HasTaken (before now : LinkTells) (s : WaitingState) : Type 0 where
+pub record HasTaken (before now : LinkContents) (s : WaitingState) : Type 0 where
   pub input : input_of now ≡ input_of before
   pub taken : length now.taken ≡ s.read
   pub written : now.written ≡ []
 
 -- what the link told at first and tells now, where it tells anything
-abbrev pub HasTakenTold : Option LinkTells → Option LinkTells → WaitingState → Type 0
+abbrev pub HasTakenTold : Option LinkContents → Option LinkContents → WaitingState → Type 0
 HasTakenTold None now s = now ≡ None
-HasTakenTold (Some before) now s = (told : LinkTells) × (now ≡ Some told) × HasTaken before told s
+HasTakenTold (Some before) now s = (told : LinkContents) × (now ≡ Some told)
+    × HasTaken before told s
 
--- the events so far and those that are left are the whole path of the script, and the end is the one that this comes to
+-- the events so far and those that are left are the whole path of the script, and the end is
+-- the one that this comes to
 pub record Follows (script now : Script) (trail : List Handler) (s : WaitingState) : Type 0 where
   pub events : hang_path tt script ≡ trail ++ (progress_of s now).events
   pub end : (progress_of s now).end ≡ (whole_progress script).end
 
--- the events so far begin the path of the script, and what is left of it follows, where the link answers by one
+-- the events so far begin the path of the script, and what is left of it follows,
+-- where the link answers by one
 abbrev pub FollowsTold : Option Script → Option Script → List Handler → WaitingState → Type 0
 FollowsTold None now trail s = now ≡ None
 FollowsTold (Some script) now trail s = (left : Script) × (now ≡ Some left)
     × Follows script left trail s
 
 -- what it has run since it got its link, which was so at first and is so now
-pub record HasRunOver {L : Type 0} (x : LinkWords L) (first : L) (trail : List Handler) (s : WaitingState) (now : L) : Type 0 where
+pub record HasRunOver {L : Type 0} (x : LinkWords L) (first : L) (trail : List Handler)
+    (s : WaitingState) (now : L) : Type 0 where
   pub ready : IsReadyTo s.pending s
   pub opened : s.pending ≢ next.Open
   pub shut : x.is_shut now ≡ is_over s.pending

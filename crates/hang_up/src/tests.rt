@@ -1,6 +1,6 @@
 //! It ends at the first bytes.
 ghost use Rattle.std.specs.Prelude.{false, ◌≡◌};
-ghost use Rattle.sws_link.specs.Links.{IsFresh};
+ghost use Rattle.sws_link.specs.Links.{IsInitialLink};
 
 use crate::HangUp;
 use std::alloc::Global;
@@ -8,14 +8,15 @@ use std::test::Fail;
 use sws_conn::{End, Next, Talk};
 use sws_link::{Link, LinkItem, Memory, SureLink};
 
-/// So many steps of a talk over a link, through the bound: how it has ended, and how many bytes it took and wrote.
+/// So many steps of a talk over a link, through the bound: how it has ended, and how many
+/// bytes it took and wrote.
 fn talk_over<L: Link + Drop, T: Talk<L> + Drop>(
     alloc: Global,
     hall: T::Hall,
     link: L,
     steps: u8,
 ) -> Result<(Option<End>, u64, u64), Memory>
-    requires fresh { IsFresh (L.tells link) }
+    requires initial { IsInitialLink (L.tells link) }
     requires not_shut { L.is_shut link ≡ false }
 {
     let mut talk = T::make(alloc, hall)?;

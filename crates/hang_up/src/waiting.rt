@@ -1,12 +1,12 @@
-//! The connection.
+//! The connection that is shut at its first bytes: its steps, by a read and a shut of the link.
 ghost use Rattle.std.specs.Prelude.{false, ◌≡◌, ◌≢◌, ◌≤◌, ◌<◌, ◌↔◌, ◌∷◌, [], IfOk, IsSome, Some, None, length};
 ghost use Rattle.std.specs.Option.{option_copied};
-ghost use Rattle.sws_link.specs.Links.{IsFresh};
+ghost use Rattle.sws_link.specs.Links.{IsInitialLink};
 ghost use Rattle.sws_conn.specs.Responses.{input_limit};
 ghost use Rattle.sws_conn.specs.Conn.{reported_by, end_at};
 ghost use Rattle.sws_conn.specs.Path.{open_link};
 ghost use Rattle.sws_conn.specs.Talks.{OpensTalk};
-ghost use Rattle.hang_up.specs.HangUp.{HangUpState, hang_view, HasRun, waiting_at_first, is_waiting_by, ReadsOnce, ShutsOnce, StepsFrom, Steps, IsSound, IsReadyTo};
+ghost use Rattle.hang_up.specs.HangUp.{HangUpState, wait_limit, read_limit, hang_view, HasRun, waiting_at_first, is_waiting_by, ReadsOnce, ShutsOnce, StepsFrom, Steps, IsSound, IsReadyTo};
 ghost use Rattle.hang_up.specs.WaitingFields.{state_of};
 
 use std::marker::Model;
@@ -15,6 +15,9 @@ use sws_link::{Link, LinkRead};
 
 /// So many answers in succession that the link isn't ready end it.
 const MAX_WAITS: u8 = 30;
+
+/// The most bytes that one read takes.
+const ROOM: usize = 16;
 
 /// All but the link.
 #[derive(Drop)]
@@ -47,7 +50,7 @@ impl<L: Link> Model for HangUp<L> {
 }
 
 impl<L: Link + Drop> HangUp<L> {
-    /// No link was given yet.
+    /// A talk that waits to be opened with a link.
     pub fn new() -> HangUp<L>
         ensures { result ≡ record { standing = waiting_at_first; link = None } }
     {
@@ -62,9 +65,10 @@ impl<L: Link + Drop> HangUp<L> {
         }
     }
 
-    /// Gives it its link, which isn't shut and of which nothing was taken or written; hands it back where there is one already.
+    /// Gives it its link, which isn't shut and of which nothing was taken or written; hands it back
+    /// where there is one already.
     pub fn open(&mut self, link: L) -> Result<Next, L>
-        requires fresh { IsFresh (L.tells link) }
+        requires initial { IsInitialLink (L.tells link) }
         requires not_shut { L.is_shut link ≡ false }
         ensures opens { OpensTalk (λ (talk : HangUpState L). talk.link) (λ talk.
             hang_view talk.standing) self.old link result self.new }
@@ -91,7 +95,8 @@ impl<L: Link + Drop> HangUp<L> {
         self.waiting.next_step()
     }
 
-    /// The next step.
+    /// The step that comes next, which is `Open` exactly as long as no link was
+    /// given, and never `Wait`.
     pub fn pending(&self) -> Next
         ensures pending { result ≡ self.now.standing.pending }
         ensures never { result ≢ Next.Wait }
@@ -126,7 +131,7 @@ impl<L: Link + Drop> HangUp<L> {
         self.link.as_ref()
     }
 
-    /// Gives the link up.
+    /// Hands the link back, whether the connection has ended or not.
     pub fn into_link(self) -> Option<L>
         ensures { result ≡ self.link }
     {
@@ -151,12 +156,12 @@ impl Waiting {
 
     /// One try to read: what came ends the talk, and so does the last try in vain.
     fn read_step<L: Link>(&mut self, link: &mut L)
-        requires few { self.old.waits < 30 }
-        requires little { self.old.read ≤ 16 }
+        requires few { self.old.waits < wait_limit }
+        requires little { self.old.read ≤ read_limit }
         requires not_shut { L.is_shut link.old ≡ false }
         ensures { ReadsOnce L.Link (state_of self.old) (state_of self.new) link.old link.new }
     {
-        let mut room = [0; 16];
+        let mut room = [0; ROOM];
         match link.read(&mut room) {
             LinkRead::Took(count) => {
                 self.read += count as u64;

@@ -1,7 +1,7 @@
 //! The state of a colour.
 ghost use Rattle.std.specs.Prelude.{◌≡◌, ◌≤◌, ◌-◌, ◌^◌, ◌++◌, ◌∷◌, [], length, min};
 
-use mely_app::Fresh;
+use mely_app::Initial;
 use mely_event::{Colour, Event, Fits, Memory, Trail, TrailLog};
 use std::alloc::Global;
 
@@ -79,10 +79,10 @@ impl Fits<()> for Counter {
     ghost fits_under = { λ frame colour event load. Unit {0} };
 }
 
-impl Fresh<()> for Counter {
-    ghost first_frame = { tt };
+impl Initial<()> for Counter {
+    ghost initial_frame = { tt };
 
-    fn fresh(alloc: Global, colour: Colour) -> Counter {
+    fn initial_state(alloc: Global, colour: Colour) -> Counter {
         Counter {
             log: TrailLog::new(alloc, colour),
             count: 0,

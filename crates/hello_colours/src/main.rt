@@ -11,7 +11,8 @@ use greeting::greet;
 use std::process::ExitCode;
 use std::{env, io};
 
-/// The number of the command line.
+/// How many times to greet, by the first word; `None` where there is no word or it
+/// is no number of 16 bits.
 fn times(rt: &HostRuntime) -> Option<u16> {
     let mut words = env::args(rt).ok()?.skip(1);
     words.next()?.as_str().parse::<u16>().ok()

@@ -7,6 +7,8 @@ use Rattle.mely_fleet.specs.declared.kept_shard.ShardFrame.{ShardFrame}
 use Rattle.mely_fleet.specs.Fleets.{ArePasses}
 
 -- each of these are passes of the fleet
-pub record AreAllPasses {V F : Type 0} {g : _} (kept_frame : V → ShardFrame F) (fleet : FleetOf V Entry (ShardFrame F)) (all : List (PassesOf V Entry (ShardFrame F) g)) : Type 0 where
+pub record AreAllPasses {V F : Type 0} {g : _} (kept_frame : V → ShardFrame F)
+    (fleet : FleetOf V Entry (ShardFrame F))
+    (all : List (PassesOf V Entry (ShardFrame F) g)) : Type 0 where
   pub each : (k : ℕ) (own : PassesOf V Entry (ShardFrame F) g) → slice_get all k ≡ Some own
       → ArePasses kept_frame fleet own

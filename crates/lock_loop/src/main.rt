@@ -1,7 +1,7 @@
 //! `lock_loop KIND THREADS COUNT`: threads that go into one lock and out again, so many times each.
 //!
-//! KIND is `ticketed`, for the lock that is entered with a pass, `shard`, for that lock round a shard of a fleet, or `mutex`, for
-//! std's. It is what the cost of a lock is measured by.
+//! KIND is `ticketed`, for the lock that is entered with a pass, `shard`, for that lock round a
+//! shard of a fleet, or `mutex`, for std's. It is what the cost of a lock is measured by.
 #![tactic(auto)]
 
 ghost use Rattle.std.specs.Prelude.{◌<◌, IfSome};
@@ -19,19 +19,22 @@ enum Kind {
     Mutex,
 }
 
+/// The lock of this name.
+fn kind_of(word: &str) -> Option<Kind> {
+    match word {
+        "ticketed" => Some(Kind::Ticketed),
+        "shard" => Some(Kind::Shard),
+        "mutex" => Some(Kind::Mutex),
+        _ => None,
+    }
+}
+
 /// Which lock, how many threads, and how often each goes in.
 fn order(rt: &HostRuntime) -> Option<(Kind, u16, u64)>
     ensures { IfSome result (λ order. 0 < order.1) }
 {
     let mut words = env::args(rt).ok()?.skip(1);
-    let word = words.next()?;
-    let kind = if word.as_str() == "ticketed" {
-        Kind::Ticketed
-    } else if word.as_str() == "shard" {
-        Kind::Shard
-    } else {
-        Kind::Mutex
-    };
+    let kind = kind_of(words.next()?.as_str())?;
     let threads = words.next()?.as_str().parse::<u16>().ok()?;
     let count = words.next()?.as_str().parse::<u64>().ok()?;
     if threads == 0 {

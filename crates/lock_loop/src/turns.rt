@@ -1,12 +1,12 @@
-//! Going in and out.
-ghost use Rattle.std.specs.Prelude.{◌≡◌, ◌<◌, ◌≤◌, IfSome, length, All};
+//! Going in and out of each kind of lock, from so many threads.
+ghost use Rattle.std.specs.Prelude.{◌≡◌, ◌<◌, IfSome, length, All};
 ghost use Rattle.mely_history.specs.Setup.{shape_of, colours_of};
 ghost use Rattle.mely_lock.specs.Words.{IsPassOf, IsOutside};
 ghost use Rattle.mely_fleet.specs.Fleets.{ArePasses};
 ghost use Rattle.mely_fleet.specs.Frames.{shard_frame};
 ghost use Rattle.lock_loop.specs.Callers.{AreAllPasses};
 
-use counting_app::{Tally, blank_states};
+use counting_app::{Tally, initial_states};
 use mely_event::{Fits, Handlers, Kept, Memory, Trail};
 use mely_fleet::{Fleet, Passes};
 use mely_history::{Setup, Shape};
@@ -180,14 +180,13 @@ pub fn through_shard<R: Threads + Wait + AllocGlobal + Sync>(
     threads: u16,
     count: u64,
 ) -> Result<(), Memory>
-    requires some { 0 < threads }
-    requires few { threads ≤ 65535 }
+    requires { 0 < threads }
 {
     let alloc = rt.alloc();
     let Some(setup) = setup_of() else {
         return Err(Memory);
     };
-    let states = blank_states(alloc, 1)?;
+    let states = initial_states(alloc, 1)?;
     let (fleet, mut passes) = Fleet::new(alloc, &setup, states, threads - 1)?;
     reserve_from_threads(rt, &fleet, &mut passes, threads as usize, count);
     Ok(())

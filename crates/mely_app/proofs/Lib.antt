@@ -1,2 +1,2 @@
-mod FreshLemmas
+mod InitialLemmas
 mod RanLemmas

@@ -9,9 +9,9 @@ use Rattle.mely_history.specs.declared.entry.Entry.{Entry}
 use Rattle.mely_history.specs.declared.setup.Setup.{Setup}
 use Rattle.mely_weave.specs.Side.{shard_of}
 
--- Every event that was registered was run. There is a legal history for each shard, in which nothing
--- runs or waits, and a state for each colour, of that colour. What was run on the state is what its
--- history says was registered on the colour: each event once, in that order.
+-- Every event that was registered was run. There is a legal history for each shard, in which
+-- nothing runs or waits, and a state for each colour, of that colour. What was run on the state is
+-- what its history says was registered on the colour: each event once, in that order.
 pub record RanAll {S F : Type 0} (t : TrailWords S F) (setup : Setup)
     (histories : List (List Entry)) (states : List S) : Type 0 where
   pub legal : AreLegal setup histories

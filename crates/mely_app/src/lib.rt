@@ -1,9 +1,9 @@
 //! The front door of the runtime: an app is run on threads, from nothing to what it leaves.
 //!
 //! An app is its handlers ([`App`](mely_worker::App), of `mely_worker`) over states, one for each
-//! colour. Here a state says how it begins ([`Fresh`]), and [`run_app`] does all the rest: it makes
-//! the states and the fleet, posts the first event, lets a thread for each core work until nothing
-//! is left, closes the fleet, and hands out the states with the histories ([`Ended`]).
+//! colour. Here a state says how it begins ([`Initial`]), and [`run_app`] does all the rest: it
+//! makes the states and the fleet, posts the first event, lets a thread for each core work until
+//! nothing is left, closes the fleet, and hands out the states with the histories ([`Ended`]).
 //! `docs/FIRST_APP.md` walks a whole program, the crate `hello_colours`.
 //!
 //! ```text
@@ -20,8 +20,8 @@
 //! contract of a running fleet says so.
 #![tactic(auto)]
 
-mod fresh;
+mod initial;
 mod running;
 
-pub use fresh::{Fresh, fresh_states};
+pub use initial::{Initial, initial_states};
 pub use running::{Ended, run_app};

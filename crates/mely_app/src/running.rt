@@ -1,10 +1,10 @@
-//! An app on threads, from its fresh states to its end.
+//! An app on threads, from its initial states to its end.
 ghost use Rattle.std.specs.Prelude.{IfOk, map};
 ghost use Rattle.mely_worker.specs.Access.{FitsSetup};
 ghost use Rattle.mely_worker.specs.Conditions.{AppServes};
 ghost use Rattle.mely_app.specs.RanAll.{RanAll};
 
-use crate::fresh::{Fresh, fresh_states};
+use crate::initial::{Initial, initial_states};
 use mely_event::{Colour, Event, Fits, Memory, Trail};
 use mely_fleet::run_crew;
 use mely_history::{Entry, Setup};
@@ -26,15 +26,15 @@ pub struct Ended<S> {
     pub histories: Vec<Vec<Entry>>,
 }
 
-/// Runs an app on fresh states, from its first event on, with a thread for each core, until nothing
-/// is left. It need not return: an app may register for ever.
+/// Runs an app on initial states, from its first event on, with a thread for each core, until
+/// nothing is left. It need not return: an app may register for ever.
 ///
 /// # Errors
 ///
 /// There was no memory, to begin or for an event on the way: what was done is dropped.
 pub fn run_app<
     R: Threads + Wait + Sync,
-    S: Fresh<P> + Drop + Send,
+    S: Initial<P> + Drop + Send,
     P: Drop + Send,
     A: App<State = S, Load = P> + Sync,
 >(
@@ -46,12 +46,12 @@ pub fn run_app<
     event: Event,
     load: Option<P>,
 ) -> Result<Ended<S>, Memory>
-    requires served { AppServes A.App setup.now S.first_frame app.now }
-    requires fits { FitsSetup S.fits_under setup.now S.first_frame (colour, event, load) }
+    requires served { AppServes A.App setup.now S.initial_frame app.now }
+    requires fits { FitsSetup S.fits_under setup.now S.initial_frame (colour, event, load) }
     ensures { IfOk result (λ ended. RanAll S.Trail setup.now
         (map (λ history. history.items) ended.histories.items) ended.states.items) }
 {
-    let states = fresh_states::<S, P>(alloc, setup)?;
+    let states = initial_states::<S, P>(alloc, setup)?;
     let Ok((weave, drained)) = run_crew(
         rt,
         alloc,

@@ -13,7 +13,7 @@ use Rattle.mely_history.specs.declared.setup.Setup.{Setup}
 use Rattle.mely_history.proofs.LegalLemmas.{split_below}
 use Rattle.mely_history.specs.declared.entry.Entry.{Entry}
 use Rattle.mely_check.specs.Watches.{Tells, Allows}
-use Rattle.mely_check.specs.Judges.{AreBlank, MayHear, Adds, Hears, AreDrainedBelow, IsDrainedAt, IsOpenAt}
+use Rattle.mely_check.specs.Judges.{AreInitialWatches, MayHear, Adds, Hears, AreDrainedBelow, IsDrainedAt, IsOpenAt}
 use Rattle.mely_check.specs.declared.judge.Judge.{Judge}
 use Rattle.mely_check.specs.declared.watch.Watch.{Watch}
 use Rattle.mely_check.proofs.ListLemmas.{in_pushed}
@@ -29,8 +29,8 @@ none_at xs ys i k x same here past is =
     let within = slice_get_within xs k x is in let long = ap (λ t. length t) same in omega arith
 
 -- one colour more
-pub blank_more : (setup : Setup) (n : ℕ) (items more : List Watch) (watch : Watch) → AreBlank setup n items → ((c : Colour) → c.0 ≡ n → Tells setup (account_of setup [] c) watch) → more ≡ items ++ watch ∷ [] → AreBlank setup (n + 1) more
-blank_more setup n items more watch blank next is = record {
+pub initial_more : (setup : Setup) (n : ℕ) (items more : List Watch) (watch : Watch) → AreInitialWatches setup n items → ((c : Colour) → c.0 ≡ n → Tells setup (account_of setup [] c) watch) → more ≡ items ++ watch ∷ [] → AreInitialWatches setup (n + 1) more
+initial_more setup n items more watch blank next is = record {
   many = ap (λ t. length t) is ∙ length-append items (watch ∷ []) ∙ ap (λ k. k + 1) blank.many;
   each = λ c w there. elim (in_pushed items watch w c.0 (ap (λ t. slice_get t c.0) (sym is) ∙ there)) [
     | inl front ↦ blank.each c w front

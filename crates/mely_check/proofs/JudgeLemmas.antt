@@ -25,7 +25,7 @@ use Rattle.mely_check.specs.Journals.{IsFit, entries_in}
 use Rattle.mely_check.specs.Reports.{finished_by, steals, loses, core_report, all_entries, AreReports}
 use Rattle.mely_check.specs.Verdicts.{IsFirstIllegal}
 use Rattle.mely_check.specs.Watches.{Tells, Allows, Follows}
-use Rattle.mely_check.specs.Judges.{AreBlank, MayHear, HasRoom, report_after, Adds, Hears, LegalFrom, own_of, IsWatched, IsJudged}
+use Rattle.mely_check.specs.Judges.{AreInitialWatches, MayHear, HasRoom, report_after, Adds, Hears, LegalFrom, own_of, IsWatched, IsJudged}
 use Rattle.mely_check.specs.declared.judge.Judge.{Judge}
 use Rattle.mely_check.specs.declared.report.CoreReport.{CoreReport}
 use Rattle.mely_check.specs.declared.watch.Watch.{Watch}
@@ -170,7 +170,7 @@ report_more core entries e =
 
 -- ---- before the first line, and behind a shard's
 
-pub judged_new : (setup : Setup) (judge : Judge) → judge.setup ≡ setup → judge.fault ≡ None → AreBlank setup (colours_of setup) judge.watches.items → judge.cores.items ≡ replicate (shape_of setup).cores (record { ran = 0; stolen_in = 0; stolen_out = 0 }) → IsJudged setup [] judge
+pub judged_new : (setup : Setup) (judge : Judge) → judge.setup ≡ setup → judge.fault ≡ None → AreInitialWatches setup (colours_of setup) judge.watches.items → judge.cores.items ≡ replicate (shape_of setup).cores (record { ran = 0; stolen_in = 0; stolen_out = 0 }) → IsJudged setup [] judge
 judged_new setup judge same none blank cores =
     subst (λ o. MatchOption o (IsWatched setup [] judge) (IsFirstIllegal setup [])) (sym none)
     (record {

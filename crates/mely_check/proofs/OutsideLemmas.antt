@@ -31,7 +31,8 @@ no_line rest line later none is same =
     let all = ap (λ t. length t) same in
     omega (arith, long, all, length-append line later)
 
--- behind the lines that were read, bytes without a LF end no journal, unless all was read and they are none
+-- behind the lines that were read, bytes without a LF end no journal, unless all
+-- was read and they are none
 unended_text : (lines : List (List ℕ)) (place : Place) (rest : List ℕ) → place.shards < 65536 → place.begun ≤ place.shards → IsAt lines place → HasNoFeed rest → (place.left ≡ 0 → place.begun ≡ place.shards → rest ≡ [] → ⊥)
     → IsJournal place.shards (join_lines lines ++ rest) → ⊥
 unended_text lines place rest few begun at none not_whole journal_is =

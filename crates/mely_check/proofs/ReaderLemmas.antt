@@ -10,7 +10,7 @@ use Rattle.mely_check.specs.Journals.{IsFitHistory, HasNoFeed, IsLine, IsFirstOu
 use Rattle.mely_history.specs.Setup.{shape_of, colours_of}
 use Rattle.mely_history.specs.declared.setup.Setup.{Setup}
 use Rattle.mely_check.specs.Verdicts.{Says, Finds}
-use Rattle.mely_check.specs.Judges.{AreBlank, IsJudged, HearsLine}
+use Rattle.mely_check.specs.Judges.{AreInitialWatches, IsJudged, HearsLine}
 use Rattle.mely_check.specs.declared.judge.Judge.{Judge}
 use Rattle.mely_check.specs.declared.place.Place.{Place}
 use Rattle.mely_check.specs.declared.report.Report.{Report}
@@ -81,7 +81,7 @@ pub stands_of : (setup : Setup) (text : List ℕ) (reader : Reader) → Knows se
 stands_of setup text reader k = record { lines = k.lines; at = k.heard.at; is = k.is; unended = k.unended; short = k.short }
 
 -- before the first byte
-pub knows_new : (setup : Setup) (reader : Reader) → IsAt [] reader.place → reader.line.items ≡ [] → reader.judge.setup ≡ setup → reader.judge.fault ≡ None → AreBlank setup (colours_of setup) reader.judge.watches.items
+pub knows_new : (setup : Setup) (reader : Reader) → IsAt [] reader.place → reader.line.items ≡ [] → reader.judge.setup ≡ setup → reader.judge.fault ≡ None → AreInitialWatches setup (colours_of setup) reader.judge.watches.items
     → reader.judge.cores.items ≡ replicate (shape_of setup).cores (record { ran = 0; stolen_in = 0; stolen_out = 0 }) → Knows setup [] reader
 knows_new setup reader at empty same none blank cores = record {
   lines = [];

@@ -71,11 +71,16 @@ rest_is text rest behind m n small_m small_n ends ends' read is = (spaced_split 
 
 -- ---- the numbers of a line
 
+-- a space and a LF are below the digits
+pub space_ends : 32 < 48
+space_ends = omega arith
+
+pub feed_ends : 10 < 48
+feed_ends = omega arith
+
 -- behind one number that was read of two stands the other
 pub second_is : (text rest last : List ℕ) (first a b : ℕ) → first ≤ 65535 → a < 65536 → IsBehind rest → text ≡ space_number first ++ rest → text ≡ space_number a ++ (space_number b ++ last) → rest ≡ space_number b ++ last
-second_is text rest last first a b few few_a ends read is =
-    let low : 32 < 48 = omega arith in
-    rest_is text rest (space_number b ++ last) first a (omega arith) (omega arith) ends low read is
+second_is text rest last first a b few few_a ends read is = rest_is text rest (space_number b ++ last) first a (omega arith) (omega arith) ends space_ends read is
 
 pub last_is : (text rest last : List ℕ) (first a high : ℕ) → first ≤ high → a ≤ high → high < 2 ^ 64 → IsBehind rest → IsBehind last → text ≡ space_number first ++ rest → text ≡ space_number a ++ last → rest ≡ last
 last_is text rest last first a high few few_a small ends ends' read is = rest_is text rest last first a (omega arith) (omega arith) ends ends' read is

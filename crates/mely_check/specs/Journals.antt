@@ -22,13 +22,13 @@ pub record AreFit (shards : ℕ) (histories : List (List Entry)) : Type 0 where
   pub many : length histories ≡ shards
   pub fit : AllByRecursion IsFitHistory histories
 
--- a text is the journal of so many histories
+-- a text is the journal of so many histories, whose numbers are within their ranges
 pub record IsJournal (shards : ℕ) (text : List ℕ) : Type 0 where
   pub histories : List (List Entry)
   pub fit : AreFit shards histories
   pub is : text ≡ journal histories
 
--- with something behind it, it is one
+-- the text is a front of the journal of so many histories, or the whole of it
 pub record BeginsJournal (shards : ℕ) (front : List ℕ) : Type 0 where
   pub more : List ℕ
   pub is : IsJournal shards (front ++ more)
@@ -54,12 +54,13 @@ pub record IsLine (line : List ℕ) : Type 0 where
 abbrev pub join_lines : List (List ℕ) → List ℕ
 join_lines lines = flat_map (λ line. line) lines
 
--- the line of this number is outside, whatever else
+-- the line of this number, the greatest of 32 bits, is outside whatever it says
 abbrev pub line_limit : ℕ
 line_limit = 4294967295
 
--- The line of this number, counted from 1, is the first outside: the lines before it begin a journal, and with it they begin none, or it
--- is one too many; and where the text ends before it does, the text is no journal.
+-- The line of this number, counted from 1, is the first outside: the lines before it begin a
+-- journal, and with it they begin none, or it is one too many; and where the text ends before it
+-- does, the text is no journal.
 pub record IsFirstOutside (shards : ℕ) (text : List ℕ) (number : ℕ) : Type 0 where
   pub lines : List (List ℕ)
   pub rest : List ℕ

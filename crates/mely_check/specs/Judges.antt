@@ -21,7 +21,7 @@ use Rattle.mely_check.specs.declared.report.CoreReport.{CoreReport}
 use Rattle.mely_check.specs.declared.watch.Watch.{Watch}
 
 -- of so many colours nothing was heard
-pub record AreBlank (setup : Setup) (colours : ℕ) (watches : List Watch) : Type 0 where
+pub record AreInitialWatches (setup : Setup) (colours : ℕ) (watches : List Watch) : Type 0 where
   pub many : length watches ≡ colours
   pub each : (c : Colour) (watch : Watch) → slice_get watches c.0 ≡ Some watch
       → Tells setup (account_of setup [] c) watch
@@ -50,7 +50,8 @@ pub record HasRoom (report : CoreReport) (ran stolen_in stolen_out : ℕ) : Type
   pub out_fits : report.stolen_out + stolen_out < 2 ^ 64
 
 -- a report was added to that of a core, and where the sums fit their types, they are exact
-pub record AddsTo (before : List CoreReport) (core : ℕ) (more : CoreReport) (after : List CoreReport) : Type 0 where
+pub record AddsTo (before : List CoreReport) (core : ℕ) (more : CoreReport)
+    (after : List CoreReport) : Type 0 where
   pub many : length after ≡ length before
   pub own : (report : CoreReport) → slice_get before core ≡ Some report
       → HasRoom report more.ran more.stolen_in more.stolen_out
@@ -65,8 +66,10 @@ report_after core entry report = record {
   stolen_out = report.stolen_out + cond (loses core entry) 1 0;
 }
 
--- an entry was counted for each core, exactly where the sums are far from the ends of their types
-pub record Counts (before : List CoreReport) (entry : Entry) (after : List CoreReport) : Type 0 where
+-- an entry was counted for each core: the sums are exact wherever no entry could take them past
+-- the ends of their types
+pub record Counts (before : List CoreReport) (entry : Entry)
+    (after : List CoreReport) : Type 0 where
   pub many : length after ≡ length before
   pub each : (core : ℕ) (report : CoreReport) → slice_get before core ≡ Some report
       → HasRoom report 65535 1 1 → slice_get after core ≡ Some (report_after core entry report)
@@ -91,7 +94,7 @@ Hears before begun line entry after =
     ⊎ ((MayHear before begun entry → ⊥) × (after ≡ record before { fault = Some line })))
     (λ _. after ≡ before)
 
--- what comes of a line
+-- what comes of a line: one that begins a shard changes nothing that is kept of the colours
 abbrev pub HearsLine : Judge → ℕ → ℕ → Line → Judge → Type 0
 HearsLine before begun number (said_line.Shard shard count) after = after ≡ before
 HearsLine before begun number (said_line.Entry entry) after = Hears before begun number entry after
@@ -101,7 +104,7 @@ abbrev pub IsDrainedAt : List Watch → ℕ → Type 0
 IsDrainedAt watches colour = (watch : Watch) → slice_get watches colour ≡ Some watch
     → (watch.running ≡ None) × (watch.queued.items ≡ [])
 
--- something of it does
+-- of the colour something runs or waits
 pub record IsOpenAt (watches : List Watch) (colour : ℕ) : Type 0 where
   pub watch : Watch
   pub there : slice_get watches colour ≡ Some watch
@@ -116,7 +119,8 @@ abbrev pub IsFirstOpen : List Watch → ℕ → Option ℕ → Type 0
 IsFirstOpen watches colours None = AreDrainedBelow watches colours
 IsFirstOpen watches colours (Some colour) = AreDrainedBelow watches colour × IsOpenAt watches colour
 
--- what a judge says at the end
+-- what a judge says at the end, where every line of the journal was read: the fault that it met, or
+-- the least colour of which something runs or waits, or that there is neither
 abbrev pub Judges : Judge → Result (Unit {0}) CheckFault → Type 0
 Judges judge (Ok _) = (judge.fault ≡ None)
     × AreDrainedBelow judge.watches.items (colours_of judge.setup)
@@ -149,7 +153,8 @@ pub record IsWatched (setup : Setup) (histories : List (List Entry)) (judge : Ju
       → Tells setup (account_of setup (own_of setup histories c) c) watch
   pub reports : AreReports setup (all_entries histories) judge.cores.items
 
--- it is so; or the fault is the line of the first entry that isn't allowed
+-- without a fault all that was heard is legal and was kept; and a fault is the line of the first
+-- entry that isn't allowed
 abbrev pub IsJudged : Setup → List (List Entry) → Judge → Type 0
 IsJudged setup histories judge =
     MatchOption judge.fault (IsWatched setup histories judge) (IsFirstIllegal setup histories)

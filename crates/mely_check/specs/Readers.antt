@@ -25,11 +25,12 @@ pub record IsOpen (reader : Reader) : Type 0 where
   pub unended : HasNoFeed reader.line.items
   pub short : length reader.line.items < 64
 
--- how far it has come: further with each byte, as a line has 64 at most
+-- how far it has come: further with each byte, as a line has 64 at most, with its LF
 abbrev pub reach : Reader → ℕ
 reach reader = 64 * reader.place.number + length reader.line.items
 
--- whatever comes behind the text, the line is the first outside
+-- why a text was given up before its end: whatever comes behind it, the line is the first outside;
+-- or there was no memory
 abbrev pub Refuses : ℕ → List ℕ → CheckFault → Type 0
 Refuses shards text Read = ⊥
 Refuses shards text (BadJournal number) = (later : List ℕ)
@@ -47,7 +48,8 @@ Stops lines line place (NotDrained colour) = ⊥
 Stops lines line place Memory = ⊤
 
 -- the whole lines were read and judged
-pub record IsHeard (setup : Setup) (lines : List (List ℕ)) (place : Place) (judge : Judge) : Type 0 where
+pub record IsHeard (setup : Setup) (lines : List (List ℕ)) (place : Place)
+    (judge : Judge) : Type 0 where
   pub at : IsAt lines place
   pub judged : IsJudged setup (histories_in at.walk) judge
 

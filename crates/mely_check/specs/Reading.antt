@@ -11,7 +11,7 @@ use Rattle.mely_check.specs.Journals.{IsFit}
 abbrev pub IsHigh : List ℕ → Type 0
 IsHigh bytes = AllByRecursion (λ byte. 48 ≤ byte) bytes
 
--- what stands behind a number begins with a lesser byte
+-- what stands behind a number is nothing, or begins with a byte less than `0`
 abbrev pub IsBehind : List ℕ → Type 0
 IsBehind [] = ⊤
 IsBehind (byte ∷ rest) = byte < 48
@@ -26,7 +26,8 @@ Says text (line.Entry entry) = (text ≡ entry_line entry) × IsFit entry
 abbrev pub ReadsLine : List ℕ → Option Line → Type 0
 ReadsLine text read = MatchOption read ((says : Line) → Says text says → ⊥) (Says text)
 
--- what was read at the front of a text: a space and a number, up to what stands behind it
+-- what was read at the front of a text: a space and a number that is at most so high, and then what
+-- stands behind the number; or none where the text doesn't begin so
 abbrev pub ReadsField : ℕ → List ℕ → Option (ℕ × List ℕ) → Type 0
 ReadsField high text read =
     MatchOption read ((n : ℕ) (rest : List ℕ) → n ≤ high → IsBehind rest

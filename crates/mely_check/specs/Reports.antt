@@ -42,7 +42,8 @@ abbrev pub all_entries : List (List Entry) → List Entry
 all_entries histories = flat_map (λ history. history) histories
 
 -- for each core what it ran and stole
-pub record AreReports (setup : Setup) (entries : List Entry) (reports : List CoreReport) : Type 0 where
+pub record AreReports (setup : Setup) (entries : List Entry)
+    (reports : List CoreReport) : Type 0 where
   pub many : length reports ≡ (shape_of setup).cores
   pub each : (core : ℕ) → core < (shape_of setup).cores
       → slice_get reports core ≡ Some (core_report core entries)

@@ -40,13 +40,15 @@ pub record IsLeastLeft (histories : List (List Entry)) (colour : ℕ) : Type 0 w
 -- ---- what a text is
 
 -- it is the journal of these histories, in fewer lines than the limit
-pub record IsJournalOf (setup : Setup) (histories : List (List Entry)) (text : List ℕ) : Type 0 where
+pub record IsJournalOf (setup : Setup) (histories : List (List Entry))
+    (text : List ℕ) : Type 0 where
   pub fit : AreFit (shape_of setup).shards histories
   pub is : text ≡ journal histories
   pub few : length histories + entries_in histories < line_limit
 
 -- it is the journal of these histories, which are legal and drained
-pub record IsDrainedRun (setup : Setup) (histories : List (List Entry)) (text : List ℕ) : Type 0 where
+pub record IsDrainedRun (setup : Setup) (histories : List (List Entry))
+    (text : List ℕ) : Type 0 where
   pub journal_of : IsJournalOf setup histories text
   pub legal : AreLegal setup histories
   pub drained : AllByRecursion IsDrained histories
@@ -101,7 +103,8 @@ abbrev pub IsFault : CheckFault → Result Report CheckFault → Type 0
 IsFault fault found = MatchResult found (λ _. ⊥) (λ other. (other ≡ fault)
     ⊎ (other ≡ Read) ⊎ (other ≡ Memory))
 
--- it is what is so of the text, if that says anything
+-- what was found is the right answer, unless the reading failed or there was no memory; where that
+-- itself is given as the right answer, nothing is said
 abbrev pub AgreesWith : Result Report CheckFault → Result Report CheckFault → Type 0
 AgreesWith (Ok report) found = IsAcceptance found
 AgreesWith (Err Read) found = ⊤

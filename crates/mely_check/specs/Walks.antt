@@ -76,8 +76,10 @@ GoesOn start (said_line.Entry entry) after = ⊥
 GoesOn (within done last left) (said_line.Entry entry) after = histories_in after
     ≡ done ++ (last ++ entry ∷ []) ∷ []
 
--- the line is a next one, and says this
-pub record MayStand (lines : List (List ℕ)) (line : List ℕ) (before : Place) (at : IsAt lines before) (after : Place) (said : Line) : Type 0 where
+-- the line may stand next: with it the lines are read up to a place again, and the histories go on
+-- by what it says
+pub record MayStand (lines : List (List ℕ)) (line : List ℕ) (before : Place)
+    (at : IsAt lines before) (after : Place) (said : Line) : Type 0 where
   pub next : IsAt (lines ++ line ∷ []) after
   pub goes : GoesOn at.walk said next.walk
   pub fit : IsFitLine said

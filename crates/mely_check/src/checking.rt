@@ -17,15 +17,18 @@ const PIECE: usize = 4_096;
 
 /// Reads a journal to its end, and says whether it is that of a legal and drained run of the setup.
 ///
-/// A journal has the setup's shards, numbered from 0, each with a line for each entry that it says it has. What is read is not kept:
-/// of each colour there are its owner, its take and the weights of its queued events. The time grows with the journal alone.
+/// A journal has the setup's shards, numbered from 0, each with a line for each entry that it says
+/// it has. What is read is not kept: of each colour there are its owner, its take and the weights
+/// of its queued events. The time grows with the journal alone.
 ///
 /// # Errors
 ///
-/// The first of these that holds: `Read` only where the source failed in this call; `BadJournal` exactly where that line is the first
-/// that no journal has there; `NotLegal` exactly where the text is a journal and that line is the first whose entry has a colour of
-/// another shard or isn't allowed after the entries of its shard before it; `NotDrained` exactly where the text is the journal of a
-/// legal run and that colour is the least that runs or has something queued. `Memory` where an allocation was refused.
+/// The first of these that holds: `Read` only where the source failed in this call; `BadJournal`
+/// exactly where that line is the first that no journal has there; `NotLegal` exactly where the
+/// text is a journal and that line is the first whose entry has a colour of another shard or isn't
+/// allowed after the entries of its shard before it; `NotDrained` exactly where the text is the
+/// journal of a legal run and that colour is the least that runs or has something queued. `Memory`
+/// where an allocation was refused.
 pub fn check_journal<R: Source>(
     alloc: Global,
     setup: &Setup,

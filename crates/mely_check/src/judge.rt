@@ -3,7 +3,7 @@ ghost use Rattle.std.specs.Prelude.{◌≡◌, ◌<◌, ◌≤◌, ◌%◌, ◌^
 ghost use Rattle.mely_event.specs.declared.colour.Colour.{Colour};
 ghost use Rattle.mely_history.specs.Setup.{shape_of, colours_of};
 ghost use Rattle.mely_history.specs.ColourAccount.{account_of};
-ghost use Rattle.mely_check.specs.Judges.{Hears, HearsLine, Judges, AddsTo, Counts, MayHear, AreBlank, IsDrainedAt, IsOpenAt, IsFirstOpen};
+ghost use Rattle.mely_check.specs.Judges.{Hears, HearsLine, Judges, AddsTo, Counts, MayHear, AreInitialWatches, IsDrainedAt, IsOpenAt, IsFirstOpen};
 ghost use Rattle.mely_check.specs.Watches.{Tells};
 
 use crate::fault::CheckFault;
@@ -13,8 +13,8 @@ use crate::watch::Watch;
 use mely_history::{Entry, Setup};
 use std::alloc::{AllocError, Global};
 
-/// What was heard of a journal: what is kept of each colour, what each core ran and stole, and the line of the first entry that isn't
-/// allowed, from which on nothing is heard.
+/// What was heard of a journal: what is kept of each colour, what each core ran and stole, and the
+/// line of the first entry that isn't allowed, from which on nothing is heard.
 #[derive(Drop)]
 pub(crate) struct Judge {
     setup: Setup,
@@ -31,8 +31,9 @@ const NOTHING: CoreReport = CoreReport {
 };
 
 /// What is kept of each colour before the first entry.
-fn blank_watches(alloc: Global, setup: &Setup) -> Result<Vec<Watch>, AllocError>
-    ensures { IfOk result (λ watches. AreBlank setup.now (colours_of setup.now) watches.items) }
+fn initial_watches(alloc: Global, setup: &Setup) -> Result<Vec<Watch>, AllocError>
+    ensures { IfOk result (λ watches.
+        AreInitialWatches setup.now (colours_of setup.now) watches.items) }
 {
     let mut watches = Vec::new(alloc);
     for colour in 0..setup.colours() {
@@ -88,18 +89,19 @@ fn count(cores: &mut [CoreReport], entry: &Entry)
 }
 
 impl Judge {
-    /// Before the first entry.
+    /// A judge that has heard nothing: each colour is with its first owner,
+    /// and no entry was counted.
     pub(crate) fn new(alloc: Global, setup: &Setup) -> Result<Judge, AllocError>
         ensures setup { IfOk result (λ judge. judge.setup ≡ setup.now) }
         ensures fault { IfOk result (λ judge. judge.fault ≡ None) }
         ensures watches { IfOk result (λ judge.
-            AreBlank setup.now (colours_of setup.now) judge.watches.items) }
+            AreInitialWatches setup.now (colours_of setup.now) judge.watches.items) }
         ensures cores { IfOk result (λ judge. judge.cores.items
             ≡ replicate (shape_of setup.now).cores NOTHING) }
     {
         Ok(Judge {
             setup: *setup,
-            watches: blank_watches(alloc, setup)?,
+            watches: initial_watches(alloc, setup)?,
             cores: vec![in alloc; NOTHING; setup.cores() as usize]?,
             fault: None,
         })

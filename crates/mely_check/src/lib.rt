@@ -1,8 +1,10 @@
 //! A checker of printed journals, for whoever doesn't trust the program that printed one.
 //!
-//! [`check_journal`] reads a text piece by piece and says whether it is the journal of a legal and drained run of a setup, and what each
-//! core ran and stole; or which line is the first that no journal has there, which has the first entry that isn't allowed, or which
-//! colour was left running or waiting. It holds one line at a time, and of each colour its owner, its take and its queued weights.
+//! [`check_journal`] reads a text piece by piece and says whether it is the journal of a legal
+//! and drained run of a setup, and what each core ran and stole; or which line is the first
+//! that no journal has there, which has the first entry that isn't allowed, or which colour
+//! was left running or waiting. It holds one line at a time, and of each colour its owner, its
+//! take and its queued weights.
 //!
 //! ```text
 //! let report = check_journal(alloc, &setup, &mut source)?;

@@ -4,8 +4,8 @@ ghost use Rattle.std.specs.Bool.{OnFalse, OnTrue};
 
 use crate::reading::{Line, read_line};
 
-/// How many shards a journal is to have, how many have begun, how many entries of the last one are still to come, how many there
-/// were in all, and the number of the next line.
+/// How many shards a journal is to have, how many have begun, how many entries of the last one are
+/// still to come, how many there were in all, and the number of the next line.
 #[derive(Clone, Copy, Debug)]
 pub(crate) struct Place {
     pub(crate) shards: u16,
@@ -24,7 +24,7 @@ impl Place {
     ghost use Rattle.mely_check.specs.Reading.{Says};
     ghost use Rattle.mely_check.specs.Walks.{IsAt, MayNotStand, MayStand, Moves};
 
-    /// Before the first line.
+    /// The place before the first line of a journal of so many shards.
     pub(crate) fn new(shards: u16) -> Place
         ensures at { IsAt [] result }
         ensures shards { result.shards ≡ shards }
@@ -38,7 +38,8 @@ impl Place {
         }
     }
 
-    /// Goes on behind a line with its LF and answers what it says, or nothing where it may not stand here.
+    /// Goes on behind a line with its LF and answers what it says, or nothing
+    /// where it may not stand here.
     pub(crate) fn step(&mut self, line: &[u8]) -> Option<Line>
         requires { IsLine line.now }
         ensures stands { (lines : List (List ℕ)) (at : IsAt lines self.old)

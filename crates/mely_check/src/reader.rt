@@ -11,7 +11,8 @@ use std::alloc::{AllocError, Global};
 /// The most bytes of a line, with its LF.
 const MAX_LINE: usize = 64;
 
-/// What was read of a text: its whole lines, what was heard of their entries, and the bytes behind them.
+/// What was read of a text: its whole lines, what was heard of their entries,
+/// and the bytes behind them.
 #[derive(Drop)]
 pub(crate) struct Reader {
     place: Place,
@@ -26,7 +27,7 @@ impl Reader {
     ghost use Rattle.mely_check.specs.Walks.{IsAt};
     ghost use Rattle.mely_check.specs.Readers.{Stands, IsOpen, Refuses, Stops, IsHeard, Knows, Ends, reach};
 
-    /// Before a journal of the setup.
+    /// A reader that stands at the beginning of a journal of the setup.
     ///
     /// # Errors
     ///
@@ -116,7 +117,8 @@ impl Reader {
     ///
     /// # Errors
     ///
-    /// A line isn't ended, or there are too few; an entry isn't allowed; a colour runs or has something queued.
+    /// A line isn't ended, or there are too few; an entry isn't allowed; a colour runs
+    /// or has something queued.
     pub(crate) fn end(&self) -> Result<(), CheckFault>
         ensures ends { (setup : SetupValue) (text : List ℕ) → Knows setup text self.now
             → self.now.place.shards ≡ (shape_of setup).shards → Ends setup text self.now result }
@@ -128,7 +130,7 @@ impl Reader {
         self.judge.verdict()
     }
 
-    /// What was counted.
+    /// The sums over all entries that were read, whether the journal was accepted or not.
     pub(crate) fn report(self) -> Report
         ensures entries { result.entries ≡ self.place.entries }
         ensures cores { result.cores.items ≡ self.judge.cores.items }

@@ -6,7 +6,8 @@ use std::alloc::Global;
 use std::test::Fail;
 use sws_link::SureSource;
 
-/// The times and the penalties of the server's handlers: the weights are 10, 10, 10, 20, 30, 80, 50, 50, 30 and 30.
+/// The times and the penalties of the server's handlers: the weights are 10, 10, 10, 20,
+/// 30, 80, 50, 50, 30 and 30.
 const HANDLERS: [(u32, u32); 10] = [
     (40, 4),
     (10, 1),
@@ -129,7 +130,8 @@ fn a_bad_line_is_named(rt: HostRuntime) -> Result<(), Fail> {
     Ok(())
 }
 
-/// Journals of two shards with one entry that isn't allowed, with its line. The greatest numbers are read.
+/// Journals of two shards with one entry that isn't allowed, with its line. The
+/// greatest numbers are read.
 const ILLEGAL: [(&str, u32); 5] = [
     ("shard 0 1\nreg 65535 255 65535 65535\nshard 1 0\n", 2),
     ("shard 0 1\nsteal 65535 65535 65535\nshard 1 0\n", 2),

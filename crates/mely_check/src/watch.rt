@@ -10,8 +10,8 @@ use mely_history::{Entry, Setup};
 use std::alloc::{AllocError, Global};
 use std::collections::VecDeque;
 
-/// What is kept of one colour: who owns it, the core and the number of events of the take that it runs on, and the weights of its
-/// queued events, with their sum.
+/// What is kept of one colour: who owns it, the core and the number of events of the take that it
+/// runs on, and the weights of its queued events, with their sum.
 #[derive(Drop)]
 pub(crate) struct Watch {
     owner: u16,

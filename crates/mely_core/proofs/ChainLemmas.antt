@@ -181,32 +181,38 @@ told-by t u m (x ∷ l) sets =
     ] in
     ap (λ k. k ∷ marks_by u l) here ∙ ap (λ ys. cond (eqb x m.colour.0) m (mark_in t x) ∷ ys) (told-by t u m l sets)
 
+-- what a chain and its table become: these marks, these of them that may be stolen, and
+-- the numbers as they were
+pub record Becomes (l : List ℕ) (T : StealTableState) (xs : List ℕ) (U : StealTableState) (chain worthy : List Mark) : Type 0 where
+  pub is : chain_of xs U ≡ record (chain_of l T) { chain = chain; worthy = worthy }
+  pub holds : HoldTogether (chain_of xs U)
+
+becomes : (l : List ℕ) (T : StealTableState) (xs : List ℕ) (U : StealTableState) (chain worthy : List Mark) → marks_by U.marks xs ≡ chain → worthy_of U ≡ record (worthy_of T) { marks = worthy }
+    → HoldTogether (record (chain_of l T) { chain = chain; worthy = worthy }) → Becomes l T xs U chain worthy
+becomes l T xs U chain worthy marks w held =
+    let is : chain_of xs U ≡ record (chain_of l T) { chain = chain; worthy = worthy } = λ i. record { chain = marks i; worthy = (w i).marks; colours = (w i).colours; cost = (w i).cost; pinned = (w i).pinned } in
+    record { is = is; holds = subst HoldTogether (sym is) held }
+
 -- the chain and the table after a push, after a colour left both, and after a report
-pub push-holds : (l : List ℕ) (T U : StealTableState) (m : Mark) → HoldTogether (chain_of l T) → m.colour.0 < T.colours → mark_of m.colour (marks_by T.told l) ≡ None → SetsMark m T.told U.told
+pub push-holds : (l xs : List ℕ) (T U : StealTableState) (m : Mark) → HoldTogether (chain_of l T) → xs ≡ l ++ m.colour.0 ∷ [] → m.colour.0 < T.colours → mark_of m.colour (marks_by T.marks l) ≡ None → SetsMark m T.marks U.marks
     → worthy_of U ≡ record (worthy_of T) { marks = after_entry T.cost T.pinned m (worthy_of T).marks }
-    → (chain_of (l ++ m.colour.0 ∷ []) U ≡ record (chain_of l T) { chain = marks_by T.told l ++ m ∷ []; worthy = after_entry T.cost T.pinned m (worthy_of T).marks }) × HoldTogether (chain_of (l ++ m.colour.0 ∷ []) U)
-push-holds l T U m held lt none sets w =
-    let chain = push-by T.told U.told m l sets (none-out T.told m.colour l none) in
-    let is : chain_of (l ++ m.colour.0 ∷ []) U ≡ record (chain_of l T) { chain = marks_by T.told l ++ m ∷ []; worthy = after_entry T.cost T.pinned m (worthy_of T).marks } =
-    λ i. record { chain = chain i; worthy = (w i).marks; colours = (w i).colours; cost = (w i).cost; pinned = (w i).pinned } in
-    (is, subst HoldTogether (sym is) (hold-push m (marks_by T.told l) (worthy_of T).marks T.colours T.cost T.pinned held lt none))
+    → Becomes l T xs U (marks_by T.marks l ++ m ∷ []) (after_entry T.cost T.pinned m (worthy_of T).marks)
+push-holds l xs T U m held list lt none sets w =
+    becomes l T xs U (marks_by T.marks l ++ m ∷ []) (after_entry T.cost T.pinned m (worthy_of T).marks) (ap (marks_by U.marks) list ∙ push-by T.marks U.marks m l sets (none-out T.marks m.colour l none)) w
+    (hold-push m (marks_by T.marks l) (worthy_of T).marks T.colours T.cost T.pinned held lt none)
 
-pub leave-holds : (l : List ℕ) (T U : StealTableState) (c : Colour) → HoldTogether (chain_of l T) → U.told ≡ T.told → worthy_of U ≡ record (worthy_of T) { marks = without c (worthy_of T).marks }
-    → (chain_of (without_place c.0 l) U ≡ record (chain_of l T) { chain = without c (marks_by T.told l); worthy = without c (worthy_of T).marks }) × HoldTogether (chain_of (without_place c.0 l) U)
-leave-holds l T U c held told w =
-    let chain : marks_by U.told (without_place c.0 l) ≡ without c (marks_by T.told l) = ap (λ t. marks_by t (without_place c.0 l)) told ∙ sym (without-by T.told c l) in
-    let is : chain_of (without_place c.0 l) U ≡ record (chain_of l T) { chain = without c (marks_by T.told l); worthy = without c (worthy_of T).marks } =
-    λ i. record { chain = chain i; worthy = (w i).marks; colours = (w i).colours; cost = (w i).cost; pinned = (w i).pinned } in
-    (is, subst HoldTogether (sym is) (hold-without c (marks_by T.told l) (worthy_of T).marks T.colours T.cost T.pinned held))
+pub leave-holds : (l xs : List ℕ) (T U : StealTableState) (c : Colour) → HoldTogether (chain_of l T) → xs ≡ without_place c.0 l → U.marks ≡ T.marks → worthy_of U ≡ record (worthy_of T) { marks = without c (worthy_of T).marks }
+    → Becomes l T xs U (without c (marks_by T.marks l)) (without c (worthy_of T).marks)
+leave-holds l xs T U c held list told w =
+    let chain : marks_by U.marks xs ≡ without c (marks_by T.marks l) = ap (marks_by U.marks) list ∙ (ap (λ t. marks_by t (without_place c.0 l)) told ∙ sym (without-by T.marks c l)) in
+    becomes l T xs U (without c (marks_by T.marks l)) (without c (worthy_of T).marks) chain w (hold-without c (marks_by T.marks l) (worthy_of T).marks T.colours T.cost T.pinned held)
 
-pub told-holds : (l : List ℕ) (T U : StealTableState) (m old : Mark) → HoldTogether (chain_of l T) → m.colour.0 < T.colours → mark_of m.colour (marks_by T.told l) ≡ Some old → SetsMark m T.told U.told
+pub told-holds : (l : List ℕ) (T U : StealTableState) (m old : Mark) → HoldTogether (chain_of l T) → m.colour.0 < T.colours → mark_of m.colour (marks_by T.marks l) ≡ Some old → SetsMark m T.marks U.marks
     → worthy_of U ≡ record (worthy_of T) { marks = after_mark_change T.cost T.pinned m (worthy_of T).marks }
-    → (chain_of l U ≡ record (chain_of l T) { chain = after_replacement m (marks_by T.told l); worthy = after_mark_change T.cost T.pinned m (worthy_of T).marks }) × HoldTogether (chain_of l U)
+    → Becomes l T l U (after_replacement m (marks_by T.marks l)) (after_mark_change T.cost T.pinned m (worthy_of T).marks)
 told-holds l T U m old held lt there sets w =
-    let chain = told-by T.told U.told m l sets in
-    let is : chain_of l U ≡ record (chain_of l T) { chain = after_replacement m (marks_by T.told l); worthy = after_mark_change T.cost T.pinned m (worthy_of T).marks } =
-    λ i. record { chain = chain i; worthy = (w i).marks; colours = (w i).colours; cost = (w i).cost; pinned = (w i).pinned } in
-    (is, subst HoldTogether (sym is) (hold-told m old (marks_by T.told l) (worthy_of T).marks T.colours T.cost T.pinned held lt there))
+    becomes l T l U (after_replacement m (marks_by T.marks l)) (after_mark_change T.cost T.pinned m (worthy_of T).marks) (told-by T.marks U.marks m l sets) w
+    (hold-told m old (marks_by T.marks l) (worthy_of T).marks T.colours T.cost T.pinned held lt there)
 
 -- the first of the chain, and what is left without its colour
 first-gone : (t : MarkTableState) (l : List ℕ) (c : ℕ) → IsOneEach (marks_by t l) → slice_get l 0 ≡ Some c → marks_by t l ≡ mark_in t c ∷ marks_by t (without_place c l)

@@ -8,13 +8,14 @@ use mely_steal::{ColourList, StealTable};
 use std::alloc::Global;
 use std::marker::Model;
 
-/// The marks of the ready colours of a core, at most one a colour: the chain, whose front is the next to run, and the stealing
-/// queue, which has the marks of the chain that are worth more than a steal costs and whose colours aren't pinned, in the order
-/// in which each entered its class.
+/// The marks of the ready colours of a core, at most one a colour: the chain, whose front is the
+/// next to run, and the stealing queue, which has the marks of the chain that are worth more than a
+/// steal costs and whose colours aren't pinned, in the order in which each entered its class.
 ///
-/// The chain and each class of the stealing queue are lists by links, and both share one table of marks. It has room for a mark of
-/// every colour from the start, so no call but [`CoreQueue::new`] takes memory, and each but [`CoreQueue::at`] touches a fixed
-/// number of places (see [`StealTable`]).
+/// The chain and each class of the stealing queue are lists by links, and both share one table of
+/// marks. It has room for a mark of every colour from the start, so no call but
+/// [`CoreQueue::new`] takes memory, and each but [`CoreQueue::at`] touches a fixed number of
+/// places (see [`StealTable`]).
 #[derive(Drop)]
 pub struct CoreQueue {
     chain: ColourList,
@@ -38,8 +39,8 @@ impl Model for CoreQueue {
 impl CoreQueue {
     ghost use Rattle.mely_core.specs.CoreQueue.{CoreQueueState, HoldTogether, KeepsNumbers, empty_core, told_of};
 
-    /// An empty chain with room for this many colours, at this cost of a steal, in the unit of the weights of events. The
-    /// colours below `pinned` are never stolen.
+    /// An empty chain with room for this many colours, at this cost of a steal, in the unit of the
+    /// weights of events. The colours below `pinned` are never stolen.
     ///
     /// # Errors
     ///
@@ -95,9 +96,10 @@ impl CoreQueue {
         Some(mark)
     }
 
-    /// Reports that a colour of which `started` events had been started is worth this much. Where the chain has a mark of the
-    /// colour with the same `started`, the mark's worth becomes the greater of the two, and the answer is true. Otherwise the
-    /// report is late: nothing changes, and the answer is false.
+    /// Reports that a colour of which `started` events had been started is worth this much. Where
+    /// the chain has a mark of the colour with the same `started`, the mark's worth becomes the
+    /// greater of the two, and the answer is true. Otherwise the report is late: nothing changes,
+    /// and the answer is false.
     pub fn retell(&mut self, colour: Colour, started: u64, worth: u128) -> bool
         requires { colour.0 < self.old.colours }
         ensures answer { result ≡ is_some (told_of colour started worth self.old.chain) }
@@ -122,8 +124,9 @@ impl CoreQueue {
         }
     }
 
-    /// Takes the first mark of the highest class out of the stealing queue and out of the chain, and answers nothing exactly
-    /// where no mark of the chain whose colour isn't pinned is worth more than a steal costs.
+    /// Takes the first mark of the highest class out of the stealing queue and out of the chain,
+    /// and answers nothing exactly where no mark of the chain whose colour isn't pinned is worth
+    /// more than a steal costs.
     pub fn pick(&mut self) -> Option<Mark>
         ensures value { result ≡ pick_of self.old.cost self.old.worthy }
         ensures none { let cost = self.old.cost in let pinned = self.old.pinned in
@@ -144,7 +147,8 @@ impl CoreQueue {
         Some(picked)
     }
 
-    /// The mark at this place of the chain, and nothing exactly where the chain isn't longer. The next to run is at place 0.
+    /// The mark at this place of the chain, and nothing exactly where the chain isn't longer. The
+    /// next to run is at place 0.
     pub fn at(&self, place: usize) -> Option<Mark>
         ensures value { result ≡ slice_get self.now.chain place }
         ensures together { HoldTogether self.now }

@@ -1,17 +1,19 @@
 //! The ready colours of one core.
 //!
-//! In the Mely runtime (F. Gaud, S. Geneves, R. Lachaize, B. Lepers, F. Mottet, G. Muller and V. Quéma, *Efficient
-//! Workstealing for Multicore Event-Driven Systems*, ICDCS 2010) a core keeps its ready colours in a chain, its core queue, and
-//! beside it a stealing queue of those that are worth a steal. The core runs the front of the chain; a thief picks from the
-//! stealing queue. A [`CoreQueue`] is the two together: whatever is called, the stealing queue has exactly the marks of the
-//! chain that are worth more than a steal costs and whose colours aren't pinned to their core, in the order in which each entered
-//! its class.
+//! In the Mely runtime (F. Gaud, S. Geneves, R. Lachaize, B. Lepers, F. Mottet, G. Muller and V.
+//! Quéma, *Efficient Workstealing for Multicore Event-Driven Systems*, ICDCS 2010) a core keeps its
+//! ready colours in a chain, its core queue, and beside it a stealing queue of those that are worth
+//! a steal. The core runs the front of the chain; a thief picks from the stealing queue. A
+//! [`CoreQueue`] is the two together: whatever is called, the stealing queue has exactly the marks
+//! of the chain that are worth more than a steal costs and whose colours aren't pinned to their
+//! core, in the order in which each entered its class.
 //!
-//! It is for whoever schedules colours on cores, who keeps one such queue a core, as it is or behind a lock. It says nothing of
-//! events, of histories or of threads, and holds no reference.
+//! It is for whoever schedules colours on cores, who keeps one such queue a core, as it is or
+//! behind a lock. It says nothing of events, of histories or of threads, and holds no reference.
 //!
-//! Only [`CoreQueue::new`] may answer that there was no memory. Nothing ties that answer to a cause, so a body that always gives
-//! it meets the contract too; tests show that there is memory where there is enough.
+//! Only [`CoreQueue::new`] may answer that there was no memory. Nothing ties that answer to a
+//! cause, so a body that always gives it meets the contract too; tests show that there is
+//! memory where there is enough.
 //!
 //! ```text
 //! let mut queue = CoreQueue::new(alloc, 4, 20, 0)?;

@@ -14,7 +14,8 @@ rows_of table = take table.count table.rows
 abbrev pub row_at : List (ℕ × ℕ) → ℕ → ℕ × ℕ
 row_at rows handler = slice_index_or rows handler (0, 1)
 
--- the weight of a handler's events: its time over its penalty, rounded down (the penalties of the Mely paper)
+-- the weight of a handler's events: its time over its penalty, rounded down (the
+-- penalties of the Mely paper)
 abbrev pub weight_of : List (ℕ × ℕ) → ℕ → ℕ
 weight_of rows handler = (row_at rows handler).0 / (row_at rows handler).1
 

@@ -11,7 +11,8 @@ pub record TrailLogState : Type 0 where
   pub spare : ℕ
 
 -- two states that hold a trail are the same but for its room; `rest_of` is what they hold beside it
-pub record AreAlike {S R : Type 0} (log_of : S → TrailLogState) (rest_of : S → R) (s t : S) : Type 0 where
+pub record AreAlike {S R : Type 0} (log_of : S → TrailLogState) (rest_of : S → R)
+    (s t : S) : Type 0 where
   pub events : (log_of s).events ≡ (log_of t).events
   pub colour : (log_of s).colour ≡ (log_of t).colour
   pub rest : rest_of s ≡ rest_of t

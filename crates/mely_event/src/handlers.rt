@@ -38,8 +38,9 @@ impl Handlers {
     ///
     /// # Errors
     ///
-    /// `TooMany` exactly where there are more than [`MAX_HANDLERS`] rows, else `ZeroPenalty` exactly where a row
-    /// has penalty 0, with the number of the first such row. It takes no memory.
+    /// `TooMany` exactly where there are more than [`MAX_HANDLERS`] rows, else
+    /// `ZeroPenalty` exactly where a row has penalty 0, with the number of the first such
+    /// row. It takes no memory.
     pub fn new(rows: &[(u32, u32)]) -> Result<Handlers, TableFault>
         ensures made { IfOk result (λ table. (fault_in rows.now ≡ None)
             × (rows_of table ≡ rows.now)) }

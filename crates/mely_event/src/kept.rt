@@ -1,8 +1,8 @@
 //! Values that a lock keeps.
 ghost use Rattle.std.specs.Prelude.{◌≡◌, ℕ, List, length};
 
-/// A value that a lock keeps: its history grows by notes, each made by the pass that was inside, and
-/// a frame stays as it was over all of its life.
+/// A value that a lock keeps: its history grows by notes, each made by the pass that was inside,
+/// and a frame stays as it was over all of its life.
 pub trait Kept {
     /// One entry of the history.
     type Note;

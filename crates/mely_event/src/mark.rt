@@ -9,6 +9,7 @@ pub struct Mark {
     /// How many events of the colour had been started when the mark was made.
     pub started: u64,
 
-    /// The time left of the colour as it was last told: the sum of the weights of its queued events.
+    /// The time left of the colour as it was last told: the sum of the
+    /// weights of its queued events.
     pub worth: u128,
 }

@@ -1,6 +1,9 @@
 ghost use Rattle.std.specs.Prelude.{◌≡◌, ◌≤◌, OnOk};
 
-use crate::{Colour, Event, Fits, Handlers, Kept, Memory, TableFault, Trail, TrailLog};
+use crate::{
+    Colour, Event, Fits, Handlers, Kept, Mark, Memory, TableFault, There, Trail, TrailLog,
+    Unregistered,
+};
 use std::test::Fail;
 
 /// A state that counts the letters in its events' loads.
@@ -169,6 +172,30 @@ fn faults_print_their_cause(rt: HostRuntime) -> Result<(), Fail> {
     assert_eq!(rt;
         Memory.to_string(rt.alloc())?.as_str(),
         "there was no memory"
+    );
+    Ok(())
+}
+
+#[test]
+fn refusals_print_their_cause(rt: HostRuntime) -> Result<(), Fail> {
+    let there = There {
+        mark: Mark {
+            colour: Colour(2),
+            started: 0,
+            worth: 30,
+        },
+    };
+    assert_eq!(rt;
+        there.to_string(rt.alloc())?.as_str(),
+        "there is a mark of colour 2 already"
+    );
+    let unregistered = Unregistered {
+        event: Event { handler: 0, arg: 0 },
+        load: Some(7u32),
+    };
+    assert_eq!(rt;
+        unregistered.to_string(rt.alloc())?.as_str(),
+        "there was no memory to register an event"
     );
     Ok(())
 }

@@ -11,9 +11,9 @@ use std::marker::Model;
 
 /// A ready-made trail: a colour, and the events that were run on it.
 ///
-/// A program whose handlers keep nothing else takes it as its state, of one colour each. A state that
-/// has more in it holds one, hands each member of [`Trail`] on to it in a line, and names what else it
-/// has once, in `alike`:
+/// A program whose handlers keep nothing else takes it as its state, of one colour each. A state
+/// that has more in it holds one, hands each member of [`Trail`] on to it in a line, and names what
+/// else it has once, in `alike`:
 ///
 /// ```text
 /// #[derive(Drop)]
@@ -62,7 +62,8 @@ use std::marker::Model;
 /// }
 /// ```
 ///
-/// What else it has may be several fields: the second function of `AreAlike` then gives a pair of them.
+/// What else it has may be several fields: the second function of `AreAlike`
+/// then gives a pair of them.
 ///
 /// Contracts see its colour, its events, and for how many further events it has room.
 #[derive(Debug, Drop)]
@@ -98,15 +99,15 @@ impl TrailLog {
         }
     }
 
-    /// The colour.
+    /// The colour whose state this is, for good.
     pub fn colour(&self) -> Colour
         ensures { result ≡ self.now.colour }
     {
         self.colour
     }
 
-    /// Records that an event was run. It takes no memory: whoever hands out events has made room for
-    /// them by [`Trail::reserve`].
+    /// Records that an event was run. It takes no memory: whoever hands out events has made room
+    /// for them by [`Trail::reserve`].
     pub fn push(&mut self, event: Event)
         requires { 1 ≤ self.old.spare }
         ensures { self.new ≡ record self.old {

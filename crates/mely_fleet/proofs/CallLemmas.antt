@@ -7,7 +7,7 @@ use Rattle.mely_history.specs.Setup.{shape_of, colours_of}
 use Rattle.mely_lock.specs.declared.pass.Pass.{Pass}
 use Rattle.mely_weave.specs.Side.{shard_of}
 use Rattle.mely_lock.specs.declared.ticketed.Ticketed.{Ticketed}
-use Rattle.mely_lock.specs.Words.{first_value, front}
+use Rattle.mely_lock.specs.Words.{initial_value, front}
 use Rattle.mely_fleet.specs.declared.chain_note.ChainNote.{ChainNote}
 use Rattle.mely_fleet.specs.declared.fleet.FleetOf.{FleetOf}
 use Rattle.mely_fleet.specs.declared.kept_chain.ChainFrame.{ChainFrame}
@@ -31,7 +31,7 @@ module _ {V F : Type 0} {g : _} (kept_frame : V → ShardFrame F) (fleet : Fleet
   may_enter = let at = row_pass chain_frame fleet.chains.items own.number own.chains.items are.of_chains core lock pass low lock_is pass_is in (at.of_lock, at.outside)
 
   -- whose numbers are the setup's
-  pub numbers_are : chain_frame (first_value lock) ≡ chain_frame_for fleet.setup
+  pub numbers_are : chain_frame (initial_value lock) ≡ chain_frame_for fleet.setup
   numbers_are = row_frame chain_frame fleet.chains.items own.number own.chains.items are.of_chains core lock pass low lock_is pass_is (λ _. chain_frame_for fleet.setup) are.chains_framed
 
   -- afterwards they are passes of the chains still
@@ -39,9 +39,9 @@ module _ {V F : Type 0} {g : _} (kept_frame : V → ShardFrame F) (fleet : Fleet
   are_still new left = row_set chain_frame fleet.chains.items own.number own.chains.items are.of_chains core lock pass low lock_is pass_is new left
 
   -- and the call was on this chain alone
-  pub reaches : (D : ChainFrame → ℕ → List (ℕ × ChainNote) → List (ℕ × ChainNote) → Type 0) (new : _) → IsOnChain pass.number (front pass) (front new) (D (chain_frame (first_value lock)) pass.number) → ReachesChain own.number core (fronts own.chains.items) (fronts (slice_set own.chains.items core new)) (D (chain_frame_for fleet.setup) own.number)
+  pub reaches : (D : ChainFrame → ℕ → List (ℕ × ChainNote) → List (ℕ × ChainNote) → Type 0) (new : _) → IsOnChain pass.number (front pass) (front new) (D (chain_frame (initial_value lock)) pass.number) → ReachesChain own.number core (fronts own.chains.items) (fronts (slice_set own.chains.items core new)) (D (chain_frame_for fleet.setup) own.number)
   reaches D new reached =
-      reaches_row D (chain_frame (first_value lock)) (chain_frame_for fleet.setup) own.number pass.number core own.chains.items pass new numbers_are (row_pass chain_frame fleet.chains.items own.number own.chains.items are.of_chains core lock pass low lock_is pass_is).numbered
+      reaches_row D (chain_frame (initial_value lock)) (chain_frame_for fleet.setup) own.number pass.number core own.chains.items pass new numbers_are (row_pass chain_frame fleet.chains.items own.number own.chains.items are.of_chains core lock pass low lock_is pass_is).numbered
       (pass_low chain_frame fleet.chains.items own.number own.chains.items are.of_chains core lock pass low lock_is pass_is) pass_is reached
 
 -- the place of a shard of the setup is one of a lock
@@ -65,18 +65,18 @@ module _ {V F : Type 0} {g : _} (kept_frame : V → ShardFrame F) (fleet : Fleet
   shard_pass_low = pass_low kept_frame fleet.shards.items own.number own.shards.items are.of_shards place lock pass there lock_is pass_is
 
   -- the shard has the frame of its place
-  pub frame_is : kept_frame (first_value lock) ≡ frame_for fleet.setup (frame_in kept_frame fleet) place
+  pub frame_is : kept_frame (initial_value lock) ≡ frame_for fleet.setup (frame_in kept_frame fleet) place
   frame_is = row_frame kept_frame fleet.shards.items own.number own.shards.items are.of_shards place lock pass there lock_is pass_is (frame_for fleet.setup (frame_in kept_frame fleet)) are.shards_framed
 
   -- a colour whose shard stands there is one of it
-  pub colour_here : (c : Colour) → place ≡ shard_of fleet.setup c → c.0 < colours_of fleet.setup → IsColourOf (kept_frame (first_value lock)) c
-  colour_here c place_is low = colour_of_shard fleet.setup (frame_in kept_frame fleet) c place (kept_frame (first_value lock)) frame_is place_is low
+  pub colour_here : (c : Colour) → place ≡ shard_of fleet.setup c → c.0 < colours_of fleet.setup → IsColourOf (kept_frame (initial_value lock)) c
+  colour_here c place_is low = colour_of_shard fleet.setup (frame_in kept_frame fleet) c place (kept_frame (initial_value lock)) frame_is place_is low
 
   -- afterwards they are passes of the shards still
   pub shards_still : (new : Pass V Entry (ShardFrame F) g) → HasLeft kept_frame lock pass new → ArePassesOf kept_frame fleet.shards.items own.number (slice_set own.shards.items place new)
   shards_still new left = row_set kept_frame fleet.shards.items own.number own.shards.items are.of_shards place lock pass there lock_is pass_is new left
 
   -- and the call was on this shard alone
-  pub sees_shard : (D : ShardFrame F → ℕ → List Entry → List Entry → Type 0) (new : Pass V Entry (ShardFrame F) g) (shard : ℕ) → place ≡ shard → IsSeen (kept_frame (first_value lock)).setup pass.number (front pass) (front new) (D (kept_frame (first_value lock)) pass.number)
+  pub sees_shard : (D : ShardFrame F → ℕ → List Entry → List Entry → Type 0) (new : Pass V Entry (ShardFrame F) g) (shard : ℕ) → place ≡ shard → IsSeen (kept_frame (initial_value lock)).setup pass.number (front pass) (front new) (D (kept_frame (initial_value lock)) pass.number)
       → SeesAt fleet.setup own.number shard (fronts own.shards.items) (fronts (slice_set own.shards.items place new)) (D (frame_for fleet.setup (frame_in kept_frame fleet) place) own.number)
-  sees_shard D new shard place_is seen = sees_row D (kept_frame (first_value lock)) (frame_for fleet.setup (frame_in kept_frame fleet) place) own.number pass.number place shard own.shards.items pass new frame_is shard_numbered place_is shard_pass_low pass_is seen
+  sees_shard D new shard place_is seen = sees_row D (kept_frame (initial_value lock)) (frame_for fleet.setup (frame_in kept_frame fleet) place) own.number pass.number place shard own.shards.items pass new frame_is shard_numbered place_is shard_pass_low pass_is seen

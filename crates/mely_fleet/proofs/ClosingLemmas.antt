@@ -13,7 +13,8 @@ use Rattle.mely_history.proofs.LegalAccountLemmas.{IsOnTurn, owner_within, runni
 use Rattle.mely_history.proofs.OwingLemmas.{taken_by, last_change-others}
 use Rattle.mely_fleet.specs.Closing.{IsSeenBy, HasFinishedOf}
 
--- where each core has finished what it took of a colour, by what it had seen, the colour doesn't run
+-- where each core has finished what it took of a colour, by what it had
+-- seen, the colour doesn't run
 pub rests_where_finished : (setup : Setup) (history : List Entry) (c : Colour) → IsLegal setup history → ((core : ℕ) → core < (shape_of setup).cores → (front : List Entry) × IsSeenBy history core front × HasFinishedOf core c front) → ¬ IsRunning history c
 rests_where_finished setup history c legal each runs =
     let on : IsOnTurn (account_of setup history c) = running_on_owner setup history c legal runs in

@@ -15,7 +15,7 @@ use Rattle.mely_core.specs.CoreQueue.{CoreQueueState}
 use Rattle.mely_lock.specs.declared.ticketed.Ticketed.{Ticketed}
 use Rattle.mely_lock.specs.declared.pass.Pass.{Pass}
 use Rattle.mely_lock.specs.Seen.{notes_of, OthersSince}
-use Rattle.mely_lock.specs.Words.{first_value, front, IsPassOf, IsOutside}
+use Rattle.mely_lock.specs.Words.{initial_value, front, IsPassOf, IsOutside}
 use Rattle.mely_weave.specs.Gathering.{MayGatherShard, MayGatherChain}
 use Rattle.mely_weave.specs.Side.{shard_of}
 use Rattle.mely_fleet.specs.declared.kept_shard.ShardFrame.{ShardFrame}
@@ -66,7 +66,7 @@ front_at row k pass is = get_or_from_slice_get (fronts row) k (front pass) [] (s
 
 module _ {S P F : Type 0} {g : _} (t : TrailWords S F) (setup : Setup) (frame : F) (k : ℕ) (lock : Ticketed (KeptShardState S P) Entry (ShardFrame F)) (column : List (Pass (KeptShardState S P) Entry (ShardFrame F) g)) (kept : KeptShardState S P) (has : ShardState S P) where
   -- a shard that was closed over all its passes, where each core's pass has finished what it took
-  pub shard_gathers : IsClosed (λ (v : KeptShardState S P). v.has.history) pass_of (shard_frame t.frame_of) lock column kept → IsTakenOut t.frame_of kept has → shard_frame t.frame_of (first_value lock) ≡ frame_for setup frame k → (shape_of setup).cores ≤ lock.passes
+  pub shard_gathers : IsClosed (λ (v : KeptShardState S P). v.has.history) pass_of (shard_frame t.frame_of) lock column kept → IsTakenOut t.frame_of kept has → shard_frame t.frame_of (initial_value lock) ≡ frame_for setup frame k → (shape_of setup).cores ≤ lock.passes
       → ((j : ℕ) (pass : Pass (KeptShardState S P) Entry (ShardFrame F) g) → slice_get column j ≡ Some pass → pass.number < (shape_of setup).cores → (c : Colour) → shard_of setup c ≡ k → HasFinishedOf pass.number c (front pass))
       → MayGatherShard t setup frame k has
   shard_gathers closed out lock_frame enough finished =
@@ -93,7 +93,7 @@ module _ {S P F : Type 0} {g : _} (t : TrailWords S F) (setup : Setup) (frame : 
       }
 
 -- a chain that was closed
-pub chain_gathers : {g : _} (setup : Setup) (lock : Ticketed KeptChainState (ℕ × ChainNote) ChainFrame) (column : List (Pass KeptChainState (ℕ × ChainNote) ChainFrame g)) (kept : KeptChainState) (queue : CoreQueueState) → IsClosed (λ k. k.changes) (λ change. change.0) chain_frame lock column kept → queue ≡ kept.has → chain_frame (first_value lock) ≡ chain_frame_for setup → MayGatherChain setup queue
+pub chain_gathers : {g : _} (setup : Setup) (lock : Ticketed KeptChainState (ℕ × ChainNote) ChainFrame) (column : List (Pass KeptChainState (ℕ × ChainNote) ChainFrame g)) (kept : KeptChainState) (queue : CoreQueueState) → IsClosed (λ k. k.changes) (λ change. change.0) chain_frame lock column kept → queue ≡ kept.has → chain_frame (initial_value lock) ≡ chain_frame_for setup → MayGatherChain setup queue
 chain_gathers setup lock column kept queue closed is lock_frame =
     let frame_is : numbers_of queue ≡ chain_frame_for setup = ap numbers_of is ∙ closed.framed ∙ lock_frame in
     record { colours = ap (λ (f : ChainFrame). f.colours) frame_is; cost = ap (λ (f : ChainFrame). f.cost) frame_is; pinned = ap (λ (f : ChainFrame). f.pinned) frame_is }
@@ -114,7 +114,7 @@ row_of rows k column is j x there =
 
 module _ {V N F : Type 0} {g : _} (frame_of : V → F) (locks : List (Ticketed V N F)) (rows : List (List (Pass V N F g))) (each : (n : ℕ) (row : List (Pass V N F g)) → slice_get rows n ≡ Some row → (m : ℕ) × ArePassesOf frame_of locks m row) where
   -- a column has all passes of its lock
-  pub column_has_all : (k : ℕ) (lock : Ticketed V N F) (column : List (Pass V N F g)) → IsColumn rows k column → slice_get locks k ≡ Some lock → length rows ≡ lock.passes → AreAllPasses frame_of lock column
+  column_has_all : (k : ℕ) (lock : Ticketed V N F) (column : List (Pass V N F g)) → IsColumn rows k column → slice_get locks k ≡ Some lock → length rows ≡ lock.passes → AreAllPasses frame_of lock column
   column_has_all k lock column is at many = record {
     many = is.many ∙ many;
     each = all_here (λ (p : Pass V N F g). IsPassOf frame_of lock p × IsOutside p) column (λ j pass there.
@@ -196,7 +196,8 @@ module _ {V F : Type 0} {g : _} (setup : Setup) (count k : ℕ) (passes : List (
     is : seen ≡ length (seen_of own)
 
   module _ (n : ℕ) (own : PassesOf V Entry (ShardFrame F) g) (there : slice_get passes n ≡ Some own) where
-    -- of the number of these passes it is what these had seen, of another one what some of that number had
+    -- of the number of these passes it is what these had seen, of another one
+    -- what some of that number had
     abbrev seen_by : (core : ℕ) → (core ≡ own.number) ⊎ (core ≡ own.number → ⊥) → (core < count) ⊎ (count ≤ core) → ℕ
     seen_by core (inl same) low = length (seen_of own)
     seen_by core (inr other) (inl low) = length (seen_of (closed.numbers core low).1)
@@ -222,7 +223,8 @@ module _ {V F : Type 0} {g : _} (setup : Setup) (count k : ℕ) (passes : List (
     has_seen : (core : ℕ) → core < count → (found : HasSeen core) × (found.seen ≡ seen_at core)
     has_seen core within = (has_seen_by core (cases_eq core own.number) (cases_lt core count) within, same_seen core (cases_eq core own.number) (cases_lt core count) within)
 
-    -- the fronts that are drained are first parts of the history, behind which the core made nothing
+    -- the fronts that are drained are first parts of the history, behind
+    -- which the core made nothing
     fronts_drained : AreDrainedWithin setup k passes (seen_of own) → HaveDrainedFronts setup history seen_at
     fronts_drained drained = record {
       own = λ core low.
@@ -249,7 +251,8 @@ module _ {V F : Type 0} {g : _} (setup : Setup) (count k : ℕ) (passes : List (
           omega (arith, least, here, same, most);
     }
 
-  -- where the fronts of all cores are drained, what waits was registered by others behind the longest of them
+  -- where the fronts of all cores are drained, what waits was registered by others
+  -- behind the longest of them
   pub left_by_others : IsLegal setup history → IsLeftByOthers setup k passes history
   left_by_others legal n own there low drained =
       subst (λ place. IsLeftOver setup history place) (own_seen n own there (cases_eq own.number own.number) (cases_lt own.number count))

@@ -22,7 +22,7 @@ use Rattle.mely_history.specs.Legal.{IsLegal}
 use Rattle.mely_history.specs.Owing.{IsOwed}
 use Rattle.mely_history.proofs.OwingLemmas.{running_on, owed_at_point}
 use Rattle.mely_queue.specs.Turn.{TurnState, EachFits}
-use Rattle.mely_shard.specs.Shard.{ShardState, ColourState, lane_at, givens, IsOwn, KeepsFrame, Registers, RegisteredAs, HasSameContents, Takes, KeepsStates, TurnStands, NoTakeAs, Steals, NoStealAs, IsConsistent, HomeStands}
+use Rattle.mely_shard.specs.Shard.{ShardState, ColourState, lane_at, givens, IsOwn, KeepsFrame, Registers, RegisteredAs, KeepsAllButSpare, Takes, KeepsStates, TurnStands, NoTakeAs, Steals, NoStealAs, IsConsistent, HomeStands}
 use Rattle.mely_lock.specs.Seen.{OthersSince}
 use Rattle.mely_fleet.specs.Frames.{HaveFrame, shard_frame}
 use Rattle.mely_fleet.specs.declared.kept_shard.ShardFrame.{ShardFrame}
@@ -105,12 +105,12 @@ module _ {S P F : Type 0} (t : TrailWords S F) (fits : F → Colour → Event �
 module _ {S P : Type 0} (old new : ShardState S P) where
   -- what a registration does
   pub registers_at : (c : Colour) (event : Event) (load : Option P) (by : ℕ) (answer : Result Registered (Unregistered P)) → IfOk answer (λ _. Registers old new c event load by) → IfOk answer (λ reply. RegisteredAs old.setup old.history new.history c reply)
-      → OnErr answer (HasSameContents old new) → IfErr answer (λ refused. (refused.event ≡ event) × (refused.load ≡ load)) → RegistersAt old.setup by c event load answer old.history new.history
+      → OnErr answer (KeepsAllButSpare old new) → IfErr answer (λ refused. (refused.event ≡ event) × (refused.load ≡ load)) → RegistersAt old.setup by c event load answer old.history new.history
   registers_at c event load by (Ok reply) ok said err back = (ok.after.history, said)
   registers_at c event load by (Err refused) ok said err back = (err.history, back.0, back.1)
 
   -- what a steal does
-  pub steals_at : (c : Colour) (to : ℕ) (answer : Result Stolen NoSteal) → IfOk answer (λ stolen. Steals old new c to stolen) → OnErr answer (HasSameContents old new) → IfErr answer (λ why. NoStealAs old.setup old.history c to why) → StealsAt old.setup to c answer old.history new.history
+  pub steals_at : (c : Colour) (to : ℕ) (answer : Result Stolen NoSteal) → IfOk answer (λ stolen. Steals old new c to stolen) → OnErr answer (KeepsAllButSpare old new) → IfErr answer (λ why. NoStealAs old.setup old.history c to why) → StealsAt old.setup to c answer old.history new.history
   steals_at c to (Ok stolen) ok err why = (ok.history, ok.allowed, ok.started, ok.worth ∙ ap (λ s. worth_of s new.history c) ok.same_setup)
   steals_at c to (Err e) ok err why = (err.history, why)
 

@@ -7,16 +7,16 @@ use Rattle.std.proofs.Math.Seq.{get_or-append_seam}
 use Rattle.mely_event.specs.declared.trail.Trail.{Ghosts as TrailWords}
 use Rattle.mely_history.specs.declared.setup.Setup.{Setup}
 use Rattle.mely_history.specs.Setup.{shape_of}
-use Rattle.mely_shard.specs.Shard.{ShardState, ColourState, IsFirst, givens, first_lane}
+use Rattle.mely_shard.specs.Shard.{ShardState, ColourState, IsInitialShard, givens, initial_lane}
 use Rattle.mely_weave.specs.Dealing.{AreDealt}
 use Rattle.mely_weave.proofs.Wholes.MakeLemmas.{dealt_to}
 use Rattle.mely_weave.proofs.Wholes.DealLemmas.{each_push, both_push}
 use Rattle.mely_lock.specs.declared.ticketed.Ticketed.{Ticketed}
 use Rattle.mely_lock.specs.declared.pass.Pass.{Pass}
-use Rattle.mely_lock.specs.Words.{first_value, IsPassOf, IsOutside, front}
+use Rattle.mely_lock.specs.Words.{initial_value, IsPassOf, IsOutside, front}
 use Rattle.mely_history.specs.declared.entry.Entry.{Entry}
 use Rattle.mely_core.specs.CoreQueue.{CoreQueueState}
-use Rattle.mely_weave.specs.Making.{AreFirst, empty_chain}
+use Rattle.mely_weave.specs.Making.{AreInitial, empty_chain}
 use Rattle.mely_weave.proofs.Wholes.GatherLemmas.{get_there}
 use Rattle.std.specs.List.{AllByRecursion}
 use Rattle.mely_fleet.specs.declared.kept_shard.ShardFrame.{ShardFrame}
@@ -24,17 +24,17 @@ use Rattle.mely_fleet.specs.declared.kept_chain.ChainFrame.{ChainFrame}
 use Rattle.mely_fleet.specs.Calls.{front_in}
 use Rattle.mely_fleet.specs.Fleets.{frame_for, chain_frame_for, first_of_some}
 use Rattle.mely_fleet.specs.Rows.{IsPassAt, AreFramed, fronts}
-use Rattle.mely_fleet.specs.Dealing.{IsFirstRow}
+use Rattle.mely_fleet.specs.Dealing.{IsInitialRow}
 use Rattle.mely_fleet.specs.Frames.{HaveFrame, shard_frame, chain_frame, numbers_of}
 use Rattle.mely_fleet.specs.KeptChain.{KeptChainState}
 use Rattle.mely_fleet.specs.KeptShard.{KeptShardState}
 
-givens_first : {S : Type 0} (P : Type 0) (states : List S) → map (λ (lane : ColourState S P). lane.given) (map (λ state. first_lane {S = S} {P = P} state) states) ≡ states
+givens_first : {S : Type 0} (P : Type 0) (states : List S) → map (λ (lane : ColourState S P). lane.given) (map (λ state. initial_lane {S = S} {P = P} state) states) ≡ states
 givens_first P [] = refl
 givens_first P (state ∷ states) = ap (λ rest. state ∷ rest) (givens_first P states)
 
-module _ {S P F Y : Type 0} (t : TrailWords S F) (setup : Setup) (states : List S) (first : AreFirst t setup states) (items : Y → List S) (piles : List Y) (dealt : AreDealt items (shape_of setup).shards states piles)
-    (shards : List (ShardState S P)) (many : length shards ≡ (shape_of setup).shards) (are : (shard : ℕ) (pile : Y) (has : ShardState S P) → slice_get piles shard ≡ Some pile → slice_get shards shard ≡ Some has → IsFirst setup shard (items pile) has) where
+module _ {S P F Y : Type 0} (t : TrailWords S F) (setup : Setup) (states : List S) (first : AreInitial t setup states) (items : Y → List S) (piles : List Y) (dealt : AreDealt items (shape_of setup).shards states piles)
+    (shards : List (ShardState S P)) (many : length shards ≡ (shape_of setup).shards) (are : (shard : ℕ) (pile : Y) (has : ShardState S P) → slice_get piles shard ≡ Some pile → slice_get shards shard ≡ Some has → IsInitialShard setup shard (items pile) has) where
   -- the states of each shard have the frame of the first state
   pub shard_framed : (given : S) → slice_get states 0 ≡ Some given → (k : ℕ) (has : ShardState S P) → slice_get shards k ≡ Some has → HaveFrame t.frame_of (t.frame_of given) (givens has)
   shard_framed given at k has here i state is =
@@ -57,9 +57,9 @@ second_of (a, b, c) = b
 third_of : {A B C : Type 0} → A × B × C → C
 third_of (a, b, c) = c
 
-module _ {V N F : Type 0} {g : _} (frame_of : V → F) (locks : List (Ticketed V N F)) (n : ℕ) (row : List (Pass V N F g)) (first : IsFirstRow frame_of locks n row) (lock : Ticketed V N F) (pass : Pass V N F g) (fresh : IsPassOf frame_of lock pass × IsOutside pass × (front pass ≡ [])) (numbered : pass.number ≡ n) where
+module _ {V N F : Type 0} {g : _} (frame_of : V → F) (locks : List (Ticketed V N F)) (n : ℕ) (row : List (Pass V N F g)) (first : IsInitialRow frame_of locks n row) (lock : Ticketed V N F) (pass : Pass V N F g) (fresh : IsPassOf frame_of lock pass × IsOutside pass × (front pass ≡ [])) (numbered : pass.number ≡ n) where
   -- one more lock, and a pass of it
-  pub row_grow : IsFirstRow frame_of (locks ++ lock ∷ []) n (row ++ pass ∷ [])
+  pub row_grow : IsInitialRow frame_of (locks ++ lock ∷ []) n (row ++ pass ∷ [])
   row_grow = record {
     are = record {
       many = length-append row (pass ∷ []) ∙ ap (λ m. m + 1) first.are.many ∙ sym (length-append locks (lock ∷ []));
@@ -90,7 +90,7 @@ module _ {S P F : Type 0} (frame_of : S → F) (setup : Setup) (sample : S) (sha
     (are : (k : ℕ) (has : ShardState S P) (one : KeptShardState S P) → slice_get shards k ≡ Some has → slice_get kept k ≡ Some one → one ≡ record { has = has; sample = sample }) where
   -- shards behind their locks have the frames of their places
   pub shards_framed : (own : (k : ℕ) (has : ShardState S P) → slice_get shards k ≡ Some has → (has.setup ≡ setup) × (has.shard ≡ k)) (locks : List (Ticketed (KeptShardState S P) Entry (ShardFrame F))) → length locks ≡ length kept
-      → ((k : ℕ) (lock : _) (value : KeptShardState S P) → slice_get locks k ≡ Some lock → slice_get kept k ≡ Some value → shard_frame frame_of (first_value lock) ≡ shard_frame frame_of value)
+      → ((k : ℕ) (lock : _) (value : KeptShardState S P) → slice_get locks k ≡ Some lock → slice_get kept k ≡ Some value → shard_frame frame_of (initial_value lock) ≡ shard_frame frame_of value)
       → AreFramed (shard_frame frame_of) (frame_for setup (frame_of sample)) locks
   shards_framed own locks many frames k lock at =
       let low = slice_get_within locks k lock at in
@@ -107,13 +107,13 @@ module _ {S P F : Type 0} (frame_of : S → F) (setup : Setup) (sample : S) (sha
       ap (λ (c : KeptShardState S P). c.has.history) (are k has.0 one has.1 at) ∙ empty k has.0 has.1
 
 -- the frame of the first of them
-pub first_frame : {V N F : Type 0} (kept_frame : V → ShardFrame F) (setup : Setup) (f : F) (locks : List (Ticketed V N (ShardFrame F))) (some : 0 < length locks) → AreFramed kept_frame (frame_for setup f) locks → (kept_frame (first_value (first_of_some locks some))).states ≡ f
+pub first_frame : {V N F : Type 0} (kept_frame : V → ShardFrame F) (setup : Setup) (f : F) (locks : List (Ticketed V N (ShardFrame F))) (some : 0 < length locks) → AreFramed kept_frame (frame_for setup f) locks → (kept_frame (initial_value (first_of_some locks some))).states ≡ f
 first_frame kept_frame setup f [] some framed = absurd (omega (arith, some))
 first_frame kept_frame setup f (lock ∷ locks) some framed = ap (λ frame. frame.states) (framed 0 lock refl)
 
 -- the same of chains
 pub chains_framed : (setup : Setup) (chains : List CoreQueueState) (kept : List KeptChainState) → length kept ≡ length chains → ((k : ℕ) (queue : CoreQueueState) (one : KeptChainState) → slice_get chains k ≡ Some queue → slice_get kept k ≡ Some one → one ≡ record { has = queue; changes = [] }) → ((k : ℕ) (queue : CoreQueueState) → slice_get chains k ≡ Some queue → queue ≡ empty_chain setup)
-    → {N : Type 0} (locks : List (Ticketed KeptChainState N ChainFrame)) → length locks ≡ length kept → ((k : ℕ) (lock : _) (value : KeptChainState) → slice_get locks k ≡ Some lock → slice_get kept k ≡ Some value → chain_frame (first_value lock) ≡ chain_frame value)
+    → {N : Type 0} (locks : List (Ticketed KeptChainState N ChainFrame)) → length locks ≡ length kept → ((k : ℕ) (lock : _) (value : KeptChainState) → slice_get locks k ≡ Some lock → slice_get kept k ≡ Some value → chain_frame (initial_value lock) ≡ chain_frame value)
     → AreFramed chain_frame (λ _. chain_frame_for setup) locks
 chains_framed setup chains kept kept_many are empty locks many frames k lock at =
     let low = slice_get_within locks k lock at in

@@ -21,7 +21,7 @@ use Rattle.mely_worker.specs.IdleWorker.{IdleWorkerState, resumed_worker}
 use Rattle.mely_worker.specs.Worker.{WorkerState}
 use Rattle.mely_weave.specs.Gathering.{MayGatherWorker}
 use Rattle.mely_weave.specs.Hands.{colour_run_by}
-use Rattle.mely_weave.specs.Making.{first_rest}
+use Rattle.mely_weave.specs.Making.{initial_idle_worker}
 use Rattle.mely_weave.specs.Side.{shard_of}
 use Rattle.mely_weave.proofs.Marks.VictimLemmas.{IsOther, victims_are_others, all_at, all_append}
 use Rattle.mely_weave.proofs.Wholes.GatherLemmas.{get_there}
@@ -35,7 +35,7 @@ use Rattle.mely_fleet.specs.declared.kept_shard.ShardFrame.{ShardFrame}
 use Rattle.mely_fleet.specs.Frames.{shard_frame}
 use Rattle.mely_fleet.specs.KeptShard.{KeptShardState}
 use Rattle.mely_fleet.specs.Fleets.{frame_in}
-use Rattle.mely_fleet.specs.Opening.{AreFirstPasses}
+use Rattle.mely_fleet.specs.Opening.{AreInitialPasses}
 use Rattle.mely_fleet.specs.Work.{HasFinishedBut, standpoint}
 use Rattle.mely_fleet.specs.Working.{MayWorkOn, HasWorked}
 use Rattle.mely_fleet.specs.Seats.{MaySit, IsSeatOf}
@@ -91,7 +91,7 @@ module _ {S P F : Type 0} {g : _} (t : TrailWords S F) (fits : F → Colour → 
       }
 
   -- a seat at first
-  pub first_seat : (n : ℕ) (own : PassesOf (KeptShardState S P) Entry (ShardFrame F) g) (worker : Option (IdleWorkerState P)) → n < (shape_of fleet.setup).cores → AreFirstPasses (shard_frame t.frame_of) fleet n own → worker ≡ Some (first_rest fleet.setup n) → IsSeatOf t.frame_of fits fleet n own worker
+  pub first_seat : (n : ℕ) (own : PassesOf (KeptShardState S P) Entry (ShardFrame F) g) (worker : Option (IdleWorkerState P)) → n < (shape_of fleet.setup).cores → AreInitialPasses (shard_frame t.frame_of) fleet n own → worker ≡ Some (initial_idle_worker fleet.setup n) → IsSeatOf t.frame_of fits fleet n own worker
   first_seat n own worker low first is = record {
     sits = record {
       passes = first.are;
@@ -99,9 +99,9 @@ module _ {S P F : Type 0} {g : _} (t : TrailWords S F) (fits : F → Colour → 
       finished = λ c core count taken.
           let none : None ≡ Some (Take c core count) = ap (last_change own.number c) (sym (first.unseen (shard_of fleet.setup c))) ∙ taken in
           cc;
-      rest = first_rest fleet.setup n;
+      rest = initial_idle_worker fleet.setup n;
       rested = is;
-      may = subst (λ k. MayGatherWorker {S = S} fits fleet.setup (frame_in (shard_frame t.frame_of) fleet) k (resumed_worker (first_rest fleet.setup n))) (sym first.numbered) (record { own_core = refl; batch = refl; victims = refl; free = refl; lost = tt });
+      may = subst (λ k. MayGatherWorker {S = S} fits fleet.setup (frame_in (shard_frame t.frame_of) fleet) k (resumed_worker (initial_idle_worker fleet.setup n))) (sym first.numbered) (record { own_core = refl; batch = refl; victims = refl; free = refl; lost = tt });
     };
     numbered = first.numbered;
   }

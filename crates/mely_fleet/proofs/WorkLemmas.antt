@@ -59,13 +59,13 @@ seen_more setup n front after Does seen adds =
 
 module _ {F : Type 0} (a b : Standpoint F) where
   -- a call on a shard shows more of it, and of the others nothing
-  pub sees_more : (g : ℕ) (Does : List Entry → List Entry → Type 0) → SeesAt a.setup a.number g a.fronts b.fronts Does → ((point : List Entry) → Does point (front_in b.fronts g) → Adds point (front_in b.fronts g)) → SeesMore a b
+  sees_more : (g : ℕ) (Does : List Entry → List Entry → Type 0) → SeesAt a.setup a.number g a.fronts b.fronts Does → ((point : List Entry) → Does point (front_in b.fronts g) → Adds point (front_in b.fronts g)) → SeesMore a b
   sees_more g Does sees adds k = ⊎_elim
       (λ (same : k ≡ g). subst (λ j. (more : List Entry) × (front_in b.fronts j ≡ front_in a.fronts j ++ more)) (sym same) (seen_more a.setup a.number (front_in a.fronts g) (front_in b.fronts g) Does sees.seen (adds sees.seen.point sees.seen.does)))
       (λ (other : k ≡ g → ⊥). ([], sees.others k other ∙ sym (append-nil (front_in a.fronts k))))
       (cases_eq k g)
 
-  pub sees_same : b.fronts ≡ a.fronts → SeesMore a b
+  sees_same : b.fronts ≡ a.fronts → SeesMore a b
   sees_same same k = ([], ap (λ fs. front_in fs k) same ∙ sym (append-nil (front_in a.fronts k)))
 
 -- what each call adds
@@ -89,7 +89,7 @@ change_at_point : (n : ℕ) (c : Colour) (front point : List Entry) → OthersSi
 change_at_point n c front point (between, goes_on, none) = ap (last_change n c) goes_on ∙ last_change-others n c front between none
 
 -- a call adds this entry, or none
-abbrev pub AddsEntry : Option Entry → List Entry → List Entry → Type 0
+abbrev AddsEntry : Option Entry → List Entry → List Entry → Type 0
 AddsEntry None point after = after ≡ point
 AddsEntry (Some entry) point after = after ≡ point ++ entry ∷ []
 
@@ -121,7 +121,7 @@ module _ {F : Type 0} (a b : Standpoint F) (same_setup : b.setup ≡ a.setup) (s
       (cases_eq (shard_of a.setup k) (shard_of a.setup d))
 
   -- a look, or a call on a chain, leaves it so
-  pub same_finished : (r : Option Colour) → b.fronts ≡ a.fronts → HasFinishedBut a r → HasFinishedBut b r
+  same_finished : (r : Option Colour) → b.fronts ≡ a.fronts → HasFinishedBut a r → HasFinishedBut b r
   same_finished r same before k core count is =
       before k core count (ap (λ fs. last_change a.number k (front_in fs (shard_of a.setup k))) (sym same) ∙ subst (λ (s : Setup). last_change a.number k (front_in b.fronts (shard_of s k)) ≡ Some (Take k core count)) same_setup (subst (λ n. last_change n k (front_in b.fronts (shard_of b.setup k)) ≡ Some (Take k core count)) same_number is))
 
@@ -235,7 +235,7 @@ module _ {F : Type 0} (a b : Standpoint F) (same_setup : b.setup ≡ a.setup) (s
     from_finished (Free place) is before line = free_finished w.halted place before (ap (λ (p : Phase S P). colour_in p) is) line
 
     -- a step keeps that each take has its finish, but that of the worker's turn
-    pub step_finished : Steps (words t fits) y app a w step b v → HasFinished a w → HasFinished b v
+    step_finished : Steps (words t fits) y app a w step b v → HasFinished a w → HasFinished b v
     step_finished line before = from_finished w.phase refl before line
 
     -- and shows more
@@ -269,7 +269,7 @@ module _ {F : Type 0} (a b : Standpoint F) (same_setup : b.setup ≡ a.setup) (s
     from_more (Landing mark) line = sees_same a b line.called.0
     from_more (Free place) line = free_more w.halted place line
 
-    pub step_more : Steps (words t fits) y app a w step b v → SeesMore a b
+    step_more : Steps (words t fits) y app a w step b v → SeesMore a b
     step_more line = from_more w.phase line
 
 -- more of more
@@ -351,10 +351,10 @@ module _ {B R S P F : Type 0} (t : TrailWords S F) (fits : F → Colour → Even
     picks = λ core answer h. h;
   }) steps
 
-  pub side_more : (view u).setup ≡ (view s).setup → (view u).number ≡ (view s).number → SeesMore (view s) (view u)
+  side_more : (view u).setup ≡ (view s).setup → (view u).number ≡ (view s).number → SeesMore (view s) (view u)
   side_more same_setup same_number = step_more (view s) (view u) same_setup same_number t fits y app w step v standpoint_steps
 
-  pub side_finished : (view u).setup ≡ (view s).setup → (view u).number ≡ (view s).number → HasFinished (view s) w → HasFinished (view u) v
+  side_finished : (view u).setup ≡ (view s).setup → (view u).number ≡ (view s).number → HasFinished (view s) w → HasFinished (view u) v
   side_finished same_setup same_number = step_finished (view s) (view u) same_setup same_number t fits y app w step v standpoint_steps
 
   pub side_works : (view u).setup ≡ (view s).setup → (view u).number ≡ (view s).number → WorksOn (view s) w (view u) v

@@ -46,8 +46,10 @@ PicksAt of n (Some mark) point after = (after ≡ point ++ (n, Picked mark) ∷ 
 PicksAt of n None point after = (after ≡ point)
     × (pick_of of.cost (chain_after of point).worthy ≡ None)
 
--- a call by the pass n: its point begins with what the pass had seen and goes on by changes of others alone; what the call does there ends in the history that the pass has seen afterwards
-pub record IsOnChain (n : ℕ) (front after : List (ℕ × ChainNote)) (Does : List (ℕ × ChainNote) → List (ℕ × ChainNote) → Type 0) : Type 0 where
+-- a call by the pass n: its point begins with what the pass had seen and goes on by changes of
+-- others alone; what the call does there ends in the history that the pass has seen afterwards
+pub record IsOnChain (n : ℕ) (front after : List (ℕ × ChainNote))
+    (Does : List (ℕ × ChainNote) → List (ℕ × ChainNote) → Type 0) : Type 0 where
   pub point : List (ℕ × ChainNote)
   pub others : OthersSince (λ note. note.0) n front point
   pub does : Does point after
@@ -57,11 +59,13 @@ abbrev pub chain_in : List (List (ℕ × ChainNote)) → ℕ → List (ℕ × Ch
 chain_in fronts core = slice_index_or fronts core []
 
 -- a call by the pass n on the chain of this core; of the other chains nothing more is seen
-pub record ReachesChain (n core : ℕ) (before after : List (List (ℕ × ChainNote))) (Does : List (ℕ × ChainNote) → List (ℕ × ChainNote) → Type 0) : Type 0 where
+pub record ReachesChain (n core : ℕ) (before after : List (List (ℕ × ChainNote)))
+    (Does : List (ℕ × ChainNote) → List (ℕ × ChainNote) → Type 0) : Type 0 where
   pub reached : IsOnChain n (chain_in before core) (chain_in after core) Does
   pub others : (k : ℕ) → k ≢ core → chain_in after k ≡ chain_in before k
 
--- a delivery by the pass n: the one call on the chain of the core that it names, which may find the mark there already, or be late
+-- a delivery by the pass n: the one call on the chain of the core that it names, which may find the
+-- mark there already, or be late
 abbrev pub DeliversAt : ChainFrame → ℕ → Delivery → List (List (ℕ × ChainNote))
     → List (List (ℕ × ChainNote)) → Type 0
 DeliversAt of n Nothing before after = after ≡ before

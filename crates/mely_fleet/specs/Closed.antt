@@ -16,16 +16,21 @@ use Rattle.mely_fleet.specs.declared.passes.PassesOf.{PassesOf}
 use Rattle.mely_fleet.specs.Calls.{front_in}
 use Rattle.mely_fleet.specs.Rows.{fronts}
 use Rattle.mely_lock.specs.Seen.{notes_of, OthersSince}
-use Rattle.mely_lock.specs.Words.{first_value, front, IsPassOf, IsOutside}
+use Rattle.mely_lock.specs.Words.{initial_value, front, IsPassOf, IsOutside}
 
 -- these are all passes of the lock, and none is inside
-pub record AreAllPasses {V N F : Type 0} {g : _} (frame_of : V → F) (lock : Ticketed V N F) (passes : List (Pass V N F g)) : Type 0 where
+pub record AreAllPasses {V N F : Type 0} {g : _} (frame_of : V → F) (lock : Ticketed V N F)
+    (passes : List (Pass V N F g)) : Type 0 where
   pub many : length passes ≡ lock.passes
   pub each : All (λ (p : Pass V N F g). IsPassOf frame_of lock p × IsOutside p) passes
 
--- the value that a lock gives back for all its passes: its history goes on from each front by notes of others, and each number below that of the passes is that of one of them, and no note has another
-pub record IsClosed {V N F : Type 0} {g : _} (history_of : V → List N) (pass_of : N → ℕ) (frame_of : V → F) (lock : Ticketed V N F) (passes : List (Pass V N F g)) (value : V) : Type 0 where
-  pub framed : frame_of value ≡ frame_of (first_value lock)
+-- the value that a lock gives back for all its passes: its history goes on from each
+-- front by notes of others, and each number below that of the passes is that of one of
+-- them, and no note has another
+pub record IsClosed {V N F : Type 0} {g : _} (history_of : V → List N) (pass_of : N → ℕ)
+    (frame_of : V → F) (lock : Ticketed V N F) (passes : List (Pass V N F g))
+    (value : V) : Type 0 where
+  pub framed : frame_of value ≡ frame_of (initial_value lock)
   pub fronts : All (λ (p : Pass V N F g).
       OthersSince pass_of p.number (front p) (history_of value)) passes
   pub numbers : (n : ℕ) → n < lock.passes → Any (λ (p : Pass V N F g). p.number ≡ n) passes
@@ -43,19 +48,24 @@ AreColumns {A} {C} items rows columns = (k : ℕ) (d : C) → k < length columns
     → IsColumn rows k (items (slice_index_or columns k d))
 
 -- columns of these rows, each with room for so many more
-pub record AreFilled {A C : Type 0} (items : C → List A) (len room : C → ℕ) (rows : List (List A)) (left : ℕ) (columns : List C) : Type 0 where
+pub record AreFilled {A C : Type 0} (items : C → List A) (len room : C → ℕ) (rows : List (List A))
+    (left : ℕ) (columns : List C) : Type 0 where
   pub are : AreColumns items rows columns
   pub room_left : (k : ℕ) (d : C) → k < length columns → len (slice_index_or columns k d) + left
       ≤ room (slice_index_or columns k d)
 
 -- a shard that was taken out of what its lock kept
-pub record IsTakenOut {S P F : Type 0} (frame_of : S → F) (kept : KeptShardState S P) (has : ShardState S P) : Type 0 where
+pub record IsTakenOut {S P F : Type 0} (frame_of : S → F) (kept : KeptShardState S P)
+    (has : ShardState S P) : Type 0 where
   pub is : has ≡ kept.has
   pub framed : HaveFrame frame_of (frame_of kept.sample) (givens has)
   pub legal : IsLegal has.setup has.history
 
--- the history of shard k after all passes are back: it begins with what each caller had seen, and goes on by entries of others alone; each number below that of the passes is some caller's, and no entry has another
-pub record IsClosedOver {V F : Type 0} {g : _} (count k : ℕ) (passes : List (PassesOf V Entry (ShardFrame F) g)) (history : List Entry) : Type 0 where
+-- the history of shard k after all passes are back: it begins with what each caller had seen,
+-- and goes on by entries of others alone; each number below that of the passes is some caller's,
+-- and no entry has another
+pub record IsClosedOver {V F : Type 0} {g : _} (count k : ℕ)
+    (passes : List (PassesOf V Entry (ShardFrame F) g)) (history : List Entry) : Type 0 where
   pub seen : (n : ℕ) (own : PassesOf V Entry (ShardFrame F) g) → slice_get passes n ≡ Some own
       → OthersSince pass_of own.number (front_in (fronts own.shards.items) k) history
   pub numbers : (m : ℕ) → m < count → (n : ℕ) × (own : PassesOf V Entry (ShardFrame F) g)
@@ -63,14 +73,16 @@ pub record IsClosedOver {V F : Type 0} {g : _} (count k : ℕ) (passes : List (P
   pub strangers : (m : ℕ) → count ≤ m → notes_of pass_of m history ≡ []
 
 -- the fronts that the cores' passes have of shard k are drained, and none is longer than this one
-pub record AreDrainedWithin {V F : Type 0} {g : _} (setup : Setup) (k : ℕ) (passes : List (PassesOf V Entry (ShardFrame F) g)) (longest : List Entry) : Type 0 where
+pub record AreDrainedWithin {V F : Type 0} {g : _} (setup : Setup) (k : ℕ)
+    (passes : List (PassesOf V Entry (ShardFrame F) g)) (longest : List Entry) : Type 0 where
   pub drained : (n : ℕ) (own : PassesOf V Entry (ShardFrame F) g) → slice_get passes n ≡ Some own
       → own.number < (shape_of setup).cores → IsDrained (front_in (fronts own.shards.items) k)
   pub within : (n : ℕ) (own : PassesOf V Entry (ShardFrame F) g) → slice_get passes n ≡ Some own
       → own.number < (shape_of setup).cores
       → length (front_in (fronts own.shards.items) k) ≤ length longest
 
--- where the fronts that the cores' passes have of shard k are drained, what waits in its history was registered behind the longest of them, by passes that are no core's
+-- where the fronts that the cores' passes have of shard k are drained, what waits in its history
+-- was registered behind the longest of them, by passes that are no core's
 abbrev pub IsLeftByOthers : {V F : Type 0} {g : _} → Setup → ℕ
     → List (PassesOf V Entry (ShardFrame F) g) → List Entry → Type 0
 IsLeftByOthers {V} {F} {g} setup k passes history =

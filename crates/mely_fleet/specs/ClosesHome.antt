@@ -22,8 +22,14 @@ use Rattle.mely_fleet.specs.Frames.{shard_frame}
 use Rattle.mely_fleet.specs.KeptShard.{KeptShardState}
 use Rattle.mely_fleet.specs.Seats.{IsSeatOf, IsOutsider}
 
--- the fleet may be closed with this room, a seat for each core and the passes of the other callers: the room is one for its setup and number of passes, and no passes are missing
-pub record MayCloseHome {S P F : Type 0} {f : _} {t : _} {g : _} (frame_of : S → F) (fits : F → Colour → Event → Option P → Type 0) (fleet : FleetOf (KeptShardState S P) Entry (ShardFrame F)) (room : RoomOf S P (KeptShardState S P) F Entry (ShardFrame F) f t g) (home : List (SeatOf (KeptShardState S P) (Option (IdleWorkerState P)) Entry (ShardFrame F) g)) (others : List (PassesOf (KeptShardState S P) Entry (ShardFrame F) g)) : Type 0 where
+-- the fleet may be closed with this room, a seat for each core and the passes of the other callers:
+-- the room is one for its setup and number of passes, and no passes are missing
+pub record MayCloseHome {S P F : Type 0} {f : _} {t : _} {g : _} (frame_of : S → F)
+    (fits : F → Colour → Event → Option P → Type 0)
+    (fleet : FleetOf (KeptShardState S P) Entry (ShardFrame F))
+    (room : RoomOf S P (KeptShardState S P) F Entry (ShardFrame F) f t g)
+    (home : List (SeatOf (KeptShardState S P) (Option (IdleWorkerState P)) Entry (ShardFrame F) g))
+    (others : List (PassesOf (KeptShardState S P) Entry (ShardFrame F) g)) : Type 0 where
   pub of_setup : room.setup ≡ fleet.setup
   pub of_passes : room.passes ≡ fleet.passes
   pub cores : length home ≡ (shape_of fleet.setup).cores
@@ -31,8 +37,15 @@ pub record MayCloseHome {S P F : Type 0} {f : _} {t : _} {g : _} (frame_of : S �
   pub seats : AtEach (λ n seat. IsSeatOf frame_of fits fleet n seat.passes seat.worker) home
   pub outsiders : AtEach (λ n own. IsOutsider (shard_frame frame_of) fleet own) others
 
--- the weave that a fleet is closed into, where these are the passes of all callers: each history begins with what each caller had seen of it, and where the cores' passes have seen a shard drained, what waits there was registered since, by others; no colour runs, and each that is ready is chained anew
-pub record IsClosedInto {S P F : Type 0} {g : _} (t : TrailWords S F) (fits : F → Colour → Event → Option P → Type 0) (fleet : FleetOf (KeptShardState S P) Entry (ShardFrame F)) (callers : List (PassesOf (KeptShardState S P) Entry (ShardFrame F) g)) (weave : WeaveState S P) : Type 0 where
+-- the weave that a fleet is closed into, where these are the passes of all callers: each
+-- history begins with what each caller had seen of it, and where the cores' passes have seen a
+-- shard drained, what waits there was registered since, by others; no colour runs, and each
+-- that is ready is chained anew
+pub record IsClosedInto {S P F : Type 0} {g : _} (t : TrailWords S F)
+    (fits : F → Colour → Event → Option P → Type 0)
+    (fleet : FleetOf (KeptShardState S P) Entry (ShardFrame F))
+    (callers : List (PassesOf (KeptShardState S P) Entry (ShardFrame F) g))
+    (weave : WeaveState S P) : Type 0 where
   pub setup : weave.setup ≡ fleet.setup
   pub histories : AtEach (λ k has. IsClosedOver fleet.passes k callers has.history) weave.shards
   pub left : AtEach (λ k has. IsLeftByOthers fleet.setup k callers has.history) weave.shards
@@ -41,8 +54,14 @@ pub record IsClosedInto {S P F : Type 0} {g : _} (t : TrailWords S F) (fits : F 
   pub chains : AreChainedAnew weave.setup weave.shards weave.chains
   pub stands : StandsWell t fits weave
 
--- the weave that a fleet is closed into with these seats and the passes of the other callers: its workers are those of the seats, awake and free
-pub record IsClosedHome {S P F : Type 0} {g : _} (t : TrailWords S F) (fits : F → Colour → Event → Option P → Type 0) (fleet : FleetOf (KeptShardState S P) Entry (ShardFrame F)) (home : List (SeatOf (KeptShardState S P) (Option (IdleWorkerState P)) Entry (ShardFrame F) g)) (others : List (PassesOf (KeptShardState S P) Entry (ShardFrame F) g)) (weave : WeaveState S P) : Type 0 where
+-- the weave that a fleet is closed into with these seats and the passes of the other callers: its
+-- workers are those of the seats, awake and free
+pub record IsClosedHome {S P F : Type 0} {g : _} (t : TrailWords S F)
+    (fits : F → Colour → Event → Option P → Type 0)
+    (fleet : FleetOf (KeptShardState S P) Entry (ShardFrame F))
+    (home : List (SeatOf (KeptShardState S P) (Option (IdleWorkerState P)) Entry (ShardFrame F) g))
+    (others : List (PassesOf (KeptShardState S P) Entry (ShardFrame F) g))
+    (weave : WeaveState S P) : Type 0 where
   pub closed : IsClosedInto t fits fleet (others ++ map (λ seat. seat.passes) home) weave
   pub free : AtEach (λ core w. IsTrue (is_free w.phase)) weave.workers
   pub workers : map (λ w. Some w) weave.workers

@@ -9,7 +9,7 @@ use Rattle.mely_fleet.specs.declared.passes.PassesOf.{PassesOf}
 use Rattle.mely_fleet.specs.declared.kept_shard.ShardFrame.{ShardFrame}
 use Rattle.mely_fleet.specs.declared.kept_chain.ChainFrame.{ChainFrame}
 use Rattle.mely_fleet.specs.Frames.{chain_frame}
-use Rattle.mely_lock.specs.Words.{first_value}
+use Rattle.mely_lock.specs.Words.{initial_value}
 use Rattle.mely_fleet.specs.Rows.{ArePassesOf, AreFramed, fronts}
 use Rattle.mely_event.specs.declared.colour.Colour.{Colour}
 use Rattle.mely_event.specs.declared.event.Event.{Event}
@@ -33,7 +33,7 @@ has_lock fleet = let many = fleet.a_lock_for_each_shard in let some = fleet.setu
 -- the frame of the states: that of the first shard
 abbrev pub frame_in : {V F : Type 0} → (V → ShardFrame F) → FleetOf V Entry (ShardFrame F) → F
 frame_in kept_frame fleet =
-    (kept_frame (first_value (first_of_some fleet.shards.items (has_lock fleet)))).states
+    (kept_frame (initial_value (first_of_some fleet.shards.items (has_lock fleet)))).states
 
 -- what stays the same of a shard of a setup
 abbrev pub frame_for : {F : Type 0} → Setup → F → ℕ → ShardFrame F
@@ -48,7 +48,9 @@ chain_frame_for setup = record {
 }
 
 -- the passes are passes of this fleet, and outside
-pub record ArePasses {V F : Type 0} {g : _} (kept_frame : V → ShardFrame F) (fleet : FleetOf V Entry (ShardFrame F)) (passes : PassesOf V Entry (ShardFrame F) g) : Type 0 where
+pub record ArePasses {V F : Type 0} {g : _} (kept_frame : V → ShardFrame F)
+    (fleet : FleetOf V Entry (ShardFrame F))
+    (passes : PassesOf V Entry (ShardFrame F) g) : Type 0 where
   pub of_shards : ArePassesOf kept_frame fleet.shards.items passes.number passes.shards.items
   pub of_chains : ArePassesOf chain_frame fleet.chains.items passes.number passes.chains.items
   pub shards_framed : AreFramed kept_frame (frame_for fleet.setup (frame_in kept_frame fleet))
@@ -88,7 +90,8 @@ DeliversOn fleet delivery before after =
     DeliversAt (chain_frame_for fleet.setup) before.number delivery (fronts before.chains.items)
     (fronts after.chains.items)
 
--- by what these passes have seen, a finish is owed of a turn of this colour, core and count, whose state is to have this trail
+-- by what these passes have seen, a finish is owed of a turn of this colour, core and count, whose
+-- state is to have this trail
 abbrev pub owed_by : {V F : Type 0} {g : _} → FleetOf V Entry (ShardFrame F)
     → PassesOf V Entry (ShardFrame F) g → Colour → ℕ → ℕ → List Event → Type 0
 owed_by fleet passes c core count trail =

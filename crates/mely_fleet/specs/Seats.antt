@@ -14,8 +14,13 @@ use Rattle.mely_fleet.specs.KeptShard.{KeptShardState}
 use Rattle.mely_fleet.specs.Fleets.{ArePasses, frame_in}
 use Rattle.mely_fleet.specs.Work.{HasFinishedBut, standpoint}
 
--- a core's passes and its worker at rest: the passes are of the fleet, with the finish of each turn that the core took, and the worker is the setup's for this core
-pub record MaySit {S P F : Type 0} {g : _} (frame_of : S → F) (fits : F → Colour → Event → Option P → Type 0) (fleet : FleetOf (KeptShardState S P) Entry (ShardFrame F)) (own : PassesOf (KeptShardState S P) Entry (ShardFrame F) g) (worker : Option (IdleWorkerState P)) : Type 0 where
+-- a core's passes and its worker at rest: the passes are of the fleet, with the finish of each turn
+-- that the core took, and the worker is the setup's for this core
+pub record MaySit {S P F : Type 0} {g : _} (frame_of : S → F)
+    (fits : F → Colour → Event → Option P → Type 0)
+    (fleet : FleetOf (KeptShardState S P) Entry (ShardFrame F))
+    (own : PassesOf (KeptShardState S P) Entry (ShardFrame F) g)
+    (worker : Option (IdleWorkerState P)) : Type 0 where
   pub passes : ArePasses (shard_frame frame_of) fleet own
   pub core : own.number < (shape_of fleet.setup).cores
   pub finished : HasFinishedBut (standpoint (shard_frame frame_of) fleet own) None
@@ -25,11 +30,17 @@ pub record MaySit {S P F : Type 0} {g : _} (frame_of : S → F) (fits : F → Co
       own.number (resumed_worker rest)
 
 -- passes and a worker of the core of this number, as `MaySit` says
-pub record IsSeatOf {S P F : Type 0} {g : _} (frame_of : S → F) (fits : F → Colour → Event → Option P → Type 0) (fleet : FleetOf (KeptShardState S P) Entry (ShardFrame F)) (n : ℕ) (own : PassesOf (KeptShardState S P) Entry (ShardFrame F) g) (worker : Option (IdleWorkerState P)) : Type 0 where
+pub record IsSeatOf {S P F : Type 0} {g : _} (frame_of : S → F)
+    (fits : F → Colour → Event → Option P → Type 0)
+    (fleet : FleetOf (KeptShardState S P) Entry (ShardFrame F)) (n : ℕ)
+    (own : PassesOf (KeptShardState S P) Entry (ShardFrame F) g)
+    (worker : Option (IdleWorkerState P)) : Type 0 where
   pub sits : MaySit frame_of fits fleet own worker
   pub numbered : own.number ≡ n
 
 -- passes of the fleet that are no core's
-pub record IsOutsider {V F : Type 0} {g : _} (kept_frame : V → ShardFrame F) (fleet : FleetOf V Entry (ShardFrame F)) (own : PassesOf V Entry (ShardFrame F) g) : Type 0 where
+pub record IsOutsider {V F : Type 0} {g : _} (kept_frame : V → ShardFrame F)
+    (fleet : FleetOf V Entry (ShardFrame F))
+    (own : PassesOf V Entry (ShardFrame F) g) : Type 0 where
   pub passes : ArePasses kept_frame fleet own
   pub outside : (shape_of fleet.setup).cores ≤ own.number

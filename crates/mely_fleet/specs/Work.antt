@@ -25,7 +25,8 @@ use Rattle.mely_fleet.specs.Frames.{shard_frame}
 use Rattle.mely_fleet.specs.KeptShard.{KeptShardState}
 use Rattle.mely_worker.specs.Conditions.{MayStepAt}
 
--- where a caller stands: the setup, its number, the frame of the states, and what it has seen, shard by shard and chain by chain
+-- where a caller stands: the setup, its number, the frame of the states, and what it has seen,
+-- shard by shard and chain by chain
 pub record Standpoint (F : Type 0) : Type 0 where
   pub setup : Setup
   pub number : ℕ
@@ -45,7 +46,8 @@ standpoint kept_frame fleet passes = record {
       fronts passes.chains.items;
 }
 
--- what the worker of a core may call, by what it has seen: each call on a shard stands at its point in the shard's history, and each call on a chain at its point in the chain's
+-- what the worker of a core may call, by what it has seen: each call on a shard stands at its point
+-- in the shard's history, and each call on a chain at its point in the chain's
 abbrev pub words : {S P F : Type 0} → TrailWords S F → (F → Colour → Event → Option P → Type 0)
     → AccessWords (Standpoint F) S P F
 words t fits = record {
@@ -94,8 +96,10 @@ HasFinishedBut a running = (c : Colour) (core count : ℕ)
 abbrev pub HasFinished : {S P F : Type 0} → Standpoint F → WorkerState S P → Type 0
 HasFinished a w = HasFinishedBut a (colour_run_by w)
 
--- what a caller does at work: it sees more, and each take has its finish still, but that of the worker's turn
-pub record WorksOn {S P F : Type 0} (a : Standpoint F) (w : WorkerState S P) (b : Standpoint F) (v : WorkerState S P) : Type 0 where
+-- what a caller does at work: it sees more, and each take has its finish still, but
+-- that of the worker's turn
+pub record WorksOn {S P F : Type 0} (a : Standpoint F) (w : WorkerState S P) (b : Standpoint F)
+    (v : WorkerState S P) : Type 0 where
   pub more : SeesMore a b
   pub finished : HasFinished a w → HasFinished b v
 

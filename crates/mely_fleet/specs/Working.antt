@@ -13,13 +13,25 @@ use Rattle.mely_fleet.specs.Frames.{shard_frame}
 use Rattle.mely_fleet.specs.KeptShard.{KeptShardState}
 use Rattle.mely_fleet.specs.Work.{MayWork, Works}
 
--- the worker may work with these passes: they are passes of the fleet, and outside, and the worker may make a step with them
-pub record MayWorkOn {S P F : Type 0} {g : _} (t : TrailWords S F) (fits : F → Colour → Event → Option P → Type 0) (fleet : FleetOf (KeptShardState S P) Entry (ShardFrame F)) (own : PassesOf (KeptShardState S P) Entry (ShardFrame F) g) (w : WorkerState S P) : Type 0 where
+-- the worker may work with these passes: they are passes of the fleet, and outside, and the worker
+-- may make a step with them
+pub record MayWorkOn {S P F : Type 0} {g : _} (t : TrailWords S F)
+    (fits : F → Colour → Event → Option P → Type 0)
+    (fleet : FleetOf (KeptShardState S P) Entry (ShardFrame F))
+    (own : PassesOf (KeptShardState S P) Entry (ShardFrame F) g)
+    (w : WorkerState S P) : Type 0 where
   pub passes : ArePasses (shard_frame t.frame_of) fleet own
   pub may : MayWork t fits fleet own w
 
--- what a stretch of work leaves of the passes and the worker: they may work on, the number is the same, the worker has its core, batch and victims still, more was seen, and each take has its finish still, but that of the worker's turn
-pub record HasWorked {S P F : Type 0} {g : _} (t : TrailWords S F) (fits : F → Colour → Event → Option P → Type 0) (fleet : FleetOf (KeptShardState S P) Entry (ShardFrame F)) (before : PassesOf (KeptShardState S P) Entry (ShardFrame F) g) (w : WorkerState S P) (after : PassesOf (KeptShardState S P) Entry (ShardFrame F) g) (v : WorkerState S P) : Type 0 where
+-- what a stretch of work leaves of the passes and the worker: they may work on, the number is the
+-- same, the worker has its core, batch and victims still, more was seen, and each take has its
+-- finish still, but that of the worker's turn
+pub record HasWorked {S P F : Type 0} {g : _} (t : TrailWords S F)
+    (fits : F → Colour → Event → Option P → Type 0)
+    (fleet : FleetOf (KeptShardState S P) Entry (ShardFrame F))
+    (before : PassesOf (KeptShardState S P) Entry (ShardFrame F) g) (w : WorkerState S P)
+    (after : PassesOf (KeptShardState S P) Entry (ShardFrame F) g)
+    (v : WorkerState S P) : Type 0 where
   pub still : MayWorkOn t fits fleet after v
   pub number : after.number ≡ before.number
   pub worker : IsSameWorker w v

@@ -1,4 +1,5 @@
-//! Where workers that find nothing to do wait until somebody has news for them. `BELL.md` argues that nobody is left asleep.
+//! Where workers that find nothing to do wait until somebody has news for them. `BELL.md` argues
+//! that nobody is left asleep.
 use mely_event::Memory;
 use mely_worker::Made;
 use std::alloc::Global;
@@ -6,13 +7,14 @@ use std::sync::atomic::{AtomicBool, AtomicU64, Ordering};
 use std::sync::{Condvar, Mutex, Wait};
 use std::{hint, thread};
 
-/// How many looks at chains in a row find nothing before a worker goes to sleep: some tens of microseconds, where waking it again
-/// costs ten.
+/// How many looks at chains in a row find nothing before a worker goes to sleep: some tens of
+/// microseconds, where waking it again costs ten.
 const LOOKS: u32 = 500;
 
-/// How many looks at chains in a row find nothing before a worker gives up a fleet whose workers haven't all begun, and after how
-/// many of them it lets another thread have the processor: a tenth of a second in all on a machine at rest, whatever the number of
-/// cores, and some seconds on one where many threads wait for a processor.
+/// How many looks at chains in a row find nothing before a worker gives up a fleet whose workers
+/// haven't all begun, and after how many of them it lets another thread have the processor: a tenth
+/// of a second in all on a machine at rest, whatever the number of cores, and some seconds on one
+/// where many threads wait for a processor.
 const PATIENCE: u32 = 2_000_000;
 
 const LOOKS_A_YIELD: u32 = 2_000;
@@ -44,14 +46,14 @@ pub(crate) struct Watch {
     /// Where it said that it is about to sleep: how often it had been woken before.
     rings: Option<u64>,
 
-    /// How many looks found nothing since it would have slept, had all workers begun, and how many since it last let another thread
-    /// have the processor.
+    /// How many looks found nothing since it would have slept, had all workers begun, and how many
+    /// since it last let another thread have the processor.
     vain: u32,
     unyielded: u32,
 }
 
 impl Watch {
-    /// A worker that begins.
+    /// What a worker remembers that begins: it has looked nowhere.
     pub(crate) fn new() -> Watch {
         Watch {
             misses: 0,
@@ -67,12 +69,12 @@ impl Watch {
     }
 }
 
-/// Where workers wait that find nothing to do, and what they go by: a flag that says stop, and how many colours were made ready
-/// and left idle again.
+/// Where workers wait that find nothing to do, and what they go by: a flag that says stop, and how
+/// many colours were made ready and left idle again.
 ///
-/// No contract speaks of it. An event is counted only where it makes its colour ready, and a turn where it leaves its colour idle,
-/// each on a line of the caller's own. Whoever pushes a mark reads one word more, which is written only where a worker goes to
-/// sleep or is woken.
+/// No contract speaks of it. An event is counted only where it makes its colour ready, and a turn
+/// where it leaves its colour idle, each on a line of the caller's own. Whoever pushes a mark reads
+/// one word more, which is written only where a worker goes to sleep or is woken.
 #[derive(Drop)]
 pub(crate) struct Bell {
     stopped: AtomicBool,
@@ -117,8 +119,8 @@ impl Bell {
         }
     }
 
-    /// A caller registered an event; whether that made its colour ready. The mark isn't pushed yet, so nobody can have left the
-    /// colour idle.
+    /// A caller registered an event; whether that made its colour ready. The mark isn't pushed yet,
+    /// so nobody can have left the colour idle.
     pub(crate) fn registered(&self, number: u16, is_ready: bool) {
         if !is_ready {
             return;
@@ -128,7 +130,8 @@ impl Bell {
         }
     }
 
-    /// A caller finished a turn; whether that left its colour idle. Where it was the last one, all that sleep are woken.
+    /// A caller finished a turn; whether that left its colour idle. Where it was the last one,
+    /// all that sleep are woken.
     pub(crate) fn finished<R: Wait>(&self, rt: &R, number: u16, is_idle: bool) {
         if !is_idle {
             return;
@@ -141,8 +144,8 @@ impl Bell {
         }
     }
 
-    /// Whether there was a moment in this call at which no colour was ready or ran, of those that were counted. The colours that
-    /// were left idle are added up first: no count ever falls.
+    /// Whether there was a moment in this call at which no colour was ready or ran, of those that
+    /// were counted. The colours that were left idle are added up first: no count ever falls.
     pub(crate) fn is_idle(&self) -> bool {
         let mut idled = 0u64;
         for bed in &self.beds {
@@ -155,7 +158,7 @@ impl Bell {
         idled == woken
     }
 
-    /// A worker begins.
+    /// Counts a worker that begins, before its first step.
     pub(crate) fn begin(&self) {
         self.begun.fetch_add(1, Ordering::SeqCst);
     }
@@ -170,7 +173,8 @@ impl Bell {
         self.begun.load(Ordering::SeqCst) >= u64::from(self.cores())
     }
 
-    /// A whole hunt, which looks at each chain once, found nothing where not all workers have begun. Whether its worker gives up.
+    /// A whole hunt, which looks at each chain once, found nothing where not all workers have
+    /// begun. Whether its worker gives up.
     fn hunts_in_vain(&self, watch: &mut Watch) -> bool {
         watch.vain = watch.vain.saturating_add(self.cores());
         watch.unyielded = watch.unyielded.saturating_add(self.cores());
@@ -198,8 +202,8 @@ impl Bell {
         self.ring_all(rt);
     }
 
-    /// A mark came into the chain of this core, or is worth more there, if that is so: the core's worker is woken if it sleeps,
-    /// else another one that can take the mark, if one can.
+    /// A mark came into the chain of this core, or is worth more there, if that is so: the core's
+    /// worker is woken if it sleeps, else another one that can take the mark, if one can.
     pub(crate) fn told<R: Wait>(&self, rt: &R, core: u16, is_news: bool, is_for_thieves: bool) {
         if !is_news || self.sleepers.load(Ordering::SeqCst) == 0 {
             return;
@@ -268,9 +272,10 @@ impl Bell {
         }
     }
 
-    /// A worker found nothing in a whole hunt. It goes on for a while. Then it says that it is about to sleep, and hunts once more:
-    /// whatever comes into its chain from then on wakes it. Where it finds nothing again it sleeps; but where not all workers have
-    /// begun, one that never will can leave it asleep for good, so it hunts on. Whether it gives up.
+    /// A worker found nothing in a whole hunt. It goes on for a while. Then it says that it is
+    /// about to sleep, and hunts once more: whatever comes into its chain from then on wakes it.
+    /// Where it finds nothing again it sleeps; but where not all workers have begun, one that never
+    /// will can leave it asleep for good, so it hunts on. Whether it gives up.
     pub(crate) fn rest<R: Wait>(&self, rt: &R, number: u16, watch: &mut Watch) -> bool {
         if watch.misses < LOOKS {
             return false;

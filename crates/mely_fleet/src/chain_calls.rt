@@ -1,6 +1,6 @@
 //! One call on the chain behind a lock.
 ghost use Rattle.std.specs.Prelude.{◌≡◌, ◌<◌, ◌+◌, ◌^◌, IfSome, length};
-ghost use Rattle.mely_lock.specs.Words.{first_value, front, IsInside, IsPassOf};
+ghost use Rattle.mely_lock.specs.Words.{initial_value, front, IsInside, IsPassOf};
 ghost use Rattle.mely_lock.specs.Seen.{OthersSince};
 ghost use Rattle.mely_fleet.specs.Chains.{IsOnChain, PushesAt, PopsAt, RetellsAt, PicksAt};
 ghost use Rattle.mely_fleet.specs.Rows.{MayEnter, HasLeft};
@@ -11,7 +11,8 @@ use mely_event::{Colour, Kept, Mark, There};
 use mely_lock::{Held, Pass, Ticketed};
 use std::sync::Wait;
 
-/// Goes in. Where the history is as long as one can be counted, which no machine lives to see, it waits for ever.
+/// Goes in. Where the history is as long as one can be counted, which no machine lives
+/// to see, it waits for ever.
 fn enter_with_room<'a, R: Wait>(
     rt: &R,
     lock: &'a Ticketed<KeptChain>,
@@ -24,7 +25,7 @@ fn enter_with_room<'a, R: Wait>(
         (front pass.old) (front pass.new) }
     ensures seen { front pass.new ≡ result.value.changes }
     ensures held { (result.lock.now ≡ lock.now)
-        × (chain_frame result.value ≡ chain_frame (first_value lock.now)) }
+        × (chain_frame result.value ≡ chain_frame (initial_value lock.now)) }
     ensures room { length result.value.changes + 1 < 2 ^ 64 }
 {
     let mut held = lock.enter(rt, pass);
@@ -42,10 +43,10 @@ pub(crate) fn push_at<R: Wait>(
     mark: Mark,
 ) -> (Result<(), There>, bool)
     requires pass { MayEnter chain_frame lock.now pass.old }
-    requires colour { mark.colour.0 < (first_value lock.now).has.colours }
+    requires colour { mark.colour.0 < (initial_value lock.now).has.colours }
     ensures pass { HasLeft chain_frame lock.now pass.old pass.new }
     ensures does { IsOnChain pass.old.number (front pass.old) (front pass.new)
-        (PushesAt (chain_frame (first_value lock.now)) pass.old.number mark result.0) }
+        (PushesAt (chain_frame (initial_value lock.now)) pass.old.number mark result.0) }
 {
     let by = pass.number();
     let mut held = enter_with_room(rt, lock, pass);
@@ -56,7 +57,7 @@ pub(crate) fn push_at<R: Wait>(
     (answer, is_crowded)
 }
 
-/// Takes the front.
+/// Takes the mark at the front of a chain, under its lock.
 pub(crate) fn pop_at<R: Wait>(
     rt: &R,
     lock: &Ticketed<KeptChain>,
@@ -64,9 +65,9 @@ pub(crate) fn pop_at<R: Wait>(
 ) -> Option<Mark>
     requires { MayEnter chain_frame lock.now pass.old }
     ensures pass { HasLeft chain_frame lock.now pass.old pass.new }
-    ensures mark { IfSome result (λ mark. mark.colour.0 < (first_value lock.now).has.colours) }
+    ensures mark { IfSome result (λ mark. mark.colour.0 < (initial_value lock.now).has.colours) }
     ensures does { IsOnChain pass.old.number (front pass.old) (front pass.new)
-        (PopsAt (chain_frame (first_value lock.now)) pass.old.number result) }
+        (PopsAt (chain_frame (initial_value lock.now)) pass.old.number result) }
 {
     let by = pass.number();
     let mut held = enter_with_room(rt, lock, pass);
@@ -75,7 +76,8 @@ pub(crate) fn pop_at<R: Wait>(
     answer
 }
 
-/// Reports what a colour is worth.
+/// Tells the mark of a colour in a chain what its events are worth, under its
+/// lock. Whether there was one.
 pub(crate) fn retell_at<R: Wait>(
     rt: &R,
     lock: &Ticketed<KeptChain>,
@@ -85,10 +87,10 @@ pub(crate) fn retell_at<R: Wait>(
     worth: u128,
 ) -> bool
     requires pass { MayEnter chain_frame lock.now pass.old }
-    requires colour { colour.0 < (first_value lock.now).has.colours }
+    requires colour { colour.0 < (initial_value lock.now).has.colours }
     ensures pass { HasLeft chain_frame lock.now pass.old pass.new }
     ensures does { IsOnChain pass.old.number (front pass.old) (front pass.new)
-        (RetellsAt (chain_frame (first_value lock.now)) pass.old.number
+        (RetellsAt (chain_frame (initial_value lock.now)) pass.old.number
         colour started worth result) }
 {
     let by = pass.number();
@@ -98,7 +100,8 @@ pub(crate) fn retell_at<R: Wait>(
     answer
 }
 
-/// Takes the mark that is worth most.
+/// Takes the first mark of the highest class that has one off a chain, under its lock; nothing
+/// where thieves may have none.
 pub(crate) fn pick_at<R: Wait>(
     rt: &R,
     lock: &Ticketed<KeptChain>,
@@ -106,9 +109,9 @@ pub(crate) fn pick_at<R: Wait>(
 ) -> Option<Mark>
     requires { MayEnter chain_frame lock.now pass.old }
     ensures pass { HasLeft chain_frame lock.now pass.old pass.new }
-    ensures mark { IfSome result (λ mark. mark.colour.0 < (first_value lock.now).has.colours) }
+    ensures mark { IfSome result (λ mark. mark.colour.0 < (initial_value lock.now).has.colours) }
     ensures does { IsOnChain pass.old.number (front pass.old) (front pass.new)
-        (PicksAt (chain_frame (first_value lock.now)) pass.old.number result) }
+        (PicksAt (chain_frame (initial_value lock.now)) pass.old.number result) }
 {
     let by = pass.number();
     let mut held = enter_with_room(rt, lock, pass);

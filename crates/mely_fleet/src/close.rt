@@ -20,14 +20,14 @@ impl<S: Fits<P> + Drop, P: Drop> FleetOf<KeptShard<S, P>> {
     ghost use Rattle.mely_fleet.specs.ClosesHome.{IsClosedInto};
 
     /// The weave of this fleet, once the passes of all callers are back and each core's worker is
-    /// free, with the finish of each turn that its core took. The room is one for this fleet's setup
-    /// and number of passes.
+    /// free, with the finish of each turn that its core took. The room is one for this fleet's
+    /// setup and number of passes.
     ///
-    /// No colour runs, and every state is at home. Each history begins with what each caller had seen
-    /// of it, and the entries of a number are those of that caller. Each colour that is ready is chained
-    /// anew on its owner. The workers are the weave's, with what they lost; one that was halted stays
-    /// so. Where the cores' passes have seen a shard drained, what waits there was registered since,
-    /// by others. It takes no memory.
+    /// No colour runs, and every state is at home. Each history begins with what each caller had
+    /// seen of it, and the entries of a number are those of that caller. Each colour that is ready
+    /// is chained anew on its owner. The workers are the weave's, with what they lost; one that was
+    /// halted stays so. Where the cores' passes have seen a shard drained, what waits there was
+    /// registered since, by others. It takes no memory.
     pub fn close(
         self,
         room: Room<S, P>,

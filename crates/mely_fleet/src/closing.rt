@@ -35,7 +35,8 @@ pub(crate) fn hand_in<V: Kept>(row: Vec<Pass<V>>, columns: &mut Vec<Vec<Pass<V>>
     }
 }
 
-/// Closes each lock with all its passes. The values come in the order of the locks, into a list that has room for them.
+/// Closes each lock with all its passes. The values come in the order of the locks, into a
+/// list that has room for them.
 pub(crate) fn close_all<V: Kept + Drop>(
     locks: Vec<Ticketed<V>>,
     columns: Vec<Vec<Pass<V>>>,

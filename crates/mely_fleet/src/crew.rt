@@ -3,7 +3,7 @@ ghost use Rattle.std.specs.Prelude.{◌≡◌, ◌<◌, ◌≤◌, ◌+◌, [], 
 ghost use Rattle.mely_history.specs.Setup.{shape_of};
 ghost use Rattle.mely_weave.specs.Dealing.{AtEach};
 ghost use Rattle.mely_weave.specs.Drains.{AllFree, HistoriesAreDrained};
-ghost use Rattle.mely_weave.specs.Making.{AreFirst};
+ghost use Rattle.mely_weave.specs.Making.{AreInitial};
 ghost use Rattle.mely_weave.specs.StandsWell.{StandsWell};
 ghost use Rattle.mely_worker.specs.Access.{FitsSetup};
 ghost use Rattle.mely_worker.specs.Conditions.{AppServes};
@@ -25,8 +25,8 @@ use std::sync::Wait;
 use std::thread;
 use std::thread::Threads;
 
-/// A fleet with a seat for each core and the passes of one other caller, and room for all that closing it takes. `V` is what the
-/// locks of the shards keep.
+/// A fleet with a seat for each core and the passes of one other caller, and room for all that
+/// closing it takes. `V` is what the locks of the shards keep.
 struct CrewOf<S: Fits<P>, P, V: Kept> {
     fleet: FleetOf<V>,
     seats: Vec<SeatOf<V, Option<IdleWorker<P>>>>,
@@ -39,7 +39,8 @@ struct CrewOf<S: Fits<P>, P, V: Kept> {
     workers: Vec<Worker<S, P>>,
 }
 
-/// A fleet with a seat for each core and the passes of one other caller, and room for all that closing it takes.
+/// A fleet with a seat for each core and the passes of one other caller, and room for
+/// all that closing it takes.
 type Crew<S, P> = CrewOf<S, P, KeptShard<S, P>>;
 
 /// A crew for these states.
@@ -52,7 +53,7 @@ fn make_crew<S: Fits<P> + Drop, P: Drop>(
     setup: &Setup,
     states: Vec<S>,
 ) -> Result<Crew<S, P>, Memory>
-    requires first { AreFirst S.Trail setup.now states.items }
+    requires first { AreInitial S.Trail setup.now states.items }
     ensures of_setup { IfOk result (λ crew. crew.fleet.setup ≡ setup.now) }
     ensures framed { IfOk result (λ crew. (state : _) → slice_get states.items 0 ≡ Some state
         → S.frame_of state ≡ frame_in (shard_frame S.frame_of) crew.fleet) }
@@ -129,9 +130,9 @@ fn work_all<
     );
 }
 
-/// Runs an app over a fleet of these states, from its first event on, with a thread for each core, until nothing is left: the
-/// fleet is closed then, and what is left of it drained. All room is made before the event is posted. It need not return: an app
-/// may register for ever.
+/// Runs an app over a fleet of these states, from its first event on, with a thread for each core,
+/// until nothing is left: the fleet is closed then, and what is left of it drained. All room is
+/// made before the event is posted. It need not return: an app may register for ever.
 ///
 /// # Errors
 ///
@@ -151,7 +152,7 @@ pub fn run_crew<
     app: &A,
     gate: &G,
 ) -> Result<(Weave<S, P>, Drained), Unregistered<P>>
-    requires first { AreFirst S.Trail setup.now states.items }
+    requires first { AreInitial S.Trail setup.now states.items }
     requires fits { (state : _) → slice_get states.items 0 ≡ Some state
         → FitsSetup S.fits_under setup.now (S.frame_of state) begin }
     requires served { (state : _) → slice_get states.items 0 ≡ Some state

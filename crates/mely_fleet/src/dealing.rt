@@ -1,7 +1,7 @@
 //! How locks are made, and their passes dealt out.
 ghost use Rattle.std.specs.Prelude.{◌≡◌, ◌<◌, ◌++◌, ◌∷◌, [], ℕ, Some, length, IfOk, All, slice_get, slice_index_or};
-ghost use Rattle.mely_lock.specs.Words.{first_value};
-ghost use Rattle.mely_fleet.specs.Dealing.{IsFirstRow};
+ghost use Rattle.mely_lock.specs.Words.{initial_value};
+ghost use Rattle.mely_fleet.specs.Dealing.{IsInitialRow};
 ghost use Rattle.mely_fleet.specs.Rows.{HavePasses};
 
 use mely_event::{Kept, Memory};
@@ -36,11 +36,11 @@ pub(crate) fn lock_all<V: Kept + Drop>(
     ensures locks { IfOk result (λ r. length r.0.items ≡ length values.items) }
     ensures many { IfOk result (λ r. length r.1.items ≡ passes) }
     ensures rows { IfOk result (λ r. (n : ℕ) (d : _) → n < passes →
-        IsFirstRow V.frame_of r.0.items n (slice_index_or r.1.items n d).items) }
+        IsInitialRow V.frame_of r.0.items n (slice_index_or r.1.items n d).items) }
     ensures frames { IfOk result (λ r. (k : ℕ) (lock : _) (value : _)
         → slice_get r.0.items k ≡ Some lock
         → slice_get values.items k ≡ Some value
-        → V.frame_of (first_value lock) ≡ V.frame_of value) }
+        → V.frame_of (initial_value lock) ≡ V.frame_of value) }
     ensures dealt { IfOk result (λ r. HavePasses passes r.0.items) }
 {
     let mut rows = Vec::new(alloc);

@@ -16,7 +16,8 @@ use mely_queue::Turn;
 use mely_worker::Delivery;
 use std::sync::Wait;
 
-/// All shards and the chain of each core, each behind a lock of its own. `V` is what the locks of the shards keep.
+/// All shards and the chain of each core, each behind a lock of its own. `V` is what the
+/// locks of the shards keep.
 #[derive(Drop)]
 pub struct FleetOf<V: Kept> {
     pub(crate) setup: Setup,
@@ -33,11 +34,11 @@ pub struct FleetOf<V: Kept> {
     ghost chains_dealt: { HavePasses passes chains.items },
 }
 
-/// All shards and the chain of each core of a coloured-event runtime, each behind a lock of its own, for callers in many
-/// threads.
+/// All shards and the chain of each core of a coloured-event runtime, each behind a lock of its
+/// own, for callers in many threads.
 ///
-/// A call is made with the [`Passes`] of its caller, which are made with the fleet. It goes into the lock of one shard or of one
-/// chain, and holds none over a handler.
+/// A call is made with the [`Passes`] of its caller, which are made with the fleet. It goes into
+/// the lock of one shard or of one chain, and holds none over a handler.
 pub type Fleet<S, P> = FleetOf<KeptShard<S, P>>;
 
 /// Whether a registration made its colour ready.
@@ -98,7 +99,8 @@ impl<S: Fits<P>, P> FleetOf<KeptShard<S, P>> {
         answer
     }
 
-    /// Moves the state of a colour and its first events out, for the core of these passes to run them.
+    /// Moves the state of a colour and its first events out, for the core of
+    /// these passes to run them.
     ///
     /// # Errors
     ///
@@ -122,8 +124,9 @@ impl<S: Fits<P>, P> FleetOf<KeptShard<S, P>> {
         take_at(rt, &self.shards[place], &mut passes.shards[place], colour)
     }
 
-    /// Takes the state of a turn home, all of whose events were run. Of the entries of these passes on its colour the last one
-    /// that is no registration is the take of this turn. It takes no memory.
+    /// Takes the state of a turn home, all of whose events were run. Of the entries of
+    /// these passes on its colour the last one that is no registration is the take of this
+    /// turn. It takes no memory.
     pub fn finish<R: Wait>(&self, rt: &R, passes: &mut Passes<S, P>, turn: Turn<S, P>) -> After
     where
         S: Drop,
@@ -191,9 +194,10 @@ impl<S: Fits<P>, P> FleetOf<KeptShard<S, P>> {
         reserve_at(rt, &self.shards[place], &mut passes.shards[place], entries)
     }
 
-    /// Registers an event, and gives the owner of its colour, as the reply names it, the mark or the report: the one call on the
-    /// chain of that core, at a point of the chain's history that begins with all that these passes had seen of it. A mark of the
-    /// colour may be there already, and a report may be late.
+    /// Registers an event, and gives the owner of its colour, as the reply names it, the mark or
+    /// the report: the one call on the chain of that core, at a point of the chain's history that
+    /// begins with all that these passes had seen of it. A mark of the colour may be there already,
+    /// and a report may be late.
     ///
     /// # Errors
     ///

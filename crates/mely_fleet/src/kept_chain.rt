@@ -8,22 +8,25 @@ use mely_event::{Colour, Kept, Mark, Memory, There};
 use std::alloc::Global;
 use std::marker::Model;
 
-/// What stays the same of a chain behind its lock. It is for contracts alone: no value of it is made.
+/// What stays the same of a chain behind its lock. It is for contracts
+/// alone: no value of it is made.
 pub struct ChainFrame {
     pub colours: u32,
     pub cost: u32,
     pub pinned: u32,
 }
 
-/// A chain as its lock keeps it, in a box. Its history is the list of its changes, by which it is what it is.
+/// A chain as its lock keeps it, in a box. Its history is the list of its changes,
+/// by which it is what it is.
 #[derive(Drop)]
 pub struct KeptChain {
     queue: Box<CoreQueue>,
 
-    /// How many changes were made.
+    /// The length of `log`, which has no bytes at a run.
     count: u64,
 
-    /// The changes, each with the number of the pass that made it. It is for contracts alone and holds no bytes.
+    /// The changes, each with the number of the pass that made it. It is for contracts
+    /// alone and holds no bytes.
     log: Log<u16, ChainNote>,
 }
 
@@ -80,7 +83,7 @@ impl KeptChain {
         })
     }
 
-    /// The chain.
+    /// The chain alone, once its lock is closed: its changes were for contracts.
     pub(crate) fn into_queue(self) -> CoreQueue
         ensures { result ≡ self.has }
     {
@@ -99,7 +102,7 @@ impl KeptChain {
         self.count == u64::MAX
     }
 
-    /// Puts a mark at the back.
+    /// Puts a mark at the back, unless its colour has one there already, which is no change.
     pub(crate) fn push(&mut self, mark: Mark, by: u16) -> Result<(), There>
         requires colour { mark.colour.0 < self.old.has.colours }
         requires room { length self.old.changes + 1 < 2 ^ 64 }
@@ -120,7 +123,7 @@ impl KeptChain {
         self.queue.at(1).is_some()
     }
 
-    /// Takes the front.
+    /// Takes the mark at the front; nothing, and no change, where the chain is empty.
     pub(crate) fn pop(&mut self, by: u16) -> Option<Mark>
         requires room { length self.old.changes + 1 < 2 ^ 64 }
         ensures frame { chain_frame self.new ≡ chain_frame self.old }
@@ -133,7 +136,8 @@ impl KeptChain {
         Some(mark)
     }
 
-    /// Reports what a colour is worth. Whether its mark was found.
+    /// Tells the mark of a colour how many of its events were begun and what they are worth. It is
+    /// false, and no change, where the colour has no mark in the chain.
     pub(crate) fn retell(&mut self, colour: Colour, started: u64, worth: u128, by: u16) -> bool
         requires colour { colour.0 < self.old.has.colours }
         requires room { length self.old.changes + 1 < 2 ^ 64 }
@@ -151,7 +155,8 @@ impl KeptChain {
         true
     }
 
-    /// Takes the mark that is worth most.
+    /// Takes the first mark of the highest class that has one; nothing, and no change,
+    /// where thieves may have none.
     pub(crate) fn pick(&mut self, by: u16) -> Option<Mark>
         requires room { length self.old.changes + 1 < 2 ^ 64 }
         ensures frame { chain_frame self.new ≡ chain_frame self.old }

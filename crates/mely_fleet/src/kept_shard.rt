@@ -9,7 +9,8 @@ use std::alloc::Global;
 use std::marker::Model;
 use std::snapshot::Snapshot;
 
-/// What stays the same of a shard behind its lock. It is for contracts alone: no value of it is made.
+/// What stays the same of a shard behind its lock. It is for contracts
+/// alone: no value of it is made.
 pub struct ShardFrame<F> {
     pub setup: Setup,
     pub shard: u16,
@@ -23,8 +24,8 @@ pub struct ShardFrame<F> {
 pub struct KeptShard<S: Fits<P>, P> {
     shard: Box<Shard<S, P>>,
 
-    /// A state as it was given, for its frame: a shard without colours has none of its own. It is for contracts alone, and
-    /// a snapshot of a snapshot, which each shard of a fleet can be given.
+    /// A state as it was given, for its frame: a shard without colours has none of its own. It is
+    /// for contracts alone, and a snapshot of a snapshot, which each shard of a fleet can be given.
     sample: Snapshot<Snapshot<S>>,
 }
 
@@ -93,7 +94,7 @@ impl<S: Fits<P>, P> KeptShard<S, P> {
         })
     }
 
-    /// The shard.
+    /// The shard, once its lock is closed. Its states have still the frame that the lock was told.
     pub(crate) fn into_shard(self) -> Shard<S, P>
         ensures shard { result ≡ self.has }
         ensures framed { HaveFrame S.frame_of (S.frame_of self.sample) (givens result) }

@@ -1,13 +1,14 @@
 //! The shards and chains of a coloured-event runtime behind locks, for threads.
 //!
-//! A [`Fleet`] is what a weave ([`mely_weave`]) is, but shared: each shard stands behind a lock of its
-//! own, and so does each core's chain. A caller brings its [`Passes`], one for each lock. A call goes
-//! into the lock of one shard or of one chain, and no lock is held over a handler.
+//! A [`Fleet`] is what a weave ([`mely_weave`]) is, but shared: each shard stands behind a lock of
+//! its own, and so does each core's chain. A caller brings its [`Passes`], one for each lock. A
+//! call goes into the lock of one shard or of one chain, and no lock is held over a handler.
 //!
-//! What a call answers is what the shard's own call answers at one point of the shard's history: that
-//! point begins with all that the caller had seen, and only others' entries lie between. The call's own
-//! entry, where it has one, is next. So the calls that a caller makes stand in each shard's one legal
-//! history, each once, in the order in which it made them, whatever other threads do.
+//! What a call answers is what the shard's own call answers at one point of the shard's
+//! history: that point begins with all that the caller had seen, and only others' entries lie
+//! between. The call's own entry, where it has one, is next. So the calls that a caller makes
+//! stand in each shard's one legal history, each once, in the order in which it made them,
+//! whatever other threads do.
 //!
 //! ```text
 //! let (fleet, passes) = Fleet::new(alloc, &setup, states, 1)?;   // passes of each core, and of one other caller
@@ -18,9 +19,9 @@
 //! let weave = fleet.close(room, passes, workers);
 //! ```
 //!
-//! Where a mark lies in a running fleet isn't promised, nor that `work` returns, that two threads run
-//! at once, or any order between shards. The weave that [`close`](FleetOf::close) gives stands well
-//! again. How workers that find nothing to do wait is argued in `BELL.md` beside this crate.
+//! Where a mark lies in a running fleet isn't promised, nor that `work` returns, that two threads
+//! run at once, or any order between shards. The weave that [`close`](FleetOf::close) gives stands
+//! well again. How workers that find nothing to do wait is argued in `BELL.md` beside this crate.
 #![tactic(auto)]
 
 mod bell;

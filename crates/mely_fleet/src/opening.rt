@@ -105,14 +105,15 @@ fn first_given<S>(states: &Vec<S>) -> Snapshot<S>
 impl<S: Fits<P> + Drop, P: Drop> FleetOf<KeptShard<S, P>> {
     ghost use Rattle.std.specs.Prelude.{◌≡◌, ◌≤◌, ◌+◌, IfOk};
     ghost use Rattle.mely_history.specs.Setup.{shape_of};
-    ghost use Rattle.mely_weave.specs.Making.{AreFirst};
+    ghost use Rattle.mely_weave.specs.Making.{AreInitial};
     ghost use Rattle.mely_fleet.specs.Frames.{shard_frame};
     ghost use Rattle.mely_fleet.specs.Opening.{IsOpened};
 
-    /// A fleet at first, and the passes of its callers by number: those of the cores, and of so many others.
+    /// A fleet at first, and the passes of its callers by number: those of the
+    /// cores, and of so many others.
     ///
-    /// There is a state for each colour, in ascending order, each with an empty trail, all with one frame. Nothing was
-    /// registered and the chains are empty. The passes have seen nothing.
+    /// There is a state for each colour, in ascending order, each with an empty trail, all with one
+    /// frame. Nothing was registered and the chains are empty. The passes have seen nothing.
     ///
     /// # Errors
     ///
@@ -123,7 +124,7 @@ impl<S: Fits<P> + Drop, P: Drop> FleetOf<KeptShard<S, P>> {
         states: Vec<S>,
         outsiders: u16,
     ) -> Result<(Fleet<S, P>, Vec<Passes<S, P>>), Memory>
-        requires first { AreFirst S.Trail setup.now states.items }
+        requires first { AreInitial S.Trail setup.now states.items }
         requires few { (shape_of setup.now).cores + outsiders ≤ 65535 }
         ensures { let callers = (shape_of setup.now).cores + outsiders in
             IfOk result (λ opened.

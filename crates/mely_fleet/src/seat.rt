@@ -5,7 +5,7 @@ ghost use Rattle.mely_worker.specs.Conditions.{AppServes};
 ghost use Rattle.mely_weave.specs.Dealing.{AtEach};
 ghost use Rattle.mely_fleet.specs.Fleets.{frame_in};
 ghost use Rattle.mely_fleet.specs.Frames.{shard_frame};
-ghost use Rattle.mely_fleet.specs.Opening.{AreFirstPasses};
+ghost use Rattle.mely_fleet.specs.Opening.{AreInitialPasses};
 ghost use Rattle.mely_fleet.specs.Seats.{MaySit, IsSeatOf};
 ghost use Rattle.mely_worker.specs.IdleWorker.{resumed_worker};
 ghost use Rattle.mely_fleet.specs.Work.{SeesAllDrained, SeesMore, standpoint};
@@ -21,16 +21,16 @@ use mely_worker::{App, Gate, IdleWorker, Worker};
 use std::alloc::Global;
 use std::sync::Wait;
 
-/// What the thread of a core is given, and gives back: the passes of the core, and its worker. `V` is
-/// what the locks of the shards keep, `W` the worker at rest.
+/// What the thread of a core is given, and gives back: the passes of the core, and its worker. `V`
+/// is what the locks of the shards keep, `W` the worker at rest.
 #[derive(Drop)]
 pub struct SeatOf<V: Kept, W> {
     pub passes: PassesOf<V>,
     pub worker: W,
 }
 
-/// What the thread of a core is given, and gives back: the passes of the core, and its worker at rest,
-/// which is missing only while it works.
+/// What the thread of a core is given, and gives back: the passes of the core, and its worker at
+/// rest, which is missing only while it works.
 pub type Seat<S, P> = SeatOf<KeptShard<S, P>, Option<IdleWorker<P>>>;
 
 /// Passes and workers side by side.
@@ -72,7 +72,7 @@ impl<S: Fits<P> + Drop, P: Drop> FleetOf<KeptShard<S, P>> {
     pub fn seats(&self, alloc: Global, passes: Vec<Passes<S, P>>) -> Result<Vec<Seat<S, P>>, Memory>
         requires many { length passes.items ≡ (shape_of self.now.setup).cores }
         requires first { AtEach (λ n own.
-            AreFirstPasses (shard_frame S.frame_of) self.now n own) passes.items }
+            AreInitialPasses (shard_frame S.frame_of) self.now n own) passes.items }
         ensures many { IfOk result (λ seats. length seats.items ≡ (shape_of self.now.setup).cores) }
         ensures each { IfOk result (λ seats.
             AtEach (λ n seat. IsSeatOf S.frame_of S.fits_under self.now n seat.passes seat.worker)
@@ -83,8 +83,8 @@ impl<S: Fits<P> + Drop, P: Drop> FleetOf<KeptShard<S, P>> {
         Ok(seats)
     }
 
-    /// Lets the worker of a seat work until nothing is left to do, as [`work`](FleetOf::work) does. It
-    /// is at rest again afterwards.
+    /// Lets the worker of a seat work until nothing is left to do, as [`work`](FleetOf::work) does.
+    /// It is at rest again afterwards.
     pub fn work_at<R: Wait, A: App<State = S, Load = P>, G: Gate>(
         &self,
         rt: &R,
@@ -156,9 +156,10 @@ fn wake_all<S, P: Drop>(rested: Vec<IdleWorker<P>>, workers: Vec<Worker<S, P>>) 
 impl<S: Fits<P> + Drop, P: Drop> FleetOf<KeptShard<S, P>> {
     ghost use Rattle.mely_fleet.specs.ClosesHome.{MayCloseHome, IsClosedHome};
 
-    /// The weave of this fleet, once the threads of all cores are back: [`close`](FleetOf::close) with the passes and the workers of
-    /// their seats, and the passes of the other callers. The list of these has room for the seats, and `rested` and `workers` are
-    /// empty with room for a worker of each core, so it takes no memory.
+    /// The weave of this fleet, once the threads of all cores are back: [`close`](FleetOf::close)
+    /// with the passes and the workers of their seats, and the passes of the other callers. The
+    /// list of these has room for the seats, and `rested` and `workers` are empty with room for a
+    /// worker of each core, so it takes no memory.
     pub fn close_home(
         self,
         room: Room<S, P>,
@@ -181,7 +182,8 @@ impl<S: Fits<P> + Drop, P: Drop> FleetOf<KeptShard<S, P>> {
         self.close(room, callers, workers)
     }
 
-    /// Ends a fleet as [`close_home`](FleetOf::close_home) does, with lists of passes and workers that are made here.
+    /// Ends a fleet as [`close_home`](FleetOf::close_home) does, with lists of passes and
+    /// workers that are made here.
     ///
     /// # Errors
     ///

@@ -3,7 +3,7 @@ ghost use Rattle.std.specs.Prelude.{◌≡◌, ◌<◌, ◌↔◌, [], IsTrue};
 ghost use Rattle.mely_history.specs.Legal.{MayRegister, IsDrained};
 ghost use Rattle.mely_history.specs.Owing.{IsOwed};
 ghost use Rattle.mely_history.specs.Setup.{shape_of};
-ghost use Rattle.mely_lock.specs.Words.{first_value, front};
+ghost use Rattle.mely_lock.specs.Words.{initial_value, front};
 ghost use Rattle.mely_fleet.specs.Rows.{MayEnter, HasLeft};
 ghost use Rattle.mely_fleet.specs.Frames.{shard_frame, IsColourOf};
 ghost use Rattle.mely_fleet.specs.Calls.{RegistersAt, TakesAt, FinishesAt, StealsAt, LooksAt, IsSeen};
@@ -25,13 +25,13 @@ pub(crate) fn register_at<S: Fits<P>, P, R: Wait>(
     load: Option<P>,
 ) -> Result<Registered, Unregistered<P>>
     requires pass { MayEnter (shard_frame S.frame_of) lock.now pass.old }
-    requires own { IsColourOf (shard_frame S.frame_of (first_value lock.now)) colour }
-    requires may { MayRegister (first_value lock.now).has.setup colour event }
-    requires fit { S.fits_under (S.frame_of (first_value lock.now).sample) colour event load }
+    requires own { IsColourOf (shard_frame S.frame_of (initial_value lock.now)) colour }
+    requires may { MayRegister (initial_value lock.now).has.setup colour event }
+    requires fit { S.fits_under (S.frame_of (initial_value lock.now).sample) colour event load }
     ensures pass { HasLeft (shard_frame S.frame_of) lock.now pass.old pass.new }
-    ensures seen { IsSeen (first_value lock.now).has.setup pass.old.number
+    ensures seen { IsSeen (initial_value lock.now).has.setup pass.old.number
         (front pass.old) (front pass.new)
-        (RegistersAt (first_value lock.now).has.setup pass.old.number colour event load result) }
+        (RegistersAt (initial_value lock.now).has.setup pass.old.number colour event load result) }
 {
     let mut held = lock.enter(rt, pass);
     let by = pass.number();
@@ -48,12 +48,12 @@ pub(crate) fn take_at<S: Fits<P>, P, R: Wait>(
     colour: Colour,
 ) -> Result<Turn<S, P>, NoTake>
     requires pass { MayEnter (shard_frame S.frame_of) lock.now pass.old }
-    requires own { IsColourOf (shard_frame S.frame_of (first_value lock.now)) colour }
+    requires own { IsColourOf (shard_frame S.frame_of (initial_value lock.now)) colour }
     ensures pass { HasLeft (shard_frame S.frame_of) lock.now pass.old pass.new }
-    ensures seen { IsSeen (first_value lock.now).has.setup pass.old.number
+    ensures seen { IsSeen (initial_value lock.now).has.setup pass.old.number
         (front pass.old) (front pass.new)
-        (TakesAt S.Trail S.fits_under (first_value lock.now).has.setup
-        (S.frame_of (first_value lock.now).sample) pass.old.number colour result) }
+        (TakesAt S.Trail S.fits_under (initial_value lock.now).has.setup
+        (S.frame_of (initial_value lock.now).sample) pass.old.number colour result) }
 {
     let mut held = lock.enter(rt, pass);
     let core = pass.number();
@@ -70,16 +70,16 @@ pub(crate) fn finish_at<S: Fits<P> + Drop, P: Drop, R: Wait>(
     turn: Turn<S, P>,
 ) -> After
     requires pass { MayEnter (shard_frame S.frame_of) lock.now pass.old }
-    requires own { IsColourOf (shard_frame S.frame_of (first_value lock.now)) turn.colour }
+    requires own { IsColourOf (shard_frame S.frame_of (initial_value lock.now)) turn.colour }
     requires spent { turn.events ≡ [] }
     requires owed { IsOwed pass.old.number (front pass.old)
         turn.colour turn.core turn.count (S.trail_of turn.state) }
     requires coloured { S.colour_of turn.state ≡ turn.colour }
-    requires framed { S.frame_of turn.state ≡ S.frame_of (first_value lock.now).sample }
+    requires framed { S.frame_of turn.state ≡ S.frame_of (initial_value lock.now).sample }
     ensures pass { HasLeft (shard_frame S.frame_of) lock.now pass.old pass.new }
-    ensures seen { IsSeen (first_value lock.now).has.setup pass.old.number
+    ensures seen { IsSeen (initial_value lock.now).has.setup pass.old.number
         (front pass.old) (front pass.new)
-        (FinishesAt (first_value lock.now).has.setup pass.old.number
+        (FinishesAt (initial_value lock.now).has.setup pass.old.number
         turn.colour turn.count result) }
 {
     let mut held = lock.enter(rt, pass);
@@ -96,12 +96,12 @@ pub(crate) fn steal_at<S: Fits<P>, P, R: Wait>(
     colour: Colour,
 ) -> Result<Stolen, NoSteal>
     requires pass { MayEnter (shard_frame S.frame_of) lock.now pass.old }
-    requires own { IsColourOf (shard_frame S.frame_of (first_value lock.now)) colour }
-    requires core { pass.old.number < (shape_of (first_value lock.now).has.setup).cores }
+    requires own { IsColourOf (shard_frame S.frame_of (initial_value lock.now)) colour }
+    requires core { pass.old.number < (shape_of (initial_value lock.now).has.setup).cores }
     ensures pass { HasLeft (shard_frame S.frame_of) lock.now pass.old pass.new }
-    ensures seen { IsSeen (first_value lock.now).has.setup pass.old.number
+    ensures seen { IsSeen (initial_value lock.now).has.setup pass.old.number
         (front pass.old) (front pass.new)
-        (StealsAt (first_value lock.now).has.setup pass.old.number colour result) }
+        (StealsAt (initial_value lock.now).has.setup pass.old.number colour result) }
 {
     let mut held = lock.enter(rt, pass);
     let to = pass.number();
@@ -119,7 +119,7 @@ pub(crate) fn reserve_at<S: Fits<P>, P, R: Wait>(
 ) -> Result<(), Memory>
     requires pass { MayEnter (shard_frame S.frame_of) lock.now pass.old }
     ensures pass { HasLeft (shard_frame S.frame_of) lock.now pass.old pass.new }
-    ensures seen { IsSeen (first_value lock.now).has.setup pass.old.number
+    ensures seen { IsSeen (initial_value lock.now).has.setup pass.old.number
         (front pass.old) (front pass.new)
         LooksAt }
 {
@@ -137,7 +137,7 @@ pub(crate) fn look_at<S: Fits<P>, P, R: Wait>(
 ) -> bool
     requires pass { MayEnter (shard_frame S.frame_of) lock.now pass.old }
     ensures pass { HasLeft (shard_frame S.frame_of) lock.now pass.old pass.new }
-    ensures seen { IsSeen (first_value lock.now).has.setup pass.old.number
+    ensures seen { IsSeen (initial_value lock.now).has.setup pass.old.number
         (front pass.old) (front pass.new)
         LooksAt }
     ensures drained { IsTrue result ↔ IsDrained (front pass.new) }

@@ -22,16 +22,18 @@ pub enum Worked {
     /// Nothing runs and nothing is queued, by what the worker's passes have seen of each shard.
     Quiet,
 
-    /// Some worker met want of memory, or waited in vain for one that never began, as the machine refused it a thread.
+    /// Some worker met want of memory, or waited in vain for one that never began, as the machine
+    /// refused it a thread.
     Memory,
 }
 
 impl<S: Fits<P> + Drop, P: Drop> FleetOf<KeptShard<S, P>> {
     /// Lets the worker of the core of these passes work until nothing is left to do.
     ///
-    /// It makes one step after another, and waits while it finds nothing. Where a worker is halted all come to an end: each ends
-    /// its turn and puts back the mark in its hand. So they do where one finds nothing to do for a while, a tenth of a second or
-    /// more, and another hasn't begun: let all begin at once. That it returns isn't promised.
+    /// It makes one step after another, and waits while it finds nothing. Where a worker is halted
+    /// all come to an end: each ends its turn and puts back the mark in its hand. So they do where
+    /// one finds nothing to do for a while, a tenth of a second or more, and another hasn't begun:
+    /// let all begin at once. That it returns isn't promised.
     pub fn work<R: Wait, A: App<State = S, Load = P>, G: Gate>(
         &self,
         rt: &R,
@@ -61,9 +63,9 @@ impl<S: Fits<P> + Drop, P: Drop> FleetOf<KeptShard<S, P>> {
         unreachable!()
     }
 
-    /// What a worker does between two steps: nothing, unless it is free. Then it comes to an end where some worker is halted;
-    /// and where it found nothing in a whole hunt, it looks whether everything is finished, or waits, or gives up. How its work
-    /// ended, if it did.
+    /// What a worker does between two steps: nothing, unless it is free. Then it comes to an end
+    /// where some worker is halted; and where it found nothing in a whole hunt, it looks whether
+    /// everything is finished, or waits, or gives up. How its work ended, if it did.
     fn pause<R: Wait>(
         &self,
         rt: &R,

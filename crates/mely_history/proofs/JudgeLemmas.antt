@@ -85,7 +85,8 @@ not_allowed setup history c counts n entry other is own tells not there may =
     let which : entry ≡ other = cc in
     not ((allows_exactly setup (take n history) entry counts (tells_of setup (take n history) c counts entry own tells)).1 (subst (λ e. IsAllowed setup (take n history) e) (sym which) may))
 
--- what a judge knows of the colours that occur before a place: their entries below the limit are allowed, and the entry at the limit is not, if there is one
+-- what a judge knows of the colours that occur before a place: their entries below the limit are
+-- allowed, and the entry at the limit is not, if there is one
 pub record IsJudged (setup : Setup) (history : List Entry) (n limit : ℕ) : Type 0 where
   pub within : limit ≤ length history
   pub fault : limit < length history → (entry : Entry) → slice_get history limit ≡ Some entry → ¬ IsAllowed setup (take limit history) entry

@@ -55,7 +55,8 @@ none_begun setup done (entry ∷ behind) legal (first, others) c =
     let split : begun_of (entry ∷ behind) c ≡ taken_on c entry + begun_of behind c = sum_by-cons (taken_on c) entry behind in
     omega (arith, none, rest, split)
 
--- where nothing waits in front of a place, and no core made an entry behind it, what waits was registered behind it
+-- where nothing waits in front of a place, and no core made an entry behind it, what waits
+-- was registered behind it
 queued_behind : (setup : Setup) (front behind : List Entry) → IsLegal setup (front ++ behind) → IsDrained front → AllByRecursion (λ entry. (shape_of setup).cores ≤ pass_of entry) behind → (c : Colour) → queued_of (front ++ behind) c ≡ registered_of behind c
 queued_behind setup front behind legal drained others c =
     let within = begun_within setup front c (legal_front setup front behind legal) in
@@ -67,7 +68,8 @@ queued_behind setup front behind legal drained others c =
     ∙ drop-append-le (begun_of front c) (registered_of front c) (registered_of behind c) within
     ∙ ap (λ events. events ++ registered_of behind c) (drained c).none_queued
 
--- where the front of each core is drained and has all that the core made, what waits was registered after the longest of these fronts, by passes that are no core's
+-- where the front of each core is drained and has all that the core made, what waits was registered
+-- after the longest of these fronts, by passes that are no core's
 pub left_over : (setup : Setup) (history : List Entry) (seen : ℕ → ℕ) (core : ℕ) → IsLegal setup history → HaveDrainedFronts setup history seen → HasSeenMost setup seen core → IsLeftOver setup history (seen core)
 left_over setup history seen core legal fronts most =
     let place = seen core in

@@ -20,7 +20,8 @@ pub record IsOnTurn (account : ColourAccount) : Type 0 where
   pub some : 0 < count
   pub away : account.begun ≡ account.ended + count
 
--- what each legal history keeps of a colour: its owner is a core, only registered events were begun, and it rests or runs on one turn of its owner
+-- what each legal history keeps of a colour: its owner is a core, only registered events were
+-- begun, and it rests or runs on one turn of its owner
 pub record IsSound (setup : Setup) (account : ColourAccount) : Type 0 where
   pub owner : account.owner < (shape_of setup).cores
   pub begun : account.begun ≤ length account.registered

@@ -77,7 +77,8 @@ legal_before setup history entry legal =
 pub legal_front : (setup : Setup) (front between : List Entry) → IsLegal setup (front ++ between) → IsLegal setup front
 legal_front setup front between legal = subst (IsLegal setup) (take-append_seam front between) (legal_beginning setup (front ++ between) (length front) legal)
 
--- what holds of the empty history, and after each entry that may follow, holds of each legal history
+-- what holds of the empty history, and after each entry that may follow,
+-- holds of each legal history
 pub over_legal : (setup : Setup) (P : List Entry → Type 0) → P [] → ((history : List Entry) (entry : Entry) → IsLegal setup history → IsAllowed setup history entry → P history → P (history ++ entry ∷ [])) → (history : List Entry) → IsLegal setup history → P history
 over_legal setup P none more history legal = from [] history none legal where
   from : (done left : List Entry) → P done → IsLegal setup (done ++ left) → P (done ++ left)

@@ -34,7 +34,7 @@ says n c history = record { change = last_change n c history; last = last_take h
 abbrev pub Holds : ℕ → Colour → Says → Type 0
 Holds n c s = (core count : ℕ) → s.change ≡ Some (Take c core count) → (core ≡ n) × (s.last ≡ Some (core, count)) × (s.begun ≡ s.ended + count) × (0 < count)
 
-abbrev pub says_more : ℕ → Colour → Says → Entry → Says
+abbrev says_more : ℕ → Colour → Says → Entry → Says
 says_more n c s entry = record { change = option_or (change_on n c entry) s.change; last = option_or (take_on c entry) s.last; begun = s.begun + taken_on c entry; ended = s.ended + finished_on c entry }
 
 says-more : (setup : Setup) (n : ℕ) (c : Colour) (history : List Entry) (entry : Entry) → says n c (history ++ entry ∷ []) ≡ says_more n c (says n c history) entry
@@ -120,7 +120,8 @@ module _ (n : ℕ) (c : Colour) where
   no_own false true entry is = refl
   no_own false false entry is = refl
 
-  -- while the colour runs on the pass's turn, an entry that may follow is its finish, or is no take of the colour and no change of it by the pass
+  -- while the colour runs on the pass's turn, an entry that may follow is its finish, or is no take
+  -- of the colour and no change of it by the pass
   quiet_entry : (setup : Setup) (history : List Entry) (count : ℕ) (entry : Entry) → IsAllowed setup history entry → last_take history c ≡ Some (n, count) → begun_of history c ≡ ended_of history c + count → 0 < count → (IsOwnFinish n c entry → ⊥) → (change_on n c entry ≡ None) × (taken_on c entry ≡ 0)
   quiet_entry setup history count (Reg colour event by) may last away some other = (refl, refl)
   quiet_entry setup history count (Take colour core' count') may last away some other = for (colour.0 == c.0) refl where

@@ -1,4 +1,5 @@
--- The batches of a colour. That of a take is as many events as it counts, from those that were begun before it on, in the order of registration.
+-- The batches of a colour. That of a take is as many events as it counts, from those that were
+-- begun before it on, in the order of registration.
 use Rattle.std.specs.Prelude.{◌≡◌, ◌<◌, ◌≤◌, ◌+◌, ℕ, List, ◌++◌, Some, length, take, slice_get}
 use Rattle.mely_event.specs.declared.colour.Colour.{Colour}
 use Rattle.mely_event.specs.declared.event.Event.{Event}

@@ -11,8 +11,10 @@ use Rattle.mely_history.specs.declared.colour_counts.ColourCounts.{ColourCounts}
 
 -- The numbers that a judge keeps of one colour.
 
--- the numbers are those of the colour after the entries; the events behind the front's place are those that wait
-pub record Tells (setup : Setup) (entries : List Entry) (c : Colour) (counts : ColourCounts) : Type 0 where
+-- the numbers are those of the colour after the entries; the events behind the front's
+-- place are those that wait
+pub record Tells (setup : Setup) (entries : List Entry) (c : Colour)
+    (counts : ColourCounts) : Type 0 where
   pub owner : counts.owner ≡ owner_of setup entries c
   pub last : counts.last ≡ last_take entries c
   pub registered : counts.registered ≡ length (registered_of entries c)
@@ -41,7 +43,8 @@ Allows setup counts (Steal c from to) = (from ≡ counts.owner) × (to ≢ from)
     × ((shape_of setup).steal_cost < counts.worth) × (pinned_of setup ≤ c.0)
 
 -- the walk passed over this many registrations of the colour, of this weight
-pub record PassesOver (setup : Setup) (entries : List Entry) (c : Colour) (from count place weight_sum : ℕ) : Type 0 where
+pub record PassesOver (setup : Setup) (entries : List Entry) (c : Colour)
+    (from count place weight_sum : ℕ) : Type 0 where
   pub within : place ≤ length entries
   pub passed : length (registered_of (take place entries) c)
       ≡ length (registered_of (take from entries) c) + count

@@ -12,7 +12,8 @@ colour_of (Take colour core count) = colour
 colour_of (Fin colour core count) = colour
 colour_of (Steal colour from to) = colour
 
--- the number of the pass that made an entry: who registered, the core that took or finished, the thief
+-- the number of the pass that made an entry: who registered, the core that
+-- took or finished, the thief
 abbrev pub pass_of : Entry → ℕ
 pass_of (Reg colour event by) = by
 pass_of (Take colour core count) = core

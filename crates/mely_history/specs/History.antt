@@ -1,4 +1,5 @@
--- What a history says of one colour (the rules on colours and on stealing whole colours of libasync-smp).
+-- What a history says of one colour (the rules on colours and on stealing whole
+-- colours of libasync-smp).
 use Rattle.std.specs.Prelude.{◌<◌, ◌%◌, ℕ, List, Option, None, take, drop, unwrap_or, filter_map, sum_by, fold}
 use Rattle.std.specs.Option.{option_or}
 use Rattle.mely_event.specs.HandlerTable.{rows_of, weight_of}
@@ -42,7 +43,8 @@ ran_of history c = take (ended_of history c) (registered_of history c)
 abbrev pub weight : Setup → Event → ℕ
 weight setup event = weight_of (rows_of (handlers_of setup)) event.handler
 
--- its time left: the sum of the weights of its queued events (Mely's measure of what a steal is worth)
+-- its time left: the sum of the weights of its queued events (Mely's measure
+-- of what a steal is worth)
 abbrev pub worth_of : Setup → List Entry → Colour → ℕ
 worth_of setup history c = sum_by (weight setup) (queued_of history c)
 

@@ -25,8 +25,10 @@ abbrev pub HasColour : Colour → List Entry → Type 0
 HasColour c entries = (at : ℕ) × (entry : Entry) × (slice_get entries at ≡ Some entry)
     × ((colour_of entry).0 ≡ c.0)
 
--- each entry of the colour below the place may follow the entries before it; the one there may not, if the place is below the limit
-pub record IsColourFault (setup : Setup) (history : List Entry) (c : Colour) (limit place : ℕ) : Type 0 where
+-- each entry of the colour below the place may follow the entries before it; the one there may not,
+-- if the place is below the limit
+pub record IsColourFault (setup : Setup) (history : List Entry) (c : Colour)
+    (limit place : ℕ) : Type 0 where
   pub within : place ≤ limit
   pub legal_before : (at : ℕ) (entry : Entry) → at < place → slice_get history at ≡ Some entry
       → (colour_of entry).0 ≡ c.0 → IsAllowed setup (take at history) entry

@@ -9,7 +9,8 @@ use Rattle.mely_history.specs.Legal.{IsDrained}
 use Rattle.mely_history.specs.declared.setup.Setup.{Setup}
 use Rattle.mely_history.specs.declared.entry.Entry.{Entry}
 
--- of each core, its pass has seen so many entries of the history: all that it made itself are among them, and in them nothing runs or waits
+-- of each core, its pass has seen so many entries of the history: all that it made itself are among
+-- them, and in them nothing runs or waits
 pub record HaveDrainedFronts (setup : Setup) (history : List Entry) (seen : ℕ → ℕ) : Type 0 where
   pub own : (core : ℕ) → core < (shape_of setup).cores
       → entries_by core (drop (seen core) history) ≡ []
@@ -20,7 +21,8 @@ pub record HasSeenMost (setup : Setup) (seen : ℕ → ℕ) (core : ℕ) : Type 
   pub there : core < (shape_of setup).cores
   pub most : (other : ℕ) → other < (shape_of setup).cores → seen other ≤ seen core
 
--- what waits was registered behind this place, and all behind it was made by passes that are no core's
+-- what waits was registered behind this place, and all behind it was made by
+-- passes that are no core's
 pub record IsLeftOver (setup : Setup) (history : List Entry) (place : ℕ) : Type 0 where
   pub behind : (c : Colour) → queued_of history c ≡ registered_of (drop place history) c
   pub by_others : AllByRecursion (λ entry. (shape_of setup).cores

@@ -27,7 +27,8 @@ pub record MayRegister (setup : Setup) (c : Colour) (event : Event) : Type 0 whe
   pub handler : event.handler < length (rows_of (handlers_of setup))
 
 -- the owner takes a ready colour's events, a batch or all that wait
-pub record MayTake (setup : Setup) (history : List Entry) (c : Colour) (core count : ℕ) : Type 0 where
+pub record MayTake (setup : Setup) (history : List Entry) (c : Colour)
+    (core count : ℕ) : Type 0 where
   pub by_owner : core ≡ owner_of setup history c
   pub ready : IsReady history c
   pub whole_batch : count ≡ min (shape_of setup).batch (length (queued_of history c))

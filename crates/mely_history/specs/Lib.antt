@@ -1,3 +1,4 @@
+pub mod Ranges
 pub mod Setup
 pub mod Entries
 pub mod History

@@ -13,8 +13,10 @@ abbrev pub last_change : ℕ → Colour → List Entry → Option Entry
 last_change pass c history =
     fold (λ found entry. option_or (change_on pass c entry) found) None history
 
--- by the front that the pass has seen, its last change of the colour is this take, and the trail has the events that were begun
-pub record IsOwed (pass : ℕ) (front : List Entry) (c : Colour) (core count : ℕ) (trail : List Event) : Type 0 where
+-- by the front that the pass has seen, its last change of the colour is this take, and the trail
+-- has the events that were begun
+pub record IsOwed (pass : ℕ) (front : List Entry) (c : Colour) (core count : ℕ)
+    (trail : List Event) : Type 0 where
   pub by : core ≡ pass
   pub taken : last_change pass c front ≡ Some (Take c core count)
   pub trailed : trail ≡ take (begun_of front c) (registered_of front c)

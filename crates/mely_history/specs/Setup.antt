@@ -6,6 +6,7 @@ use Rattle.mely_history.specs.declared.shape.Shape.{Shape}
 use Rattle.mely_history.specs.declared.setup.Setup.{Setup}
 use Rattle.mely_history.specs.declared.setup_fault.SetupFault.{SetupFault}
 use Rattle.mely_history.specs.declared.setup_fault.SetupFault.TheVariants.{OutOfRange}
+use Rattle.mely_history.specs.Ranges.{core_limit, shard_limit, colour_limit, batch_limit, group_limit}
 
 -- the numbers of a setup, and its table
 abbrev pub shape_of : Setup → Shape
@@ -35,14 +36,15 @@ place setup c = c.0 / (shape_of setup).shards
 abbrev pub is_between : ℕ → ℕ → ℕ → Bool
 is_between low n high = nat_le low n && nat_le n high
 
--- the first number that is out of range, in the order of the fields, with the colours third and the pinned colours last
+-- the first number that is out of range, in the order of the fields, with the colours third
+-- and the pinned colours last
 abbrev pub first_out_of_range : Shape → ℕ → ℕ → Option SetupFault
 first_out_of_range shape colours pinned =
-    if is_between 1 shape.cores 64 then
-    if is_between 1 shape.shards 64 then
-    if is_between 1 colours 65536 then
-    if is_between 1 shape.batch 1000 then
-    if is_between 1 shape.group 64 then
+    if is_between 1 shape.cores core_limit then
+    if is_between 1 shape.shards shard_limit then
+    if is_between 1 colours colour_limit then
+    if is_between 1 shape.batch batch_limit then
+    if is_between 1 shape.group group_limit then
     if nat_le pinned colours then None
     else Some (OutOfRange 6) else Some (OutOfRange 5) else Some (OutOfRange 4) else Some
     (OutOfRange 3) else Some (OutOfRange 2) else Some (OutOfRange 1)

@@ -48,7 +48,8 @@ fn weight_in(setup: &Setup, event: Event) -> u32
     }
 }
 
-/// Walks over the next registrations of a colour, and answers the place behind them and their weight.
+/// Walks over the next registrations of a colour, and answers the place
+/// behind them and their weight.
 fn pass_over(
     setup: &Setup,
     entries: &[Entry],

@@ -42,7 +42,8 @@ fn first_fault(setup: &Setup, history: &[Entry], from: usize, until: usize, colo
     until
 }
 
-/// Whether each entry is allowed after the entries before it, and where the first stands that is not.
+/// Whether each entry is allowed after the entries before it, and where the
+/// first stands that is not.
 ///
 /// It takes no memory. Each colour is followed alone, from the place where it first occurs, so the
 /// time is at most proportional to the length of the history times the number of colours that occur

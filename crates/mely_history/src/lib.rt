@@ -14,11 +14,11 @@
 //! Whoever keeps such a list can have it judged. The layers above, which run events, promise that
 //! theirs is legal; [`batches_follow_one_another`] says what that means for the events.
 //!
-//! ```
+//! ```text
 //! let setup = Setup::new(&shape, 2, handlers, 0)?;
 //! match judge(&setup, &history) {
-//!     Judged::Legal => ..,
-//!     Judged::NotAllowed { at } => .., // history[at] may not follow history[..at]
+//!     Judged::Legal => println!(rt; "legal")?,
+//!     Judged::NotAllowed { at } => println!(rt; "entry {at} may not follow those before it")?,
 //! }
 //! ```
 #![tactic(auto)]
@@ -47,7 +47,7 @@ pub use laws::batches_follow_one_another;
 pub use no_steal::NoSteal;
 pub use no_take::NoTake;
 pub use registered::Registered;
-pub use setup::Setup;
+pub use setup::{MAX_BATCH, MAX_COLOURS, MAX_CORES, MAX_GROUP, MAX_SHARDS, Setup};
 pub use setup_fault::SetupFault;
 pub use shape::Shape;
 pub use stolen::Stolen;

@@ -1,12 +1,28 @@
 //! What a run is made with.
 ghost use Rattle.std.specs.Prelude.{◌≡◌, ◌≤◌, ◌+◌, ◌/◌, IfOk, IfErr};
+ghost use Rattle.mely_history.specs.Ranges.{core_limit, shard_limit, colour_limit, batch_limit, group_limit};
 
 use crate::setup_fault::SetupFault;
 use crate::shape::Shape;
 use mely_event::{Colour, Handlers};
 
-/// What a reciprocal is a part of. It is a power of 2 above the product of the greatest colour and the
-/// greatest number of shards, so that no quotient is rounded up.
+/// The most cores.
+pub const MAX_CORES: u16 = 64;
+
+/// The most shards.
+pub const MAX_SHARDS: u16 = 64;
+
+/// The most colours: a colour is a number of 16 bits.
+pub const MAX_COLOURS: u32 = 65_536;
+
+/// The most events of one turn.
+pub const MAX_BATCH: u16 = 1_000;
+
+/// The most cores of one group.
+pub const MAX_GROUP: u16 = 64;
+
+/// What a reciprocal is a part of. It is a power of 2 above the product of the greatest colour and
+/// the greatest number of shards, so that no quotient is rounded up.
 const WHOLE: u64 = 4_194_304;
 
 /// What a run is made with: its shape, how many colours there are, the table of its handlers, and
@@ -18,14 +34,14 @@ pub struct Setup {
     handlers: Handlers,
     pinned: u32,
 
-    /// By it a colour is multiplied rather than divided by the number of shards, which takes several
-    /// times as long.
+    /// By it a colour is multiplied rather than divided by the number of shards, which
+    /// takes several times as long.
     reciprocal: u64,
-    pub ghost cores_in: { (1 ≤ shape.cores) × (shape.cores ≤ 64) },
-    pub ghost shards_in: { (1 ≤ shape.shards) × (shape.shards ≤ 64) },
-    pub ghost colours_in: { (1 ≤ colours) × (colours ≤ 65536) },
-    pub ghost batch_in: { (1 ≤ shape.batch) × (shape.batch ≤ 1000) },
-    pub ghost group_in: { (1 ≤ shape.group) × (shape.group ≤ 64) },
+    pub ghost cores_in: { (1 ≤ shape.cores) × (shape.cores ≤ core_limit) },
+    pub ghost shards_in: { (1 ≤ shape.shards) × (shape.shards ≤ shard_limit) },
+    pub ghost colours_in: { (1 ≤ colours) × (colours ≤ colour_limit) },
+    pub ghost batch_in: { (1 ≤ shape.batch) × (shape.batch ≤ batch_limit) },
+    pub ghost group_in: { (1 ≤ shape.group) × (shape.group ≤ group_limit) },
     pub ghost pinned_in: { pinned ≤ colours },
     pub ghost reciprocal_in: { reciprocal ≡ 4194304 / shape.shards + 1 },
 }
@@ -34,14 +50,14 @@ impl Setup {
     ghost use Rattle.std.specs.Prelude.{None, Some};
     ghost use Rattle.mely_history.specs.Setup.{first_out_of_range, shape_of, colours_of, handlers_of, pinned_of, shard_of, place};
 
-    /// A setup of these numbers. The colours below `pinned` stay on the core that they begin on: they
-    /// are never stolen. It takes no memory.
+    /// A setup of these numbers. The colours below `pinned` stay on the core that they begin on:
+    /// they are never stolen. It takes no memory.
     ///
     /// # Errors
     ///
-    /// `OutOfRange` exactly where a number is out of its range, with the first such field: 1 for the
-    /// cores (1 to 64), 2 for the shards (1 to 64), 3 for the colours (1 to 65,536), 4 for the batch
-    /// (1 to 1,000), 5 for the group (1 to 64), 6 for the pinned colours (0 to `colours`).
+    /// `OutOfRange` exactly where a number is out of its range, with the first such field: 1 for
+    /// the cores (1 to 64), 2 for the shards (1 to 64), 3 for the colours (1 to 65,536), 4 for the
+    /// batch (1 to 1,000), 5 for the group (1 to 64), 6 for the pinned colours (0 to `colours`).
     pub fn new(
         shape: &Shape,
         colours: u32,
@@ -56,19 +72,19 @@ impl Setup {
         ensures refused { IfErr result (λ fault. first_out_of_range shape.now colours pinned
             ≡ Some fault) }
     {
-        if shape.cores < 1 || shape.cores > 64 {
+        if shape.cores < 1 || shape.cores > MAX_CORES {
             return Err(SetupFault::OutOfRange { field: 1 });
         }
-        if shape.shards < 1 || shape.shards > 64 {
+        if shape.shards < 1 || shape.shards > MAX_SHARDS {
             return Err(SetupFault::OutOfRange { field: 2 });
         }
-        if colours < 1 || colours > 65_536 {
+        if colours < 1 || colours > MAX_COLOURS {
             return Err(SetupFault::OutOfRange { field: 3 });
         }
-        if shape.batch < 1 || shape.batch > 1_000 {
+        if shape.batch < 1 || shape.batch > MAX_BATCH {
             return Err(SetupFault::OutOfRange { field: 4 });
         }
-        if shape.group < 1 || shape.group > 64 {
+        if shape.group < 1 || shape.group > MAX_GROUP {
             return Err(SetupFault::OutOfRange { field: 5 });
         }
         if pinned > colours {
@@ -86,7 +102,7 @@ impl Setup {
     /// How many cores there are.
     pub fn cores(&self) -> u16
         ensures value { result ≡ (shape_of self.now).cores }
-        ensures range { (1 ≤ result) × (result ≤ 64) }
+        ensures range { (1 ≤ result) × (result ≤ core_limit) }
     {
         self.shape.cores
     }
@@ -94,7 +110,7 @@ impl Setup {
     /// How many shards there are.
     pub fn shards(&self) -> u16
         ensures value { result ≡ (shape_of self.now).shards }
-        ensures range { (1 ≤ result) × (result ≤ 64) }
+        ensures range { (1 ≤ result) × (result ≤ shard_limit) }
     {
         self.shape.shards
     }
@@ -108,7 +124,8 @@ impl Setup {
         usize::from(colour.0) - place * usize::from(self.shape.shards)
     }
 
-    /// The place of a colour among the colours of its shard in ascending order: `colour.0 / shards`.
+    /// The place of a colour among the colours of its shard in ascending
+    /// order: `colour.0 / shards`.
     #[inline(always)]
     pub fn place_of(&self, colour: Colour) -> usize
         ensures { result ≡ place self.now colour }
@@ -119,7 +136,7 @@ impl Setup {
     /// How many events a turn runs at most.
     pub fn batch(&self) -> u16
         ensures value { result ≡ (shape_of self.now).batch }
-        ensures range { (1 ≤ result) × (result ≤ 1000) }
+        ensures range { (1 ≤ result) × (result ≤ batch_limit) }
     {
         self.shape.batch
     }
@@ -134,7 +151,7 @@ impl Setup {
     /// How many cores stand in one group.
     pub fn group(&self) -> u16
         ensures value { result ≡ (shape_of self.now).group }
-        ensures range { (1 ≤ result) × (result ≤ 64) }
+        ensures range { (1 ≤ result) × (result ≤ group_limit) }
     {
         self.shape.group
     }
@@ -142,7 +159,7 @@ impl Setup {
     /// How many colours there are, from colour 0 on.
     pub fn colours(&self) -> u32
         ensures value { result ≡ colours_of self.now }
-        ensures range { (1 ≤ result) × (result ≤ 65536) }
+        ensures range { (1 ≤ result) × (result ≤ colour_limit) }
     {
         self.colours
     }

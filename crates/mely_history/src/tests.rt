@@ -2,6 +2,24 @@ use crate::{Entry, Judged, NoSteal, NoTake, Setup, SetupFault, Shape, judge};
 use mely_event::{Colour, Event, Handlers};
 use std::test::Fail;
 
+/// The greatest numbers of a setup.
+const MOST: Shape = Shape {
+    cores: 64,
+    shards: 64,
+    batch: 1_000,
+    steal_cost: 7,
+    group: 64,
+};
+
+/// The least numbers of a setup.
+const LEAST: Shape = Shape {
+    cores: 1,
+    shards: 1,
+    batch: 1,
+    steal_cost: 0,
+    group: 1,
+};
+
 /// Two cores, one shard, batch 1 and cost 15, with two handlers of weight 10.
 fn small(rt: &HostRuntime) -> Result<Setup, Fail> {
     let shape = Shape {
@@ -100,6 +118,14 @@ fn each_row_of_the_table_refuses_what_it_should(rt: HostRuntime) -> Result<(), F
             "{what}"
         );
     }
+    Ok(())
+}
+
+#[test]
+fn a_running_colour_is_let_alone_by_others(rt: HostRuntime) -> Result<(), Fail> {
+    let setup = small(&rt)?;
+    // two events wait on colour 1, which core 1 owns
+    let before = [reg(1, 0, 0, 2), reg(1, 1, 0, 2)];
     let stolen = [
         before[0],
         before[1],
@@ -130,7 +156,13 @@ fn each_row_of_the_table_refuses_what_it_should(rt: HostRuntime) -> Result<(), F
         Judged::NotAllowed { at: 3 },
         "a finish by another core"
     );
-    let cheap = [before[0], steal(1, 1, 0)];
+    Ok(())
+}
+
+#[test]
+fn a_colour_below_the_cost_is_not_stolen(rt: HostRuntime) -> Result<(), Fail> {
+    let setup = small(&rt)?;
+    let cheap = [reg(1, 0, 0, 2), steal(1, 1, 0)];
     assert_eq!(rt;
         judge(&setup, &cheap),
         Judged::NotAllowed { at: 1 },
@@ -182,24 +214,10 @@ fn an_entry_tells_its_colour_and_its_pass(rt: HostRuntime) {
 }
 
 #[test]
-fn a_setup_is_made_at_the_limits_and_refused_just_beyond(rt: HostRuntime) -> Result<(), Fail> {
+fn a_setup_is_made_at_the_limits(rt: HostRuntime) -> Result<(), Fail> {
     let handlers = Handlers::new(&[(60, 2)]).ok().ok_or("no table")?;
-    let most = Shape {
-        cores: 64,
-        shards: 64,
-        batch: 1_000,
-        steal_cost: 7,
-        group: 64,
-    };
-    let least = Shape {
-        cores: 1,
-        shards: 1,
-        batch: 1,
-        steal_cost: 0,
-        group: 1,
-    };
-    assert!(rt; Setup::new(&least, 1, handlers, 1).is_ok());
-    let setup = Setup::new(&most, 65_536, handlers, 3)
+    assert!(rt; Setup::new(&LEAST, 1, handlers, 1).is_ok());
+    let setup = Setup::new(&MOST, 65_536, handlers, 3)
         .ok()
         .ok_or("no setup")?;
     assert_eq!(rt;
@@ -219,33 +237,39 @@ fn a_setup_is_made_at_the_limits_and_refused_just_beyond(rt: HostRuntime) -> Res
         (63, 1_023)
     );
     assert_eq!(rt; setup.handlers().len(), 1);
+    Ok(())
+}
+
+#[test]
+fn a_setup_just_beyond_the_limits_is_refused(rt: HostRuntime) -> Result<(), Fail> {
+    let handlers = Handlers::new(&[(60, 2)]).ok().ok_or("no table")?;
     let cases = [
-        (Shape { cores: 0, ..most }, 1, 1),
+        (Shape { cores: 0, ..MOST }, 1, 1),
         (
             Shape {
                 cores: 65,
                 shards: 0,
-                ..most
+                ..MOST
             },
             1,
             1,
         ),
-        (Shape { shards: 0, ..most }, 1, 2),
-        (Shape { shards: 65, ..most }, 0, 2),
-        (most, 0, 3),
-        (Shape { batch: 0, ..most }, 65_537, 3),
-        (Shape { batch: 0, ..most }, 1, 4),
+        (Shape { shards: 0, ..MOST }, 1, 2),
+        (Shape { shards: 65, ..MOST }, 0, 2),
+        (MOST, 0, 3),
+        (Shape { batch: 0, ..MOST }, 65_537, 3),
+        (Shape { batch: 0, ..MOST }, 1, 4),
         (
             Shape {
                 batch: 1_001,
                 group: 0,
-                ..most
+                ..MOST
             },
             1,
             4,
         ),
-        (Shape { group: 0, ..most }, 1, 5),
-        (Shape { group: 65, ..most }, 1, 5),
+        (Shape { group: 0, ..MOST }, 1, 5),
+        (Shape { group: 65, ..MOST }, 1, 5),
     ];
     for (shape, colours, field) in cases {
         assert_eq!(rt;
@@ -253,8 +277,14 @@ fn a_setup_is_made_at_the_limits_and_refused_just_beyond(rt: HostRuntime) -> Res
             Some(SetupFault::OutOfRange { field })
         );
     }
-    assert!(rt; Setup::new(&least, 4, handlers, 4).is_ok());
-    for (shape, field) in [(least, 6), (Shape { group: 0, ..least }, 5)] {
+    Ok(())
+}
+
+#[test]
+fn all_colours_may_be_pinned_and_no_more(rt: HostRuntime) -> Result<(), Fail> {
+    let handlers = Handlers::new(&[(60, 2)]).ok().ok_or("no table")?;
+    assert!(rt; Setup::new(&LEAST, 4, handlers, 4).is_ok());
+    for (shape, field) in [(LEAST, 6), (Shape { group: 0, ..LEAST }, 5)] {
         assert_eq!(rt;
             Setup::new(&shape, 4, handlers, 5).err(),
             Some(SetupFault::OutOfRange { field })

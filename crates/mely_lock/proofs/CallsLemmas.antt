@@ -10,7 +10,7 @@ use Rattle.atomic_table.proofs.Lists.{at_longer, at_last}
 use Rattle.mely_lock.specs.declared.claim.Claim.{Claim}
 use Rattle.mely_lock.specs.declared.seat_knowledge.SeatKnowledge.{SeatKnowledge}
 use Rattle.mely_lock.specs.Seen.{OthersSince, GrewByAtMostOne, GrewIf}
-use Rattle.mely_lock.specs.Views.{claim, view, nobody, first_claims, shares_of, HasClaim, head_number, head_front, head_frame}
+use Rattle.mely_lock.specs.Views.{claim, view, nobody, initial_claims, shares_of, HasClaim, head_number, head_front, head_frame}
 use Rattle.mely_lock.specs.Rule.{inside_word, notes_word, Locked}
 use Rattle.mely_lock.specs.Steps.{Seat, claim_with_front, kept_of, dealt_of, join_knowledge, seat_outside, seat_inside, Tried, Noted, Left, Meets, Enters, Leaves}
 use Rattle.mely_lock.proofs.KeepsLemmas.{head_claim, tries, notes, leaves, splits, joins, sits}
@@ -61,7 +61,7 @@ module _ {W N F : Type 0} where
   as_waiting m one off empty = let t = single m.0.claims one in let P : List (Claim N F) × (Bool × Hand W) → Seat W N F = λ u. (view u.0 u.1.0, u.1.1) in
       (t.0, λ i. P (t.1 i, (off i, empty i)), ap head_number t.1, ap head_front t.1, ap head_frame t.1)
 
-  pub as_holding : (m : Seat W N F) (y : Option W) → length m.0.claims ≡ 1 → m.0.inside ≡ true → m.1 ≡ (0, y) ∷ [] → (c : Claim N F) × (m ≡ seat_inside c y) × (head_number m.0.claims ≡ c.number) × (head_front m.0.claims ≡ c.front) × (head_frame m.0.claims ≡ Some c.frame)
+  as_holding : (m : Seat W N F) (y : Option W) → length m.0.claims ≡ 1 → m.0.inside ≡ true → m.1 ≡ (0, y) ∷ [] → (c : Claim N F) × (m ≡ seat_inside c y) × (head_number m.0.claims ≡ c.number) × (head_front m.0.claims ≡ c.front) × (head_frame m.0.claims ≡ Some c.frame)
   as_holding m y one on full = let t = single m.0.claims one in let P : List (Claim N F) × (Bool × Hand W) → Seat W N F = λ u. (view u.0 u.1.0, u.1.1) in
       (t.0, λ i. P (t.1 i, (on i, full i)), ap head_number t.1, ap head_front t.1, ap head_frame t.1)
 
@@ -163,15 +163,15 @@ module _ {W N F : Type 0} (history_of : W → List N) (pass_of : N → ℕ) (fra
       (t.0, t.1, same_some (frame_of x) t.0.frame (sym fr ∙ t.4), subst P (λ i. ((sym num ∙ t.2) i, t.3 i)) g)
 
   -- the first seat, when n passes of p are dealt out
-  first_left : (v : SeatKnowledge N F) (n p : ℕ) (f : F) → n < p → v ≡ view (first_claims n (p - n) f) false → v ≡ view (first_claims n (suc (p - (n + 1))) f) false
-  first_left v n p f l is = let e : p - n ≡ suc (p - (n + 1)) = omega arith in is ∙ ap (λ (k : ℕ). view (first_claims n k f) false) e
+  first_left : (v : SeatKnowledge N F) (n p : ℕ) (f : F) → n < p → v ≡ view (initial_claims n (p - n) f) false → v ≡ view (initial_claims n (suc (p - (n + 1))) f) false
+  first_left v n p f l is = let e : p - n ≡ suc (p - (n + 1)) = omega arith in is ∙ ap (λ (k : ℕ). view (initial_claims n k f) false) e
 
-  pub splits_at : (frame : F) (passes id n p : ℕ) (f : F) (m : Seat W N F) → n < p → m ≡ (view (first_claims n (p - n) f) false, []) → Splits (Rule frame passes) id m.0 (kept_of m.0) (dealt_of m.0)
+  pub splits_at : (frame : F) (passes id n p : ℕ) (f : F) (m : Seat W N F) → n < p → m ≡ (view (initial_claims n (p - n) f) false, []) → Splits (Rule frame passes) id m.0 (kept_of m.0) (dealt_of m.0)
   splits_at frame passes id n p f m l is = subst (λ (v : SeatKnowledge N F). Splits (Rule frame passes) id v (kept_of v) (dealt_of v)) (sym (first_left m.0 n p f l (ap (λ (u : Seat W N F). u.0) is)))
-      (splits history_of pass_of frame_of frame passes id (claim n [] f) (first_claims (n + 1) (p - (n + 1)) f))
+      (splits history_of pass_of frame_of frame passes id (claim n [] f) (initial_claims (n + 1) (p - (n + 1)) f))
 
-  pub dealt : (m m' q : Seat W N F) (n p : ℕ) (f : F) → n < p → m ≡ (view (first_claims n (p - n) f) false, []) → m' ≡ (kept_of m.0, m.1) → q ≡ (dealt_of m.0, [])
-      → (m' ≡ (view (first_claims (n + 1) (p - (n + 1)) f) false, [])) × (q ≡ seat_outside (claim n [] f))
+  pub dealt : (m m' q : Seat W N F) (n p : ℕ) (f : F) → n < p → m ≡ (view (initial_claims n (p - n) f) false, []) → m' ≡ (kept_of m.0, m.1) → q ≡ (dealt_of m.0, [])
+      → (m' ≡ (view (initial_claims (n + 1) (p - (n + 1)) f) false, [])) × (q ≡ seat_outside (claim n [] f))
   dealt m m' q n p f l is left given = let v = first_left m.0 n p f l (ap (λ (u : Seat W N F). u.0) is) in let P : SeatKnowledge N F × Hand W → Seat W N F = λ u. (kept_of u.0, u.1) in let Q : SeatKnowledge N F → Seat W N F = λ u. (dealt_of u, []) in
       (left ∙ (λ i. P (v i, (is i).1)), given ∙ ap Q v)
 

@@ -14,11 +14,11 @@ use Rattle.atomic_table.proofs.Lists.{set_again, set_else, at_longer}
 use Rattle.mely_lock.specs.declared.claim.Claim.{Claim}
 use Rattle.mely_lock.specs.declared.seat_knowledge.SeatKnowledge.{SeatKnowledge}
 use Rattle.mely_lock.specs.Seen.{notes_of, OthersSince}
-use Rattle.mely_lock.specs.Views.{view, outside, within, nobody, first_claims, first_view, shares_of}
+use Rattle.mely_lock.specs.Views.{view, outside, within, nobody, initial_claims, initial_view, shares_of}
 use Rattle.mely_lock.specs.Rule.{inside_word, notes_word, lock_words, EachAt, EachClaim, IsOpen, IsShut, IsHome, EachOnce, Locked}
 use Rattle.mely_lock.specs.Steps.{Seat, claim_with_front, seat_outside, seat_inside, Tried, Noted, Left, Closes, join_knowledge}
 use Rattle.mely_lock.proofs.ListsLemmas.{set_there, only_one, Each-append, each_set, each_push, sum-set, sum_same, sum_one, sum_two, sum_but_one}
-use Rattle.mely_lock.proofs.ClaimsLemmas.{shares_of-append, share_of_same, share_of_other, length-first_claims, shares_of-first_claims}
+use Rattle.mely_lock.proofs.ClaimsLemmas.{shares_of-append, share_of_same, share_of_other, length-initial_claims, shares_of-initial_claims}
 use Rattle.mely_lock.proofs.SeenLemmas.{none_more, since_itself, since_more}
 
 not_both : (b : Bool) → b ≡ false → b ≡ true → ⊥
@@ -49,7 +49,7 @@ abbrev Homes : Type 0 → Type 0
 Homes W = List (place.Option (Option W))
 
 module _ {W N F : Type 0} where
-  pub same_waiting : (c d : Claim N F) → ◌≡◌ {A = Seat W N F} (seat_outside c) (seat_outside d) → c ≡ d
+  same_waiting : (c d : Claim N F) → ◌≡◌ {A = Seat W N F} (seat_outside c) (seat_outside d) → c ≡ d
   same_waiting c d e = ap (λ (m : Seat W N F). head_claim c m.0.claims) e
 
   same_holding : (c d : Claim N F) (x y : W) → ◌≡◌ {A = Seat W N F} (seat_inside c (Some x)) (seat_inside d (Some y)) → (c ≡ d) × (x ≡ y)
@@ -80,7 +80,8 @@ module _ {W N F : Type 0} (history_of : W → List N) (pass_of : N → ℕ) (fra
       (λ above. let none_there = r.numbers.never c.number above in absurd (omega arith))
       (λ below. let less : c.number < passes = omega arith in (less, λ k v ne there. let two = sum_two shares s.views id k (view (c ∷ []) inside) v (λ e. ne (sym e)) at there in let all = r.numbers.once c.number less in omega arith))
 
-  -- the fourth part, once the only claim of a seat has seen more, whether that seat comes in or goes out
+  -- the fourth part, once the only claim of a seat has seen more, whether that
+  -- seat comes in or goes out
   each_once : (id : ℕ) (c : Claim N F) (was now : Bool) (history history' front : List N) (views : List (SeatKnowledge N F)) → get_elem? views id ≡ some (view (c ∷ []) was) → EachOnce pass_of passes history views
       → OthersSince pass_of c.number front history' → ((k : ℕ) (v : SeatKnowledge N F) → k ≢ id → get_elem? views k ≡ some v → AllByRecursion (λ d. OthersSince pass_of d.number d.front history') v.claims)
       → ((n : ℕ) → passes ≤ n → notes_of pass_of n history' ≡ []) → EachOnce pass_of passes history' (set views id (view (claim_with_front c front ∷ []) now))
@@ -223,7 +224,8 @@ module _ {W N F : Type 0} (history_of : W → List N) (pass_of : N → ℕ) (fra
         λ d y same. ap (λ (k : Claim N F). seat_outside k) (same_holding c d x y same).0,
       )
 
-  -- claims may come to other seats, where no seat inside is touched: what keeps each claim and every sum over them keeps the rule
+  -- claims may come to other seats, where no seat inside is touched: what keeps each claim and
+  -- every sum over them keeps the rule
   regrouped : (s : Lock) (views : List (SeatKnowledge N F)) → Rule s
       → ((P : Claim N F → Type 0) → EachClaim P s.views → EachClaim P views)
       → ((g : List (Claim N F) → ℕ) → ((cs ds : List (Claim N F)) → g (cs ++ ds) ≡ g cs + g ds) → sum_by (λ v. g v.claims) views ≡ sum_by (λ v. g v.claims) s.views)
@@ -279,8 +281,8 @@ module _ {W N F : Type 0} (history_of : W → List N) (pass_of : N → ℕ) (fra
     refl,
   )
 
-  pub opens : (x : W) → history_of x ≡ [] → frame_of x ≡ frame → Rule (opening new_words (Some x ∷ []) (first_view passes frame))
-  opens x empty framed = let v : SeatKnowledge N F = first_view passes frame in
+  pub opens : (x : W) → history_of x ≡ [] → frame_of x ≡ frame → Rule (opening new_words (Some x ∷ []) (initial_view passes frame))
+  opens x empty framed = let v : SeatKnowledge N F = initial_view passes frame in
       let one : (g : List (Claim N F) → ℕ) → sum_by (λ (u : SeatKnowledge N F). g u.claims) (v ∷ []) ≡ g v.claims = λ g. let all = sum_by-cons (λ (u : SeatKnowledge N F). g u.claims) v [] in omega arith in
       let only : (P : SeatKnowledge N F → Type 0) → P v → EachAt (λ _ u. P u) (v ∷ []) = λ P p. each_push (λ _ u. P u) [] v (λ _. p) (λ k u e. absurd (some-ne-none u (sym e))) in
       let home : (y : W) → some (Some x) ∷ [] ≡ some (Some y) ∷ [] → x ≡ y = λ y e. same_home (none ∷ []) x y refl e in record {
@@ -290,19 +292,19 @@ module _ {W N F : Type 0} (history_of : W → List N) (pass_of : N → ℕ) (fra
         away = λ _. (x, refl);
         tells = record { counted = refl; home = λ _ y there. ap history_of (sym (home y there)) ∙ empty; inside = only (λ u. u.inside ≡ true → AllByRecursion (λ (d : Claim N F). d.front ≡ []) u.claims) (λ on. absurd (not_both false refl on)) };
         numbers = record {
-          once = λ n l. one (shares_of n) ∙ (shares_of-first_claims N n 0 passes frame).among (omega arith) (omega arith);
-          never = λ n l. one (shares_of n) ∙ (shares_of-first_claims N n 0 passes frame).above (omega arith);
-          together = one length ∙ length-first_claims N 0 passes frame;
+          once = λ n l. one (shares_of n) ∙ (shares_of-initial_claims N n 0 passes frame).among (omega arith) (omega arith);
+          never = λ n l. one (shares_of n) ∙ (shares_of-initial_claims N n 0 passes frame).above (omega arith);
+          together = one length ∙ length-initial_claims N 0 passes frame;
           fronts = only (λ u. AllByRecursion (λ (d : Claim N F). OthersSince pass_of d.number d.front []) u.claims) (firsts 0 passes);
           strangers = λ n l. refl;
         };
         frames = record { told = only (λ u. AllByRecursion (λ (d : Claim N F). d.frame ≡ frame) u.claims) (framed_firsts 0 passes); home = λ y there. ap frame_of (sym (home y there)) ∙ framed };
       } where
-        firsts : (k m : ℕ) → AllByRecursion (λ (d : Claim N F). OthersSince pass_of d.number d.front []) (first_claims k m frame)
+        firsts : (k m : ℕ) → AllByRecursion (λ (d : Claim N F). OthersSince pass_of d.number d.front []) (initial_claims k m frame)
         firsts k zero = tt
         firsts k (suc m) = (([], refl, refl), firsts (k + 1) m)
 
-        framed_firsts : (k m : ℕ) → AllByRecursion (λ (d : Claim N F). d.frame ≡ frame) (first_claims {N = N} k m frame)
+        framed_firsts : (k m : ℕ) → AllByRecursion (λ (d : Claim N F). d.frame ≡ frame) (initial_claims {N = N} k m frame)
         framed_firsts k zero = tt
         framed_firsts k (suc m) = (refl, framed_firsts (k + 1) m)
 

@@ -4,10 +4,10 @@ use Rattle.std.proofs.lemmas.List.Elements.{filter-append}
 use Rattle.mely_lock.specs.Seen.{notes_of, OthersSince}
 
 module _ {N : Type 0} (pass_of : N → ℕ) where
-  pub notes_of-append : (n : ℕ) (xs ys : List N) → notes_of pass_of n (xs ++ ys) ≡ notes_of pass_of n xs ++ notes_of pass_of n ys
+  notes_of-append : (n : ℕ) (xs ys : List N) → notes_of pass_of n (xs ++ ys) ≡ notes_of pass_of n xs ++ notes_of pass_of n ys
   notes_of-append n xs ys = filter-append (λ note. eqb (pass_of note) n) xs ys
 
-  pub notes_of_other : (n : ℕ) (note : N) → pass_of note ≢ n → notes_of pass_of n (note ∷ []) ≡ []
+  notes_of_other : (n : ℕ) (note : N) → pass_of note ≢ n → notes_of pass_of n (note ∷ []) ≡ []
   notes_of_other n note ne = ap (λ b. cond b (note ∷ []) []) (ne_eqb (pass_of note) n ne)
 
   -- a pass that makes no note stands where it stood

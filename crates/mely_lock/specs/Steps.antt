@@ -1,4 +1,5 @@
--- The kinds of step, each by what its seat knows before and after it, and what two of them come to in a row.
+-- The kinds of step, each by what its seat knows before and after it, and what two
+-- of them come to in a row.
 use Rattle.std.specs.Prelude.{◌≡◌, ◌≢◌, ◌<◌, ◌≤◌, ℕ, false, List, [], ◌∷◌, ◌++◌, Option, Some, None}
 use Rattle.std.specs.List.{AllByRecursion}
 use Rattle.atomic_table.specs.Table.{Me}
@@ -12,13 +13,14 @@ module _ {N F : Type 0} where
   abbrev pub claim_with_front : Claim N F → List N → Claim N F
   claim_with_front c history = record c { front = history }
 
-  -- dealing out a pass: the seat keeps its claims but the first, which a new seat has
+  -- dealing out a pass: the seat keeps its claims but the first
   abbrev pub kept_of : SeatKnowledge N F → SeatKnowledge N F
   kept_of v = view (others v.claims) v.inside where
     others : List (Claim N F) → List (Claim N F)
     others [] = []
     others (c ∷ cs) = cs
 
+  -- and a new seat, outside, has the first of them alone; none where there was none
   abbrev pub dealt_of : SeatKnowledge N F → SeatKnowledge N F
   dealt_of v = view (first v.claims) false where
     first : List (Claim N F) → List (Claim N F)
@@ -57,11 +59,13 @@ module _ {W N F : Type 0} where
       → m' ≡ seat_outside (claim_with_front c (history_of x))
 
 module _ {W N F : Type 0} (history_of : W → List N) (pass_of : N → ℕ) (frame_of : W → F) where
-  -- the value is one that the pass may find: its history goes on from what the pass had seen, and its frame is the old one
+  -- the value is one that the pass may find: its history goes on from what the pass had seen, and
+  -- its frame is the old one
   abbrev pub Meets : Claim N F → W → Type 0
   Meets c x = OthersSince pass_of c.number c.front (history_of x) × (frame_of x ≡ c.frame)
 
-  -- after a try that found this number in the word that says who is inside: refused, unless that was 0; else inside, with the slot and all seen
+  -- after a try that found this number in the word that says who is inside: refused, unless that
+  -- was 0; else inside, with the slot and all seen
   abbrev pub Tried : Seat W N F → ℕ → Seat W N F → Type 0
   Tried m found m' = (found ≢ 0 → m' ≡ m)
       × (found ≡ 0 → (c : Claim N F) → m ≡ seat_outside c → (x : W)
@@ -72,7 +76,8 @@ module _ {W N F : Type 0} (history_of : W → List N) (pass_of : N → ℕ) (fra
   Enters m x m' = (c : Claim N F) → m ≡ seat_outside c
       → (m' ≡ seat_inside (claim_with_front c (history_of x)) None) × Meets c x
 
-  -- the lock was closed with a seat of these claims, which are those of all passes: the value x goes on from each
+  -- the lock was closed with a seat of these claims, which are those of all passes: the
+  -- value x goes on from each
   pub record Closes (frame : F) (passes : ℕ) (claims : List (Claim N F)) (x : W) : Type 0 where
     pub framed : frame_of x ≡ frame
     pub fronts : AllByRecursion (λ c. OthersSince pass_of c.number c.front (history_of x)) claims

@@ -11,9 +11,9 @@ module _ {V N F : Type 0} where
   abbrev pub lock_id : Ticketed V N F → TableId
   lock_id lock = lock.room.shared.table_id
 
-  -- the value as it was given to `new`
-  abbrev pub first_value : Ticketed V N F → V
-  first_value lock = lock.room.shared.key.value.value
+  -- the initial value: what was given to `new`
+  abbrev pub initial_value : Ticketed V N F → V
+  initial_value lock = lock.room.shared.key.value.value
 
   module _ {g : _} where
     -- what the pass has seen of the history
@@ -31,7 +31,7 @@ module _ {V N F : Type 0} where
     -- the pass is one of this lock's
     abbrev pub IsPassOf : (V → F) → Ticketed V N F → Pass V N F g → Type 0
     IsPassOf frame_of lock pass = (pass.place.table_id ≡ lock_id lock)
-        × (told_frame pass ≡ Some (frame_of (first_value lock)))
+        × (told_frame pass ≡ Some (frame_of (initial_value lock)))
 
     -- the pass is outside, and has no value in its hand
     abbrev pub IsOutside : Pass V N F g → Type 0

@@ -2,7 +2,7 @@
 ghost use Rattle.std.specs.Prelude.{◌≡◌, ℕ, ◌<◌, [], length, IfOk};
 ghost use mathlib.Core.Option.{some};
 ghost use lib.ListN.{get_elem?};
-ghost use Rattle.mely_lock.specs.Views.{first_view};
+ghost use Rattle.mely_lock.specs.Views.{initial_view};
 ghost use Rattle.mely_lock.specs.Words.{front, told_frame, IsOutside};
 
 use crate::lock_rule::{LockTable, PassSeat};
@@ -21,7 +21,7 @@ pub(crate) fn deal<V: Kept>(
     requires table { (rest.old.table_id ≡ room.now.shared.table_id)
         × (0 < room.now.shared.table_id.words) }
     requires first { rest.old.me
-        ≡ (first_view passes (V.frame_of room.now.shared.key.value.value), []) }
+        ≡ (initial_view passes (V.frame_of room.now.shared.key.value.value), []) }
     ensures count { IfOk result (λ r. length r.items ≡ passes) }
     ensures each { IfOk result (λ r. (k : ℕ) (p : _) → get_elem? r.items k ≡ some p → (p.number ≡ k)
         × (front p ≡ []) × IsOutside p × (p.place.table_id ≡ room.now.shared.table_id)

@@ -1,39 +1,45 @@
 //! A lock round a value that keeps a history, entered with a pass.
 //!
-//! Several threads share a value whose history grows by notes ([`mely_event::Kept`]), as the queues of a shard do in an
-//! event-driven runtime: each change is a note, and each note has the number of the pass that made it. [`Ticketed::new`] puts the
-//! value behind a lock and deals out the passes, one for each caller. [`Ticketed::enter`] waits until nobody is inside and gives
-//! the value, [`Held::leave`] puts it back, and once all passes are back [`Ticketed::close`] gives the value for good.
+//! Several threads share a value whose history grows by notes ([`mely_event::Kept`]), as the
+//! queues of a shard do in an event-driven runtime: each change is a note, and each note has the
+//! number of the pass that made it. [`Ticketed::new`] puts the value behind a lock and deals out
+//! the passes, one for each caller. [`Ticketed::enter`] waits until nobody is inside and gives
+//! the value, [`Held::leave`] puts it back, and once all passes are back [`Ticketed::close`]
+//! gives the value for good.
 //!
 //! ```text
 //! let (lock, mut passes) = Ticketed::new(alloc, diary, 2)?;
-//! ..
+//! let mut pass = passes.pop().ok_or("no pass")?;
 //! let mut held = lock.enter(rt, &mut pass);
 //! let wrote = held.value().add(pass.number(), text);
 //! held.leave(&mut pass);
 //! ```
 //!
-//! A contract of most locks can only say of the value what always holds of it. With a pass it says where a call stands: the
-//! history that [`Ticketed::enter`] finds begins with all that the pass had seen, and only notes of other passes lie between. After
-//! [`Held::leave`] the pass has seen the whole. So the calls that are made with a pass stand in the one history of the lock, each
+//! A contract of most locks can only say of the value what always holds of it. With a pass it says
+//! where a call stands: the history that [`Ticketed::enter`] finds begins with all that the pass
+//! had seen, and only notes of other passes lie between. After [`Held::leave`] the pass has seen
+//! the whole. So the calls that are made with a pass stand in the one history of the lock, each
 //! once, in the order in which they were made, whatever other threads do.
 //!
-//! The word that says who is inside is the ticket of a ticket lock without its queue: who comes first is not said, nor that anybody
-//! does. The lock, its passes and what is held may cross threads where the value may. It stands on `atomic_table`, whose rule this
-//! crate gives: `specs/Rule.antt` has it in five parts, and `specs/Steps.antt` the kinds of step.
+//! The word that says who is inside is the ticket of a ticket lock without its queue: who comes
+//! first is not said, nor that anybody does. The lock, its passes and what is held may cross
+//! threads where the value may. It stands on `atomic_table`, whose rule this crate gives:
+//! `specs/Rule.antt` has it in five parts, and `specs/Steps.antt` the kinds of step.
 //!
 //! # Sleeping
 //!
-//! A pass that finds another inside looks again for a while, and then sleeps until somebody leaves. Beside the words of the rule
-//! stands a count of sleepers, under no part of it: a pass raises it before it tries for the last time, and whoever leaves looks at
-//! it once the word says that nobody is inside. All these steps are sequentially consistent, so either the pass sees that nobody is
-//! inside and doesn't sleep, or who leaves sees it counted and makes the system's call that wakes a sleeper. Where nobody sleeps,
-//! entering and leaving make no system call. No contract says any of this: a lock that woke nobody would meet them all.
+//! A pass that finds another inside looks again for a while, and then sleeps until somebody leaves.
+//! Beside the words of the rule stands a count of sleepers, under no part of it: a pass raises it
+//! before it tries for the last time, and whoever leaves looks at it once the word says that nobody
+//! is inside. All these steps are sequentially consistent, so either the pass sees that nobody is
+//! inside and doesn't sleep, or who leaves sees it counted and makes the system's call that wakes a
+//! sleeper. Where nobody sleeps, entering and leaving make no system call. No contract says any of
+//! this: a lock that woke nobody would meet them all.
 //!
 //! # Large values
 //!
-//! The value is moved out of the lock at each entry and back at each leave, so that it is in one hand. Let one that is large hold
-//! what it has in a box.
+//! The value is moved out of the lock at each entry and back at each leave, so that it is in one
+//! hand. Let one that is large hold what it has in a box.
 #![tactic(auto)]
 
 mod claim;

@@ -7,9 +7,9 @@ use mely_event::Kept;
 
 /// Lets whoever has it into one lock, one at a time.
 ///
-/// A pass knows what its owner has seen of the history: contracts have it as a list, `front`, and the pass keeps its length. The
-/// notes of its own number lie in there, and nobody else can make one. A pass that is dropped while it is inside leaves the lock
-/// shut for good.
+/// A pass knows what its owner has seen of the history: contracts have it as a list, `front`, and
+/// the pass keeps its length. The notes of its own number lie in there, and nobody else can make
+/// one. A pass that is dropped while it is inside leaves the lock shut for good.
 #[derive(Drop)]
 pub struct Pass<V: Kept> {
     pub(crate) number: u16,

@@ -16,8 +16,8 @@ use std::sync::atomic::Ordering;
 /// The greatest number that the word `INSIDE` can have.
 const LAST_TICKET: u64 = 65_536;
 
-/// How often a pass tries to come in, or looks whether it could, before it sleeps. So many looks take about as long as falling asleep
-/// and being woken.
+/// How often a pass tries to come in, or looks whether it could, before it sleeps. So many looks
+/// take about as long as falling asleep and being woken.
 const SPINS: u32 = 100;
 
 impl<V: Kept> Ticketed<V> {
@@ -51,8 +51,9 @@ impl<V: Kept> Ticketed<V> {
             Enters V.history_of V.pass_of V.frame_of place.old.me x place.new.me) }
     {
         for look in 0..SPINS {
-            // Mostly nobody is inside, so the first try is made without a look. From then on a look comes first: it is cheaper than
-            // a try that is refused, which takes the word's line of memory from who is inside.
+            // Mostly nobody is inside, so the first try is made without a look. From then on a look
+            // comes first: it is cheaper than a try that is refused, which takes the word's line of
+            // memory from who is inside.
             if look == 0 || self.room.shared.peek(INSIDE) == 0 {
                 if let Some(value) = self.try_enter(place, number) {
                     return Some(value);
@@ -81,7 +82,8 @@ impl<V: Kept> Ticketed<V> {
             place.old.me result place.new.me }
     {
         for _ in rt.forever() {
-            // It is counted before it tries again: who leaves after the try finds it counted, and wakes it.
+            // It is counted before it tries again: who leaves after the try finds
+            // it counted, and wakes it.
             self.sleepers.fetch_add(1, Ordering::SeqCst);
             let entered = self.try_enter(place, number);
             if entered.is_none() {

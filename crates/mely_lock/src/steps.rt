@@ -1,17 +1,19 @@
-//! The kinds of step. A seat makes each of them in one atomic step on a word, so between two steps of one pass any number of
-//! steps of others may lie; each kind says why its own seat's knowledge stands all the same.
+//! The kinds of step. A seat makes each of them in one atomic step on a word, so between two
+//! steps of one pass any number of steps of others may lie; each kind says why its own seat's
+//! knowledge stands all the same.
 //!
-//! Two more steps touch the slot alone: who has come in takes the value out of it, and puts it back before a note. Nobody else
-//! can: the slot is then in that seat's hand.
+//! Two more steps touch the slot alone: who has come in takes the value out of it, and puts it back
+//! before a note. Nobody else can: the slot is then in that seat's hand.
 use crate::seat_knowledge::SeatKnowledge;
 use atomic_table::{Join, Play, Split};
 use mely_event::Kept;
 use std::marker::PhantomData;
 
-/// A compare-exchange of the word `INSIDE` from 0 to the pass's number and one, made by a pass that is outside.
+/// A compare-exchange of the word `INSIDE` from 0 to the pass's number and one, made
+/// by a pass that is outside.
 ///
-/// Where it found another number than 0 somebody is inside, and nothing changes. Where it found 0 nobody was, so the value was at
-/// home: the pass has its slot, and has seen its whole history.
+/// Where it found another number than 0 somebody is inside, and nothing changes. Where it found 0
+/// nobody was, so the value was at home: the pass has its slot, and has seen its whole history.
 pub(crate) struct TryEnter<V> {
     kept: PhantomData<V>,
 }
@@ -22,7 +24,8 @@ impl<V: Kept> Play<Option<V>, SeatKnowledge<V::Note, V::Frame>> for TryEnter<V> 
     ghost then = { λ _. Tried V.history_of V.pass_of V.frame_of };
 }
 
-/// One more in the word `NOTES`, made by the pass inside once its value has one note more and is back in the slot.
+/// One more in the word `NOTES`, made by the pass inside once its value has one note more
+/// and is back in the slot.
 ///
 /// While a pass is inside no other changes `NOTES`, so it has the length of the history again.
 pub(crate) struct AddNote<V> {
@@ -37,7 +40,8 @@ impl<V: Kept> Play<Option<V>, SeatKnowledge<V::Note, V::Frame>> for AddNote<V> {
 
 /// A store of 0 in the word `INSIDE`, made by the pass inside, with the value in the slot.
 ///
-/// The value goes home with the history that the pass has seen, and whoever comes in next finds it so.
+/// The value goes home with the history that the pass has seen, and whoever
+/// comes in next finds it so.
 pub(crate) struct Leave;
 
 impl<V, N, F> Play<Option<V>, SeatKnowledge<N, F>> for Leave {
@@ -69,7 +73,8 @@ impl<N, F> Split<SeatKnowledge<N, F>> for SplitPass {
     ghost right = { dealt_of };
 }
 
-/// The join of two seats that are outside, made by `close` for each pass: one has the claims of both, and the other none.
+/// The join of two seats that are outside, made by `close` for each pass: one has the claims of
+/// both, and the other none.
 pub(crate) struct JoinPass;
 
 impl<N, F> Join<SeatKnowledge<N, F>> for JoinPass {

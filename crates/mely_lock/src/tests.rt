@@ -151,7 +151,8 @@ fn write_from_threads<R: Threads + Wait + Sync>(
     );
 }
 
-/// Whether the diary has as many lines of each pass, each pass's in the order in which it wrote them.
+/// Whether the diary has as many lines of each pass, each pass's in the
+/// order in which it wrote them.
 fn has_each_in_order(diary: &Diary, next: &mut [u64], count: u64) -> bool {
     for line in &diary.lines {
         let pass = line.pass as usize;

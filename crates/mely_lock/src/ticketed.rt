@@ -1,4 +1,4 @@
-//! The lock itself.
+//! The lock itself: making it with its passes, entering it, and closing it.
 ghost use Rattle.std.specs.Prelude.{◌≡◌};
 ghost use Rattle.mely_lock.specs.Rule.{lock_words};
 
@@ -16,17 +16,19 @@ use std::snapshot::Snapshot;
 use std::sync::Wait;
 use std::sync::atomic::AtomicU32;
 
-/// A lock round a kept value, which is entered with a pass. One pass at a time is inside, with the value in its hand.
+/// A lock round a kept value, which is entered with a pass. One pass at a time is inside,
+/// with the value in its hand.
 ///
 /// Callers share it by `&`. Its passes are made with it, and no others fit it.
 #[derive(Drop)]
 pub struct Ticketed<V: Kept> {
     pub(crate) room: LockTable<V>,
     pub(crate) passes: u16,
-    /// How many passes sleep, or look once more before they do. It is under no part of the rule: it only saves the call that
-    /// wakes a sleeper where there is none.
+    /// How many passes sleep, or look once more before they do. It is under no part of the rule: it
+    /// only saves the call that wakes a sleeper where there is none.
     pub(crate) sleepers: AtomicU32,
-    /// Empty for good: all it is for is its room, which lies behind the words and the slot, as [`SPARE`] says.
+    /// Empty for good: all it is for is its room, which lies behind the words and the
+    /// slot, as [`SPARE`] says.
     pub(crate) apart: Vec<u64>,
     ghost sized: { (room.shared.table_id.words ≡ lock_words) × (room.shared.table_id.slots ≡ 1) },
     ghost counted: { room.shared.key.passes ≡ passes },
@@ -34,9 +36,10 @@ pub struct Ticketed<V: Kept> {
 
 impl<V: Kept + Drop> Ticketed<V> {
     ghost use Rattle.std.specs.Prelude.{ℕ, ◌<◌, [], length, slice_index_or, IfOk, All};
-    ghost use Rattle.mely_lock.specs.Words.{first_value, front, IsPassOf, IsOutside};
+    ghost use Rattle.mely_lock.specs.Words.{initial_value, front, IsPassOf, IsOutside};
 
-    /// A lock round `value`, whose history is empty, and its passes, 1 to 65,535, numbered from 0 in the order of the list.
+    /// A lock round `value`, whose history is empty, and its passes, 1 to 65,535, numbered from 0
+    /// in the order of the list.
     ///
     /// Each is outside and has seen nothing.
     ///
@@ -46,7 +49,7 @@ impl<V: Kept + Drop> Ticketed<V> {
     pub fn new(alloc: Global, value: V, passes: u16) -> Result<(Ticketed<V>, Vec<Pass<V>>), Memory>
         requires some { 0 < passes }
         requires empty { V.history_of value ≡ [] }
-        ensures frame { IfOk result (λ r. V.frame_of (first_value r.0) ≡ V.frame_of value) }
+        ensures frame { IfOk result (λ r. V.frame_of (initial_value r.0) ≡ V.frame_of value) }
         ensures count { IfOk result (λ r. (r.0.passes ≡ passes) × (length r.1.items ≡ passes)) }
         ensures each { IfOk result (λ r. All (λ p. IsPassOf V.frame_of r.0 p × IsOutside p
             × (front p ≡ [])) r.1.items) }
@@ -86,13 +89,15 @@ impl<V: Kept + Drop> Ticketed<V> {
 impl<V: Kept> Ticketed<V> {
     ghost use Rattle.std.specs.Prelude.{ℕ, ◌<◌, ◌≤◌, [], length, All, Any};
     ghost use Rattle.mely_lock.specs.Seen.{notes_of, OthersSince};
-    ghost use Rattle.mely_lock.specs.Words.{first_value, front, own, IsPassOf, IsOutside, IsInside};
+    ghost use Rattle.mely_lock.specs.Words.{initial_value, front, own, IsPassOf, IsOutside, IsInside};
 
     /// Waits until nobody is inside, and goes in.
     ///
-    /// `pass` is one of this lock's and is outside. The history of the value then begins with all that the pass had seen, and only
-    /// other passes made notes since; the pass has now seen the whole. The frame is as it was when the lock was made. It takes no
-    /// memory. Between two tries it may sleep until somebody leaves. Nothing is promised of when it comes in, or who is first.
+    /// `pass` is one of this lock's and is outside. The history of the value then begins with
+    /// all that the pass had seen, and only other passes made notes since; the pass has now
+    /// seen the whole. The frame is as it was when the lock was made. It takes no memory.
+    /// Between two tries it may sleep until somebody leaves. Nothing is promised of when it
+    /// comes in, or who is first.
     pub fn enter<'a, R: Wait>(&'a self, rt: &R, pass: &mut Pass<V>) -> Held<'a, V>
         requires { IsPassOf V.frame_of self.now pass.old × IsOutside pass.old }
         ensures pass { IsPassOf V.frame_of self.now pass.new × IsInside pass.new
@@ -100,7 +105,7 @@ impl<V: Kept> Ticketed<V> {
         ensures point { OthersSince V.pass_of pass.old.number (front pass.old) (front pass.new) }
         ensures seen { front pass.new ≡ V.history_of result.value }
         ensures held { (result.lock.now ≡ self.now)
-            × (V.frame_of result.value ≡ V.frame_of (first_value self.now)) }
+            × (V.frame_of result.value ≡ V.frame_of (initial_value self.now)) }
     {
         let value = self.go_in(rt, &mut pass.place, pass.number);
         pass.seen = value.notes();
@@ -111,15 +116,17 @@ impl<V: Kept> Ticketed<V> {
         }
     }
 
-    /// Gives the value back, once all passes are: as many as the lock was made with, each of this lock, none inside.
+    /// Gives the value back, once all passes are: as many as the lock was made with, each
+    /// of this lock, none inside.
     ///
-    /// The history of the value begins with what each pass had seen. Its notes of a pass's number are that pass's own, in their
-    /// order; each number that was dealt out is that of one of the passes, and there are no notes of another number. The frame is
-    /// as it was when the lock was made. It takes no memory.
+    /// The history of the value begins with what each pass had seen. Its notes of a pass's number
+    /// are that pass's own, in their order; each number that was dealt out is that of one of the
+    /// passes, and there are no notes of another number. The frame is as it was when the lock was
+    /// made. It takes no memory.
     pub fn close(self, passes: Vec<Pass<V>>) -> V
         requires all { length passes.items ≡ self.passes }
         requires each { All (λ p. IsPassOf V.frame_of self p × IsOutside p) passes.items }
-        ensures frame { V.frame_of result ≡ V.frame_of (first_value self) }
+        ensures frame { V.frame_of result ≡ V.frame_of (initial_value self) }
         ensures fronts { All (λ p.
             OthersSince V.pass_of p.number (front p) (V.history_of result)) passes.items }
         ensures own { All (λ p. notes_of V.pass_of p.number (V.history_of result)

@@ -9,7 +9,8 @@ use Rattle.mely_machine.specs.Machine.{Acts, Machine}
 use Rattle.mely_machine.specs.MachineRun.{rounds, is_quiet, DrainsTo, RunsTo}
 
 module _ {X : Type 0} (rules : Rules) (act : Acts X) where
-  -- of two counts of rounds neither is the smaller, since before each round of the other something was left
+  -- of two counts of rounds neither is the smaller, since before each round of the
+  -- other something was left
   one_drain : (before a b : Machine X) → DrainsTo rules act before a → DrainsTo rules act before b → a ≡ b
   one_drain before a b one other = one.last ∙ ap (λ (n : ℕ). rounds rules act n before) same ∙ sym other.last
     where

@@ -17,20 +17,23 @@ module _ (cost : ℕ) where
   abbrev pub class : Listed → ℕ
   class l = class_of l.mark.worth cost
 
-  -- a mark takes the place of another in this step: in its class it is since now, or where the other was of that class since when that was
+  -- a mark takes the place of another in this step: in its class it is since now, or where the
+  -- other was of that class since when that was
   abbrev pub in_place_of : Listed → ℕ → Mark → Listed
   in_place_of old now mark = record {
     mark = mark;
     since = if class old == class_of mark.worth cost then old.since else now;
   }
 
-  -- a report of what a colour is worth comes in this step: it raises the mark of its colour, where that is of the same period, and no other mark
+  -- a report of what a colour is worth comes in this step: it raises the mark of its colour, where
+  -- that is of the same period, and no other mark
   abbrev pub hears : ℕ → Colour → ℕ → ℕ → Listed → Listed
   hears now colour started worth l =
       if is_of colour l.mark && (l.mark.started == started) then in_place_of l now
       (record l.mark { worth = max l.mark.worth worth }) else l
 
-  -- the marks that may be stolen: those of colours that aren't pinned, and worth more than a steal costs
+  -- the marks that may be stolen: those of colours that aren't pinned, and
+  -- worth more than a steal costs
   abbrev pub to_steal : ℕ → List Listed → List Listed
   to_steal pinned list = filter (λ l. is_worthy cost pinned l.mark) list
 

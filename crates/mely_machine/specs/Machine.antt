@@ -1,4 +1,5 @@
--- The machine of several cores that run coloured events, as a plain value. What waits of a colour, whose it is and what it is worth is not kept: the histories say it.
+-- The machine of several cores that run coloured events, as a plain value. What waits of a colour,
+-- whose it is and what it is worth is not kept: the histories say it.
 use Rattle.std.specs.Prelude.{ℕ, List, [], ◌∷◌, ◌++◌, unwrap_or, slice_get, slice_set}
 use Rattle.mely_event.specs.declared.colour.Colour.{Colour}
 use Rattle.mely_event.specs.declared.event.Event.{Event}
@@ -16,7 +17,10 @@ pub record Acted (X : Type 0) : Type 0 where
 abbrev pub Acts : Type 0 → Type 0
 Acts X = X → Colour → Event → Acted X
 
--- what the worker of a core is at: it is free, at a place of its hunt; it has popped a mark, picked one, is to land one, or is to push one on the list of a core; or it is in a turn of so many events of a colour, with the events that are left, what it has in hand to deliver, and what is left to register
+-- what the worker of a core is at: it is free, at a place of its hunt; it has popped a mark,
+-- picked one, is to land one, or is to push one on the list of a core; or it is in a turn of so
+-- many events of a colour, with the events that are left, what it has in hand to deliver, and
+-- what is left to register
 pub data Doing : Type 0 where
   Free : (place : ℕ) → Doing
   Popped : (mark : Mark) → Doing
@@ -26,7 +30,8 @@ pub data Doing : Type 0 where
   Turning : (colour : Colour) (count : ℕ) (left : List Event) (hand : Delivery)
       (puts : List (Colour × Event)) → Doing
 
--- a history for each shard, a list of marks and a worker for each core, what the app is, and how many steps were made
+-- a history for each shard, a list of marks and a worker for each core, what the app is, and
+-- how many steps were made
 pub record Machine (X : Type 0) : Type 0 where
   pub histories : List (List Entry)
   pub lists : List (List Listed)
@@ -35,9 +40,12 @@ pub record Machine (X : Type 0) : Type 0 where
   pub made : ℕ
 
 module _ {X : Type 0} where
+  -- the history of the shard of this number; empty where there is no such shard
   abbrev pub history_at : Machine X → ℕ → List Entry
   history_at m shard = unwrap_or (slice_get m.histories shard) []
 
+  -- the marks that wait at the core of this number, the next one first; none
+  -- where there is no such core
   abbrev pub list_at : Machine X → ℕ → List Listed
   list_at m core = unwrap_or (slice_get m.lists core) []
 

@@ -12,13 +12,14 @@ use Rattle.mely_machine.specs.Listing.{Listed}
 use Rattle.mely_machine.specs.Machine.{Acts, Doing, Free, Popped, Picked, Landing, Pushing, Turning, Machine, pushes}
 use Rattle.mely_machine.specs.MachineStep.{history_for, after_entry, reports, delivery_by, step}
 
--- a schedule spelled out: the core of each step that it names, as a list of cores and how many steps of each
+-- a schedule spelled out: the core of each step that it names, as a list of cores
+-- and how many steps of each
 abbrev pub spelled_out : List (ℕ × ℕ) → List ℕ
 spelled_out schedule = flat_map (λ part. replicate part.1 part.0) schedule
 
 -- nothing was registered, every list is empty, and every worker is free
-abbrev pub first_machine : {X : Type 0} → Rules → X → Machine X
-first_machine rules app = record {
+abbrev pub initial_machine : {X : Type 0} → Rules → X → Machine X
+initial_machine rules app = record {
   histories = replicate rules.shape.shards [];
   lists = replicate rules.shape.cores [];
   workers = replicate rules.shape.cores (Free 0);
@@ -51,7 +52,8 @@ module _ {X : Type 0} (rules : Rules) where
   delivers (PushMark to mark) m = pushes to mark m
   delivers (Report to colour started worth) m = reports rules to colour started worth m
 
-  -- a registration from outside, by the pass of the number after the cores', with what follows it; it counts as a step
+  -- a registration from outside, by the pass of the number after the cores', with what
+  -- follows it; it counts as a step
   unfoldable pub post : Colour → Event → Machine X → Machine X
   post c event m =
       let registered = after_entry rules (Reg c event rules.shape.cores) m in
@@ -74,16 +76,20 @@ module _ {X : Type 0} (rules : Rules) where
     rounds zero m = m
     rounds (suc n) m = round (rounds n m)
 
-    -- a drain: so many rounds, before each of which something was left to do, and nothing is left after them. A drain need not end: two cores may steal a colour from each other for ever. Where it ends, it ends in one way
+    -- a drain: so many rounds, before each of which something was left to do, and nothing is left
+    -- after them. A drain need not end: two cores may steal a colour from each other for ever.
+    -- Where it ends, it ends in one way
     pub record DrainsTo (before after : Machine X) : Type 0 where
       pub count : ℕ
       pub busy : (n : ℕ) → n < count → is_quiet (rounds n before) ≡ false
       pub last : after ≡ rounds count before
       pub quiet : is_quiet after ≡ true
 
-    -- a whole run: an event is posted, the steps of a schedule are made, and a drain ends; the histories are those that stand then
-    pub record RunsTo (app : X) (first : Colour × Event) (schedule : List (ℕ × ℕ)) (histories : List (List Entry)) : Type 0 where
+    -- a whole run: an event is posted, the steps of a schedule are made, and a drain ends; the
+    -- histories are those that stand then
+    pub record RunsTo (app : X) (first : Colour × Event) (schedule : List (ℕ × ℕ))
+        (histories : List (List Entry)) : Type 0 where
       pub end : Machine X
       pub drains : DrainsTo
-          (steps (spelled_out schedule) (post first.0 first.1 (first_machine rules app))) end
+          (steps (spelled_out schedule) (post first.0 first.1 (initial_machine rules app))) end
       pub told : histories ≡ end.histories

@@ -1,4 +1,6 @@
--- The worker's rule as a function: what one step of a core does, a line of its table after another (libasync-smp's worker, with the batches and the worth of Mely). No call is refused in it, and memory is never wanting.
+-- The worker's rule as a function: what one step of a core does, a line of its table after another
+-- (libasync-smp's worker, with the batches and the worth of Mely). No call is refused in it, and
+-- memory is never wanting.
 use Rattle.std.specs.Prelude.{ℕ, zero, suc, ◌+◌, List, [], ◌∷◌, Option, None, Some, length, map, min, take, slice_get, nat_lt, if◌then◌else◌}
 use Rattle.mely_event.specs.declared.colour.Colour.{Colour}
 use Rattle.mely_event.specs.declared.event.Event.{Event}
@@ -14,18 +16,21 @@ use Rattle.mely_machine.specs.Listing.{Listed, hears, first_to_steal, without_co
 use Rattle.mely_machine.specs.Machine.{Acted, Acts, Doing, Free, Popped, Picked, Landing, Pushing, Turning, Machine, history_at, list_at, enters, lists_at, turns_to, pushes}
 
 module _ (rules : Rules) where
-  -- what is to be delivered after a registration on a colour that rests: where nothing of it waited before, its mark, to its owner; where something did, a report, to its owner
+  -- what is to be delivered after a registration on a colour that rests: where nothing of it waited
+  -- before, its mark, to its owner; where something did, a report, to its owner
   abbrev pub delivery_at_rest : List Event → List Entry → Colour → Delivery
   delivery_at_rest [] after c = PushMark (owner_by rules after c) (mark_by rules after c)
   delivery_at_rest (event ∷ queued) after c =
       Report (owner_by rules after c) c (begun_of after c) (worth_by rules after c)
 
-  -- and after any registration, by the history before it and after it: nothing, where the colour runs
+  -- and after any registration, by the history before it and after it:
+  -- nothing, where the colour runs
   abbrev pub delivery_by : List Entry → List Entry → Colour → Delivery
   delivery_by before after c = if nat_lt (ended_of before c) (begun_of before c) then Nothing else
       delivery_at_rest (queued_of before c) after c
 
-  -- what a worker is at when its turn has ended, by what waits of the colour: where something does, its mark goes back on the own list
+  -- what a worker is at when its turn has ended, by what waits of the colour: where something does,
+  -- its mark goes back on the own list
   abbrev pub doing_after : ℕ → List Entry → Colour → List Event → Doing
   doing_after core history c [] = Free 0
   doing_after core history c (event ∷ queued) = Pushing core (mark_by rules history c)
@@ -34,7 +39,8 @@ module _ (rules : Rules) where
   abbrev pub victims_by : ℕ → List ℕ
   victims_by core = victims_of core rules.shape.cores rules.shape.group
 
-  -- the next place of a hunt: 0 is the own list, n the n-th victim, and behind the last victim comes the own list
+  -- the next place of a hunt: 0 is the own list, n the n-th victim, and behind the last
+  -- victim comes the own list
   abbrev pub place_after : ℕ → ℕ → ℕ
   place_after core place = if nat_lt place (length (victims_by core)) then place + 1 else 0
 
@@ -64,12 +70,15 @@ module _ (rules : Rules) where
         turns_to core (Picked l.mark)
         (lists_at victim (without_colour l.mark.colour (list_at m victim)) m)
 
+    -- Free, at a place behind the own list: the victim of the place is tried, and where the place
+    -- has none the step does nothing
     abbrev pub step_hunt : Machine X → ℕ → Option ℕ → Machine X
     step_hunt m place None = m
     step_hunt m place (Some victim) =
         step_pick m place victim
         (first_to_steal rules.shape.steal_cost rules.pinned (list_at m victim))
 
+    -- Free: the own list is tried at place 0, and at place n the n-th victim
     abbrev pub step_free : Machine X → ℕ → Machine X
     step_free m zero = step_pop m (list_at m core)
     step_free m (suc n) = step_hunt m (suc n) (slice_get (victims_by core) n)
@@ -108,10 +117,14 @@ module _ (rules : Rules) where
         turns_to core (Turning c count left Nothing acted.puts) (record m { app = acted.becomes })
 
     module _ (act : Acts X) where
+      -- Turning, with nothing in hand or left to register: the next event is run, and where
+      -- none is left the turn ends
       abbrev pub step_turn : Machine X → Colour → ℕ → List Event → Machine X
       step_turn m c count (event ∷ left) = step_run m c count left (act m.app c event)
       step_turn m c count [] = step_finish m c count
 
+      -- Turning, with nothing in hand: all that the last event put is registered
+      -- before the next event is run
       abbrev pub step_puts : Machine X → Colour → ℕ → List Event → List (Colour × Event) → Machine X
       step_puts m c count left [] = step_turn m c count left
       step_puts m c count left (put ∷ puts) = step_register m c count left put puts
@@ -135,6 +148,7 @@ module _ (rules : Rules) where
       step_from m (Landing mark) = turns_to core (Free 0) (pushes core mark m)
       step_from m (Free place) = step_free m place
 
+      -- the step of a worker that is at this; nothing where the machine has no such worker
       abbrev pub step_of : Machine X → Option Doing → Machine X
       step_of m None = m
       step_of m (Some doing) = step_from m doing

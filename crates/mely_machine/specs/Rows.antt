@@ -8,7 +8,7 @@ use Rattle.mely_history.specs.declared.entry.Entry.TheVariants.{Reg, Take, Fin, 
 use Rattle.mely_machine.specs.Rules.{Rules}
 use Rattle.mely_machine.specs.Listing.{Listed, hears, first_to_steal, without_colour}
 use Rattle.mely_machine.specs.Machine.{Acts, Machine}
-use Rattle.mely_machine.specs.MachineRun.{first_machine, post, steps, rounds, is_quiet, spelled_out}
+use Rattle.mely_machine.specs.MachineRun.{initial_machine, post, steps, rounds, is_quiet, spelled_out}
 
 -- the colour of this number
 abbrev pub col : ℕ → Colour
@@ -30,7 +30,8 @@ small cores batch cost pinned = record {
   pinned = pinned;
 }
 
--- handler 0 registers nothing, handler 1 registers handler 0 with argument 0 on the colour of its argument
+-- handler 0 registers nothing, handler 1 registers handler 0 with argument 0 on
+-- the colour of its argument
 abbrev pub puts_of : ℕ → ℕ → List (Colour × Event)
 puts_of zero arg = []
 puts_of (suc h) arg = (col arg, event 0 0) ∷ []
@@ -41,13 +42,14 @@ sends x c e = record { puts = puts_of e.handler e.arg; becomes = x }
 
 -- a machine after posts
 abbrev pub after_posts : Rules → List (Colour × Event) → Machine (Unit {0})
-after_posts rules posts = fold (λ m p. post rules p.0 p.1 m) (first_machine rules tt) posts
+after_posts rules posts = fold (λ m p. post rules p.0 p.1 m) (initial_machine rules tt) posts
 
 -- a machine after posts and a schedule
 abbrev pub after : Rules → List (Colour × Event) → List (ℕ × ℕ) → Machine (Unit {0})
 after rules posts schedule = steps rules sends (spelled_out schedule) (after_posts rules posts)
 
--- the histories after so many rounds and one more, and whether nothing was left before that one and after it
+-- the histories after so many rounds and one more, and whether nothing was left
+-- before that one and after it
 abbrev pub drain_row : Rules → ℕ → Machine (Unit {0}) → List (List Entry) × Bool × Bool
 drain_row rules n m = (
   (rounds rules sends (n + 1) m).histories,
@@ -86,7 +88,8 @@ picks zero cost list = []
 picks (suc n) cost list = let found = first_to_steal cost 0 list in
     colour_taken found ++ picks n cost (left_after found list)
 
--- four marks at a cost of 20, pushed one after another, and two reports on colour 0, of which the second is of another period
+-- four marks at a cost of 20, pushed one after another, and two reports on colour 0, of which the
+-- second is of another period
 abbrev pub four : List Listed
 four =
     map (hears 20 5 (col 0) 1 90) (map (hears 20 4 (col 0) 0 45)
@@ -95,7 +98,8 @@ four =
 
 -- what small machines come to
 pub record WorkedRows : Type 0 where
-  -- the highest class first; within a class the mark that is longer in it, though another was pushed before it; and none of class 0
+  -- the highest class first; within a class the mark that is longer in it, though another was
+  -- pushed before it; and none of class 0
   pub picked : picks 4 20 four ≡ 3 ∷ 2 ∷ 0 ∷ []
   -- the report of an earlier period comes too late, and raises no mark
   pub late_report : late.histories

@@ -1,4 +1,4 @@
--- What a run goes by.
+-- What a run goes by: the rules of a setup, and what they make of a colour and its history.
 use Rattle.std.specs.Prelude.{◌≡◌, ℕ, ◌%◌, List, unwrap_or, fold, sum_by}
 use Rattle.mely_event.specs.HandlerTable.{rows_of, weight_of}
 use Rattle.mely_event.specs.declared.colour.Colour.{Colour}
@@ -10,13 +10,15 @@ use Rattle.mely_history.specs.Setup.{shape_of, handlers_of, pinned_of}
 use Rattle.mely_history.specs.Entries.{thief_on}
 use Rattle.mely_history.specs.History.{begun_of, queued_of, owner_of, worth_of}
 
--- the numbers of a setup, the time and the penalty of each handler, and below which number colours are never stolen
+-- the numbers of a setup, the time and the penalty of each handler, and below which number
+-- colours are never stolen
 pub record Rules : Type 0 where
   pub shape : Shape
   pub rows : List (ℕ × ℕ)
   pub pinned : ℕ
 
--- the rules that a setup says; a setup has more in it than it says, so that only rules are the same wherever they say the same
+-- the rules that a setup says; a setup has more in it than it says, so that only rules are the same
+-- wherever they say the same
 abbrev pub rules_of : Setup → Rules
 rules_of setup = record {
   shape = shape_of setup;
@@ -29,7 +31,8 @@ module _ (rules : Rules) where
   abbrev pub shard_by : Colour → ℕ
   shard_by c = c.0 % rules.shape.shards
 
-  -- the owner of a colour by a history: the core that stole it last; where none did, the core that it began on
+  -- the owner of a colour by a history: the core that stole it last; where none did,
+  -- the core that it began on
   abbrev pub owner_by : List Entry → Colour → ℕ
   owner_by history c =
       fold (λ core entry. unwrap_or (thief_on c entry) core) (c.0 % rules.shape.cores) history

@@ -19,9 +19,9 @@ pub append_first : {X : Type 0} (x : X) (done xs ys : List X) (n m : ℕ) → n 
 append_first x done xs ys n m is e = append_assoc done (x ∷ []) (take m ys) ∙ ap (λ zs. done ++ zs) (sym (take_first x xs ys n m is e))
 
 -- what the fields keep when the first n events are started
-pub kept_after_take : {P : Type 0} (events : List (Event × Option P)) (weights : List ℕ) (started finished left n : ℕ) → IsConsistent events weights started finished left → n ≤ length events
-    → IsConsistent (drop n events) (drop n weights) (started + n) finished (left - sum (take n weights))
-kept_after_take {P} events weights started finished left n kept le =
+pub kept_after_take : {P : Type 0} (events : List (Event × Option P)) (weights : List ℕ) (started finished worth n : ℕ) → IsConsistent events weights started finished worth → n ≤ length events
+    → IsConsistent (drop n events) (drop n weights) (started + n) finished (worth - sum (take n weights))
+kept_after_take {P} events weights started finished worth n kept le =
     let a : length (drop n events) ≡ length events - n = length-drop n events in
     let b : length (drop n weights) ≡ length weights - n = length-drop n weights in
     let s : sum (take n weights) + sum (drop n weights) ≡ sum weights = sum_by-take-drop (λ k. k) weights n in
@@ -29,6 +29,6 @@ kept_after_take {P} events weights started finished left n kept le =
       weighed = omega arith;
       counted = omega arith;
       done = omega arith;
-      left = omega arith;
+      worth = omega arith;
       small = omega arith;
     }

@@ -2,7 +2,8 @@
 use Rattle.std.specs.Prelude.{ℕ, ◌+◌, List, [], ◌∷◌, ◌++◌, Option, length, drop}
 use Rattle.mely_event.specs.declared.event.Event.{Event}
 
--- the events that wait with their loads, the oldest first; the weight of each; and how many events were started and finished
+-- the events that wait with their loads, the oldest first; the weight of each; and how many events
+-- were started and finished
 pub record ColourQueueState (P : Type 0) : Type 0 where
   pub events : List (Event × Option P)
   pub weights : List ℕ

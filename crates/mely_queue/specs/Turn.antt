@@ -4,7 +4,8 @@ use Rattle.std.specs.List.{AllByRecursion}
 use Rattle.mely_event.specs.declared.event.Event.{Event}
 use Rattle.mely_event.specs.declared.colour.Colour.{Colour}
 
--- a taken part of a colour: the state as it is, as it was given, and the events that have not been handed out
+-- a taken part of a colour: the state as it is, as it was given, and the events that
+-- have not been handed out
 pub record TurnState (S P : Type 0) : Type 0 where
   pub colour : Colour
   pub core : ℕ

@@ -35,10 +35,11 @@ fn drop_front(from: &mut VecDeque<u32>, count: usize) -> u128
     taken
 }
 
-/// The events that wait on one colour with their loads, in the order in which they were registered, and how many events were
-/// registered, started and finished on it.
+/// The events that wait on one colour with their loads, in the order in which they were registered,
+/// and how many events were registered, started and finished on it.
 ///
-/// Its time left is kept as events come and go, and is at every moment the sum of the weights of those that wait.
+/// Its time left is kept as events come and go, and is at every moment the sum of the
+/// weights of those that wait.
 #[derive(Drop)]
 pub struct ColourQueue<P> {
     events: VecDeque<(Event, Option<P>)>,
@@ -150,8 +151,8 @@ impl<P> ColourQueue<P> {
         self.finished
     }
 
-    /// Takes the first events, `batch` of them or all that wait, and counts them as started. The time left falls by their
-    /// weights.
+    /// Takes the first events, `batch` of them or all that wait, and counts them as started. The
+    /// time left falls by their weights.
     ///
     /// # Errors
     ///

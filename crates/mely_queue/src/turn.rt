@@ -6,12 +6,14 @@ use mely_event::{Colour, Event, Fits, Trail};
 use std::marker::Model;
 use std::snapshot::Snapshot;
 
-/// A taken part of a colour: its state, moved out of its home, and the events that are to be run on it, each with its load.
+/// A taken part of a colour: its state, moved out of its home, and the events that are to be run
+/// on it, each with its load.
 ///
-/// Each event that a turn is made of fits the load beside it, under the frame of the state that was given and the colour. The
-/// turn keeps the given state for contracts, whatever is written through [`Turn::state`], and hands its events out unchanged, so
-/// whoever was given a turn of events that fit is handed what fits. A turn has no `Drop`: it is spent by a finish, which takes the
-/// state home.
+/// Each event that a turn is made of fits the load beside it, under the frame of the state
+/// that was given and the colour. The turn keeps the given state for contracts, whatever is
+/// written through [`Turn::state`], and hands its events out unchanged, so whoever was given a
+/// turn of events that fit is handed what fits. A turn has no `Drop`: it is spent by a finish,
+/// which takes the state home.
 pub struct Turn<S, P> {
     colour: Colour,
     core: u16,
@@ -105,7 +107,8 @@ impl<S, P> Turn<S, P> {
         self.events.len()
     }
 
-    /// Hands out the next event with its load, in the order in which they were taken, and nothing where none is left.
+    /// Hands out the next event with its load, in the order in which they were taken, and
+    /// nothing where none is left.
     pub fn next(&mut self) -> Option<(Event, Option<P>)>
         ensures next { MatchOption result ((self.old.events ≡ []) × (self.new ≡ self.old)) (λ first.
             self.old.events ≡ first ∷ self.new.events) }
@@ -123,8 +126,8 @@ impl<S, P> Turn<S, P> {
         &mut self.state
     }
 
-    /// The state as it is, and the vector of the events that were not handed out, the next one last:
-    /// of a turn that was run an empty one, whose room may be used again.
+    /// The state as it is, and the vector of the events that were not handed out, the next one
+    /// last: of a turn that was run an empty one, whose room may be used again.
     pub fn into_parts(self) -> (S, Vec<(Event, Option<P>)>)
         ensures state { result.0 ≡ self.state }
         ensures left { reverse result.1.items ≡ self.events }

@@ -1,12 +1,15 @@
 //! A run of a weave is the run of the machine, for an app that is told by a function.
 //!
-//! `mely_machine` defines which histories a run writes, where the app is a function. A weave has queues, owners, classes and
-//! states in its place, and its app is code. This crate ties the two: where what the app has in a weave agrees with what it is by
-//! its function ([`Told`]), a run of the weave, from its first post to the end of its drain, writes the histories of the machine
-//! ([`a_run_is_the_machines`]), and the machine writes one list of histories ([`a_machine_has_one_run`]).
+//! `mely_machine` defines which histories a run writes, where the app is a function. A weave has
+//! queues, owners, classes and states in its place, and its app is code. This crate ties the two:
+//! where what the app has in a weave agrees with what it is by its function ([`Told`]), a run of
+//! the weave, from its first post to the end of its drain, writes the histories of the machine
+//! ([`a_run_is_the_machines`]), and the machine writes one list of histories
+//! ([`a_machine_has_one_run`]).
 //!
-//! An app's author says what the function is and when what the app has agrees with it, and proves three things of a handler's run
-//! (`IsTold`, in `specs/Pieces.antt`): no shard, chain or worker occurs in them. [`run_whole`] is the whole run as a call.
+//! An app's author says what the function is and when what the app has agrees with it, and proves
+//! three things of a handler's run (`IsTold`, in `specs/Pieces.antt`): no shard, chain or worker
+//! occurs in them. [`run_whole`] is the whole run as a call.
 //!
 //! ```text
 //! a_run_is_the_machines::<State, Load, App>();
@@ -18,7 +21,7 @@ ghost use Rattle.std.specs.Prelude.{◌≡◌, ◌<◌, ◌^◌, ℕ, All, IfSom
 ghost use Rattle.mely_history.specs.Setup.{shape_of};
 ghost use Rattle.mely_worker.specs.Access.{FitsSetup};
 ghost use Rattle.mely_worker.specs.Conditions.{AppServes};
-ghost use Rattle.mely_weave.specs.Making.{AreFirst};
+ghost use Rattle.mely_weave.specs.Making.{AreInitial};
 ghost use Rattle.mely_run.specs.WholeRuns.{IsWholeRun};
 
 mod told;
@@ -32,9 +35,10 @@ use std::alloc::Global;
 use std::sync::Wait;
 pub use told::{Told, a_run_is_the_machines};
 
-/// A run of an app on a weave: the weave is made of the states, an event is posted, the steps of a schedule are made, and the
-/// weave is drained. It answers the parts of the weave, with the histories by shard and the states that are left, or nothing
-/// for want of memory. It need not return, since a drain need not.
+/// A run of an app on a weave: the weave is made of the states, an event is posted, the steps of a
+/// schedule are made, and the weave is drained. It answers the parts of the weave, with the
+/// histories by shard and the states that are left, or nothing for want of memory. It need not
+/// return, since a drain need not.
 pub fn run_whole<W: Wait, S: Fits<P> + Drop, P: Drop, R: App<State = S, Load = P>>(
     rt: &W,
     alloc: Global,
@@ -46,7 +50,7 @@ pub fn run_whole<W: Wait, S: Fits<P> + Drop, P: Drop, R: App<State = S, Load = P
     load: Option<P>,
     schedule: &[(u16, u32)],
 ) -> Option<WeaveParts<S, P>>
-    requires states { AreFirst S.Trail setup.now states.items }
+    requires states { AreInitial S.Trail setup.now states.items }
     requires some { 0 < length states.items }
     requires fits { (state : S) → slice_get states.items 0 ≡ Some state
         → FitsSetup S.fits_under setup.now (S.frame_of state) (colour, event, load) }

@@ -15,31 +15,33 @@ use mely_worker::App;
 
 /// An app of which a function tells what each event registers.
 ///
-/// Whoever implements it says what the app is for the function, gives the function, and says when what the app has in a weave, its
-/// states and the events that are to come with their loads, agrees with what it is. The law `is_told` is then to be proved.
+/// Whoever implements it says what the app is for the function, gives the function, and says when
+/// what the app has in a weave, its states and the events that are to come with their loads, agrees
+/// with what it is. The law `is_told` is then to be proved.
 pub trait Told: App {
     /// What the app is, for the function.
     type Is;
 
-    /// The function.
+    /// What the app registers by an event of a colour, and what it is then, of what it was.
     ghost acts: { Self → Acts Self.Is };
 
-    /// What the app has in a weave agrees with what it is.
+    /// What the app has in a weave, in whatever order, agrees with what it is.
     ghost agrees: { Self → Self.Is → List (Piece Self.State Self.Load) → Type 0 };
 
-    /// A state on which the function doesn't tell any more what follows, as after want of memory; false where
-    /// there is none.
+    /// A state on which the function doesn't tell any more what follows, as after want of memory;
+    /// false where there is none.
     ghost spoilt: { Self → Self.State → Bool };
 
-    /// Where the two agree, a handler that leaves its state unspoilt registers what the function says, and the two
-    /// agree again.
+    /// Where the two agree, a handler that leaves its state unspoilt registers what the function
+    /// says, and the two agree again.
     ghost is_told: { (app : Self) (frame : Self.State.Frame)
         → IsTold Self.State.Trail Self.State.fits_under Self.App app frame
         (acts app) (agrees app) (spoilt app) };
 }
 
-/// The law of this crate, for contracts alone: where what the app has at first, and the event that is posted, agree with what
-/// it is, a run of a weave after which no state is spoilt writes the histories that the machine writes. A call does nothing.
+/// The law of this crate, for contracts alone: where what the app has at first, and the event that
+/// is posted, agree with what it is, a run of a weave after which no state is spoilt writes the
+/// histories that the machine writes. A call does nothing.
 pub fn a_run_is_the_machines<S: Fits<P>, P, R: Told<State = S, Load = P>>()
     ensures { (app : R) (setup : Setup) (states : List S) (c : Colour)
         (event : Event) (load : Option P)

@@ -16,7 +16,7 @@ use Rattle.mely_history.specs.History.{queued_of, IsRunning}
 use Rattle.mely_history.specs.Legal.{IsDrainedOf}
 use Rattle.mely_shard.specs.declared.colour_slot.ColourSlot.{ColourSlot}
 use Rattle.mely_shard.specs.Shard.{colour_at}
-use Rattle.mely_shard.specs.Invariant.{IsKeptShard, SlotStands, StateStands, AreAtHome}
+use Rattle.mely_shard.specs.Invariant.{IsConsistentShard, SlotStands, StateStands, AreAtHome}
 use Rattle.mely_shard.specs.Replies.{slot_is_drained}
 use Rattle.mely_shard.proofs.SlotLemmas.{shard_of_colour_at}
 use Rattle.mely_shard.proofs.RegisterLemmas.{slot_there}
@@ -46,7 +46,7 @@ pub map_twice : {X Y Z : Type 0} (f : Y → Z) (h : X → Y) (xs : List X) → m
 map_twice f h [] = refl
 map_twice f h (x ∷ xs) = ap (λ zs. f (h x) ∷ zs) (map_twice f h xs)
 
-module _ {S P F : Type 0} {t : TrailWords S F} {fits : F → Colour → Event → Option P → Type 0} {setup : Setup} {shard : ℕ} {history : List Entry} {slots : List (ColourSlot S P)} {running capacity : ℕ} (kept : IsKeptShard t fits setup shard history slots running capacity) where
+module _ {S P F : Type 0} {t : TrailWords S F} {fits : F → Colour → Event → Option P → Type 0} {setup : Setup} {shard : ℕ} {history : List Entry} {slots : List (ColourSlot S P)} {running capacity : ℕ} (kept : IsConsistentShard t fits setup shard history slots running capacity) where
   -- the colour of a place is one of the shard, and its slot stands
   stands_at : (i : ℕ) (slot : ColourSlot S P) → slice_get slots i ≡ Some slot → SlotStands t fits setup (colour_at setup shard i) (account_of setup history (colour_at setup shard i)) slot
   stands_at i slot is = subst (λ b. SlotStands t fits setup (colour_at setup shard i) (account_of setup history (colour_at setup shard i)) b) (get_or_from_slice_get slots i slot slot is) (kept.each i slot (slice_get_within slots i slot is))

@@ -18,7 +18,7 @@ use Rattle.std.specs.Prelude.{if◌then◌else◌, is_none}
 use Rattle.mely_shard.specs.declared.colour_slot.ColourSlot.{ColourSlot}
 use Rattle.mely_shard.specs.Shard.{ColourState, IsConsistent, LaneStands, HomeStands, ReadyAs}
 use Rattle.mely_history.specs.ColourAccount.{account_of}
-use Rattle.mely_shard.specs.Invariant.{IsKeptShard, SlotStands, StateStands, lane_of}
+use Rattle.mely_shard.specs.Invariant.{IsConsistentShard, SlotStands, StateStands, lane_of}
 use Rattle.mely_shard.specs.Replies.{ready_of}
 use Rattle.std.specs.Prelude.{is_some, ◌&&◌}
 use Rattle.std.proofs.Math.Seq.{map-set_same}
@@ -40,7 +40,7 @@ count_by-map p f [] = refl
 count_by-map p f (x ∷ xs) =
     sum_by-cons (λ y. cond (p y) 1 0) (f x) (map f xs) ∙ ap (λ n. cond (p (f x)) 1 0 + n) (count_by-map p f xs) ∙ sym (sum_by-cons (λ y. cond (p (f y)) 1 0) x xs)
 
-module _ {S P F : Type 0} {t : TrailWords S F} {fits : F → Colour → Event → Option P → Type 0} {setup : Setup} {shard : ℕ} {history : List Entry} {slots : List (ColourSlot S P)} {running capacity : ℕ} (kept : IsKeptShard t fits setup shard history slots running capacity) where
+module _ {S P F : Type 0} {t : TrailWords S F} {fits : F → Colour → Event → Option P → Type 0} {setup : Setup} {shard : ℕ} {history : List Entry} {slots : List (ColourSlot S P)} {running capacity : ℕ} (kept : IsConsistentShard t fits setup shard history slots running capacity) where
   home_stands : (c : Colour) (given : S) (core count : ℕ) (home : Option S) → StateStands t c given (account_of setup history c) core count home → HomeStands t history c given home
   home_stands c given core count None stands = omega (arith, stands.1, stands.2)
   home_stands c given core count (Some state) stands = stands

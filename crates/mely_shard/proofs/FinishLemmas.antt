@@ -22,14 +22,14 @@ use Rattle.mely_queue.specs.ColourQueue.{finished_by}
 use Rattle.mely_shard.specs.declared.colour_slot.ColourSlot.{ColourSlot}
 use Rattle.mely_shard.specs.Shard.{AfterAs}
 use Rattle.mely_history.specs.ColourAccount.{ColourAccount, account_of, next_account}
-use Rattle.mely_shard.specs.Invariant.{IsKeptShard, SlotStands, StateStands, is_away}
+use Rattle.mely_shard.specs.Invariant.{IsConsistentShard, SlotStands, StateStands, is_away}
 use Rattle.mely_shard.specs.Shard.{colour_at}
 use Rattle.mely_shard.specs.Replies.{after_of}
 use Rattle.mely_history.proofs.ColourAccountLemmas.{account-own}
 use Rattle.mely_shard.proofs.SlotLemmas.{kept_after}
 use Rattle.mely_shard.proofs.RegisterLemmas.{colour_at-place, slot_there}
 
-module _ {S P F : Type 0} {t : TrailWords S F} {fits : F → Colour → Event → Option P → Type 0} {setup : Setup} {shard : ℕ} {history : List Entry} {slots : List (ColourSlot S P)} {running capacity : ℕ} (kept : IsKeptShard t fits setup shard history slots running capacity) where
+module _ {S P F : Type 0} {t : TrailWords S F} {fits : F → Colour → Event → Option P → Type 0} {setup : Setup} {shard : ℕ} {history : List Entry} {slots : List (ColourSlot S P)} {running capacity : ℕ} (kept : IsConsistentShard t fits setup shard history slots running capacity) where
   -- a colour that runs has its state away
   runs_away : (c : Colour) (given : S) (core count : ℕ) (home : Option S) → StateStands t c given (account_of setup history c) core count home → IsRunning history c → (home ≡ None) × (last_take history c ≡ Some (core, count)) × (begun_of history c ≡ ended_of history c + count)
   runs_away c given core count None stands runs = (refl, stands.0, stands.1)
@@ -45,7 +45,7 @@ module _ {S P F : Type 0} {t : TrailWords S F} {fits : F → Colour → Event �
       (at.0, at.2 ∙ ap (λ n. ended_of history c + n) same)
 
   -- one state fewer is away
-  pub one_fewer : (all : List (ColourSlot S P)) (i : ℕ) (slot after : ColourSlot S P) → i < length all → slot ≡ get_or all i slot → slot.home ≡ None → is_away after ≡ false → count_by is_away (set all i after) + 1 ≡ count_by is_away all
+  one_fewer : (all : List (ColourSlot S P)) (i : ℕ) (slot after : ColourSlot S P) → i < length all → slot ≡ get_or all i slot → slot.home ≡ None → is_away after ≡ false → count_by is_away (set all i after) + 1 ≡ count_by is_away all
   one_fewer all i slot after lt is none home =
       let one : Bool → ℕ = λ t. cond t 1 0 in
       let sums = sum_by-set (λ b. one (is_away b)) all i after slot lt in
@@ -76,7 +76,7 @@ module _ {S P F : Type 0} {t : TrailWords S F} {fits : F → Colour → Event �
   -- a finish keeps what the fields keep
   pub kept_finished : (c : Colour) (core count : ℕ) (state : S) (slot : ColourSlot S P) → c.0 < colours_of setup → c.0 % (shape_of setup).shards ≡ shard
       → slot ≡ get_or slots (c.0 / (shape_of setup).shards) slot → IsRunningOn history c core count → t.colour_of state ≡ c → t.frame_of state ≡ t.frame_of slot.given.value → t.trail_of state ≡ take (begun_of history c) (registered_of history c)
-      → (1 ≤ running) × IsKeptShard t fits setup shard (history ++ Fin c core count ∷ []) (set slots (c.0 / (shape_of setup).shards) (record slot { queue = finished_by slot.queue count; home = Some state })) (running - 1) capacity
+      → (1 ≤ running) × IsConsistentShard t fits setup shard (history ++ Fin c core count ∷ []) (set slots (c.0 / (shape_of setup).shards) (record slot { queue = finished_by slot.queue count; home = Some state })) (running - 1) capacity
   kept_finished c core count state slot there here is away of_colour of_frame of_trail =
       let i = c.0 / (shape_of setup).shards in
       let place : i < length slots = kept.whole c.0 there here in

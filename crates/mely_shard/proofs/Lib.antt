@@ -1,5 +1,5 @@
 mod SlotLemmas
-mod FirstSlotLemmas
+mod InitialSlotLemmas
 mod EndLemmas
 pub mod DrainedLemmas
 pub mod TurnLemmas

@@ -24,7 +24,7 @@ use Rattle.mely_queue.specs.ColourQueue.{after_push, registered_in}
 use Rattle.mely_shard.specs.declared.colour_slot.ColourSlot.{ColourSlot}
 use Rattle.mely_shard.specs.Shard.{RegisteredAs}
 use Rattle.mely_history.specs.ColourAccount.{ColourAccount, account_of, next_account}
-use Rattle.mely_shard.specs.Invariant.{IsKeptShard, SlotStands, StateStands, is_away, lane_of}
+use Rattle.mely_shard.specs.Invariant.{IsConsistentShard, SlotStands, StateStands, is_away, lane_of}
 use Rattle.mely_shard.specs.Shard.{colour_at}
 use Rattle.mely_shard.specs.declared.room.TheConstants.{MAX_ENTRIES}
 use Rattle.mely_shard.specs.Replies.{reply_of}
@@ -43,13 +43,13 @@ length-filter_map-le f (x ∷ xs) = let h = length-filter_map-le f xs in longest
     longest None ys n h = omega arith
     longest (Some y) ys n h = omega arith
 
-module _ {S P F : Type 0} {t : TrailWords S F} {fits : F → Colour → Event → Option P → Type 0} {setup : Setup} {shard : ℕ} {history : List Entry} {slots : List (ColourSlot S P)} {running capacity : ℕ} (kept : IsKeptShard t fits setup shard history slots running capacity) where
+module _ {S P F : Type 0} {t : TrailWords S F} {fits : F → Colour → Event → Option P → Type 0} {setup : Setup} {shard : ℕ} {history : List Entry} {slots : List (ColourSlot S P)} {running capacity : ℕ} (kept : IsConsistentShard t fits setup shard history slots running capacity) where
   -- more room
-  pub kept_with_room : (capacity' : ℕ) → capacity ≤ capacity' → capacity' ≤ MAX_ENTRIES → IsKeptShard t fits setup shard history slots running capacity'
+  pub kept_with_room : (capacity' : ℕ) → capacity ≤ capacity' → capacity' ≤ MAX_ENTRIES → IsConsistentShard t fits setup shard history slots running capacity'
   kept_with_room capacity' le limited = record { legal = kept.legal; numbered = kept.numbered; whole = kept.whole; only = kept.only; each = kept.each; own = kept.own; frames = kept.frames; counted = kept.counted; room = omega (arith, kept.room); limited = limited }
 
   -- the slot of a colour
-  pub slot_stands : (c : Colour) (d : ColourSlot S P) → c.0 < colours_of setup → c.0 % (shape_of setup).shards ≡ shard → SlotStands t fits setup c (account_of setup history c) (get_or slots (c.0 / (shape_of setup).shards) d)
+  slot_stands : (c : Colour) (d : ColourSlot S P) → c.0 < colours_of setup → c.0 % (shape_of setup).shards ≡ shard → SlotStands t fits setup c (account_of setup history c) (get_or slots (c.0 / (shape_of setup).shards) d)
   slot_stands c d there here = subst (λ k. SlotStands t fits setup k (account_of setup history k) (get_or slots (c.0 / (shape_of setup).shards) d)) (colour_at-place setup shard c here) (kept.each (c.0 / (shape_of setup).shards) d (kept.whole c.0 there here))
 
   -- fewer than 2 ^ 64 were registered
@@ -71,7 +71,7 @@ module _ {S P F : Type 0} {t : TrailWords S F} {fits : F → Colour → Event �
   -- a registration keeps what the fields keep
   pub kept_registered : (c : Colour) (event : Event) (load : Option P) (by capacity' : ℕ) (slot : ColourSlot S P) → c.0 < colours_of setup → c.0 % (shape_of setup).shards ≡ shard
       → slot ≡ get_or slots (c.0 / (shape_of setup).shards) slot → MayRegister setup c event → fits (t.frame_of slot.given.value) c event load → length history + 1 + running ≤ capacity' → capacity' ≤ MAX_ENTRIES
-      → IsKeptShard t fits setup shard (history ++ Reg c event by ∷ []) (set slots (c.0 / (shape_of setup).shards) (record slot { queue = after_push slot.queue event load (weight setup event) })) running capacity'
+      → IsConsistentShard t fits setup shard (history ++ Reg c event by ∷ []) (set slots (c.0 / (shape_of setup).shards) (record slot { queue = after_push slot.queue event load (weight setup event) })) running capacity'
   kept_registered c event load by capacity' slot there here is may fit room limited =
       let i = c.0 / (shape_of setup).shards in
       let place : i < length slots = kept.whole c.0 there here in

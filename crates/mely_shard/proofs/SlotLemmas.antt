@@ -19,7 +19,7 @@ use Rattle.mely_queue.specs.ColourQueue.{after_push}
 use Rattle.mely_shard.specs.declared.colour_slot.ColourSlot.{ColourSlot}
 use Rattle.mely_history.specs.ColourAccount.{ColourAccount, account_of, next_account}
 use Rattle.mely_history.specs.Entries.{colour_of}
-use Rattle.mely_shard.specs.Invariant.{HasRoom, IsKeptShard, SlotStands, StateStands, is_away}
+use Rattle.mely_shard.specs.Invariant.{HasRoom, IsConsistentShard, SlotStands, StateStands, is_away}
 use Rattle.mely_shard.specs.Shard.{colour_at}
 use Rattle.mely_shard.specs.declared.room.TheConstants.{MAX_ENTRIES}
 use Rattle.mely_history.proofs.ColourAccountLemmas.{account-own, account-other}
@@ -65,13 +65,13 @@ state_registered t c given s event by core count le (Some state) stands = (stand
 module _ {S P F : Type 0} {t : TrailWords S F} {fits : F → Colour → Event → Option P → Type 0} {setup : Setup} where
   -- one entry more, and the slot of its colour changed to one that has what the history then says
   pub kept_after : {shard : ℕ} {history : List Entry} {slots : List (ColourSlot S P)} {running capacity : ℕ} (entry : Entry) (i : ℕ) (slot : ColourSlot S P) (running' capacity' : ℕ)
-      → IsKeptShard t fits setup shard history slots running capacity
+      → IsConsistentShard t fits setup shard history slots running capacity
       → i < length slots → (colour_of entry).0 ≡ (colour_at setup shard i).0 → IsAllowed setup history entry
       → SlotStands t fits setup (colour_at setup shard i) (next_account (account_of setup history (colour_at setup shard i)) entry) slot
       → t.frame_of slot.given.value ≡ t.frame_of (get_or slots i slot).given.value
       → running' ≡ count_by is_away (set slots i slot)
       → length history + 1 + running' ≤ capacity' → capacity' ≤ MAX_ENTRIES
-      → IsKeptShard t fits setup shard (history ++ entry ∷ []) (set slots i slot) running' capacity'
+      → IsConsistentShard t fits setup shard (history ++ entry ∷ []) (set slots i slot) running' capacity'
   kept_after {shard} {history} {slots} entry i slot running' capacity' kept there is may stands same_frame counted room limited = record {
     legal = legal-append setup history entry kept.legal may;
     numbered = kept.numbered;

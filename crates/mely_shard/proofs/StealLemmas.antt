@@ -24,14 +24,14 @@ use Rattle.mely_queue.specs.ColourQueue.{registered_in}
 use Rattle.mely_shard.specs.declared.colour_slot.ColourSlot.{ColourSlot}
 use Rattle.mely_shard.specs.Shard.{NoStealAs}
 use Rattle.mely_history.specs.ColourAccount.{account_of, next_account}
-use Rattle.mely_shard.specs.Invariant.{IsKeptShard, SlotStands, StateStands}
+use Rattle.mely_shard.specs.Invariant.{IsConsistentShard, SlotStands, StateStands}
 use Rattle.mely_shard.specs.Shard.{colour_at}
 use Rattle.mely_shard.specs.declared.room.TheConstants.{MAX_ENTRIES}
 use Rattle.mely_shard.specs.Replies.{no_steal_of}
 use Rattle.mely_shard.proofs.SlotLemmas.{kept_after}
 use Rattle.mely_shard.proofs.RegisterLemmas.{colour_at-place, slot_there, same_count}
 
-module _ {S P F : Type 0} {t : TrailWords S F} {fits : F → Colour → Event → Option P → Type 0} {setup : Setup} {shard : ℕ} {history : List Entry} {slots : List (ColourSlot S P)} {running capacity : ℕ} (kept : IsKeptShard t fits setup shard history slots running capacity) where
+module _ {S P F : Type 0} {t : TrailWords S F} {fits : F → Colour → Event → Option P → Type 0} {setup : Setup} {shard : ℕ} {history : List Entry} {slots : List (ColourSlot S P)} {running capacity : ℕ} (kept : IsConsistentShard t fits setup shard history slots running capacity) where
   -- what a refusal says, and what is known where there is none
   abbrev pub Refuses : Colour → ℕ → Option NoSteal → Type 0
   Refuses c to (Some refusal) = NoStealAs setup history c to refusal
@@ -56,7 +56,7 @@ module _ {S P F : Type 0} {t : TrailWords S F} {fits : F → Colour → Event �
   -- a steal keeps what the fields keep
   pub kept_stolen : (c : Colour) → pinned_of setup ≤ c.0 → (to capacity' : ℕ) (slot : ColourSlot S P) → c.0 < colours_of setup → c.0 % (shape_of setup).shards ≡ shard → slot ≡ get_or slots (c.0 / (shape_of setup).shards) slot
       → to < (shape_of setup).cores → Refuses c to None → length history + 1 + running ≤ capacity' → capacity' ≤ MAX_ENTRIES
-      → MaySteal setup history c slot.owner to × IsKeptShard t fits setup shard (history ++ Steal c slot.owner to ∷ []) (set slots (c.0 / (shape_of setup).shards) (record slot { owner = to })) running capacity'
+      → MaySteal setup history c slot.owner to × IsConsistentShard t fits setup shard (history ++ Steal c slot.owner to ∷ []) (set slots (c.0 / (shape_of setup).shards) (record slot { owner = to })) running capacity'
   kept_stolen c free to capacity' slot there here is core ready room limited =
       let i = c.0 / (shape_of setup).shards in
       let place : i < length slots = kept.whole c.0 there here in

@@ -30,7 +30,7 @@ use Rattle.mely_queue.specs.ColourQueue.{after_take, registered_in}
 use Rattle.mely_shard.specs.declared.colour_slot.ColourSlot.{ColourSlot}
 use Rattle.mely_shard.specs.Shard.{ColourState, NoTakeAs, IsLaneAlike, IsRoomier, AreAlike}
 use Rattle.mely_history.specs.ColourAccount.{ColourAccount, account_of, next_account}
-use Rattle.mely_shard.specs.Invariant.{IsKeptShard, SlotStands, StateStands, is_away, lane_of}
+use Rattle.mely_shard.specs.Invariant.{IsConsistentShard, SlotStands, StateStands, is_away, lane_of}
 use Rattle.mely_shard.specs.Shard.{colour_at}
 use Rattle.mely_shard.specs.declared.room.TheConstants.{MAX_ENTRIES}
 use Rattle.mely_shard.specs.Replies.{no_take_of, SlotKeepsState}
@@ -55,7 +55,7 @@ pub record RoomierLaws {S F : Type 0} (t : TrailWords S F) : Type 0 where
   pub colour : (s u : S) → IsRoomier t s u → t.colour_of s ≡ t.colour_of u
   pub frame : (s u : S) → IsRoomier t s u → t.frame_of s ≡ t.frame_of u
 
-module _ {S P F : Type 0} {t : TrailWords S F} {fits : F → Colour → Event → Option P → Type 0} {setup : Setup} {shard : ℕ} {history : List Entry} {slots : List (ColourSlot S P)} {running capacity : ℕ} (kept : IsKeptShard t fits setup shard history slots running capacity) where
+module _ {S P F : Type 0} {t : TrailWords S F} {fits : F → Colour → Event → Option P → Type 0} {setup : Setup} {shard : ℕ} {history : List Entry} {slots : List (ColourSlot S P)} {running capacity : ℕ} (kept : IsConsistentShard t fits setup shard history slots running capacity) where
   -- a state at home, as the history has it
   pub record IsHome (c : Colour) (given state : S) : Type 0 where
     pub trailed : t.trail_of state ≡ take (ended_of history c) (registered_of history c)
@@ -103,7 +103,7 @@ module _ {S P F : Type 0} {t : TrailWords S F} {fits : F → Colour → Event �
   pub kept_taken : (c : Colour) (core capacity' : ℕ) (slot after : ColourSlot S P) → c.0 < colours_of setup → c.0 % (shape_of setup).shards ≡ shard → slot ≡ get_or slots (c.0 / (shape_of setup).shards) slot
       → Refuses c core slot.given.value slot.home None → (n : ℕ) → n ≡ min (shape_of setup).batch (length slot.queue.events) → 1 ≤ (shape_of setup).batch
       → after ≡ record slot { queue = after_take slot.queue n; home = None; core = core; count = n } → length history + 2 + running ≤ capacity' → capacity' ≤ MAX_ENTRIES
-      → MayTake setup history c core n × IsKeptShard t fits setup shard (history ++ Take c core n ∷ []) (set slots (c.0 / (shape_of setup).shards) after) (running + 1) capacity'
+      → MayTake setup history c core n × IsConsistentShard t fits setup shard (history ++ Take c core n ∷ []) (set slots (c.0 / (shape_of setup).shards) after) (running + 1) capacity'
   kept_taken c core capacity' slot after there here is ready n n_is batch after_is room limited =
       let i = c.0 / (shape_of setup).shards in
       let place : i < length slots = kept.whole c.0 there here in
@@ -141,7 +141,7 @@ module _ {S P F : Type 0} {t : TrailWords S F} {fits : F → Colour → Event �
   kept_slot : (i : ℕ) (slot after : ColourSlot S P) (capacity' : ℕ) → i < length slots → slot ≡ get_or slots i slot
       → SlotStands t fits setup (colour_at setup shard i) (account_of setup history (colour_at setup shard i)) after
       → t.frame_of after.given.value ≡ t.frame_of slot.given.value → is_away after ≡ is_away slot → capacity ≤ capacity' → capacity' ≤ MAX_ENTRIES
-      → IsKeptShard t fits setup shard history (set slots i after) running capacity'
+      → IsConsistentShard t fits setup shard history (set slots i after) running capacity'
   kept_slot i slot after capacity' there is stands same_frame same_home room limited =
       let same : t.frame_of after.given.value ≡ t.frame_of (get_or slots i after).given.value = same_frame ∙ ap (λ b. t.frame_of b.given.value) is ∙ ap (λ b. t.frame_of b.given.value) (get_or_default slots i slot after there) in
       record {
@@ -167,7 +167,7 @@ module _ {S P F : Type 0} {t : TrailWords S F} {fits : F → Colour → Event �
   module _ (laws : RoomierLaws t) where
     -- a greater spare keeps what the fields keep
     pub kept_alike : (c : Colour) (slot after : ColourSlot S P) (capacity' : ℕ) → c.0 < colours_of setup → c.0 % (shape_of setup).shards ≡ shard → slot ≡ get_or slots (c.0 / (shape_of setup).shards) slot
-        → SlotKeepsState t slot after → capacity ≤ capacity' → capacity' ≤ MAX_ENTRIES → IsKeptShard t fits setup shard history (set slots (c.0 / (shape_of setup).shards) after) running capacity'
+        → SlotKeepsState t slot after → capacity ≤ capacity' → capacity' ≤ MAX_ENTRIES → IsConsistentShard t fits setup shard history (set slots (c.0 / (shape_of setup).shards) after) running capacity'
     kept_alike c slot after capacity' there here is keeps room limited =
         let i = c.0 / (shape_of setup).shards in
         let place : i < length slots = kept.whole c.0 there here in
@@ -189,7 +189,7 @@ module _ {S P F : Type 0} {t : TrailWords S F} {fits : F → Colour → Event �
         (ap (λ b. t.frame_of b.given.value) keeps.left) (ap is_away keeps.left ∙ sym (ap is_none keeps.was)) room limited
 
     -- two states that are the same but for the spare, or the same
-    pub alike_options : (o : Option S) → AreAlike (IsRoomier t) o o
+    alike_options : (o : Option S) → AreAlike (IsRoomier t) o o
     alike_options None = tt
     alike_options (Some s) = laws.itself s
 

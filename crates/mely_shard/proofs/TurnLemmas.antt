@@ -42,7 +42,8 @@ module _ {S P F : Type 0} {t : TrailWords S F} {fits : F → Colour → Event �
         fit = stands.fit;
       }
 
--- a turn still stands after one of its events was run: the event has joined the trail of its state, whose colour and frame stayed
+-- a turn still stands after one of its events was run: the event has joined the trail of its state,
+-- whose colour and frame stayed
 pub turn_ran : {S P F : Type 0} {t : TrailWords S F} {fits : F → Colour → Event → Option P → Type 0} {has : ShardState S P} {old new : TurnState S P} (first : Event × Option P) → TurnStands t fits has old
     → old.events ≡ first ∷ new.events → new.colour ≡ old.colour → new.core ≡ old.core → new.count ≡ old.count
     → t.trail_of new.state ≡ t.trail_of old.state ++ first.0 ∷ [] → t.colour_of new.state ≡ t.colour_of old.state → t.frame_of new.state ≡ t.frame_of old.state

@@ -34,7 +34,9 @@ StateStands t c given s core count (Some state) = (s.begun ≡ s.ended)
     × (t.frame_of state ≡ t.frame_of given)
 
 -- a slot has what the history says of its colour
-pub record SlotStands {S P F : Type 0} (t : TrailWords S F) (fits : F → Colour → Event → Option P → Type 0) (setup : Setup) (c : Colour) (s : ColourAccount) (slot : ColourSlot S P) : Type 0 where
+pub record SlotStands {S P F : Type 0} (t : TrailWords S F)
+    (fits : F → Colour → Event → Option P → Type 0) (setup : Setup) (c : Colour) (s : ColourAccount)
+    (slot : ColourSlot S P) : Type 0 where
   pub events : map (λ e. e.0) slot.queue.events ≡ drop s.begun s.registered
   pub weights : slot.queue.weights ≡ map (weight setup) (drop s.begun s.registered)
   pub started : slot.queue.started ≡ s.begun
@@ -51,18 +53,19 @@ pub record HasRoom (states states_room queues queues_room places : ℕ) : Type 0
   pub room_for_states : places ≤ states_room
   pub room_for_queues : places ≤ queues_room
 
--- a slot at first
-pub record IsFirstSlot {S P : Type 0} (setup : Setup) (c : ℕ) (state : S) (slot : ColourSlot S P) : Type 0 where
+-- the initial slot of a colour
+pub record IsInitialSlot {S P : Type 0} (setup : Setup) (c : ℕ) (state : S)
+    (slot : ColourSlot S P) : Type 0 where
   pub queue : slot.queue ≡ record { events = []; weights = []; started = 0; finished = 0 }
   pub home : slot.home ≡ Some state
   pub given : slot.given.value ≡ state
   pub owner : slot.owner ≡ c % (shape_of setup).cores
 
--- the slots of the first states of a shard
-abbrev pub AreFirstSlots : {S P : Type 0} → Setup → ℕ → List S → List (ColourSlot S P) → Type 0
-AreFirstSlots {S} {P} setup shard states slots = (i : ℕ) (state : S) (slot : ColourSlot S P)
+-- the slots of the initial states of a shard
+abbrev pub AreInitialSlots : {S P : Type 0} → Setup → ℕ → List S → List (ColourSlot S P) → Type 0
+AreInitialSlots {S} {P} setup shard states slots = (i : ℕ) (state : S) (slot : ColourSlot S P)
     → slice_get states i ≡ Some state → slice_get slots i ≡ Some slot
-    → IsFirstSlot setup (colour_at setup shard i).0 state slot
+    → IsInitialSlot setup (colour_at setup shard i).0 state slot
 
 -- each state is at home
 abbrev pub AreAtHome : {S P : Type 0} → List (ColourSlot S P) → Type 0
@@ -73,7 +76,9 @@ abbrev pub most_of : ℕ → ℕ
 most_of capacity = min capacity MAX_ENTRIES
 
 -- what the fields of a shard keep; the room of the history is below the limit
-pub record IsKeptShard {S P F : Type 0} (t : TrailWords S F) (fits : F → Colour → Event → Option P → Type 0) (setup : Setup) (shard : ℕ) (history : List Entry) (slots : List (ColourSlot S P)) (running capacity : ℕ) : Type 0 where
+pub record IsConsistentShard {S P F : Type 0} (t : TrailWords S F)
+    (fits : F → Colour → Event → Option P → Type 0) (setup : Setup) (shard : ℕ)
+    (history : List Entry) (slots : List (ColourSlot S P)) (running capacity : ℕ) : Type 0 where
   pub legal : IsLegal setup history
   pub numbered : shard < (shape_of setup).shards
   pub whole : (c : ℕ) → c < colours_of setup → c % (shape_of setup).shards ≡ shard

@@ -1,4 +1,5 @@
--- Within the crate: what the slot of one colour answers, in its own fields. Callers see it by the words of ShardState.
+-- Within the crate: what the slot of one colour answers, in its own fields. Callers see it by
+-- the words of ShardState.
 use Rattle.std.specs.Prelude.{◌≡◌, ◌≤◌, ◌==◌, ℕ, Bool, Option, None, Some, length, min, take, sum, ◌&&◌, is_some, is_none, nat_lt, if◌then◌else◌}
 use Rattle.mely_event.specs.declared.colour.Colour.{Colour}
 use Rattle.mely_event.specs.declared.trail.Trail.{Ghosts as TrailWords}
@@ -39,7 +40,8 @@ after_of slot = if nat_lt 0 (length slot.queue.events) then More slot.queue.star
     (sum slot.queue.weights) else Idle
 
 -- the state and the first events are moved out
-pub record SlotTakes {S P F : Type 0} (t : TrailWords S F) (old new : ColourSlot S P) (colour : Colour) (core batch : ℕ) (turn : TurnState S P) : Type 0 where
+pub record SlotTakes {S P F : Type 0} (t : TrailWords S F) (old new : ColourSlot S P)
+    (colour : Colour) (core batch : ℕ) (turn : TurnState S P) : Type 0 where
   pub home : S
   pub was : old.home ≡ Some home
   pub alike : IsRoomier t home turn.state
@@ -61,7 +63,8 @@ pub record SlotTakes {S P F : Type 0} (t : TrailWords S F) (old new : ColourSlot
   }
 
 -- only the spare of the state at home may be greater
-pub record SlotKeepsState {S P F : Type 0} (t : TrailWords S F) (old new : ColourSlot S P) : Type 0 where
+pub record SlotKeepsState {S P F : Type 0} (t : TrailWords S F)
+    (old new : ColourSlot S P) : Type 0 where
   pub home : S
   pub was : old.home ≡ Some home
   pub state : S
@@ -90,7 +93,8 @@ stolen_of slot = record {
 abbrev pub slot_is_drained : {S P : Type 0} → ColourSlot S P → Bool
 slot_is_drained slot = is_some slot.home && (length slot.queue.events == 0)
 
--- the owner, how many events were started, and the worth, where the state is at home and something waits
+-- the owner, how many events were started, and the worth, where the state is at
+-- home and something waits
 abbrev pub ready_of : {S P : Type 0} → ColourSlot S P → Option (ℕ × ℕ × ℕ)
 ready_of slot = if is_some slot.home && nat_lt 0 (length slot.queue.events) then Some
     (slot.owner, slot.queue.started, sum slot.queue.weights) else None

@@ -23,15 +23,16 @@ use Rattle.mely_history.specs.declared.stolen.Stolen.{Stolen}
 use Rattle.mely_queue.specs.Turn.{TurnState, EachFits}
 use Rattle.mely_shard.specs.declared.room.TheConstants.{MAX_ENTRIES}
 
--- one colour: its state where it is at home, the state that it was given at first, and the events that wait with their loads
+-- one colour: its state where it is at home, the state that it was given at first, and the events
+-- that wait with their loads
 pub record ColourState (S P : Type 0) : Type 0 where
   pub state : Option S
   pub given : S
   pub events : List (Event × Option P)
 
--- a lane at first
-abbrev pub first_lane : {S P : Type 0} → S → ColourState S P
-first_lane state = record { state = Some state; given = state; events = [] }
+-- the initial lane of a state
+abbrev pub initial_lane : {S P : Type 0} → S → ColourState S P
+initial_lane state = record { state = Some state; given = state; events = [] }
 
 -- what a shard has
 pub record ShardState (S P : Type 0) : Type 0 where
@@ -46,7 +47,8 @@ abbrev pub colour_at : Setup → ℕ → ℕ → Colour
 colour_at setup shard i = record { 0 = i * (shape_of setup).shards + shard }
 
 -- one state with an empty trail for each colour of the shard, in ascending order, all of one frame
-pub record AreFirstStates {S F : Type 0} (t : TrailWords S F) (setup : Setup) (shard : ℕ) (states : List S) : Type 0 where
+pub record AreInitialStates {S F : Type 0} (t : TrailWords S F) (setup : Setup) (shard : ℕ)
+    (states : List S) : Type 0 where
   pub all : (i : ℕ) → (colour_at setup shard i).0 < colours_of setup → i < length states
   pub only : (i : ℕ) → i < length states → (colour_at setup shard i).0 < colours_of setup
   pub coloured : (i : ℕ) (state : S) → slice_get states i ≡ Some state
@@ -55,12 +57,13 @@ pub record AreFirstStates {S F : Type 0} (t : TrailWords S F) (setup : Setup) (s
   pub one_frame : (i j : ℕ) (s u : S) → slice_get states i ≡ Some s → slice_get states j ≡ Some u
       → t.frame_of s ≡ t.frame_of u
 
--- what a shard has at first
-pub record IsFirst {S P : Type 0} (setup : Setup) (shard : ℕ) (states : List S) (has : ShardState S P) : Type 0 where
+-- what a shard has initially
+pub record IsInitialShard {S P : Type 0} (setup : Setup) (shard : ℕ) (states : List S)
+    (has : ShardState S P) : Type 0 where
   pub of_setup : has.setup ≡ setup
   pub of_shard : has.shard ≡ shard
   pub no_entry : has.history ≡ []
-  pub lanes : has.lanes ≡ map first_lane states
+  pub lanes : has.lanes ≡ map initial_lane states
 
 -- the lane of a colour, where the shard has it
 abbrev pub lane_at : {S P : Type 0} → ShardState S P → Colour → Option (ColourState S P)
@@ -70,7 +73,8 @@ lane_at has c = slice_get has.lanes (place has.setup c)
 abbrev pub givens : {S P : Type 0} → ShardState S P → List S
 givens has = map (λ lane. lane.given) has.lanes
 
--- what stays over all calls: the setup, the number of the shard, and the states that were given at first
+-- what stays over all calls: the setup, the number of the shard, and the states
+-- that were given at first
 pub record KeepsFrame {S P : Type 0} (old new : ShardState S P) : Type 0 where
   pub same_setup : new.setup ≡ old.setup
   pub same_shard : new.shard ≡ old.shard
@@ -86,7 +90,7 @@ pub record IsOwn {S P : Type 0} (has : ShardState S P) (c : Colour) : Type 0 whe
   pub here : c.0 % (shape_of has.setup).shards ≡ has.shard
 
 -- all but the spare is the same
-pub record HasSameContents {S P : Type 0} (old new : ShardState S P) : Type 0 where
+pub record KeepsAllButSpare {S P : Type 0} (old new : ShardState S P) : Type 0 where
   pub same_setup : new.setup ≡ old.setup
   pub same_shard : new.shard ≡ old.shard
   pub history : new.history ≡ old.history
@@ -104,14 +108,16 @@ AreAlike Alike (Some a) None = ⊥
 AreAlike Alike (Some a) (Some b) = Alike a b
 
 -- one entry more, and one lane changed
-pub record Appends {S P : Type 0} (old new : ShardState S P) (entry : Entry) (c : Colour) (lane : ColourState S P) : Type 0 where
+pub record Appends {S P : Type 0} (old new : ShardState S P) (entry : Entry) (c : Colour)
+    (lane : ColourState S P) : Type 0 where
   pub same_setup : new.setup ≡ old.setup
   pub same_shard : new.shard ≡ old.shard
   pub history : new.history ≡ old.history ++ entry ∷ []
   pub lanes : new.lanes ≡ slice_set old.lanes (place old.setup c) lane
 
 -- the event waits behind the others
-pub record Registers {S P : Type 0} (old new : ShardState S P) (c : Colour) (event : Event) (load : Option P) (by : ℕ) : Type 0 where
+pub record Registers {S P : Type 0} (old new : ShardState S P) (c : Colour) (event : Event)
+    (load : Option P) (by : ℕ) : Type 0 where
   pub before : ColourState S P
   pub was : lane_at old c ≡ Some before
   pub after : Appends old new (Reg c event by) c
@@ -128,8 +134,12 @@ RegisteredAs setup old new c (Told core started worth) = (begun_of old c ≡ end
     × (0 < length (queued_of old c)) × (core ≡ owner_of setup new c) × (started ≡ begun_of new c)
     × (worth ≡ worth_of setup new c)
 
--- a turn of a shard: its colour runs on it, the events that were run on its state and those that it holds are all that were begun, its state is of the colour and has the shard's frame, and each event that it holds fits its load
-pub record TurnStands {S P F : Type 0} (t : TrailWords S F) (fits : F → Colour → Event → Option P → Type 0) (has : ShardState S P) (turn : TurnState S P) : Type 0 where
+-- a turn of a shard: its colour runs on it, the events that were run on its state and those that it
+-- holds are all that were begun, its state is of the colour and has the shard's frame, and each
+-- event that it holds fits its load
+pub record TurnStands {S P F : Type 0} (t : TrailWords S F)
+    (fits : F → Colour → Event → Option P → Type 0) (has : ShardState S P)
+    (turn : TurnState S P) : Type 0 where
   pub away : IsRunningOn has.history turn.colour turn.core turn.count
   pub trailed : t.trail_of turn.state ++ map (λ e. e.0) turn.events
       ≡ take (begun_of has.history turn.colour) (registered_of has.history turn.colour)
@@ -139,7 +149,8 @@ pub record TurnStands {S P F : Type 0} (t : TrailWords S F) (fits : F → Colour
   pub fit : EachFits (fits (t.frame_of turn.state) turn.colour) turn.events
 
 -- the state and the first events are moved out into a turn
-pub record Takes {S P F : Type 0} (t : TrailWords S F) (old new : ShardState S P) (c : Colour) (core : ℕ) (turn : TurnState S P) : Type 0 where
+pub record Takes {S P F : Type 0} (t : TrailWords S F) (old new : ShardState S P) (c : Colour)
+    (core : ℕ) (turn : TurnState S P) : Type 0 where
   pub before : ColourState S P
   pub was : lane_at old c ≡ Some before
   pub home : S
@@ -161,13 +172,15 @@ pub record Takes {S P F : Type 0} (t : TrailWords S F) (old new : ShardState S P
   })
 
 -- two lanes are equal but for the spare of the state at home
-pub record IsLaneAlike {S P : Type 0} (Alike : S → S → Type 0) (old new : ColourState S P) : Type 0 where
+pub record IsLaneAlike {S P : Type 0} (Alike : S → S → Type 0)
+    (old new : ColourState S P) : Type 0 where
   pub given : new.given ≡ old.given
   pub events : new.events ≡ old.events
   pub state : AreAlike Alike old.state new.state
 
 -- nothing changes, but the spare of the history and of one state at home
-pub record KeepsStates {S P F : Type 0} (t : TrailWords S F) (old new : ShardState S P) : Type 0 where
+pub record KeepsStates {S P F : Type 0} (t : TrailWords S F)
+    (old new : ShardState S P) : Type 0 where
   pub same_setup : new.setup ≡ old.setup
   pub same_shard : new.shard ≡ old.shard
   pub history : new.history ≡ old.history
@@ -208,13 +221,18 @@ HomeStands t history c given (Some state) = (begun_of history c ≡ ended_of his
     × (t.frame_of state ≡ t.frame_of given)
 
 -- a lane has what the history says of its colour
-pub record LaneStands {S P F : Type 0} (t : TrailWords S F) (fits : F → Colour → Event → Option P → Type 0) (history : List Entry) (c : Colour) (lane : ColourState S P) : Type 0 where
+pub record LaneStands {S P F : Type 0} (t : TrailWords S F)
+    (fits : F → Colour → Event → Option P → Type 0) (history : List Entry) (c : Colour)
+    (lane : ColourState S P) : Type 0 where
   pub events : map (λ e. e.0) lane.events ≡ queued_of history c
   pub fit : EachFits (fits (t.frame_of lane.given) c) lane.events
   pub state : HomeStands t history c lane.given lane.state
 
--- what a shard keeps: its history is legal and its own, and there is a lane for each of its colours, of one frame, which has what the history says; its entries, those that finish the colours that run, and the spare are together within the limit
-pub record IsConsistent {S P F : Type 0} (t : TrailWords S F) (fits : F → Colour → Event → Option P → Type 0) (has : ShardState S P) : Type 0 where
+-- what a shard keeps: its history is legal and its own, and there is a lane for each of its
+-- colours, of one frame, which has what the history says; its entries, those that finish the
+-- colours that run, and the spare are together within the limit
+pub record IsConsistent {S P F : Type 0} (t : TrailWords S F)
+    (fits : F → Colour → Event → Option P → Type 0) (has : ShardState S P) : Type 0 where
   pub legal : IsLegal has.setup has.history
   pub numbered : has.shard < (shape_of has.setup).shards
   pub of_shard : IsOfShard has.setup has.shard has.history
@@ -234,7 +252,8 @@ ReadyAs setup history c (Some told) = IsReady history c × (told.0 ≡ owner_of 
     × (told.1 ≡ begun_of history c) × (told.2 ≡ worth_of setup history c)
 
 -- the owner is another, and all else stays
-pub record Steals {S P : Type 0} (old new : ShardState S P) (c : Colour) (to : ℕ) (stolen : Stolen) : Type 0 where
+pub record Steals {S P : Type 0} (old new : ShardState S P) (c : Colour) (to : ℕ)
+    (stolen : Stolen) : Type 0 where
   pub allowed : MaySteal old.setup old.history c stolen.from to
   pub same_setup : new.setup ≡ old.setup
   pub same_shard : new.shard ≡ old.shard
@@ -260,8 +279,10 @@ NoStealAs setup history c to steals.Memory = (pinned_of setup ≤ c.0)
     × (to ≢ owner_of setup history c) × IsReady history c
     × ((shape_of setup).steal_cost < worth_of setup history c)
 
--- each event that was registered on the colour is, once, among those that were run, those of the turn that is out, or those that wait with their loads, and in that order
-pub record StandsOnce {S P : Type 0} (has : ShardState S P) (c : Colour) (lane : ColourState S P) : Type 0 where
+-- each event that was registered on the colour is, once, among those that were run, those of the
+-- turn that is out, or those that wait with their loads, and in that order
+pub record StandsOnce {S P : Type 0} (has : ShardState S P) (c : Colour)
+    (lane : ColourState S P) : Type 0 where
   pub out : List Event
   pub once : registered_of has.history c ≡ ran_of has.history c ++ out ++ map (λ e. e.0) lane.events
   pub none_out : ¬ IsRunning has.history c → out ≡ []

@@ -2,7 +2,7 @@
 ghost use Rattle.std.specs.Prelude.{◌≡◌, ◌<◌, ◌≤◌, ◌+◌, ◌^◌, ◌-◌, [], None, Some, IfOk, IfErr, OnOk, OnErr, length, nat_lt, IsSomeAnd, map};
 ghost use Rattle.std.specs.Prelude.{◌++◌, ◌≢◌, ℕ, IsSome, slice_get, vec_len, vec_capacity};
 ghost use Rattle.mely_history.specs.Setup.{shape_of, colours_of};
-ghost use Rattle.mely_shard.specs.Invariant.{IsFirstSlot, AreFirstSlots, AreAtHome};
+ghost use Rattle.mely_shard.specs.Invariant.{IsInitialSlot, AreInitialSlots, AreAtHome};
 ghost use Rattle.mely_shard.specs.Shard.{colour_at};
 ghost use Rattle.mely_shard.specs.Replies.{slot_is_drained};
 ghost use Rattle.std.specs.List.{list_all};
@@ -176,8 +176,8 @@ impl<S: Fits<P>, P> ColourSlot<S, P> {
     ghost use Rattle.mely_shard.specs.Replies.{SlotTakes, SlotKeepsState};
     ghost use Rattle.mely_queue.specs.Turn.{EachFits};
 
-    /// Moves the state and the first events out, these in the emptied vector, in whose place a new one
-    /// is left.
+    /// Moves the state and the first events out, these in the emptied vector, in whose
+    /// place a new one is left.
     pub(crate) fn take(
         &mut self,
         colour: Colour,
@@ -216,8 +216,8 @@ impl<S: Fits<P>, P> ColourSlot<S, P> {
 
 /// A slot at first: nothing was registered, and the state is at home on the core that the colour
 /// begins on.
-fn first_slot<S, P>(alloc: Global, setup: &Setup, colour: u32, state: S) -> ColourSlot<S, P>
-    ensures { IsFirstSlot setup.now colour state result }
+fn initial_slot<S, P>(alloc: Global, setup: &Setup, colour: u32, state: S) -> ColourSlot<S, P>
+    ensures { IsInitialSlot setup.now colour state result }
 {
     let given = Snapshot::of(&state);
     ColourSlot {
@@ -241,12 +241,13 @@ pub(crate) fn slots_of<S: Drop, P: Drop>(
     requires few { (i : ℕ) → i < length states.items → (colour_at setup.now shard i).0
         < colours_of setup.now }
     ensures many { IfOk result (λ slots. length slots.items ≡ length states.items) }
-    ensures first { IfOk result (λ slots. AreFirstSlots setup.now shard states.items slots.items) }
+    ensures first { IfOk result (λ slots.
+        AreInitialSlots setup.now shard states.items slots.items) }
 {
     let mut slots = Vec::with_capacity(alloc, states.len())?;
     let mut colour = u32::from(shard);
     for state in states {
-        slots.push_reserved(first_slot(alloc, setup, colour, state));
+        slots.push_reserved(initial_slot(alloc, setup, colour, state));
         colour += u32::from(setup.shards());
     }
     Ok(slots)
@@ -259,8 +260,8 @@ pub(crate) fn all_drained<S, P>(slots: &[ColourSlot<S, P>]) -> bool
     slots.iter().all(|slot| slot.is_drained())
 }
 
-/// Moves the states and the queued events out of slots whose states are all at home, into lists that
-/// have room for them.
+/// Moves the states and the queued events out of slots whose states are all at home, into lists
+/// that have room for them.
 pub(crate) fn take_apart<S: Drop, P: Drop>(
     slots: Vec<ColourSlot<S, P>>,
     states: &mut Vec<S>,

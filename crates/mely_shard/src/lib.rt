@@ -1,15 +1,16 @@
 //! One shard of a coloured-event runtime as an ordinary value, with no thread and no lock: whoever
 //! wants a one-core event loop can use it as it is, and the layers above put it behind a lock.
 //!
-//! A [`Shard`] holds the colours `c` with `c % shards` equal to its number. Of each it keeps the
-//! queue of events with their loads, the state while it is at home, and which core owns it. An event
-//! is registered behind the others of its colour; a core takes the first events together with the
-//! colour's state, which is then away; it runs them on the state, and finishes, which takes the state
-//! home; an idle core steals a whole colour that is worth more than the declared cost, unless it is
-//! pinned. Each of these four calls appends its entry to the shard's history, and the type keeps that
-//! the history is legal by the rules of `mely_history`. A history has at most [`MAX_ENTRIES`].
+//! A [`Shard`] holds the colours `c` with `c % shards` equal to its number. Of each it keeps
+//! the queue of events with their loads, the state while it is at home, and which core owns it.
+//! An event is registered behind the others of its colour; a core takes the first events
+//! together with the colour's state, which is then away; it runs them on the state, and
+//! finishes, which takes the state home; an idle core steals a whole colour that is worth more
+//! than the declared cost, unless it is pinned. Each of these four calls appends its entry to
+//! the shard's history, and the type keeps that the history is legal by the rules of
+//! `mely_history`. A history has at most [`MAX_ENTRIES`].
 //!
-//! ```
+//! ```text
 //! let mut shard = Shard::new(alloc, &setup, 0, states)?;
 //! shard.register(Colour(2), event, None, 0)?;
 //! let mut turn = shard.take(Colour(2), 0)?;
@@ -17,8 +18,8 @@
 //!     turn.state().run(event, load);
 //! }
 //! match shard.finish(turn) {
-//!     After::More { started, worth } => .., // the colour is ready again
-//!     After::Idle => ..,
+//!     After::More { started, worth } => println!(rt; "ready after {started} events, worth {worth}")?,
+//!     After::Idle => println!(rt; "nothing of the colour waits")?,
 //! }
 //! ```
 #![tactic(auto)]

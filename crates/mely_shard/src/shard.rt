@@ -13,18 +13,18 @@ use std::snapshot::Snapshot;
 /// The colours of one shard: their queues, their states and their history, as one plain value.
 ///
 /// Its four calls [`register`](Shard::register), [`take`](Shard::take), [`finish`](Shard::finish)
-/// and [`steal`](Shard::steal) are the four entries of a legal history, one each: a call appends the
-/// entry that is allowed, or is refused and changes nothing but spare room. Contracts see a shard as
-/// its setup, its number, its history, and a lane for each of its colours: the state where it is at
-/// home, the state that was given at first, and the queued events with their loads. The type keeps
-/// that the history is legal and that the lanes are what it says. A call takes constant time in the
-/// number of colours and in the length of the history, but for growth.
+/// and [`steal`](Shard::steal) are the four entries of a legal history, one each: a call appends
+/// the entry that is allowed, or is refused and changes nothing but spare room. Contracts see a
+/// shard as its setup, its number, its history, and a lane for each of its colours: the state where
+/// it is at home, the state that was given at first, and the queued events with their loads. The
+/// type keeps that the history is legal and that the lanes are what it says. A call takes constant
+/// time in the number of colours and in the length of the history, but for growth.
 ///
-/// Beside this contracts see its spare: for how many entries more the history has room, beside those
-/// that finish the turns that are out, whose room is made at the take. [`reserve`](Shard::reserve)
-/// raises it; a registration and a steal lower it by one at most, a take by two at most (its own
-/// entry, and that of its finish), a finish and a refused call not at all. The entries, those that
-/// finish the turns that are out and the spare are never more than
+/// Beside this contracts see its spare: for how many entries more the history has room, beside
+/// those that finish the turns that are out, whose room is made at the take.
+/// [`reserve`](Shard::reserve) raises it; a registration and a steal lower it by one at most, a
+/// take by two at most (its own entry, and that of its finish), a finish and a refused call not at
+/// all. The entries, those that finish the turns that are out and the spare are never more than
 /// [`MAX_ENTRIES`](crate::MAX_ENTRIES).
 #[derive(Drop)]
 pub struct Shard<S: Fits<P>, P> {
@@ -57,7 +57,7 @@ impl<S: Fits<P>, P> Model for Shard<S, P> {
     ghost Value = { ShardState S P };
 
     ghost use Rattle.std.specs.Prelude.{map, length, vec_len, vec_capacity, ◌≡◌, ◌+◌, ◌-◌, []};
-    ghost use Rattle.mely_shard.specs.Invariant.{lane_of, most_of, IsKeptShard, HasRoom};
+    ghost use Rattle.mely_shard.specs.Invariant.{lane_of, most_of, IsConsistentShard, HasRoom};
 
     ghost view = { λ s. record {
       setup = s.setup;
@@ -69,23 +69,23 @@ impl<S: Fits<P>, P> Model for Shard<S, P> {
     } };
 
     ghost invariant = { λ s.
-        IsKeptShard S.Trail S.fits_under s.setup s.shard s.history.items s.slots.items s.running
-        (most_of (vec_capacity s.history))
+        IsConsistentShard S.Trail S.fits_under s.setup s.shard s.history.items s.slots.items
+        s.running (most_of (vec_capacity s.history))
         × HasRoom (vec_len s.states) (vec_capacity s.states) (vec_len s.queues)
         (vec_capacity s.queues) (length s.slots.items) × (s.emptied.items ≡ []) };
 }
 
 impl<S: Fits<P>, P> Shard<S, P> {
-    ghost use Rattle.mely_shard.specs.Shard.{ShardState, IsOwn, lane_at, Registers, RegisteredAs, HasSameContents, Takes, KeepsStates, NoTakeAs, Finishes, AfterAs, TurnStands, IsConsistent, ReadyAs, Steals, NoStealAs, AreFirstStates, IsFirst, KeepsFrame, StandsOnce};
+    ghost use Rattle.mely_shard.specs.Shard.{ShardState, IsOwn, lane_at, Registers, RegisteredAs, KeepsAllButSpare, Takes, KeepsStates, NoTakeAs, Finishes, AfterAs, TurnStands, IsConsistent, ReadyAs, Steals, NoStealAs, AreInitialStates, IsInitialShard, KeepsFrame, StandsOnce};
     ghost use Rattle.mely_history.specs.Setup.{shape_of};
     ghost use Rattle.mely_event.specs.declared.colour.Colour.{Colour};
     ghost use Rattle.std.specs.Prelude.{map, Some};
     ghost use Rattle.mely_history.specs.Legal.{MayRegister, IsDrained};
     ghost use Rattle.mely_history.specs.History.{IsRunning};
 
-    /// A shard at first, in which nothing was registered. There is a state for each colour `c` of the
-    /// setup with `c % shards == shard`, in ascending order, each with an empty trail, all with one
-    /// frame. Beside the states it takes memory for the colours and for what
+    /// A shard at first, in which nothing was registered. There is a state for each colour `c` of
+    /// the setup with `c % shards == shard`, in ascending order, each with an empty trail, all with
+    /// one frame. Beside the states it takes memory for the colours and for what
     /// [`into_parts`](Shard::into_parts) hands out.
     ///
     /// # Errors
@@ -101,8 +101,8 @@ impl<S: Fits<P>, P> Shard<S, P> {
         S: Drop,
         P: Drop,
         requires numbered { shard < (shape_of setup.now).shards }
-        requires first { AreFirstStates S.Trail setup.now shard states.items }
-        ensures made { IfOk result (λ made. IsFirst setup.now shard states.items made) }
+        requires first { AreInitialStates S.Trail setup.now shard states.items }
+        ensures made { IfOk result (λ made. IsInitialShard setup.now shard states.items made) }
         ensures kept { IfOk result (λ made. IsConsistent S.Trail S.fits_under made) }
     {
         let slots = slots_of(alloc, setup, shard, states)?;
@@ -185,7 +185,7 @@ impl<S: Fits<P>, P> Shard<S, P> {
         ensures ok { IfOk result (λ _. Registers self.old self.new colour event load by) }
         ensures reply { IfOk result (λ reply.
             RegisteredAs self.old.setup self.old.history self.new.history colour reply) }
-        ensures err { OnErr result (HasSameContents self.old self.new) }
+        ensures err { OnErr result (KeepsAllButSpare self.old self.new) }
         ensures spare_left { self.old.spare ≤ self.new.spare + 1 }
         ensures spare_stays { OnErr result (self.old.spare ≤ self.new.spare) }
         ensures back { IfErr result (λ refused. (refused.event ≡ event) × (refused.load ≡ load)) }
@@ -202,9 +202,9 @@ impl<S: Fits<P>, P> Shard<S, P> {
         Ok(reply)
     }
 
-    /// Moves the state of a colour and its first events out, as many as the batch of the setup or all
-    /// that are queued. It makes room for the entry of its finish, and in the state's trail for the
-    /// events.
+    /// Moves the state of a colour and its first events out, as many as the batch of the
+    /// setup or all that are queued. It makes room for the entry of its finish, and in the
+    /// state's trail for the events.
     ///
     /// # Errors
     ///
@@ -245,8 +245,8 @@ impl<S: Fits<P>, P> Shard<S, P> {
         Ok(turn)
     }
 
-    /// Takes the state of a turn home, with the events that were run joined to its trail, and answers
-    /// what is left of the colour. It takes no memory.
+    /// Takes the state of a turn home, with the events that were run joined to its trail, and
+    /// answers what is left of the colour. It takes no memory.
     pub fn finish(&mut self, turn: Turn<S, P>) -> After
     where
         S: Drop,
@@ -275,7 +275,8 @@ impl<S: Fits<P>, P> Shard<S, P> {
         self.slots[place].finish(count, state)
     }
 
-    /// Makes the spare of the history at least this many entries, beside the room for running turns.
+    /// Makes the spare of the history at least this many entries, beside
+    /// the room for running turns.
     ///
     /// # Errors
     ///
@@ -283,7 +284,7 @@ impl<S: Fits<P>, P> Shard<S, P> {
     pub fn reserve(&mut self, entries: usize) -> Result<(), Memory>
         ensures ok { OnOk result (entries ≤ self.new.spare) }
         ensures not_lower { self.old.spare ≤ self.new.spare }
-        ensures contents { HasSameContents self.old self.new }
+        ensures contents { KeepsAllButSpare self.old self.new }
         ensures kept { IsConsistent S.Trail S.fits_under self.new }
         ensures frame { KeepsFrame self.old self.new }
     {
@@ -316,16 +317,16 @@ impl<S: Fits<P>, P> Shard<S, P> {
     ///
     /// # Errors
     ///
-    /// The first of these that applies: `Pinned`, the colour is one of the setup's pinned ones;
-    /// `Own`, the thief owns it already; `Busy`, it runs; `Empty`, nothing is queued; `Cheap`, its
-    /// time left is not over the steal cost; `Memory`, there was none, or the history is at its
-    /// limit, and never where the spare is at least 1. The shard is then as it was, but for a greater
-    /// spare.
+    /// The first of these that applies: `Pinned`, the colour is one of the setup's pinned
+    /// ones; `Own`, the thief owns it already; `Busy`, it runs; `Empty`, nothing is queued;
+    /// `Cheap`, its time left is not over the steal cost; `Memory`, there was none, or the
+    /// history is at its limit, and never where the spare is at least 1. The shard is then as
+    /// it was, but for a greater spare.
     pub fn steal(&mut self, colour: Colour, to: u16) -> Result<Stolen, NoSteal>
         requires own { IsOwn self.old colour }
         requires core { to < (shape_of self.old.setup).cores }
         ensures ok { IfOk result (λ stolen. Steals self.old self.new colour to stolen) }
-        ensures err { OnErr result (HasSameContents self.old self.new) }
+        ensures err { OnErr result (KeepsAllButSpare self.old self.new) }
         ensures refusal { IfErr result (λ refusal.
             NoStealAs self.old.setup self.old.history colour to refusal) }
         ensures spare { 1 ≤ self.old.spare → IfErr result (λ refusal. refusal ≢ NoSteal.Memory) }
@@ -353,8 +354,8 @@ impl<S: Fits<P>, P> Shard<S, P> {
     }
 
     /// The law of this type, for contracts alone: whatever calls were made on a shard, refused or
-    /// not, each event that was registered on a colour is, once, among those that were run, those of
-    /// the turn that is out, or those that are queued with their loads. A call does nothing.
+    /// not, each event that was registered on a colour is, once, among those that were run, those
+    /// of the turn that is out, or those that are queued with their loads. A call does nothing.
     pub fn events_stand_once(&self)
         ensures { (c : Colour) (lane : _) → IsOwn self.now c → lane_at self.now c ≡ Some lane
             → StandsOnce self.now c lane }

@@ -70,7 +70,7 @@ impl Tally {
 }
 
 /// A state at first.
-fn blank(alloc: Global, colour: u16) -> Tally
+fn initial_tally(alloc: Global, colour: u16) -> Tally
     ensures { result.log ≡ record { colour = record { 0 = colour }; events = []; spare = 0 } }
 {
     Tally {
@@ -111,10 +111,10 @@ fn example(alloc: Global, steal_cost: u32, pinned: u32) -> Result<Shard<Tally, u
         return Err(Fail::from("no setup"));
     };
     let mut states = Vec::new(alloc);
-    states.push(blank(alloc, 0))?;
-    states.push(blank(alloc, 1))?;
-    states.push(blank(alloc, 2))?;
-    states.push(blank(alloc, 3))?;
+    states.push(initial_tally(alloc, 0))?;
+    states.push(initial_tally(alloc, 1))?;
+    states.push(initial_tally(alloc, 2))?;
+    states.push(initial_tally(alloc, 3))?;
     match Shard::new(alloc, &setup, 0, states) {
         Ok(shard) => Ok(shard),
         Err(_) => Err(Fail::from("no shard")),
@@ -251,48 +251,46 @@ fn take_turn_with_calls(shard: &mut Shard<Tally, u32>, colour: u16) -> Result<Me
     })
 }
 
+/// The answers to the first and the second registration on a colour of core 0.
+const WOKE: Registered = Registered::Woke {
+    owner: 0,
+    started: 0,
+    worth: 30,
+};
+
+const TOLD: Registered = Registered::Told {
+    owner: 0,
+    started: 0,
+    worth: 60,
+};
+
+/// The answers to a finish that leaves one event, and to a steal of that one.
+const MORE: After = After::More {
+    started: 2,
+    worth: 30,
+};
+
+const TAKEN_OVER: Stolen = Stolen {
+    from: 0,
+    started: 2,
+    worth: 30,
+};
+
 #[test]
 fn calls_on_one_shard_answer_in_order(rt: HostRuntime) -> Result<(), Fail> {
     let shard = &mut example(rt.alloc(), 20, 0)?;
-    assert_eq!(rt;
-        register(shard, 2),
-        Some(Registered::Woke {
-            owner: 0,
-            started: 0,
-            worth: 30
-        })
-    );
-    assert_eq!(rt;
-        register(shard, 2),
-        Some(Registered::Told {
-            owner: 0,
-            started: 0,
-            worth: 60
-        })
-    );
+    assert_eq!(rt; register(shard, 2), Some(WOKE));
+    assert_eq!(rt; register(shard, 2), Some(TOLD));
     assert_eq!(rt; take_turn(shard, 2, 1), Err(NoTake::Elsewhere { owner: 0 }));
     let turn = take_turn_with_calls(shard, 2).ok().ok_or("not taken")?;
     assert_eq!(rt; turn.count, 2);
     assert_eq!(rt; turn.registered, Some(Registered::Running { core: 0 }));
     assert_eq!(rt; turn.no_take, Some(NoTake::Busy { core: 0 }));
     assert_eq!(rt; turn.no_steal, Some(NoSteal::Busy { core: 0 }));
-    assert_eq!(rt;
-        turn.after,
-        After::More {
-            started: 2,
-            worth: 30
-        }
-    );
+    assert_eq!(rt; turn.after, MORE);
     assert_eq!(rt; steal(shard, 2, 0), Err(NoSteal::Own));
     assert_eq!(rt; shard.reserve(1), Ok(()));
-    assert_eq!(rt;
-        steal(shard, 2, 1),
-        Ok(Stolen {
-            from: 0,
-            started: 2,
-            worth: 30
-        })
-    );
+    assert_eq!(rt; steal(shard, 2, 1), Ok(TAKEN_OVER));
     assert_eq!(rt; take_turn(shard, 2, 1), Ok((1, After::Idle)));
     assert_eq!(rt;
         take_turn(shard, 2, 1),
@@ -331,8 +329,8 @@ fn a_pinned_colour_is_never_stolen(rt: HostRuntime) -> Result<(), Fail> {
     Ok(())
 }
 
-/// What a drained shard comes apart into: how many entries, what the loads of each colour add up to, and how many lists of
-/// queued events.
+/// What a drained shard comes apart into: how many entries, what the loads of each colour add up
+/// to, and how many lists of queued events.
 fn parts_of(
     alloc: Global,
     shard: Shard<Tally, u32>,

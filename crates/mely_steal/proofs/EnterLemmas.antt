@@ -44,7 +44,7 @@ pub class-later : (k : ℕ) (x : Ranked) (xs : List Ranked) → (x.class ≡ k �
 class-later k x xs ne = cond-false (eqb x.class k) (x ∷ of_class k xs) (of_class k xs) (ne_eqb x.class k ne)
 
 -- entries by their numbers are what their classes give
-abbrev pub three-of : (ℕ → ℕ) → List Ranked → List Ranked → List Ranked → List Ranked
+abbrev three-of : (ℕ → ℕ) → List Ranked → List Ranked → List Ranked → List Ranked
 three-of n xs ys zs = by_number n (xs ++ (ys ++ zs))
 
 by-classes : (n : ℕ → ℕ) (g : List Ranked) → IsAscending n g → AreClassed g → three-of n (of_class 1 g) (of_class 2 g) (of_class 3 g) ≡ g

@@ -52,7 +52,8 @@ pub last-in : (x : ℕ) (xs : List ℕ) → is_in (x ∷ xs) (last_from x xs) �
 last-in x [] = in-here x []
 last-in x (y ∷ ys) = in-later (last_from y ys) x (y ∷ ys) (last-in y ys)
 
--- the place before one that isn't the first is in the list, and so is the one behind one that isn't the last
+-- the place before one that isn't the first is in the list, and so is the one
+-- behind one that isn't the last
 pub before-in : (a b : ℕ → ℕ) (c x : ℕ) (xs : List ℕ) → AreJoinedFrom a b x xs → is_in xs c ≡ true → is_in (x ∷ xs) (b c) ≡ true
 before-in a b c x [] j h = absurd (true≢false (sym h))
 before-in a b c x (y ∷ ys) j h = elim (in-cases c y ys h) [

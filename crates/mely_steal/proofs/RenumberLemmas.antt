@@ -21,7 +21,8 @@ abbrev pub AreFrom : (ℕ → ℕ) → ℕ → List Ranked → Type 0
 AreFrom n i [] = Unit {0}
 AreFrom n i (x ∷ xs) = (i ≤ n x.colour) × AreFrom n i xs
 
--- how far the numbering has come: the entries before are counted, and those behind are what is left of the lists
+-- how far the numbering has come: the entries before are counted, and those behind are
+-- what is left of the lists
 pub record Renumbering (L : List Link) (left : List Ends) (old now : List ℕ) (g : List Ranked) (i : ℕ) : Type 0 where
   pub many : length left ≡ 3
   pub before : List Ranked
@@ -316,9 +317,13 @@ one-at left now a k j e =
     let At : ℕ → Type 0 = λ z. ((ends_at left k).len ≢ 0 → ((ends_at left a).len ≢ 0) × (number_at now (ends_at left a).first ≤ number_at now (ends_at left k).first)) → (ends_at left z).len ≢ 0 → ((ends_at left a).len ≢ 0) × (number_at now (ends_at left a).first ≤ number_at now (ends_at left z).first) in
     subst At e (λ h ne. h ne)
 
+-- of three lists one that isn't empty where any of them isn't, and whose first place
+-- then has the smallest number
+abbrev pub IsOldest : List Ends → List ℕ → ℕ → Type 0
+IsOldest left now b = (j : ℕ) → j < 3 → (ends_at left j).len ≢ 0 → ((ends_at left b).len ≢ 0) × (number_at now (ends_at left b).first ≤ number_at now (ends_at left j).first)
+
 -- of three lists the older of the older of two and the third begins with the smallest number
-pub oldest-of : (left : List Ends) (now : List ℕ) (a b : ℕ) → IsOlder left now 0 1 a → IsOlder left now a 2 b
-    → (b < 3) × ((j : ℕ) → j < 3 → (ends_at left j).len ≢ 0 → ((ends_at left b).len ≢ 0) × (number_at now (ends_at left b).first ≤ number_at now (ends_at left j).first))
+pub oldest-of : (left : List Ends) (now : List ℕ) (a b : ℕ) → IsOlder left now 0 1 a → IsOlder left now a 2 b → (b < 3) × IsOldest left now b
 oldest-of left now a b one two =
     let first : a < 2 = elim one.is [ inl e ↦ omega arith | inr e ↦ omega arith ] in
     let through : (j : ℕ) → (((ends_at left a).len ≢ 0) × (number_at now (ends_at left a).first ≤ number_at now (ends_at left j).first)) → ((ends_at left b).len ≢ 0) × (number_at now (ends_at left b).first ≤ number_at now (ends_at left j).first) = λ j h.

@@ -23,9 +23,9 @@ stealing-some : (cost pinned : ℕ) (m : Mark) → is_worthy cost pinned m ≡ t
 stealing-some cost pinned m w = (cond-true (is_worthy cost pinned m) (class_of m.worth cost) 0 w, worthy-class_of m.worth cost (worthy-parts cost pinned m w).1)
 
 -- a colour that has no mark yet enters
-pub enter-stealable : (t u : MarkTableState) (g : List Ranked) (n cost pinned : ℕ) (m : Mark) → AreStealable (record { told = t; entries = g; colours = n; cost = cost; pinned = pinned }) → SetsMark m t u → m.colour.0 < n → has_entry m.colour.0 g ≡ false → mark_of m.colour (marks_of t g) ≡ None
+pub enter-stealable : (t u : MarkTableState) (g : List Ranked) (n cost pinned : ℕ) (m : Mark) → AreStealable (record { marks = t; entries = g; colours = n; cost = cost; pinned = pinned }) → SetsMark m t u → m.colour.0 < n → has_entry m.colour.0 g ≡ false → mark_of m.colour (marks_of t g) ≡ None
     → (marks_of u (joined_by (stealing_class cost pinned m) m.colour.0 g) ≡ after_entry cost pinned m (marks_of t g))
-    × AreStealable (record { told = u; entries = joined_by (stealing_class cost pinned m) m.colour.0 g; colours = n; cost = cost; pinned = pinned })
+    × AreStealable (record { marks = u; entries = joined_by (stealing_class cost pinned m) m.colour.0 g; colours = n; cost = cost; pinned = pinned })
 enter-stealable t u g n cost pinned m s sets lt off none =
     let k = stealing_class cost pinned m in
     let c = m.colour.0 in
@@ -59,14 +59,14 @@ enter-stealable t u g n cost pinned m s sets lt off none =
     ]
 
 -- a colour leaves
-pub leave-stealable : (t : MarkTableState) (g : List Ranked) (n cost pinned : ℕ) (c : Colour) → AreStealable (record { told = t; entries = g; colours = n; cost = cost; pinned = pinned })
-    → AreStealable (record { told = t; entries = entries_without c.0 g; colours = n; cost = cost; pinned = pinned })
+pub leave-stealable : (t : MarkTableState) (g : List Ranked) (n cost pinned : ℕ) (c : Colour) → AreStealable (record { marks = t; entries = g; colours = n; cost = cost; pinned = pinned })
+    → AreStealable (record { marks = t; entries = entries_without c.0 g; colours = n; cost = cost; pinned = pinned })
 leave-stealable t g n cost pinned c s =
     let Kept : List Mark → Type 0 = λ xs. AreWorthy (record { marks = xs; colours = n; cost = cost; pinned = pinned }) in
     record { worthy = subst Kept (without-entries t c g) (AreWorthy-without c (marks_of t g) n cost pinned s.worthy); classed = classed-entries_without cost t c.0 g s.classed }
 
 -- what a colour that has a mark there is
-there-class : (t : MarkTableState) (g : List Ranked) (n cost pinned : ℕ) (c : Colour) (old : Mark) → AreStealable (record { told = t; entries = g; colours = n; cost = cost; pinned = pinned }) → mark_of c (marks_of t g) ≡ Some old
+there-class : (t : MarkTableState) (g : List Ranked) (n cost pinned : ℕ) (c : Colour) (old : Mark) → AreStealable (record { marks = t; entries = g; colours = n; cost = cost; pinned = pinned }) → mark_of c (marks_of t g) ≡ Some old
     → (class_in c.0 g ≡ class_of old.worth cost) × (0 < class_in c.0 g)
 there-class t g n cost pinned c old s there =
     let is : class_in c.0 g ≡ class_of old.worth cost = class-at cost t c.0 g s.classed ∙ ap (λ o. option_map_or (λ (m : Mark). class_of m.worth cost) o 0) (sym (mark_of-entries t c g) ∙ there) in
@@ -75,7 +75,7 @@ there-class t g n cost pinned c old s there =
     (is, rw is low)
 
 -- a mark keeps its class exactly where its colour is moved to where it is, and has a mark there
-keeps-is : (t : MarkTableState) (g : List Ranked) (n cost pinned : ℕ) (m : Mark) → AreStealable (record { told = t; entries = g; colours = n; cost = cost; pinned = pinned }) → keeps_class cost m (marks_of t g) ≡ true
+keeps-is : (t : MarkTableState) (g : List Ranked) (n cost pinned : ℕ) (m : Mark) → AreStealable (record { marks = t; entries = g; colours = n; cost = cost; pinned = pinned }) → keeps_class cost m (marks_of t g) ≡ true
     → class_in m.colour.0 g ≡ stealing_class cost pinned m
 keeps-is t g n cost pinned m s keeps =
     let old = keeps_class-old cost m (mark_of m.colour (marks_of t g)) keeps in
@@ -83,8 +83,9 @@ keeps-is t g n cost pinned m s keeps =
     let worthy = worthy-from cost pinned m (keeps_class-loose cost pinned m (marks_of t g) s.worthy.loose keeps) (keeps_class-worthy cost m (marks_of t g) s.worthy.worthy keeps) in
     there.0 ∙ (old.2 ∙ sym (stealing-some cost pinned m worthy).0)
 
--- where a colour that has a mark is of the class in which the new mark may be stolen, the mark keeps its class
-stays-keeps : (t : MarkTableState) (g : List Ranked) (n cost pinned : ℕ) (m : Mark) → AreStealable (record { told = t; entries = g; colours = n; cost = cost; pinned = pinned }) → class_in m.colour.0 g ≡ stealing_class cost pinned m
+-- where a colour that has a mark is of the class in which the new mark may be stolen,
+-- the mark keeps its class
+stays-keeps : (t : MarkTableState) (g : List Ranked) (n cost pinned : ℕ) (m : Mark) → AreStealable (record { marks = t; entries = g; colours = n; cost = cost; pinned = pinned }) → class_in m.colour.0 g ≡ stealing_class cost pinned m
     → (o : Option Mark) → mark_of m.colour (marks_of t g) ≡ o → (option_map_or (λ old. class_of old.worth cost == class_of m.worth cost) o false ≡ true) ⊎ (o ≡ None)
 stays-keeps t g n cost pinned m s is None at = inr refl
 stays-keeps t g n cost pinned m s is (Some old) at =
@@ -98,9 +99,9 @@ stays-keeps t g n cost pinned m s is (Some old) at =
     ]
 
 -- the mark of a colour changes
-pub change-stealable : (t u : MarkTableState) (g : List Ranked) (n cost pinned : ℕ) (m : Mark) → AreStealable (record { told = t; entries = g; colours = n; cost = cost; pinned = pinned }) → SetsMark m t u → m.colour.0 < n
+pub change-stealable : (t u : MarkTableState) (g : List Ranked) (n cost pinned : ℕ) (m : Mark) → AreStealable (record { marks = t; entries = g; colours = n; cost = cost; pinned = pinned }) → SetsMark m t u → m.colour.0 < n
     → (marks_of u (moved_to (stealing_class cost pinned m) m.colour.0 g) ≡ after_mark_change cost pinned m (marks_of t g))
-    × AreStealable (record { told = u; entries = moved_to (stealing_class cost pinned m) m.colour.0 g; colours = n; cost = cost; pinned = pinned })
+    × AreStealable (record { marks = u; entries = moved_to (stealing_class cost pinned m) m.colour.0 g; colours = n; cost = cost; pinned = pinned })
 change-stealable t u g n cost pinned m s sets lt =
     let k = stealing_class cost pinned m in
     let c = m.colour.0 in

@@ -15,7 +15,8 @@ in-own L e c below s = s.exact c below ∙ eq-eqb (list_at L c) (list_at L c) re
 pub walked-below : {k : ℕ} {L : List Link} {e : Ends} → IsStrung k L e → (i : ℕ) → i < e.len → walked (after_at L) i e.first < length L
 walked-below {k} {L} {e} s i lt = s.below (walked (after_at L) i e.first) (walked-in (after_at L) e.len i e.first lt)
 
--- a list stays strung where the links of its places stay, and the same places say that they are in it
+-- a list stays strung where the links of its places stay, and the same
+-- places say that they are in it
 strung-frame : (j : ℕ) (L M : List Link) (e : Ends) → length M ≡ length L
     → ((y : ℕ) → y < length L → list_at L y ≡ j → (after_at M y ≡ after_at L y) × (before_at M y ≡ before_at L y))
     → ((y : ℕ) → y < length L → (list_at M y == j) ≡ (list_at L y == j)) → IsStrung j L e → (places_of M e ≡ places_of L e) × IsStrung j M e
@@ -207,7 +208,8 @@ pub strung-unlink : (k : ℕ) (L M : List Link) (first last n c : ℕ) → IsStr
 strung-unlink k L M first last zero c s pos there u = absurd (true≢false (sym there))
 strung-unlink k L M first last (suc n) c s pos there u = strung-unlink_at k L M first last n c s pos there u
 
--- the place before one that isn't the first is in the list, and so is the one behind one that isn't the last
+-- the place before one that isn't the first is in the list, and so is the one
+-- behind one that isn't the last
 pub before-strung : (k : ℕ) (L : List Link) (first last n c : ℕ) → IsStrung k L (record { first = first; last = last; len = n })
     → is_in (places_of L (record { first = first; last = last; len = n })) c ≡ true → (first ≡ c → ⊥) → is_in (places_of L (record { first = first; last = last; len = n })) (before_at L c) ≡ true
 before-strung k L first last zero c s there ne = absurd (true≢false (sym there))

@@ -27,7 +27,8 @@ without-entries t c (x ∷ g) = elim (eqb x.colour c.0) as (λ b. cond (not b) (
   | false ↦ ap (λ ys. mark_in t x.colour ∷ ys) (without-entries t c g)
 ]
 
--- the marks where one colour's is written: as before where it has no entry, and else with this one in its place
+-- the marks where one colour's is written: as before where it has no entry, and else
+-- with this one in its place
 pub marks-absent : (old new : MarkTableState) (m : Mark) (g : List Ranked) → SetsMark m old new → has_entry m.colour.0 g ≡ false → marks_of new g ≡ marks_of old g
 marks-absent old new m [] sets off = refl
 marks-absent old new m (x ∷ g) sets off =
@@ -87,7 +88,8 @@ pub classed-entries_without : (cost : ℕ) (t : MarkTableState) (c : ℕ) (g : L
 classed-entries_without cost t c [] classed = tt
 classed-entries_without cost t c (x ∷ g) classed = cond_both (not (eqb x.colour c)) (x ∷ entries_without c g) (entries_without c g) (AreOfClass cost t) (λ k. (classed.0, classed-entries_without cost t c g classed.1)) (λ f. classed-entries_without cost t c g classed.1)
 
--- where one colour's mark is written, and the colour has no entry or its entry is of the mark's class
+-- where one colour's mark is written, and the colour has no entry or its
+-- entry is of the mark's class
 pub classed-absent : (cost : ℕ) (old new : MarkTableState) (m : Mark) (g : List Ranked) → SetsMark m old new → has_entry m.colour.0 g ≡ false → AreOfClass cost old g → AreOfClass cost new g
 classed-absent cost old new m [] sets off classed = tt
 classed-absent cost old new m (x ∷ g) sets off classed =

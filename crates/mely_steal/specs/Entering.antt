@@ -12,7 +12,8 @@ pub record Ranked : Type 0 where
   pub colour : ℕ
   pub class : ℕ
 
--- colours in the order in which each entered its class, and the number of colours that there is room for
+-- colours in the order in which each entered its class, and the number of
+-- colours that there is room for
 pub record ClassesState : Type 0 where
   pub entries : List Ranked
   pub places : ℕ
@@ -116,9 +117,10 @@ abbrev pub AreBelow : (ℕ → ℕ) → ℕ → List Ranked → Type 0
 AreBelow number next [] = Unit {0}
 AreBelow number next (entry ∷ entries) = (number entry.colour < next) × AreBelow number next entries
 
--- three lists in one table with numbers of entering: each list is strung, and the one list is by the numbers, which are below
--- the next one
-pub record StandInOrder (links : List Link) (ends : List Ends) (numbers : List ℕ) (next : ℕ) : Type 0 where
+-- three lists in one table with numbers of entering: each list is strung, and the one list is by
+-- the numbers, which are below the next one
+pub record StandInOrder (links : List Link) (ends : List Ends) (numbers : List ℕ)
+    (next : ℕ) : Type 0 where
   pub many : length ends ≡ 3
   pub small : length links ≤ MAX_PLACES
   pub numbered : length numbers ≡ length links
@@ -136,7 +138,8 @@ abbrev pub HasNumbers : List Ends → List ℕ → Type 0
 HasNumbers ends numbers = (class : ℕ) → class < length ends → (ends_at ends class).len ≢ 0
     → (ends_at ends class).first < length numbers
 
--- this one of two lists isn't empty where one of them isn't, and its first place then has the smallest number
+-- this one of two lists isn't empty where one of them isn't, and its first place
+-- then has the smallest number
 pub record IsOlder (ends : List Ends) (numbers : List ℕ) (one other older : ℕ) : Type 0 where
   pub is : (older ≡ one) ⊎ (older ≡ other)
   pub before_one : (ends_at ends one).len ≢ 0 → ((ends_at ends older).len ≢ 0)

@@ -8,7 +8,8 @@ use Rattle.mely_steal.specs.declared.links.Ends.{Ends}
 abbrev pub blank_link : Link
 blank_link = record { list = 0; before = 0; after = 0 }
 
--- what the table says of a place: the number of the list that it is in, 0 where it is in none, and its neighbours there
+-- what the table says of a place: the number of the list that it is in, 0 where it is in none,
+-- and its neighbours there
 abbrev pub list_at : List Link → ℕ → ℕ
 list_at links place = (slice_index_or links place blank_link).list
 
@@ -52,7 +53,8 @@ abbrev pub LastIs : ℕ → List ℕ → Type 0
 LastIs last [] = Unit {0}
 LastIs last (place ∷ places) = last_from place places ≡ last
 
--- of each two neighbours the first names the second as the one behind it, and the second the first as the one before it
+-- of each two neighbours the first names the second as the one behind it, and the second the
+-- first as the one before it
 abbrev pub AreJoinedFrom : (ℕ → ℕ) → (ℕ → ℕ) → ℕ → List ℕ → Type 0
 AreJoinedFrom after before place [] = Unit {0}
 AreJoinedFrom after before place (next ∷ places) = (after place ≡ next) × (before next ≡ place)
@@ -63,8 +65,8 @@ abbrev pub AreJoined : (ℕ → ℕ) → (ℕ → ℕ) → List ℕ → Type 0
 AreJoined after before [] = Unit {0}
 AreJoined after before (place ∷ places) = AreJoinedFrom after before place places
 
--- the list of this number, which has these ends: neighbours name one another, and it has exactly the places that say that they
--- are in it, each once
+-- the list of this number, which has these ends: neighbours name one another, and it has exactly
+-- the places that say that they are in it, each once
 pub record IsStrung (number : ℕ) (links : List Link) (ends : Ends) : Type 0 where
   pub joined : AreJoined (after_at links) (before_at links) (places_of links ends)
   pub last : LastIs ends.last (places_of links ends)
@@ -113,7 +115,8 @@ pub record SetsLink (place : ℕ) (link : Link) (old new : List Link) : Type 0 w
   pub befores : (other : ℕ) → (place ≡ other → ⊥) → before_at new other ≡ before_at old other
   pub afters : (other : ℕ) → (place ≡ other → ⊥) → after_at new other ≡ after_at old other
 
--- the place before a place has the one behind it as its next, and where there is none before, the list begins behind it
+-- the place before a place has the one behind it as its next, and where there is none before,
+-- the list begins behind it
 pub record JoinsBehind (place : ℕ) (link : Link) (first : ℕ) (old new : List Link) : Type 0 where
   pub long : length new ≡ length old
   pub lists : (other : ℕ) → list_at new other ≡ list_at old other
@@ -122,7 +125,8 @@ pub record JoinsBehind (place : ℕ) (link : Link) (first : ℕ) (old new : List
   pub others : (other : ℕ) → ((first ≡ place) ⊎ (link.before ≡ other → ⊥))
       → after_at new other ≡ after_at old other
 
--- the place behind a place has the one before it as its own, and where there is none behind, the list ends before it
+-- the place behind a place has the one before it as its own, and where there is none
+-- behind, the list ends before it
 pub record JoinsBefore (place : ℕ) (link : Link) (last : ℕ) (old new : List Link) : Type 0 where
   pub long : length new ≡ length old
   pub lists : (other : ℕ) → list_at new other ≡ list_at old other

@@ -12,10 +12,10 @@ pub record MarkTableState : Type 0 where
 
 -- the mark of a colour
 abbrev pub mark_in : MarkTableState → ℕ → Mark
-mark_in told colour = record {
+mark_in table colour = record {
   colour = record { 0 = colour };
-  started = slice_index told.started colour;
-  worth = slice_index told.worth colour;
+  started = slice_index table.started colour;
+  worth = slice_index table.worth colour;
 }
 
 -- one colour's mark is written, and nothing else
@@ -26,12 +26,12 @@ pub record SetsMark (mark : Mark) (old new : MarkTableState) : Type 0 where
 
 -- the marks of entries
 abbrev pub marks_of : MarkTableState → List Ranked → List Mark
-marks_of told entries = map (λ entry. mark_in told entry.colour) entries
+marks_of table entries = map (λ entry. mark_in table entry.colour) entries
 
--- marks, the entries of those that may be stolen, the number of colours, the cost of a steal, and below which number colours are
--- pinned to their cores
+-- marks, the entries of those that may be stolen, the number of colours, the cost of a steal, and
+-- below which number colours are pinned to their cores
 pub record StealTableState : Type 0 where
-  pub told : MarkTableState
+  pub marks : MarkTableState
   pub entries : List Ranked
   pub colours : ℕ
   pub cost : ℕ
@@ -40,7 +40,7 @@ pub record StealTableState : Type 0 where
 -- the marks that may be stolen, in the order in which each entered its class
 abbrev pub worthy_of : StealTableState → StealQueueState
 worthy_of table = record {
-  marks = marks_of table.told table.entries;
+  marks = marks_of table.marks table.entries;
   colours = table.colours;
   cost = table.cost;
   pinned = table.pinned;
@@ -48,14 +48,15 @@ worthy_of table = record {
 
 -- each entry is in the class of its mark
 abbrev pub AreOfClass : ℕ → MarkTableState → List Ranked → Type 0
-AreOfClass cost told [] = Unit {0}
-AreOfClass cost told (entry ∷ entries) =
-    (entry.class ≡ class_of (mark_in told entry.colour).worth cost) × AreOfClass cost told entries
+AreOfClass cost table [] = Unit {0}
+AreOfClass cost table (entry ∷ entries) =
+    (entry.class ≡ class_of (mark_in table entry.colour).worth cost) × AreOfClass cost table entries
 
--- what the table keeps: its entries are of colours that may be stolen, each in the class of its mark
+-- what the table keeps: its entries are of colours that may be stolen, each
+-- in the class of its mark
 pub record AreStealable (table : StealTableState) : Type 0 where
   pub worthy : AreWorthy (worthy_of table)
-  pub classed : AreOfClass table.cost table.told table.entries
+  pub classed : AreOfClass table.cost table.marks table.entries
 
 -- the numbers with which the table was made stay
 pub record KeepsNumbers (old new : StealTableState) : Type 0 where

@@ -10,7 +10,8 @@ others_from core cores = range_with_len (core + 1) (cores - (core + 1)) ++ range
 abbrev pub in_one_group : ℕ → ℕ → ℕ → Bool
 in_one_group group core other = other / group == core / group
 
--- the other cores of the core's group, and behind them the cores of other groups (the locality of steals in the Mely paper)
+-- the other cores of the core's group, and behind them the cores of other groups (the locality of
+-- steals in the Mely paper)
 abbrev pub victims_of : ℕ → ℕ → ℕ → List ℕ
 victims_of core cores group =
     filter (λ other. in_one_group group core other) (others_from core cores) ++ filter (λ other.

@@ -11,8 +11,8 @@ use std::marker::Model;
 
 /// Colours in the classes 1 to 3, at most one class a colour.
 ///
-/// Each class is a list by links, in the order in which its colours entered it. With each colour stands the number of its
-/// entering, and contracts see all of them as one list by these numbers.
+/// Each class is a list by links, in the order in which its colours entered it. With each colour
+/// stands the number of its entering, and contracts see all of them as one list by these numbers.
 #[derive(Drop)]
 pub(crate) struct Classes {
     links: Vec<Link>,

@@ -11,8 +11,9 @@ use std::marker::Model;
 /// The number of the only list of its table.
 const ALONE: u8 = 1;
 
-/// A list of colours by links, each colour at most once. It has room for every colour from the start, so no call but
-/// [`ColourList::new`] takes memory, and each but [`ColourList::at`] touches a fixed number of places.
+/// A list of colours by links, each colour at most once. It has room for every colour from the
+/// start, so no call but [`ColourList::new`] takes memory, and each but [`ColourList::at`] touches
+/// a fixed number of places.
 #[derive(Drop)]
 pub struct ColourList {
     links: Vec<Link>,
@@ -80,7 +81,8 @@ impl ColourList {
         Some(Colour(self.ends.first))
     }
 
-    /// The colour at a place of the list, and nothing exactly where the list isn't longer. It goes through the list up to there.
+    /// The colour at a place of the list, and nothing exactly where the list isn't longer. It goes
+    /// through the list up to there.
     pub fn at(&self, place: usize) -> Option<Colour>
         ensures value { option_map (λ colour. colour.0) result ≡ slice_get self.now.list place }
         ensures within { IfSome result (λ colour. colour.0 < self.now.colours) }
@@ -104,7 +106,8 @@ impl ColourList {
         push_back(&mut self.links, &mut self.ends, ALONE, colour.0);
     }
 
-    /// Takes a colour out of the list, and the others keep their order. Nothing changes where it isn't there.
+    /// Takes a colour out of the list, and the others keep their order. Nothing
+    /// changes where it isn't there.
     pub fn remove(&mut self, colour: Colour)
         requires { colour.0 < self.old.colours }
         ensures after { self.new ≡ record self.old { list = without_place colour.0 self.old.list } }

@@ -5,9 +5,9 @@ ghost use Rattle.mely_steal.specs.Victims.{victims_of};
 use mely_event::Memory;
 use std::alloc::Global;
 
-/// From whom a core steals, in the order in which it asks: the other cores of its group, upwards from it and round, and then the
-/// cores of the other groups, again upwards from it and round. The cores are numbered from 0, and core `k` stands in group
-/// `k / group`.
+/// From whom a core steals, in the order in which it asks: the other cores of its group, upwards
+/// from it and round, and then the cores of the other groups, again upwards from it and round. The
+/// cores are numbered from 0, and core `k` stands in group `k / group`.
 ///
 /// # Errors
 ///

@@ -7,8 +7,8 @@ use mely_event::{Colour, Mark, Memory};
 use std::alloc::Global;
 use std::marker::Model;
 
-/// The last mark of each colour, in two tables side by side: one of whole marks would be a quarter larger, as a mark's fields
-/// are padded to 32 bytes.
+/// The last mark of each colour, in two tables side by side: one of whole marks would be a quarter
+/// larger, as a mark's fields are padded to 32 bytes.
 #[derive(Drop)]
 pub(crate) struct MarkTable {
     started: Vec<u64>,
@@ -43,7 +43,7 @@ impl MarkTable {
         })
     }
 
-    /// The last mark of a colour.
+    /// The mark of a colour as it was last set; zeros where it never was.
     pub(crate) fn of(&self, colour: Colour) -> Mark
         requires { colour.0 < length self.now.started }
         ensures { result ≡ mark_in self.now colour.0 }
@@ -56,7 +56,7 @@ impl MarkTable {
         }
     }
 
-    /// Writes a mark.
+    /// Keeps a mark in the place of the last one of its colour.
     pub(crate) fn set(&mut self, mark: Mark)
         requires { mark.colour.0 < length self.old.started }
         ensures { SetsMark mark self.old self.new }

@@ -4,8 +4,8 @@ ghost use Rattle.mely_steal.specs.Entering.{StandInOrder, HasNumbers, IsOlder, K
 
 use crate::links::{Ends, Link};
 
-/// The number of the next entering: it begins anew where no colour is in a class, and where it stands at its last value the
-/// colours that are there are numbered anew, in order.
+/// The number of the next entering: it begins anew where no colour is in a class, and where it
+/// stands at its last value the colours that are there are numbered anew, in order.
 pub(crate) fn next_number(links: &[Link], ends: &[Ends], numbers: &mut [u64], next: u64) -> u64
     requires stand { StandInOrder links.now ends.now numbers.old next }
     ensures stand { StandInOrder links.now ends.now numbers.new result }
@@ -51,7 +51,8 @@ fn renumber(links: &[Link], ends: &[Ends], numbers: &mut [u64], next: u64) -> u6
     }
 }
 
-/// The one of two lists whose first place has the smaller number; a list that is empty only where both are.
+/// The one of two lists whose first place has the smaller number; a list that is
+/// empty only where both are.
 fn older(left: &[Ends], numbers: &[u64], one: usize, other: usize) -> usize
     requires lists { (one < length left.now) × (other < length left.now) }
     requires numbered { HasNumbers left.now numbers.now }

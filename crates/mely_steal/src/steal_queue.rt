@@ -10,9 +10,10 @@ use std::marker::Model;
 
 /// The marks of a core that may be stolen, by what they are worth.
 ///
-/// It is a list of marks of classes 1 to 3, at most one a colour, in the order in which each entered its class. A colour that is
-/// pinned to its core never has a mark there. It has room for a mark of every colour from the start, so no call but
-/// [`StealQueue::new`] takes memory, and each touches a fixed number of places (see [`StealTable`]).
+/// It is a list of marks of classes 1 to 3, at most one a colour, in the order in which each
+/// entered its class. A colour that is pinned to its core never has a mark there. It has room for a
+/// mark of every colour from the start, so no call but [`StealQueue::new`] takes memory, and each
+/// touches a fixed number of places (see [`StealTable`]).
 #[derive(Drop)]
 pub struct StealQueue {
     table: StealTable,
@@ -33,8 +34,8 @@ impl Model for StealQueue {
 impl StealQueue {
     ghost use Rattle.mely_steal.specs.StealQueue.{StealQueueState, AreWorthy};
 
-    /// An empty list with room for this many colours, at this cost of a steal, in the unit of the weights of events. The
-    /// colours below `pinned` are never stolen.
+    /// An empty list with room for this many colours, at this cost of a steal, in the unit of the
+    /// weights of events. The colours below `pinned` are never stolen.
     ///
     /// # Errors
     ///
@@ -46,7 +47,8 @@ impl StealQueue {
         Ok(StealQueue { table })
     }
 
-    /// Adds a mark at the end, unless its class is 0 or its colour is pinned. No mark of its colour is there yet.
+    /// Adds a mark at the end, unless its class is 0 or its colour is pinned. No mark of
+    /// its colour is there yet.
     pub fn enter(&mut self, mark: Mark)
         requires below { mark.colour.0 < self.old.colours }
         requires absent { mark_of mark.colour self.old.marks ≡ None }
@@ -58,9 +60,9 @@ impl StealQueue {
         self.table.enter(mark);
     }
 
-    /// Replaces the mark of this mark's colour. Where the class stays the same the mark keeps its place; where it differs the
-    /// mark moves to the end, or out where the new class is 0. Where no mark of the colour is there the mark enters. Nothing
-    /// changes where the colour is pinned.
+    /// Replaces the mark of this mark's colour. Where the class stays the same the mark keeps its
+    /// place; where it differs the mark moves to the end, or out where the new class is 0. Where no
+    /// mark of the colour is there the mark enters. Nothing changes where the colour is pinned.
     pub fn change(&mut self, mark: Mark)
         requires { mark.colour.0 < self.old.colours }
         ensures after { let old = self.old in
@@ -71,7 +73,8 @@ impl StealQueue {
         self.table.change(mark);
     }
 
-    /// Takes the mark of a colour out. Nothing changes where there is none, so nothing where the colour is pinned.
+    /// Takes the mark of a colour out. Nothing changes where there is none, so nothing
+    /// where the colour is pinned.
     pub fn remove(&mut self, colour: Colour)
         requires { colour.0 < self.old.colours }
         ensures pinned { colour.0 < self.old.pinned → self.new ≡ self.old }
@@ -81,7 +84,8 @@ impl StealQueue {
         self.table.remove(colour);
     }
 
-    /// Takes out the first mark of the highest class, and answers nothing exactly where the list is empty.
+    /// Takes out the first mark of the highest class, and answers nothing exactly
+    /// where the list is empty.
     pub fn pick(&mut self) -> Option<Mark>
         ensures value { result ≡ pick_of self.old.cost self.old.marks }
         ensures none { IsNone result ↔ (self.old.marks ≡ []) }

@@ -13,8 +13,8 @@ use mely_event::{Colour, Mark, Memory};
 use std::alloc::Global;
 use std::marker::Model;
 
-/// The class in which a mark may be stolen, and 0 where it may not: its colour is pinned, or its time left doesn't pay for a
-/// steal.
+/// The class in which a mark may be stolen, and 0 where it may not: its colour is pinned, or its
+/// time left doesn't pay for a steal.
 fn stealing_class(mark: &Mark, cost: u32, pinned: u32) -> u8
     ensures { let class = classes_of.class_of mark.now.worth cost in
         result ≡ (if is_worthy cost pinned mark.now then class else 0) }
@@ -56,7 +56,8 @@ fn add_to(classes: &mut Classes, class: u8, colour: u16)
     }
 }
 
-/// Moves a colour to the end of a class, and out of all where the class is 0. It stays where it is already in the class.
+/// Moves a colour to the end of a class, and out of all where the class is 0. It stays where it is
+/// already in the class.
 fn move_to(classes: &mut Classes, class: u8, colour: u16)
     requires class { class ≤ 3 }
     requires place { colour < classes.old.places }
@@ -69,12 +70,14 @@ fn move_to(classes: &mut Classes, class: u8, colour: u16)
     }
 }
 
-/// The last mark of each colour, and by classes those that may be stolen: what a stealing queue is made of, and what the chain of
-/// a core shares with its stealing queue, so that a mark is kept once.
+/// The last mark of each colour, and by classes those that may be stolen: what a
+/// stealing queue is made of, and what the chain of a core shares with its stealing
+/// queue, so that a mark is kept once.
 ///
-/// Each class is a list by links, and every call but [`StealTable::new`] touches a fixed number of places and takes no memory.
-/// The one exception is an entering when the numbers of enterings are used up, after 2^64 - 1 of them with no moment at which
-/// the queue was empty: then the marks that are there are numbered anew.
+/// Each class is a list by links, and every call but [`StealTable::new`] touches a fixed number of
+/// places and takes no memory. The one exception is an entering when the numbers of enterings are
+/// used up, after 2^64 - 1 of them with no moment at which the queue was empty: then the marks that
+/// are there are numbered anew.
 #[derive(Drop)]
 pub struct StealTable {
     marks: MarkTable,
@@ -93,7 +96,7 @@ impl Model for StealTable {
     ghost use Rattle.mely_steal.specs.declared.links.TheConstants.{MAX_PLACES};
 
     ghost view = { λ t. record {
-      told = t.marks;
+      marks = t.marks;
       entries = t.classes.entries;
       colours = t.colours;
       cost = t.cost;
@@ -101,7 +104,7 @@ impl Model for StealTable {
     } };
 
     ghost invariant = { λ t. AreStealable (record {
-      told = t.marks;
+      marks = t.marks;
       entries = t.classes.entries;
       colours = t.colours;
       cost = t.cost;
@@ -114,8 +117,8 @@ impl StealTable {
     ghost use Rattle.mely_steal.specs.StealTable.{AreStealable, KeepsNumbers, SetsMark, StealTableState, mark_in, worthy_of};
     ghost use Rattle.mely_steal.specs.StealQueue.{empty_worthy};
 
-    /// A table for this many colours, of which none may be stolen yet, at this cost of a steal, in the unit of the weights of
-    /// events. The colours below `pinned` are never stolen.
+    /// A table for this many colours, of which none may be stolen yet, at this cost of a steal, in
+    /// the unit of the weights of events. The colours below `pinned` are never stolen.
     ///
     /// # Errors
     ///
@@ -133,20 +136,22 @@ impl StealTable {
         })
     }
 
-    /// The last mark of a colour. Where none was written, it is one with nothing started and nothing left.
+    /// The last mark of a colour. Where none was written, it is one with nothing
+    /// started and nothing left.
     pub fn mark(&self, colour: Colour) -> Mark
         requires { colour.0 < self.now.colours }
-        ensures value { result ≡ mark_in self.now.told colour.0 }
+        ensures value { result ≡ mark_in self.now.marks colour.0 }
         ensures stealable { AreStealable self.now }
     {
         self.marks.of(colour)
     }
 
-    /// Writes the mark of a colour that may not be stolen yet, and adds it at the end of its class where it may be stolen.
+    /// Writes the mark of a colour that may not be stolen yet, and adds it at the end of its
+    /// class where it may be stolen.
     pub fn enter(&mut self, mark: Mark)
         requires below { mark.colour.0 < self.old.colours }
         requires absent { mark_of mark.colour (worthy_of self.old).marks ≡ None }
-        ensures told { SetsMark mark self.old.told self.new.told }
+        ensures marks { SetsMark mark self.old.marks self.new.marks }
         ensures worthy { let old = worthy_of self.old in
             let marks = after_entry old.cost old.pinned mark old.marks in
             worthy_of self.new ≡ record old { marks = marks } }
@@ -158,11 +163,12 @@ impl StealTable {
         add_to(&mut self.classes, class, mark.colour.0);
     }
 
-    /// Writes the mark of a colour. Within its class it keeps its place; where it may be stolen and was in another class or in
-    /// none it goes to the end of its class, and out of the classes where it may not be stolen.
+    /// Writes the mark of a colour. Within its class it keeps its place; where it may be stolen and
+    /// was in another class or in none it goes to the end of its class, and out of the classes
+    /// where it may not be stolen.
     pub fn change(&mut self, mark: Mark)
         requires { mark.colour.0 < self.old.colours }
-        ensures told { SetsMark mark self.old.told self.new.told }
+        ensures marks { SetsMark mark self.old.marks self.new.marks }
         ensures worthy { let old = worthy_of self.old in
             let marks = after_mark_change old.cost old.pinned mark old.marks in
             worthy_of self.new ≡ record old { marks = marks } }
@@ -177,7 +183,7 @@ impl StealTable {
     /// Takes a colour out of the classes. Nothing changes where it is in none.
     pub fn remove(&mut self, colour: Colour)
         requires { colour.0 < self.old.colours }
-        ensures told { self.new.told ≡ self.old.told }
+        ensures marks { self.new.marks ≡ self.old.marks }
         ensures worthy { let marks = without colour (worthy_of self.old).marks in
             worthy_of self.new ≡ record (worthy_of self.old) { marks = marks } }
         ensures same { KeepsNumbers self.old self.new }
@@ -189,9 +195,9 @@ impl StealTable {
     /// Takes out the first colour of the highest class that has one.
     pub fn pick(&mut self) -> Option<Mark>
         ensures value { result ≡ pick_of self.old.cost (worthy_of self.old).marks }
-        ensures mark { IfSome result (λ mark. mark ≡ mark_in self.old.told mark.colour.0) }
+        ensures mark { IfSome result (λ mark. mark ≡ mark_in self.old.marks mark.colour.0) }
         ensures colour { IfSome result (λ mark. mark.colour.0 < self.old.colours) }
-        ensures told { self.new.told ≡ self.old.told }
+        ensures marks { self.new.marks ≡ self.old.marks }
         ensures worthy { MatchOption result (self.new ≡ self.old) (λ mark.
             let marks = without mark.colour (worthy_of self.old).marks in
             worthy_of self.new ≡ record (worthy_of self.old) { marks = marks }) }

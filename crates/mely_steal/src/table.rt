@@ -55,7 +55,8 @@ pub(crate) fn unlink(links: &mut [Link], ends: &mut Ends, place: u16)
     ends.len -= 1;
 }
 
-/// Makes the place behind a place the one behind that before it; where the place is the first, makes it the first.
+/// Makes the place behind a place the one behind that before it; where the place is the
+/// first, makes it the first.
 fn join_behind(links: &mut [Link], ends: &mut Ends, place: u16, link: Link)
     requires { (ends.old.first ≡ place → ⊥) → link.before < length links.old }
     ensures links { JoinsBehind place link ends.old.first links.old links.new }
@@ -69,7 +70,8 @@ fn join_behind(links: &mut [Link], ends: &mut Ends, place: u16, link: Link)
     }
 }
 
-/// Makes the place before a place the one before that behind it; where the place is the last, makes it the last.
+/// Makes the place before a place the one before that behind it; where the place is the
+/// last, makes it the last.
 fn join_before(links: &mut [Link], ends: &mut Ends, place: u16, link: Link)
     requires { (ends.old.last ≡ place → ⊥) → link.after < length links.old }
     ensures links { JoinsBefore place link ends.old.last links.old links.new }

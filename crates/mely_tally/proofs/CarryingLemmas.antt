@@ -20,7 +20,7 @@ module _ {R S P F : Type 0} (t : TrailWords S F) (fits : F → Colour → Event 
   abbrev pub Carries : WeaveState S P → Type 0
   Carries weave = StandsWell t fits weave × Fact weave
 
-  pub carry_makes : (steps : List CoreStep) (a b : WeaveState S P) → Makes t fits y app steps a b → Carries a → Carries b
+  carry_makes : (steps : List CoreStep) (a b : WeaveState S P) → Makes t fits y app steps a b → Carries a → Carries b
   unfolding Makes
   carry_makes [] a b is has = subst (λ (l : WeaveState S P). Carries l) (sym is) has
   carry_makes (step ∷ steps) a b is has = carry_makes steps is.0 b is.2 (is.1.stands, keep a is.0 step.0 step.1 has.0 is.1 has.1)
@@ -28,18 +28,18 @@ module _ {R S P F : Type 0} (t : TrailWords S F) (fits : F → Colour → Event 
   pub carry_run : (a b : WeaveState S P) (cores : List ℕ) (went : Went) → RunsTo t fits y app a cores went b → Carries a → Carries b
   carry_run a b cores went is has = carry_makes is.steps a b is.makes has
 
-  pub carry_rounds : (n : ℕ) (a b : WeaveState S P) → Rounds t fits y app n a b → Carries a → Carries b
+  carry_rounds : (n : ℕ) (a b : WeaveState S P) → Rounds t fits y app n a b → Carries a → Carries b
   unfolding Rounds
   carry_rounds zero a b is has = subst (λ (l : WeaveState S P). Carries l) (sym is) has
   carry_rounds (suc n) a b is has = carry_makes is.4.steps is.0 b is.4.makes (carry_rounds n a is.0 is.1 has)
 
-  pub carry_drives : (core n : ℕ) (a b : WeaveState S P) → Drives t fits y app core n a b → Carries a → Carries b
+  carry_drives : (core n : ℕ) (a b : WeaveState S P) → Drives t fits y app core n a b → Carries a → Carries b
   unfolding Drives
   carry_drives core zero a b is has = subst (λ (l : WeaveState S P). Carries l) (sym is) has
   carry_drives core (suc n) a b is has =
       let h = carry_drives core n a is.0 is.1 has in (is.3.1.stands, keep is.0 b core is.3.0 h.0 is.3.1 h.1)
 
-  pub carry_driven : (n : ℕ) (a b : WeaveState S P) → AreDriven t fits y app n a b → Carries a → Carries b
+  carry_driven : (n : ℕ) (a b : WeaveState S P) → AreDriven t fits y app n a b → Carries a → Carries b
   unfolding AreDriven
   carry_driven zero a b is has = subst (λ (l : WeaveState S P). Carries l) (sym is) has
   carry_driven (suc core) a b is has = carry_drives core is.2.count is.0 b is.2.drives (carry_driven core a is.0 is.1 has)

@@ -19,7 +19,7 @@ use Rattle.mely_tally.specs.Tallies.{Carried, homes_in, waiting_in}
 use Rattle.mely_tally.specs.Tells.{IgnoresSpare}
 use Rattle.mely_tally.proofs.SumsLemmas.{sum_one, sum_set}
 
-abbrev pub home_of : {S P : Type 0} → ColourState S P → List S
+abbrev home_of : {S P : Type 0} → ColourState S P → List S
 home_of lane = in_place lane.state
 
 alike_home : {S F : Type 0} (t : TrailWords S F) (f : S → ℕ) → IgnoresSpare t f → (a b : Option S) → AreAlike (IsRoomier t) a b → sum_by f (in_place b) ≡ sum_by f (in_place a)
@@ -124,7 +124,7 @@ module _ {S P F : Type 0} (t : TrailWords S F) where
       let h = waits_change g old new _ does.0.before _ does.0.was does.0.after.lanes in omega (arith, h)
 
   -- a steal
-  pub steal_lanes : (c : Colour) (to : ℕ) (answer : Result Stolen NoSteal) (old new : ShardState S P) → StealAs c to answer old new → new.lanes ≡ old.lanes
+  steal_lanes : (c : Colour) (to : ℕ) (answer : Result Stolen NoSteal) (old new : ShardState S P) → StealAs c to answer old new → new.lanes ≡ old.lanes
   steal_lanes c to (Ok stolen) old new does = does.lanes
   steal_lanes c to (Err why) old new does = does.0.lanes
 

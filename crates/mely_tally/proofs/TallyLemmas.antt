@@ -53,7 +53,7 @@ abbrev pub all_waits : {S P : Type 0} → (Carried P → ℕ) → List (ShardSta
 all_waits g shards = sum_by g (flat_map waiting_in shards)
 
 -- of the shards and one worker the sums are as before
-pub record Flows {S P F : Type 0} (t : TrailWords S F) (a b : List (ShardState S P)) (w v : WorkerState S P) : Type 0 where
+record Flows {S P F : Type 0} (t : TrailWords S F) (a b : List (ShardState S P)) (w v : WorkerState S P) : Type 0 where
   pub states : (f : S → ℕ) → IgnoresSpare t f → all_homes f b + sum_by f (turned_in v.phase) ≡ all_homes f a + sum_by f (turned_in w.phase)
   pub ways : (g : Carried P → ℕ) → all_waits g b + sum_by g (hold_of v) ≡ all_waits g a + sum_by g (hold_of w)
 
@@ -252,7 +252,7 @@ module _ {R S P F : Type 0} (t : TrailWords S F) (fits : F → Colour → Event 
       omega (arith, h, o))
 
   -- the line in which a handler runs
-  pub record RanLine : Type 0 where
+  record RanLine : Type 0 where
     pub turn : TurnState S P
     pub event : Carried P
     pub rest : List (Carried P)
@@ -305,14 +305,14 @@ module _ {R S P F : Type 0} (t : TrailWords S F) (fits : F → Colour → Event 
   phase_moves (Landing mark) is line = inl (chain_flow w.core _ (in_phase w (Free 0)) line.becomes line.called (sym (ap turned_in is)) (sym (ap on_hand is)) refl)
   phase_moves (Free place) is line = free_moves w.halted place is line
 
-  pub step_moves : Steps (side_words t (λ _. Unit {0})) y app a w made b v → Line_or
+  step_moves : Steps (side_words t (λ _. Unit {0})) y app a w made b v → Line_or
   step_moves line = phase_moves w.phase refl line
 
   -- the weave after the step
   abbrev after : WeaveState S P
   after = record { setup = b.setup; given = b.given; shards = b.shards; chains = b.chains; workers = slice_set weave.workers k v }
 
-  pub only_moves : Flow → OnlyMoves t weave after
+  only_moves : Flow → OnlyMoves t weave after
   only_moves flow = record {
     states = λ f respects.
         let h = flow.states f respects in
@@ -328,7 +328,7 @@ module _ {R S P F : Type 0} (t : TrailWords S F) (fits : F → Colour → Event 
         omega (arith, h, set, p, q);
   }
 
-  pub runs_one : RanLine → RunsOne t fits y app weave after
+  runs_one : RanLine → RunsOne t fits y app weave after
   runs_one ran =
       let may = (may_turn ran.turn Nothing [] ran.phase).of_turn in
       let r = ran.runs in

@@ -12,7 +12,7 @@ use Rattle.mely_history.specs.History.{IsRunning, ran_of}
 use Rattle.mely_history.specs.Legal.{AreLegal, IsDrained}
 use Rattle.mely_history.specs.declared.entry.Entry.{Entry}
 use Rattle.mely_history.specs.Setup.{colours_of}
-use Rattle.mely_shard.specs.Shard.{ShardState, ColourState, first_lane, colour_at, place}
+use Rattle.mely_shard.specs.Shard.{ShardState, ColourState, initial_lane, colour_at, place}
 use Rattle.mely_worker.specs.declared.phase.Phase.{Phase}
 use Rattle.mely_worker.specs.declared.phase.Phase.TheVariants.{Free, Popped, Picked, Landing, Pushing, Turning}
 use Rattle.mely_worker.specs.Outs.{in_place}
@@ -20,7 +20,7 @@ use Rattle.mely_worker.specs.Phase.{is_free}
 use Rattle.mely_worker.specs.Worker.{WorkerState}
 use Rattle.mely_weave.specs.Drains.{AllFree, HistoriesAreDrained}
 use Rattle.mely_weave.specs.Lanes.{lane_in, lane_for, AreByColour}
-use Rattle.mely_weave.specs.Making.{AreFirst, IsFirstWeave}
+use Rattle.mely_weave.specs.Making.{AreInitial, IsInitialWeave}
 use Rattle.mely_weave.specs.Side.{shard_of, history_in, history_for}
 use Rattle.mely_weave.specs.StandsWell.{StandsWell}
 use Rattle.mely_weave.specs.Weave.{WeaveState}
@@ -134,7 +134,7 @@ module _ {S P F : Type 0} (t : TrailWords S F) (fits : F → Colour → Event �
       told_at : {X : Type 0} (of : ColourState S P → X) (xs : List X) → AreByColour of weave.setup weave.shards xs → (c : Colour) → c.0 < colours_of weave.setup → TellsLane of weave xs c
       told_at of xs are c low = let there = whole.lanes c low in record { lane = there.0; lane_is = there.1; at = are.each c there.0 low there.1 }
 
-      pub parts_make : (states : List S) (queued : List (List (Carried P))) (lost : List (Colour × Event × Option P))
+      parts_make : (states : List S) (queued : List (List (Carried P))) (lost : List (Colour × Event × Option P))
           → AreByColour (λ (lane : ColourState S P). lane.state) weave.setup weave.shards (map (λ (s : S). Some s) states)
           → AreByColour (λ (lane : ColourState S P). lane.events) weave.setup weave.shards queued
           → lost ≡ flat_map (λ (w : WorkerState S P). w.lost) weave.workers
@@ -215,7 +215,7 @@ module _ {S P F : Type 0} (t : TrailWords S F) (fits : F → Colour → Event �
 
 -- ---- at first
 
-module _ {S P F : Type 0} (t : TrailWords S F) (fits : F → Colour → Event → Option P → Type 0) (setup : Setup) (states : List S) (weave : WeaveState S P) (first : AreFirst t setup states) (well : StandsWell t fits weave) (is : IsFirstWeave setup states weave) where
+module _ {S P F : Type 0} (t : TrailWords S F) (fits : F → Colour → Event → Option P → Type 0) (setup : Setup) (states : List S) (weave : WeaveState S P) (first : AreInitial t setup states) (well : StandsWell t fits weave) (is : IsInitialWeave setup states weave) where
   colours : colours_of weave.setup ≡ colours_of setup
   colours = ap (λ (s : Setup). colours_of s) is.of_setup
 
@@ -229,11 +229,11 @@ module _ {S P F : Type 0} (t : TrailWords S F) (fits : F → Colour → Event �
   given_at c low = let all = first.all in get_there states c.0 (omega (arith, low, all, colours))
 
   -- each lane has something that the states tell
-  first_tells : {X : Type 0} (of : ColourState S P → X) (told : S → X) → ((s : S) → of (first_lane s) ≡ told s) → (c : Colour) → c.0 < colours_of weave.setup → TellsLane of weave (map told states) c
+  first_tells : {X : Type 0} (of : ColourState S P → X) (told : S → X) → ((s : S) → of (initial_lane s) ≡ told s) → (c : Colour) → c.0 < colours_of weave.setup → TellsLane of weave (map told states) c
   first_tells {X} of told same c low =
       let given = given_at c low in
       record {
-        lane = first_lane given.0;
+        lane = initial_lane given.0;
         lane_is = is.lane c given.0 given.1;
         at = get_map told states c.0 given.0 given.1 ∙ ap (λ (x : X). Some x) (sym (same given.0));
       }
@@ -257,10 +257,10 @@ module _ {S P F : Type 0} (t : TrailWords S F) (fits : F → Colour → Event �
         omega (arith, wait, nothing, left, both);
   }
 
-  framed_in : (c : Colour) (s : S) (o : Option (ShardState S P)) → slice_get weave.shards (shard_of weave.setup c) ≡ o → lane_in o c ≡ Some (first_lane s) → t.frame_of s ≡ t.frame_of weave.given
+  framed_in : (c : Colour) (s : S) (o : Option (ShardState S P)) → slice_get weave.shards (shard_of weave.setup c) ≡ o → lane_in o c ≡ Some (initial_lane s) → t.frame_of s ≡ t.frame_of weave.given
   framed_in c s None there lane_is = cc
   framed_in c s (Some has) there lane_is =
-      (well.shard (shard_of weave.setup c) has there).framed (place has.setup c) s (get_map (λ (lane : ColourState S P). lane.given) has.lanes (place has.setup c) (first_lane s) lane_is)
+      (well.shard (shard_of weave.setup c) has there).framed (place has.setup c) s (get_map (λ (lane : ColourState S P). lane.given) has.lanes (place has.setup c) (initial_lane s) lane_is)
 
   pub begins : BeginsAs t states weave
   begins = record {

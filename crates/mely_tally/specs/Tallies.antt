@@ -51,7 +51,8 @@ turned_by w = turned_in w.phase
 abbrev pub refused_to : {S P : Type 0} → WorkerState S P → List (Carried P)
 refused_to w = carried_by w.lost
 
--- the events that a worker has, run or not: those of its turn, and what it was refused
+-- the events that a worker has and that are still to be run: those left of its turn, what is left
+-- to register, and what it was refused for memory
 abbrev pub hold_of : {S P : Type 0} → WorkerState S P → List (Carried P)
 hold_of w = on_hand w.phase ++ refused_to w
 
@@ -59,7 +60,8 @@ hold_of w = on_hand w.phase ++ refused_to w
 abbrev pub states_of : {S P : Type 0} → WeaveState S P → List S
 states_of weave = flat_map homes_in weave.shards ++ flat_map turned_by weave.workers
 
--- all events that were put or posted and not yet run: they wait, are left of turns, are left to register, or were refused for memory
+-- all events that were put or posted and not yet run: they wait, are left of turns, are left to
+-- register, or were refused for memory
 abbrev pub under_way : {S P : Type 0} → WeaveState S P → List (Carried P)
 under_way weave = flat_map waiting_in weave.shards ++ flat_map hold_of weave.workers
 

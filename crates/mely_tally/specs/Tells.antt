@@ -1,4 +1,6 @@
--- What a weave's calls do to all its states and all events under way. Whatever only moves things keeps every sum over them, so a number of a state or of an event is counted over the whole weave without a word on where each one is.
+-- What a weave's calls do to all its states and all events under way. Whatever only moves things
+-- keeps every sum over them, so a number of a state or of an event is counted over the whole weave
+-- without a word on where each one is.
 use Rattle.std.specs.Prelude.{◌≡◌, ◌+◌, ◌≤◌, ℕ, List, [], ◌∷◌, ◌++◌, Option, Some, Result, Ok, Err, ◌⊎◌, sum_by, slice_get, flat_map, length}
 use Rattle.std.specs.List.{AllByRecursion}
 use Rattle.mely_event.specs.declared.colour.Colour.{Colour}
@@ -23,13 +25,16 @@ abbrev pub IgnoresSpare : {S F : Type 0} → TrailWords S F → (S → ℕ) → 
 IgnoresSpare {S} t f = (a b : S) → t.alike a b → f a ≡ f b
 
 -- states and events only change their places, but for the spare of a state
-pub record OnlyMoves {S P F : Type 0} (t : TrailWords S F) (before after : WeaveState S P) : Type 0 where
+pub record OnlyMoves {S P F : Type 0} (t : TrailWords S F)
+    (before after : WeaveState S P) : Type 0 where
   pub states : (f : S → ℕ) → IgnoresSpare t f → sum_by f (states_of after)
       ≡ sum_by f (states_of before)
   pub ways : (g : Carried P → ℕ) → sum_by g (under_way after) ≡ sum_by g (under_way before)
 
-module _ {R S P F : Type 0} (t : TrailWords S F) (fits : F → Colour → Event → Option P → Type 0) (y : AppWords R P S F) (app : R) (before after : WeaveState S P) where
-  -- one event, which fitted, is run on the state of its colour by its handler, and what that put is under way; all other states and events stay
+module _ {R S P F : Type 0} (t : TrailWords S F) (fits : F → Colour → Event → Option P → Type 0)
+    (y : AppWords R P S F) (app : R) (before after : WeaveState S P) where
+  -- one event, which fitted, is run on the state of its colour by its handler, and what that put is
+  -- under way; all other states and events stay
   pub record RunsOne : Type 0 where
     pub state : S
     pub event : Carried P
@@ -50,8 +55,9 @@ module _ {R S P F : Type 0} (t : TrailWords S F) (fits : F → Colour → Event 
   abbrev pub StepTells : Type 0
   StepTells = OnlyMoves t before after ⊎ RunsOne
 
--- the states stay, and so much more is under way
-pub record GainsOnly {S P : Type 0} (before after : WeaveState S P) (more : List (Carried P)) : Type 0 where
+-- no state changes, and these events are under way beside those that were
+pub record GainsOnly {S P : Type 0} (before after : WeaveState S P)
+    (more : List (Carried P)) : Type 0 where
   pub states : (f : S → ℕ) → sum_by f (states_of after) ≡ sum_by f (states_of before)
   pub ways : (g : Carried P → ℕ) → sum_by g (under_way after)
       ≡ sum_by g (under_way before) + sum_by g more
@@ -62,20 +68,28 @@ abbrev pub PostTells : {S P : Type 0} → Event → Option P → Result Register
 PostTells event load (Ok reply) before after = GainsOnly before after ((event, load) ∷ [])
 PostTells event load (Err back) before after = GainsOnly before after []
 
--- the weave has these states, at home or in turns, and these events are under way, in whatever order
-pub record IsMadeOf {S P : Type 0} (weave : WeaveState S P) (all : List S) (left : List (Carried P)) : Type 0 where
+-- the weave has these states, at home or in turns, and these events are
+-- under way, in whatever order
+pub record IsMadeOf {S P : Type 0} (weave : WeaveState S P) (all : List S)
+    (left : List (Carried P)) : Type 0 where
   pub states : (f : S → ℕ) → sum_by f (states_of weave) ≡ sum_by f all
   pub ways : (g : Carried P → ℕ) → sum_by g (under_way weave) ≡ sum_by g left
 
--- a first weave is made of the states that were given, with nothing under way; its workers are free, and the states have its frame
-pub record BeginsAs {S P F : Type 0} (t : TrailWords S F) (states : List S) (weave : WeaveState S P) : Type 0 where
+-- an initial weave is made of the states that were given, with nothing under way; its workers are
+-- free, and the states have its frame
+pub record BeginsAs {S P F : Type 0} (t : TrailWords S F) (states : List S)
+    (weave : WeaveState S P) : Type 0 where
   pub made : IsMadeOf weave states []
   pub free : AllFree weave
   pub framed : (i : ℕ) (state : S) → slice_get states i ≡ Some state
       → t.frame_of state ≡ t.frame_of weave.given
 
--- A weave is taken apart: it was made of these states, and of what is queued and was lost. The histories are legal; where the weave's are drained so are these, and nothing is queued. There is a state for each colour, with its frame, whose trail is what was run of it.
-pub record IsTakenApart {S P F : Type 0} (t : TrailWords S F) (weave : WeaveState S P) (histories : List (List Entry)) (states : List S) (queued : List (List (Carried P))) (lost : List (Colour × Event × Option P)) : Type 0 where
+-- A weave is taken apart: it was made of these states, and of what is queued and was lost. The
+-- histories are legal; where the weave's are drained so are these, and nothing is queued. There is
+-- a state for each colour, with its frame, whose trail is what was run of it.
+pub record IsTakenApart {S P F : Type 0} (t : TrailWords S F) (weave : WeaveState S P)
+    (histories : List (List Entry)) (states : List S) (queued : List (List (Carried P)))
+    (lost : List (Colour × Event × Option P)) : Type 0 where
   pub made : IsMadeOf weave states (flat_map (λ events. events) queued ++ carried_by lost)
   pub legal : AreLegal weave.setup histories
   pub drained : HistoriesAreDrained weave → (shard : ℕ) (history : List Entry)
@@ -90,8 +104,11 @@ pub record IsTakenApart {S P F : Type 0} (t : TrailWords S F) (weave : WeaveStat
       → slice_get histories (shard_of weave.setup c) ≡ Some history
       → t.trail_of state ≡ ran_of history c
 
--- what is still under way in the parts fits: what is queued the colour of its place, and what was lost its own
-pub record PartsFit {S P F : Type 0} (t : TrailWords S F) (fits : F → Colour → Event → Option P → Type 0) (weave : WeaveState S P) (waits : List (List (Carried P))) (refused : List (Colour × Event × Option P)) : Type 0 where
+-- what is still under way in the parts fits: what is queued the colour of its place,
+-- and what was lost its own
+pub record PartsFit {S P F : Type 0} (t : TrailWords S F)
+    (fits : F → Colour → Event → Option P → Type 0) (weave : WeaveState S P)
+    (waits : List (List (Carried P))) (refused : List (Colour × Event × Option P)) : Type 0 where
   pub queued : (c : Colour) (events : List (Carried P)) → slice_get waits c.0 ≡ Some events
       → EachFits (fits (t.frame_of weave.given) c) events
   pub lost : AllByRecursion (FitsSetup fits weave.setup (t.frame_of weave.given)) refused

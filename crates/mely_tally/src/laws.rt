@@ -11,7 +11,7 @@ ghost use Rattle.mely_weave.specs.declared.draining.Drained.{Drained};
 ghost use Rattle.mely_weave.specs.declared.running.Went.{Went};
 ghost use Rattle.mely_weave.specs.Drains.{AllFree, Drains, HistoriesAreDrained};
 ghost use Rattle.mely_weave.specs.Lanes.{AreByColour};
-ghost use Rattle.mely_weave.specs.Making.{AreFirst, IsFirstWeave};
+ghost use Rattle.mely_weave.specs.Making.{AreInitial, IsInitialWeave};
 ghost use Rattle.mely_weave.specs.Runs.{RunsTo};
 ghost use Rattle.mely_weave.specs.StandsWell.{StandsWell};
 ghost use Rattle.mely_weave.specs.Weave.{WeaveState};
@@ -23,16 +23,17 @@ ghost use Rattle.mely_tally.specs.Tells.{IgnoresSpare, HandlersKeep, StepTells, 
 use mely_event::{Fits, Trail};
 use mely_worker::App;
 
-/// A first weave has the states that it was given, nothing is under way, its workers are free, and the
-/// states have the frame that is kept of it.
-pub fn a_first_weave_has_what_it_was_given<S: Fits<P>, P>()
+/// An initial weave has the states that it was given, nothing is under way, its workers are free,
+/// and the states have the frame that is kept of it.
+pub fn an_initial_weave_has_what_it_was_given<S: Fits<P>, P>()
     ensures { (setup : Setup) (states : List S) (weave : WeaveState S P)
-        → AreFirst S.Trail setup states
-        → IsFirstWeave setup states weave → StandsWell S.Trail S.fits_under weave
+        → AreInitial S.Trail setup states
+        → IsInitialWeave setup states weave → StandsWell S.Trail S.fits_under weave
         → BeginsAs S.Trail states weave }
 {}
 
-/// A post moves no state. What was posted is under way then, and after a refused post all is as before.
+/// A post moves no state. What was posted is under way then, and after a
+/// refused post all is as before.
 pub fn a_post_brings_its_event<S: Fits<P>, P>()
     ensures { (colour : Colour) (event : Event) (load : Option P)
         (answer : Result Registered (Unregistered P))
@@ -41,9 +42,10 @@ pub fn a_post_brings_its_event<S: Fits<P>, P>()
         → PostTells event load answer before after }
 {}
 
-/// A step runs one event, which was under way and which fitted, on the state of its colour: that state
-/// becomes the one that the handler left, the event is no longer under way, and what the handler put is. Every
-/// other step only moves states and events, but that it may make room in a state.
+/// A step runs one event, which was under way and which fitted, on the state of its
+/// colour: that state becomes the one that the handler left, the event is no longer under
+/// way, and what the handler put is. Every other step only moves states and events, but
+/// that it may make room in a state.
 pub fn a_step_runs_one_event_or_only_moves<S: Fits<P>, P, R: App<State = S, Load = P>>()
     ensures { (app : R) (core : ℕ) (step : Made) (before after : WeaveState S P)
         → StandsWell S.Trail S.fits_under before
@@ -51,8 +53,9 @@ pub fn a_step_runs_one_event_or_only_moves<S: Fits<P>, P, R: App<State = S, Load
         → StepTells S.Trail S.fits_under R.App app before after }
 {}
 
-/// Where each handler leaves in its state, or hands on by what it puts, as much as was in the state and its
-/// event brought, the whole weave keeps its total: over a step, over a schedule that is run, and over a drain.
+/// Where each handler leaves in its state, or hands on by what it puts, as much as was in the
+/// state and its event brought, the whole weave keeps its total: over a step, over a schedule that
+/// is run, and over a drain.
 pub fn what_each_handler_keeps_a_run_keeps<S: Fits<P>, P, R: App<State = S, Load = P>>()
     ensures step { (app : R) (had : S → ℕ) (brought : Carried P → ℕ) → IgnoresSpare S.Trail had
         → HandlersKeep S.Trail S.fits_under R.App app had brought
@@ -80,9 +83,9 @@ pub fn a_drained_weave_has_only_what_was_refused<S: Fits<P>, P>()
         → HistoriesAreDrained weave → under_way weave ≡ refused_in weave }
 {}
 
-/// The parts that a weave is taken apart into have its states, and all that is under way: what is queued, and
-/// what was refused for memory. The histories are legal, and drained where the weave's were; each state is that of its
-/// colour, has the frame, and its trail is what was run of it.
+/// The parts that a weave is taken apart into have its states, and all that is under way: what is
+/// queued, and what was refused for memory. The histories are legal, and drained where the weave's
+/// were; each state is that of its colour, has the frame, and its trail is what was run of it.
 pub fn the_parts_are_what_the_weave_had<S: Fits<P>, P>()
     ensures { (weave : WeaveState S P) (histories : List (List Entry)) (states : List S)
         (queued : List (List (Carried P))) (lost : List (Colour × Event × Option P))
@@ -96,8 +99,8 @@ pub fn the_parts_are_what_the_weave_had<S: Fits<P>, P>()
         → IsTakenApart S.Trail weave histories states queued lost }
 {}
 
-/// What is queued in the parts that a weave is taken apart into fits the colour whose queue it is, and what was refused
-/// for memory is of a colour and a handler of the setup, and fits.
+/// What is queued in the parts that a weave is taken apart into fits the colour whose queue it is,
+/// and what was refused for memory is of a colour and a handler of the setup, and fits.
 pub fn what_is_left_in_the_parts_fits<S: Fits<P>, P>()
     ensures { (weave : WeaveState S P) (queued : List (List (Carried P)))
         (lost : List (Colour × Event × Option P))

@@ -1,6 +1,6 @@
 //! Coins that go round are as many at the end as at the beginning.
 ghost use Rattle.std.specs.Prelude.{◌≡◌, ◌<◌, ◌≤◌, ◌+◌, ◌^◌, ◌++◌, All, IfOk, map, flat_map, sum_by, unwrap_or, length};
-ghost use Rattle.mely_weave.specs.Making.{AreBlank};
+ghost use Rattle.mely_weave.specs.Making.{AreInitialBelow};
 ghost use Rattle.mely_event.specs.HandlerTable.{rows_of};
 ghost use Rattle.mely_history.specs.Setup.{shape_of, colours_of, handlers_of};
 ghost use Rattle.mely_tally.specs.Tallies.{carried_by};
@@ -67,7 +67,7 @@ fn small_setup() -> Result<Setup, Fail>
 
 /// A purse with a hundred coins for each colour.
 fn purses(alloc: Global, colours: u16) -> Result<Vec<Purse>, Memory>
-    ensures { IfOk result (λ states. AreBlank (λ state. state.log.colour) (λ state.
+    ensures { IfOk result (λ states. AreInitialBelow (λ state. state.log.colour) (λ state.
         state.log.events) colours states.items) }
 {
     let mut states = Vec::new(alloc);

@@ -4,4 +4,4 @@ pub mod MakeLemmas
 pub mod SpreadLemmas
 pub mod PartsLemmas
 pub mod PartsOfStandingLemmas
-pub mod FirstStatesLemmas
+pub mod InitialStatesLemmas

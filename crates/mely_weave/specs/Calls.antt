@@ -15,7 +15,7 @@ use Rattle.mely_history.specs.Setup.{colours_of}
 use Rattle.mely_history.specs.History.{registered_of, begun_of}
 use Rattle.mely_history.specs.Legal.{IsRunningOn}
 use Rattle.mely_queue.specs.Turn.{TurnState}
-use Rattle.mely_shard.specs.Shard.{ShardState, Registers, RegisteredAs, HasSameContents, Takes, KeepsStates, NoTakeAs, Finishes, AfterAs, Steals, NoStealAs}
+use Rattle.mely_shard.specs.Shard.{ShardState, Registers, RegisteredAs, KeepsAllButSpare, Takes, KeepsStates, NoTakeAs, Finishes, AfterAs, Steals, NoStealAs}
 use Rattle.mely_steal.specs.Marks.{mark_of, without, after_replacement}
 use Rattle.mely_steal.specs.StealQueue.{after_entry, after_mark_change, pick_of}
 use Rattle.mely_core.specs.CoreQueue.{CoreQueueState, told_of}
@@ -23,7 +23,8 @@ use Rattle.mely_worker.specs.declared.access.Access.{Ghosts as AccessWords}
 use Rattle.mely_weave.specs.Side.{SideState, shard_of, history_at}
 
 -- the shard of the colour changes as is said, and all else stays
-pub record AtShard {S P : Type 0} (a b : SideState S P) (c : Colour) (Does : ShardState S P → ShardState S P → Type 0) : Type 0 where
+pub record AtShard {S P : Type 0} (a b : SideState S P) (c : Colour)
+    (Does : ShardState S P → ShardState S P → Type 0) : Type 0 where
   pub old : ShardState S P
   pub new : ShardState S P
   pub was : slice_get a.shards (shard_of a.setup c) ≡ Some old
@@ -31,7 +32,8 @@ pub record AtShard {S P : Type 0} (a b : SideState S P) (c : Colour) (Does : Sha
   pub becomes : b ≡ record a { shards = slice_set a.shards (shard_of a.setup c) new }
 
 -- the chain of the core changes as is said, and all else stays
-pub record AtChain {S P : Type 0} (a b : SideState S P) (core : ℕ) (Does : CoreQueueState → CoreQueueState → Type 0) : Type 0 where
+pub record AtChain {S P : Type 0} (a b : SideState S P) (core : ℕ)
+    (Does : CoreQueueState → CoreQueueState → Type 0) : Type 0 where
   pub old : CoreQueueState
   pub new : CoreQueueState
   pub was : slice_get a.chains core ≡ Some old
@@ -43,7 +45,7 @@ abbrev pub RegisterAs : {S P : Type 0} → Colour → Event → Option P → ℕ
     → Result Registered (Unregistered P) → ShardState S P → ShardState S P → Type 0
 RegisterAs c event load by (Ok reply) old new = Registers old new c event load by
     × RegisteredAs old.setup old.history new.history c reply
-RegisterAs c event load by (Err back) old new = HasSameContents old new
+RegisterAs c event load by (Err back) old new = KeepsAllButSpare old new
 
 -- a take on a shard does what its answer says
 abbrev pub TakeAs : {S P F : Type 0} → TrailWords S F → Colour → ℕ → Result (TurnState S P) NoTake
@@ -63,7 +65,7 @@ FinishAs turn answer old new = Finishes old new turn
 abbrev pub StealAs : {S P : Type 0} → Colour → ℕ → Result Stolen NoSteal → ShardState S P
     → ShardState S P → Type 0
 StealAs c to (Ok stolen) old new = Steals old new c to stolen
-StealAs c to (Err why) old new = HasSameContents old new × NoStealAs old.setup old.history c to why
+StealAs c to (Err why) old new = KeepsAllButSpare old new × NoStealAs old.setup old.history c to why
 
 -- a mark enters at the back, unless one of its colour is there
 abbrev pub PushAs : Mark → Result (Unit {0}) There → CoreQueueState → CoreQueueState → Type 0
@@ -101,7 +103,8 @@ PickAs (Some mark) old new = (pick_of old.cost old.worthy ≡ Some mark)
     })
 
 -- a turn of the colour is out on the core, and its state is to have all events that were begun
-pub record IsOut {S P : Type 0} (a : SideState S P) (c : Colour) (core count : ℕ) (trail : List Event) : Type 0 where
+pub record IsOut {S P : Type 0} (a : SideState S P) (c : Colour) (core count : ℕ)
+    (trail : List Event) : Type 0 where
   pub colour : c.0 < colours_of a.setup
   pub runs : IsRunningOn (history_at a c) c core count
   pub trailed : trail ≡ take (begun_of (history_at a c) c) (registered_of (history_at a c) c)
@@ -125,7 +128,8 @@ side_words t Stands = record {
   picks = λ a core answer b. AtChain a b core (PickAs answer);
 }
 
--- what the calls of a core do in a weave, where a colour has no more than one mark: the mark that a worker pushes is the only one of its colour, so it always enters
+-- what the calls of a core do in a weave, where a colour has no more than one mark: the mark that a
+-- worker pushes is the only one of its colour, so it always enters
 abbrev pub weave_words : {S P F : Type 0} → TrailWords S F → AccessWords (SideState S P) S P F
 weave_words t = record (side_words t (λ _. Unit {0})) {
   pushes = λ a core mark answer b.

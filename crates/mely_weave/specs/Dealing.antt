@@ -2,7 +2,8 @@
 use Rattle.std.specs.Prelude.{◌≡◌, ◌+◌, ◌*◌, ℕ, List, Some, length, slice_get}
 
 -- what is of colour c lies at place c / shards of pile c % shards, and nothing else lies there
-pub record AreDealt {X Y : Type 0} (items : Y → List X) (shards : ℕ) (all : List X) (piles : List Y) : Type 0 where
+pub record AreDealt {X Y : Type 0} (items : Y → List X) (shards : ℕ) (all : List X)
+    (piles : List Y) : Type 0 where
   pub many : length piles ≡ shards
   pub each : (shard : ℕ) (pile : Y) → slice_get piles shard ≡ Some pile → (i : ℕ)
       → slice_get (items pile) i ≡ slice_get all (i * shards + shard)

@@ -1,4 +1,4 @@
--- Rounds, and drains.
+-- When nothing is left to do, rounds of one step a core, and drains: rounds until then.
 use Rattle.std.specs.Prelude.{◌≡◌, ℕ, zero, suc, Bool, true, false, List, [], Option, Some, map, slice_get}
 use Rattle.std.specs.List.{range_with_len}
 use Rattle.mely_event.specs.declared.colour.Colour.{Colour}
@@ -18,10 +18,12 @@ use Rattle.mely_weave.specs.Weave.{WeaveState}
 use Rattle.mely_weave.specs.Runs.{CoreStep, StepsWell, Makes}
 
 module _ {S P : Type 0} (weave : WeaveState S P) where
+  -- every worker is free: none has a mark in hand or is in a turn
   abbrev pub AllFree : Type 0
   AllFree = (core : ℕ) (w : WorkerState S P) → slice_get weave.workers core ≡ Some w
       → is_free w.phase ≡ true
 
+  -- every chain is empty: no mark waits for a worker
   abbrev pub AllEmpty : Type 0
   AllEmpty = (core : ℕ) (queue : CoreQueueState) → slice_get weave.chains core ≡ Some queue
       → queue.chain ≡ []
@@ -38,6 +40,7 @@ module _ {S P : Type 0} (weave : WeaveState S P) where
     pub there : slice_get weave.workers core ≡ Some worker
     pub halted : worker.halted ≡ true
 
+  -- no worker met want of memory
   abbrev pub NoneHalted : Type 0
   NoneHalted = (core : ℕ) (w : WorkerState S P) → slice_get weave.workers core
       ≡ Some w → w.halted ≡ false
@@ -54,7 +57,8 @@ module _ {S P : Type 0} (weave : WeaveState S P) where
       ≡ Some has
       → IsDrained has.history
 
-module _ {R S P F : Type 0} (t : TrailWords S F) (fits : F → Colour → Event → Option P → Type 0) (y : AppWords R P S F) (app : R) where
+module _ {R S P F : Type 0} (t : TrailWords S F) (fits : F → Colour → Event → Option P → Type 0)
+    (y : AppWords R P S F) (app : R) where
   -- one step of each of so many cores, in ascending order
   pub record MakesRound (cores : ℕ) (before after : WeaveState S P) : Type 0 where
     pub steps : List CoreStep
@@ -87,7 +91,8 @@ module _ {R S P F : Type 0} (t : TrailWords S F) (fits : F → Colour → Event 
   AreDriven (suc core) before after = (between : WeaveState S P) × AreDriven core before between
       × DrivesTo core between after
 
-  -- a drain: rounds until nothing is left to do, or until a worker is halted; every worker is driven then until it is free
+  -- a drain: rounds until nothing is left to do, or until a worker is halted; every worker is
+  -- driven then until it is free
   abbrev pub Drains : WeaveState S P → Drained → WeaveState S P → Type 0
   Drains before drained.Empty after = (n : ℕ) × Rounds n before after × NoneHalted after
       × IsQuiet after × HistoriesAreDrained after

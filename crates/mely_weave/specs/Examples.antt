@@ -1,4 +1,4 @@
--- The setup of the examples, and their first states.
+-- The setup of the examples, and their initial states.
 use Rattle.std.specs.Prelude.{◌≡◌, ℕ, length}
 use Rattle.mely_event.specs.HandlerTable.{rows_of}
 use Rattle.mely_history.specs.declared.setup.Setup.{Setup}

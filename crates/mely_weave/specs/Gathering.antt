@@ -45,7 +45,8 @@ chain_of setup marks = record {
 }
 
 -- each core's chain has the marks of the ready colours below a number that the core owns
-pub record AreChained (setup : Setup) (of : Colour → Readiness) (n : ℕ) (chains : List CoreQueueState) : Type 0 where
+pub record AreChained (setup : Setup) (of : Colour → Readiness) (n : ℕ)
+    (chains : List CoreQueueState) : Type 0 where
   pub many : length chains ≡ (shape_of setup).cores
   pub each : (core : ℕ) (queue : CoreQueueState) → slice_get chains core ≡ Some queue
       → queue ≡ chain_of setup (marks_below of core n)
@@ -57,7 +58,8 @@ AreChainedAnew setup shards chains =
     AreChained setup (readiness_for setup shards) (colours_of setup) chains
 
 -- a shard that is gathered: it is the setup's shard of this number, and no colour of it runs
-pub record MayGatherShard {S P F : Type 0} (t : TrailWords S F) (setup : Setup) (frame : F) (number : ℕ) (has : ShardState S P) : Type 0 where
+pub record MayGatherShard {S P F : Type 0} (t : TrailWords S F) (setup : Setup) (frame : F)
+    (number : ℕ) (has : ShardState S P) : Type 0 where
   pub of_setup : has.setup ≡ setup
   pub numbered : has.shard ≡ number
   pub at_rest : (c : Colour) → IsOwn has c → ¬ IsRunning has.history c
@@ -70,8 +72,10 @@ pub record MayGatherChain (setup : Setup) (queue : CoreQueueState) : Type 0 wher
   pub cost : queue.cost ≡ (shape_of setup).steal_cost
   pub pinned : queue.pinned ≡ pinned_of setup
 
--- a worker that is gathered: it is free, it is the setup's worker of this core, and what it lost may be registered
-pub record MayGatherWorker {S P F : Type 0} (fits : F → Colour → Event → Option P → Type 0) (setup : Setup) (frame : F) (core : ℕ) (w : WorkerState S P) : Type 0 where
+-- a worker that is gathered: it is free, it is the setup's worker of this core, and what
+-- it lost may be registered
+pub record MayGatherWorker {S P F : Type 0} (fits : F → Colour → Event → Option P → Type 0)
+    (setup : Setup) (frame : F) (core : ℕ) (w : WorkerState S P) : Type 0 where
   pub own_core : w.core ≡ core
   pub batch : w.batch ≡ (shape_of setup).batch
   pub victims : w.victims ≡ victims_of core (shape_of setup).cores (shape_of setup).group
@@ -79,7 +83,9 @@ pub record MayGatherWorker {S P F : Type 0} (fits : F → Colour → Event → O
   pub lost : AllByRecursion (FitsSetup fits setup frame) w.lost
 
 -- all shards of a setup, a chain and a worker for each core, by number, with states of one frame
-pub record MayGather {S P F : Type 0} (t : TrailWords S F) (fits : F → Colour → Event → Option P → Type 0) (setup : Setup) (shards : List (ShardState S P)) (chains : List CoreQueueState) (workers : List (WorkerState S P)) : Type 0 where
+pub record MayGather {S P F : Type 0} (t : TrailWords S F)
+    (fits : F → Colour → Event → Option P → Type 0) (setup : Setup) (shards : List (ShardState S P))
+    (chains : List CoreQueueState) (workers : List (WorkerState S P)) : Type 0 where
   pub frame : F
   pub shard_count : length shards ≡ (shape_of setup).shards
   pub shard : (number : ℕ) (has : ShardState S P) → slice_get shards number ≡ Some has
@@ -92,7 +98,8 @@ pub record MayGather {S P F : Type 0} (t : TrailWords S F) (fits : F → Colour 
       → MayGatherWorker fits setup frame core w
 
 -- the shard is the setup's of this number, with a legal history
-pub record IsOwnShard {S P : Type 0} (setup : Setup) (number : ℕ) (has : ShardState S P) : Type 0 where
+pub record IsOwnShard {S P : Type 0} (setup : Setup) (number : ℕ)
+    (has : ShardState S P) : Type 0 where
   pub of_setup : has.setup ≡ setup
   pub numbered : has.shard ≡ number
   pub legal : IsLegal setup has.history

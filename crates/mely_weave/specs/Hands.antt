@@ -14,7 +14,9 @@ mark_in Nothing = []
 mark_in (PushMark core mark) = (core, mark) ∷ []
 mark_in (Report core colour started worth) = []
 
--- the mark that a worker of a core holds, with the core that it is for: a popped mark is for the worker's own, a picked one for the victim that it was taken from, and one that is to be pushed for the core that it is to be pushed to
+-- the mark that a worker of a core holds, with the core that it is for: a popped mark is for the
+-- worker's own, a picked one for the victim that it was taken from, and one that is to be pushed
+-- for the core that it is to be pushed to
 abbrev pub held_in : {S P : Type 0} → ℕ → Phase S P → List Placed
 held_in core (Free place) = []
 held_in core (Popped mark) = (core, mark) ∷ []

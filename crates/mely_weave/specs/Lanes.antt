@@ -11,13 +11,15 @@ abbrev pub lane_in : {S P : Type 0} → Option (ShardState S P) → Colour → O
 lane_in None c = None
 lane_in (Some has) c = lane_at has c
 
--- the lane of a colour: its state where it is at home, the state that it was given at first, and the events that wait
+-- the lane of a colour: its state where it is at home, the state that it was given at first,
+-- and the events that wait
 abbrev pub lane_for : {S P : Type 0} → Setup → List (ShardState S P) → Colour
     → Option (ColourState S P)
 lane_for setup shards c = lane_in (slice_get shards (shard_of setup c)) c
 
 -- something of each colour, in ascending order
-pub record AreByColour {S P X : Type 0} (of : ColourState S P → X) (setup : Setup) (shards : List (ShardState S P)) (xs : List X) : Type 0 where
+pub record AreByColour {S P X : Type 0} (of : ColourState S P → X) (setup : Setup)
+    (shards : List (ShardState S P)) (xs : List X) : Type 0 where
   pub many : length xs ≡ colours_of setup
   pub each : (c : Colour) (lane : ColourState S P) → c.0 < colours_of setup
       → lane_for setup shards c ≡ Some lane → slice_get xs c.0 ≡ Some (of lane)

@@ -1,11 +1,11 @@
--- A weave at first.
+-- An initial weave: the states that it is made of, and its empty chains and free workers.
 use Rattle.std.specs.Prelude.{◌≡◌, ℕ, false, List, [], Some, length, slice_get}
 use Rattle.mely_event.specs.declared.colour.Colour.{Colour}
 use Rattle.mely_event.specs.declared.event.Event.{Event}
 use Rattle.mely_event.specs.declared.trail.Trail.{Ghosts as TrailWords}
 use Rattle.mely_history.specs.declared.setup.Setup.{Setup}
 use Rattle.mely_history.specs.Setup.{shape_of, colours_of, pinned_of}
-use Rattle.mely_shard.specs.Shard.{ShardState, first_lane}
+use Rattle.mely_shard.specs.Shard.{ShardState, initial_lane}
 use Rattle.mely_steal.specs.Victims.{victims_of}
 use Rattle.mely_core.specs.CoreQueue.{CoreQueueState, empty_core}
 use Rattle.mely_worker.specs.declared.phase.Phase.TheVariants.{Free}
@@ -15,7 +15,8 @@ use Rattle.mely_weave.specs.Lanes.{lane_for}
 use Rattle.mely_weave.specs.Weave.{WeaveState}
 
 -- one state with an empty trail for each colour, in ascending order, all of one frame
-pub record AreFirst {S F : Type 0} (t : TrailWords S F) (setup : Setup) (states : List S) : Type 0 where
+pub record AreInitial {S F : Type 0} (t : TrailWords S F) (setup : Setup)
+    (states : List S) : Type 0 where
   pub all : length states ≡ colours_of setup
   pub coloured : (i : ℕ) (state : S) → slice_get states i ≡ Some state
       → t.colour_of state ≡ record { 0 = i }
@@ -23,8 +24,10 @@ pub record AreFirst {S F : Type 0} (t : TrailWords S F) (setup : Setup) (states 
   pub one_frame : (i j : ℕ) (a b : S) → slice_get states i ≡ Some a → slice_get states j ≡ Some b
       → t.frame_of a ≡ t.frame_of b
 
--- the first states of so many colours, as they are made one after another: one for each, on which nothing was run
-pub record AreBlank {S : Type 0} (colour_of : S → Colour) (trail_of : S → List Event) (count : ℕ) (states : List S) : Type 0 where
+-- initial states of the colours below a number, in ascending order: one for each,
+-- on which nothing was run
+pub record AreInitialBelow {S : Type 0} (colour_of : S → Colour) (trail_of : S → List Event)
+    (count : ℕ) (states : List S) : Type 0 where
   pub many : length states ≡ count
   pub each : (i : ℕ) (state : S) → slice_get states i ≡ Some state
       → (colour_of state ≡ record { 0 = i }) × (trail_of state ≡ [])
@@ -33,9 +36,9 @@ pub record AreBlank {S : Type 0} (colour_of : S → Colour) (trail_of : S → Li
 abbrev pub empty_chain : Setup → CoreQueueState
 empty_chain setup = empty_core (colours_of setup) (shape_of setup).steal_cost (pinned_of setup)
 
--- a worker at first
-abbrev pub first_worker : {S P : Type 0} → Setup → ℕ → WorkerState S P
-first_worker setup core = record {
+-- the initial worker of a core
+abbrev pub initial_worker : {S P : Type 0} → Setup → ℕ → WorkerState S P
+initial_worker setup core = record {
   core = core;
   batch = (shape_of setup).batch;
   halted = false;
@@ -44,9 +47,9 @@ first_worker setup core = record {
   phase = Free 0;
 }
 
--- the worker of a core at first, at rest
-abbrev pub first_rest : {P : Type 0} → Setup → ℕ → IdleWorkerState P
-first_rest setup core = record {
+-- the initial worker of a core, at rest
+abbrev pub initial_idle_worker : {P : Type 0} → Setup → ℕ → IdleWorkerState P
+initial_idle_worker setup core = record {
   core = core;
   batch = (shape_of setup).batch;
   halted = false;
@@ -55,14 +58,16 @@ first_rest setup core = record {
   place = 0;
 }
 
--- nothing was registered, each colour has the state that it was given, the chains are empty, and the workers are free
-pub record IsFirstWeave {S P : Type 0} (setup : Setup) (states : List S) (weave : WeaveState S P) : Type 0 where
+-- nothing was registered, each colour has the state that it was given, the chains are empty,
+-- and the workers are free
+pub record IsInitialWeave {S P : Type 0} (setup : Setup) (states : List S)
+    (weave : WeaveState S P) : Type 0 where
   pub of_setup : weave.setup ≡ setup
   pub no_entry : (shard : ℕ) (has : ShardState S P) → slice_get weave.shards shard
       ≡ Some has → has.history ≡ []
   pub lane : (c : Colour) (state : S) → slice_get states c.0 ≡ Some state
-      → lane_for weave.setup weave.shards c ≡ Some (first_lane state)
+      → lane_for weave.setup weave.shards c ≡ Some (initial_lane state)
   pub chain : (core : ℕ) (queue : CoreQueueState) → slice_get weave.chains core ≡ Some queue
       → queue ≡ empty_chain setup
   pub worker : (core : ℕ) (w : WorkerState S P) → slice_get weave.workers core ≡ Some w
-      → w ≡ first_worker setup core
+      → w ≡ initial_worker setup core

@@ -24,7 +24,8 @@ marks_in_system in_hand chains workers = in_chains 0 chains ++ flat_map in_hand 
 abbrev pub is_of : Colour → Placed → Bool
 is_of c p = p.1.colour.0 == c.0
 
--- the mark is for the owner of its colour, and says how many events were begun and no more than the worth
+-- the mark is for the owner of its colour, and says how many events were begun
+-- and no more than the worth
 abbrev pub is_told : (Colour → Readiness) → Placed → Bool
 is_told of p = (p.0 == (of p.1.colour).owner) && ((p.1.started == (of p.1.colour).begun) && nat_le
     p.1.worth (of p.1.colour).worth)

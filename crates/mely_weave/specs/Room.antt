@@ -1,4 +1,4 @@
--- The room of a weave.
+-- The room that a weave keeps from the first, so that it is taken apart without memory.
 use Rattle.std.specs.Prelude.{◌≡◌, ◌≤◌, ◌*◌, vec_len, vec_capacity}
 use Rattle.mely_history.specs.Setup.{shape_of, colours_of}
 use Rattle.mely_weave.specs.declared.room.WeaveRoom.TheInside.{Inside}

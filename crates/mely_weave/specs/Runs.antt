@@ -38,14 +38,18 @@ pub record StopsAfter (cores : List ℕ) (steps : List CoreStep) (count : ℕ) :
   pub last : steps ≡ earlier ++ (core, made.Memory) ∷ []
   pub none : NoneMetWant earlier
 
--- the steps are one of each of the cores in this order, or those up to the first that met want of memory
+-- the steps are one of each of the cores in this order, or those up to the
+-- first that met want of memory
 abbrev pub Goes : List ℕ → List CoreStep → Went → Type 0
 Goes cores steps went.All = (map (λ step. step.0) steps ≡ cores) × NoneMetWant steps
 Goes cores steps (went.Memory count) = StopsAfter cores steps count
 
-module _ {R S P F : Type 0} (t : TrailWords S F) (fits : F → Colour → Event → Option P → Type 0) (y : AppWords R P S F) (app : R) where
-  -- a step of the core by its worker's rule, for which no mark was refused, and after which all stands well
-  pub record StepsWell (before : WeaveState S P) (core : ℕ) (step : Made) (after : WeaveState S P) : Type 0 where
+module _ {R S P F : Type 0} (t : TrailWords S F) (fits : F → Colour → Event → Option P → Type 0)
+    (y : AppWords R P S F) (app : R) where
+  -- a step of the core by its worker's rule, for which no mark was refused, and
+  -- after which all stands well
+  pub record StepsWell (before : WeaveState S P) (core : ℕ) (step : Made)
+      (after : WeaveState S P) : Type 0 where
     pub call : StepCall t fits y app core step before after
     pub accepted : WasntRefused step
     pub stands : StandsWell t fits after
@@ -58,7 +62,8 @@ module _ {R S P F : Type 0} (t : TrailWords S F) (fits : F → Colour → Event 
       × Makes steps between after
 
   -- a run over these cores
-  pub record RunsTo (before : WeaveState S P) (cores : List ℕ) (went : Went) (after : WeaveState S P) : Type 0 where
+  pub record RunsTo (before : WeaveState S P) (cores : List ℕ) (went : Went)
+      (after : WeaveState S P) : Type 0 where
     pub steps : List CoreStep
     pub makes : Makes steps before after
     pub goes : Goes cores steps went

@@ -41,7 +41,8 @@ history_for setup shards c = history_in (slice_get shards (shard_of setup c))
 abbrev pub history_at : {S P : Type 0} → SideState S P → Colour → List Entry
 history_at a c = history_for a.setup a.shards c
 
--- what the mark of a colour goes by: whether the colour rests while something waits, so that there is a mark; its owner; how many events were begun; and its worth
+-- what the mark of a colour goes by: whether the colour rests while something waits, so that there
+-- is a mark; its owner; how many events were begun; and its worth
 pub record Readiness : Type 0 where
   pub ready : Bool
   pub owner : ℕ

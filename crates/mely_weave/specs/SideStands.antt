@@ -9,8 +9,11 @@ use Rattle.mely_shard.specs.Shard.{ShardState, IsConsistent, givens}
 use Rattle.mely_core.specs.CoreQueue.{CoreQueueState, HoldTogether}
 use Rattle.mely_weave.specs.Side.{SideState}
 
--- the shard is that of the number: its history is legal and its own, each of its colours has a lane that has what the history says, and the states that were given have the frame
-pub record ShardStands {S P F : Type 0} (t : TrailWords S F) (fits : F → Colour → Event → Option P → Type 0) (setup : Setup) (frame : F) (number : ℕ) (has : ShardState S P) : Type 0 where
+-- the shard is that of the number: its history is legal and its own, each of its colours has a lane
+-- that has what the history says, and the states that were given have the frame
+pub record ShardStands {S P F : Type 0} (t : TrailWords S F)
+    (fits : F → Colour → Event → Option P → Type 0) (setup : Setup) (frame : F) (number : ℕ)
+    (has : ShardState S P) : Type 0 where
   pub of_setup : has.setup ≡ setup
   pub numbered : has.shard ≡ number
   pub kept : IsConsistent t fits has
@@ -25,7 +28,9 @@ pub record ChainStands (setup : Setup) (queue : CoreQueueState) : Type 0 where
   pub together : HoldTogether queue
 
 -- there is a shard for each number and a chain for each core
-pub record PartsStand {S P F : Type 0} (t : TrailWords S F) (fits : F → Colour → Event → Option P → Type 0) (setup : Setup) (given : S) (has_shards : List (ShardState S P)) (has_chains : List CoreQueueState) : Type 0 where
+pub record PartsStand {S P F : Type 0} (t : TrailWords S F)
+    (fits : F → Colour → Event → Option P → Type 0) (setup : Setup) (given : S)
+    (has_shards : List (ShardState S P)) (has_chains : List CoreQueueState) : Type 0 where
   pub shards : length has_shards ≡ (shape_of setup).shards
   pub shard : (number : ℕ) (has : ShardState S P) → slice_get has_shards number ≡ Some has
       → ShardStands t fits setup (t.frame_of given) number has
@@ -33,12 +38,14 @@ pub record PartsStand {S P F : Type 0} (t : TrailWords S F) (fits : F → Colour
   pub chain : (core : ℕ) (queue : CoreQueueState) → slice_get has_chains core ≡ Some queue
       → ChainStands setup queue
 
+-- the shards and the chains of a side stand so, whatever core it is the side of
 abbrev pub PartsOf : {S P F : Type 0} → TrailWords S F
     → (F → Colour → Event → Option P → Type 0) → SideState S P → Type 0
 PartsOf t fits a = PartsStand t fits a.setup a.given a.shards a.chains
 
 -- the same from the side of a core, which is one of the setup
-pub record SideStands {S P F : Type 0} (t : TrailWords S F) (fits : F → Colour → Event → Option P → Type 0) (a : SideState S P) : Type 0 where
+pub record SideStands {S P F : Type 0} (t : TrailWords S F)
+    (fits : F → Colour → Event → Option P → Type 0) (a : SideState S P) : Type 0 where
   pub core : a.core < (shape_of a.setup).cores
   pub shards : length a.shards ≡ (shape_of a.setup).shards
   pub shard : (number : ℕ) (has : ShardState S P) → slice_get a.shards number ≡ Some has

@@ -1,4 +1,5 @@
--- A weave, and how it stands: the rules on colours, histories, marks and turns that hold whatever steps were made.
+-- A weave, and how it stands: the rules on colours, histories, marks and turns that hold
+-- whatever steps were made.
 use Rattle.std.specs.Prelude.{◌≡◌, ◌≢◌, ◌≤◌, ◌<◌, ℕ, List, Option, Some, length, slice_get}
 use Rattle.mely_event.specs.declared.colour.Colour.{Colour}
 use Rattle.mely_event.specs.declared.event.Event.{Event}
@@ -41,7 +42,8 @@ ReportIsTold of (PushMark core mark) = Unit {0}
 ReportIsTold of (Report core colour started worth) = (started ≤ (of colour).begun)
     × (started ≡ (of colour).begun → worth ≤ (of colour).worth)
 
--- a turn is of the worker's own core, and a picked mark is from another core, worth a steal, and of a colour that isn't pinned
+-- a turn is of the worker's own core, and a picked mark is from another core, worth a steal, and of
+-- a colour that isn't pinned
 abbrev pub PhaseIsTold : {S P : Type 0} → Setup → (Colour → Readiness) → ℕ → Phase S P → Type 0
 PhaseIsTold setup of core (Free place) = Unit {0}
 PhaseIsTold setup of core (Popped mark) = Unit {0}
@@ -58,30 +60,41 @@ WasntRefused (made.NotStolen why) = ⊥
 WasntRefused other = Unit {0}
 
 -- some worker of the core runs the colour
-pub record IsTurningOn {S P : Type 0} (workers : List (WorkerState S P)) (core : ℕ) (c : Colour) : Type 0 where
+pub record IsTurningOn {S P : Type 0} (workers : List (WorkerState S P)) (core : ℕ)
+    (c : Colour) : Type 0 where
   pub worker : WorkerState S P
   pub there : slice_get workers core ≡ Some worker
   pub turning : colour_run_by worker ≡ Some c
 
-module _ {S P F : Type 0} (t : TrailWords S F) (fits : F → Colour → Event → Option P → Type 0) (weave : WeaveState S P) where
+module _ {S P F : Type 0} (t : TrailWords S F) (fits : F → Colour → Event → Option P → Type 0)
+    (weave : WeaveState S P) where
   -- a worker is that of its core, with the batch and the victims of the setup
   pub record WorkerStands (core : ℕ) (w : WorkerState S P) : Type 0 where
-    -- Its turn is out on its core: it has the count of the colour's last take, and what was run of it with what is left is what was begun. The state is of the colour, has the frame and has room for what is left. Each registration that is left or lost is of a colour and a handler of the setup, and event and load fit.
+    -- Its turn is out on its core: it has the count of the colour's last take, and what was run of
+    -- it with what is left is what was begun. The state is of the colour, has the frame and has
+    -- room for what is left. Each registration that is left or lost is of a colour and a handler of
+    -- the setup, and event and load fit.
     pub may : MayStep t fits weave.setup core (t.frame_of weave.given) (IsOut (side_of weave core))
         w
     pub victims : w.victims
         ≡ victims_of core (shape_of weave.setup).cores (shape_of weave.setup).group
     pub told : PhaseIsTold weave.setup (readiness_for weave.setup weave.shards) core w.phase
 
+  -- What holds of a weave between any two calls, whatever calls were made: its shards, its chains
+  -- and its workers are as many as the setup says and keep their rules, and they agree on which
+  -- colours are ready and which run.
   pub record StandsWell : Type 0 where
-    -- The histories are legal. What waits of a colour is what is queued by its history, and each event fits its load. The state of a colour that rests is at home, with the trail of what was run.
+    -- The histories are legal. What waits of a colour is what is queued by its history,
+    -- and each event fits its load. The state of a colour that rests is at home, with
+    -- the trail of what was run.
     pub shards : length weave.shards ≡ (shape_of weave.setup).shards
     pub shard : (number : ℕ) (has : ShardState S P) → slice_get weave.shards number ≡ Some has
         → ShardStands t fits weave.setup (t.frame_of weave.given) number has
     pub chains : length weave.chains ≡ (shape_of weave.setup).cores
     pub chain : (core : ℕ) (queue : CoreQueueState) → slice_get weave.chains core ≡ Some queue
         → ChainStands weave.setup queue
-    -- A ready colour has one mark, in a chain or a hand, and no other colour has one. It is for the owner, and says how many events were begun and no more than the worth.
+    -- A ready colour has one mark, in a chain or a hand, and no other colour has one. It is for the
+    -- owner, and says how many events were begun and no more than the worth.
     pub marks : MarksStand (readiness_for weave.setup weave.shards)
         (marks_in_system held_by weave.chains weave.workers)
     pub workers : length weave.workers ≡ (shape_of weave.setup).cores

@@ -25,8 +25,10 @@ with_workers a workers = record {
   workers = workers;
 }
 
--- the worker of the core makes a step by its rule, on the weave's own shards and chains, a mark that it pushes enters, and the other workers stay
-pub record StepsAt {R S P F : Type 0} (t : TrailWords S F) (y : AppWords R P S F) (app : R) (before : WeaveState S P) (core : ℕ) (step : Made) (after : WeaveState S P) : Type 0 where
+-- the worker of the core makes a step by its rule, on the weave's own shards and chains, a mark
+-- that it pushes enters, and the other workers stay
+pub record StepsAt {R S P F : Type 0} (t : TrailWords S F) (y : AppWords R P S F) (app : R)
+    (before : WeaveState S P) (core : ℕ) (step : Made) (after : WeaveState S P) : Type 0 where
   pub worker : WorkerState S P
   pub was : slice_get before.workers core ≡ Some worker
   pub side : SideState S P
@@ -35,7 +37,9 @@ pub record StepsAt {R S P F : Type 0} (t : TrailWords S F) (y : AppWords R P S F
   pub leaves : after ≡ with_workers side (slice_set before.workers core becomes)
 
 -- a post, and the workers stay
-pub record PostsAt {S P F : Type 0} (t : TrailWords S F) (before : WeaveState S P) (c : Colour) (event : Event) (load : Option P) (answer : Result Registered (Unregistered P)) (after : WeaveState S P) : Type 0 where
+pub record PostsAt {S P F : Type 0} (t : TrailWords S F) (before : WeaveState S P) (c : Colour)
+    (event : Event) (load : Option P) (answer : Result Registered (Unregistered P))
+    (after : WeaveState S P) : Type 0 where
   pub side : SideState S P
   pub posts : PostAs (weave_words t) c event load answer (side_of before 0) side
   pub leaves : after ≡ with_workers side before.workers

@@ -22,15 +22,22 @@ use Rattle.mely_weave.specs.SideStands.{SideStands}
 use Rattle.mely_weave.specs.Weave.{WeaveState}
 use Rattle.mely_weave.specs.Steps.{StepsAt, PostsAt}
 
--- a post, refused or not: event and load fit, and the shards and the chains keep what each keeps for itself
-pub record PostCall {S P F : Type 0} (t : TrailWords S F) (fits : F → Colour → Event → Option P → Type 0) (colour : Colour) (event : Event) (load : Option P) (answer : Result Registered (Unregistered P)) (before after : WeaveState S P) : Type 0 where
+-- a post, refused or not: event and load fit, and the shards and the chains keep
+-- what each keeps for itself
+pub record PostCall {S P F : Type 0} (t : TrailWords S F)
+    (fits : F → Colour → Event → Option P → Type 0) (colour : Colour) (event : Event)
+    (load : Option P) (answer : Result Registered (Unregistered P))
+    (before after : WeaveState S P) : Type 0 where
   pub may : FitsSetup fits before.setup (t.frame_of before.given) (colour, event, load)
   pub posts : PostsAt t before colour event load answer after
   pub parts : SideStands t fits posts.side
 
-module _ {R S P F : Type 0} (t : TrailWords S F) (fits : F → Colour → Event → Option P → Type 0) (y : AppWords R P S F) where
-  -- a step of a core under an app: it is one of the cores, the shards and the chains keep what each keeps for itself, and the worker what its next step asks
-  pub record StepCall (app : R) (core : ℕ) (step : Made) (before after : WeaveState S P) : Type 0 where
+module _ {R S P F : Type 0} (t : TrailWords S F) (fits : F → Colour → Event → Option P → Type 0)
+    (y : AppWords R P S F) where
+  -- a step of a core under an app: it is one of the cores, the shards and the chains keep what each
+  -- keeps for itself, and the worker what its next step asks
+  pub record StepCall (app : R) (core : ℕ) (step : Made)
+      (before after : WeaveState S P) : Type 0 where
     pub there : core < (shape_of before.setup).cores
     pub steps : StepsAt t y app before core step after
     pub parts : SideStands t fits steps.side
@@ -48,6 +55,7 @@ module _ {R S P F : Type 0} (t : TrailWords S F) (fits : F → Colour → Event 
       × (answer : Result Registered (Unregistered P))
       × PostCall t fits colour event load answer before after
 
+  -- one call on a weave: a step of one of its cores, or a post from outside
   abbrev pub Call : WeaveState S P → WeaveState S P → Type 0
   Call before after = SomeStep before after ⊎ SomePost before after
 
@@ -68,7 +76,8 @@ module _ {S P : Type 0} where
       ≡ Some has → (is : ShardState S P) × (slice_get after.shards number ≡ Some is)
       × ((more : List Entry) × (is.history ≡ has.history ++ more))
 
-  -- no chain has a mark of a colour whose mark is in a hand, so that none of these marks is refused by a chain
+  -- no chain has a mark of a colour whose mark is in a hand, so that none of these
+  -- marks is refused by a chain
   abbrev pub NoneIsThere : WeaveState S P → Type 0
   NoneIsThere weave = (core : ℕ) (w : WorkerState S P) (held : Placed)
       → slice_get weave.workers core

@@ -23,12 +23,15 @@ use Rattle.mely_weave.specs.Lanes.{lane_for}
 use Rattle.mely_weave.specs.StandsWell.{IsTurningOn}
 use Rattle.mely_weave.specs.Weave.{WeaveState}
 
-module _ {S P F : Type 0} (t : TrailWords S F) (fits : F → Colour → Event → Option P → Type 0) (weave : WeaveState S P) where
+module _ {S P F : Type 0} (t : TrailWords S F) (fits : F → Colour → Event → Option P → Type 0)
+    (weave : WeaveState S P) where
   -- the history of a colour's shard
   abbrev pub history_of : Colour → List Entry
   history_of c = history_for weave.setup weave.shards c
 
-  -- all marks, in chains and in hands, each with the core that it is for: that of its chain, the worker's own for a popped mark and one that is to land, the victim for a picked one, and the target for one that is to be pushed
+  -- all marks, in chains and in hands, each with the core that it is for: that of its chain, the
+  -- worker's own for a popped mark and one that is to land, the victim for a picked one, and the
+  -- target for one that is to be pushed
   abbrev pub placed_marks : List Placed
   placed_marks = marks_in_system held_by weave.chains weave.workers
 
@@ -41,7 +44,8 @@ module _ {S P F : Type 0} (t : TrailWords S F) (fits : F → Colour → Event �
   Turns core turn hand puts = (w : WorkerState S P)
       × ((slice_get weave.workers core ≡ Some w) × (w.phase ≡ Turning turn hand puts))
 
-  -- beside the parts: there is a shard for each number, a lane for each colour, and a chain and a worker for each core
+  -- beside the parts: there is a shard for each number, a lane for each colour, and a chain
+  -- and a worker for each core
   pub record IsWhole : Type 0 where
     pub shards : length weave.shards ≡ (shape_of weave.setup).shards
     pub lanes : (c : Colour) → IsColour weave.setup c → (lane : ColourState S P)
@@ -51,7 +55,8 @@ module _ {S P F : Type 0} (t : TrailWords S F) (fits : F → Colour → Event �
     pub own_core : (core : ℕ) (w : WorkerState S P) → slice_get weave.workers core
         ≡ Some w → w.core ≡ core
 
-  -- 1: the histories are legal, and what waits of a colour is what its history says is queued, where each event fits its load
+  -- 1: the histories are legal, and what waits of a colour is what its history says is queued,
+  -- where each event fits its load
   pub record HistoriesStand : Type 0 where
     pub legal : AreLegal weave.setup (map (λ has. has.history) weave.shards)
     pub queued : (c : Colour) (lane : ColourState S P) → IsColour weave.setup c
@@ -73,7 +78,8 @@ module _ {S P F : Type 0} (t : TrailWords S F) (fits : F → Colour → Event �
     pub thief : (core victim : ℕ) (w : WorkerState S P) (mark : Mark) → slice_get weave.workers core
         ≡ Some w → w.phase ≡ Picked mark victim → victim ≢ core
 
-  -- 4: each mark says how many events were begun and no more than the worth, and a picked one is worth a steal and of a colour that isn't pinned
+  -- 4: each mark says how many events were begun and no more than the worth, and a picked one is
+  -- worth a steal and of a colour that isn't pinned
   pub record MarksAreTold : Type 0 where
     pub started : (core : ℕ) (mark : Mark) → IsHeld core mark
         → mark.started ≡ begun_of (history_of mark.colour) mark.colour
@@ -85,7 +91,8 @@ module _ {S P F : Type 0} (t : TrailWords S F) (fits : F → Colour → Event �
     pub loose : (core victim : ℕ) (w : WorkerState S P) (mark : Mark) → slice_get weave.workers core
         ≡ Some w → w.phase ≡ Picked mark victim → pinned_of weave.setup ≤ mark.colour.0
 
-  -- 5: a report says no more events than were begun, and where it says as many no more than the worth
+  -- 5: a report says no more events than were begun, and where it says as
+  -- many no more than the worth
   pub record ReportsAreTold : Type 0 where
     pub started : (core to : ℕ) (turn : TurnState S P) (c : Colour) (started worth : ℕ)
         (puts : List (Colour × Event × Option P)) → Turns core turn (Report to c started worth) puts
@@ -94,7 +101,8 @@ module _ {S P F : Type 0} (t : TrailWords S F) (fits : F → Colour → Event �
         (puts : List (Colour × Event × Option P)) → Turns core turn (Report to c started worth) puts
         → started ≡ begun_of (history_of c) c → worth ≤ worth_of weave.setup (history_of c) c
 
-  -- 6: a worker turns on a colour exactly where the colour runs on its core; the turn has the count of that take, and what was run on its state with what is left is what was begun
+  -- 6: a worker turns on a colour exactly where the colour runs on its core; the turn has the count
+  -- of that take, and what was run on its state with what is left is what was begun
   pub record TurnsStand : Type 0 where
     pub runs : (core : ℕ) (turn : TurnState S P) (hand : Delivery) (puts : List (Colour × Event
         × Option P)) → Turns core turn hand puts
@@ -130,7 +138,8 @@ module _ {S P F : Type 0} (t : TrailWords S F) (fits : F → Colour → Event �
     pub turn : (core : ℕ) (turn : TurnState S P) (hand : Delivery) (puts : List (Colour × Event
         × Option P)) → Turns core turn hand puts → IsTurnState turn
 
-  -- 8: each registration that a worker has left or has lost is of a colour and a handler of the setup, and event and load fit
+  -- 8: each registration that a worker has left or has lost is of a colour and a handler of the
+  -- setup, and event and load fit
   pub record RegistrationsFit : Type 0 where
     pub left : (core : ℕ) (turn : TurnState S P) (hand : Delivery) (puts : List (Colour × Event
         × Option P)) → Turns core turn hand puts

@@ -23,9 +23,10 @@ pub enum Drained {
 }
 
 impl<S: Fits<P> + Drop, P: Drop> Weave<S, P> {
-    /// Makes rounds of one step a core, in ascending order, until before a round nothing is left: every
-    /// worker is free and every chain is empty. Where before a round a worker is halted, it drives every
-    /// worker until that is free, and ends. It need not return: an app may register for ever.
+    /// Makes rounds of one step a core, in ascending order, until before a round nothing is
+    /// left: every worker is free and every chain is empty. Where before a round a worker is
+    /// halted, it drives every worker until that is free, and ends. It need not return: an
+    /// app may register for ever.
     pub fn drain<W: Wait, R: App<State = S, Load = P>>(&mut self, rt: &W, app: &R) -> Drained
         requires served { AppServes R.App self.old.setup (S.frame_of self.old.given) app.now }
         ensures drains { Drains S.Trail S.fits_under R.App app.now self.old result self.new }

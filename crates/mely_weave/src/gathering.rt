@@ -22,10 +22,10 @@ use std::snapshot::Snapshot;
 impl<S: Fits<P>, P> Weave<S, P> {
     ghost use Rattle.mely_weave.specs.StandsWell.{StandsWell};
 
-    /// A weave of these shards, chains and workers, which are those of the room's setup, in order. No
-    /// colour runs, and each worker is free. Whatever the chains hold is dropped, and each colour that is
-    /// ready is chained anew on its owner, in ascending order. Histories, states, queues and workers stay
-    /// as they are. It takes no memory.
+    /// A weave of these shards, chains and workers, which are those of the room's setup, in order.
+    /// No colour runs, and each worker is free. Whatever the chains hold is dropped, and each
+    /// colour that is ready is chained anew on its owner, in ascending order. Histories, states,
+    /// queues and workers stay as they are. It takes no memory.
     pub fn gather(
         room: WeaveRoom<S, P>,
         shards: Vec<Shard<S, P>>,

@@ -8,16 +8,18 @@ ghost use Rattle.mely_weave.specs.WeaveRun.{StepCall, WeaveRun, HistoriesGrow, N
 use mely_event::{Fits, Trail};
 use mely_worker::App;
 
-/// The law of this crate, for contracts alone: a weave that stands well stands well after every list of
-/// posts and steps, by whatever cores in whatever order, refused or not. So each ready colour has one mark
-/// and no other colour has any. No step of such a run drops a mark because its colour was refused, and no
-/// chain refuses a mark. Each history is an earlier one, and more. A call does nothing.
+/// The law of this crate, for contracts alone: a weave that stands well stands well after every
+/// list of posts and steps, by whatever cores in whatever order, refused or not. So each ready
+/// colour has one mark and no other colour has any. No step of such a run drops a mark because
+/// its colour was refused, and no chain refuses a mark. Each history is an earlier one, and
+/// more. A call does nothing.
 ///
-/// A step of the run is by the worker's rule on the weave's own parts, of which each keeps what it keeps for
-/// itself: a shard its legal history with its queues and states, a chain its stealing queue, the worker the
-/// conditions of its next step. Each call of a weave ensures that it is such a call, or a list of them
-/// ([`Weave::post`](crate::Weave::post), [`step`](crate::Weave::step), [`run`](crate::Weave::run),
-/// [`drain`](crate::Weave::drain)), so the law speaks of all that a weave goes through.
+/// A step of the run is by the worker's rule on the weave's own parts, of which each keeps what
+/// it keeps for itself: a shard its legal history with its queues and states, a chain its
+/// stealing queue, the worker the conditions of its next step. Each call of a weave ensures that
+/// it is such a call, or a list of them ([`Weave::post`](crate::Weave::post),
+/// [`step`](crate::Weave::step), [`run`](crate::Weave::run), [`drain`](crate::Weave::drain)), so
+/// the law speaks of all that a weave goes through.
 pub fn no_run_loses_or_doubles_a_mark<S: Fits<P>, P, R: App<State = S, Load = P>>()
     ensures stands { (n : ℕ) (before after : WeaveState S P)
         → StandsWell S.Trail S.fits_under before

@@ -1,20 +1,25 @@
 //! All shards, chains and workers of a coloured-event runtime as one plain value.
 //!
-//! In libasync-smp (N. Zeldovich, A. Yip, F. Dabek, R. T. Morris, D. Mazières and F. Kaashoek, *Multiprocessor Support for
-//! Event-Driven Programs*, USENIX 2003) and Mely (F. Gaud, S. Geneves, R. Lachaize, B. Lepers, F. Mottet, G. Muller and V. Quéma,
-//! *Efficient Workstealing for Multicore Event-Driven Systems*, ICDCS 2010) each core has a chain of the colours that are ready
-//! there and a worker that runs them, and steals a whole colour from another core where its own chain is empty. A [`Weave`] is
-//! that machine without a thread: the steps of its workers are made one at a time, by any cores in any order.
+//! In libasync-smp (N. Zeldovich, A. Yip, F. Dabek, R. T. Morris, D. Mazières and F. Kaashoek,
+//! *Multiprocessor Support for Event-Driven Programs*, USENIX 2003) and Mely (F. Gaud, S. Geneves,
+//! R. Lachaize, B. Lepers, F. Mottet, G. Muller and V. Quéma, *Efficient Workstealing for Multicore
+//! Event-Driven Systems*, ICDCS 2010) each core has a chain of the colours that are ready there and
+//! a worker that runs them, and steals a whole colour from another core where its own chain is
+//! empty. A [`Weave`] is that machine without a thread: the steps of its workers are made one at a
+//! time, by any cores in any order.
 //!
-//! Whatever the order is, a weave stands well ([`Weave::stands_well`]): every history is legal, a colour that is ready has
-//! exactly one mark, which lies in the chain of its owner or on its way there, and no other colour has one. So a ready colour is
-//! never lost and never run twice at once, and no step meets a mark whose colour was run or stolen meanwhile.
+//! Whatever the order is, a weave stands well ([`Weave::stands_well`]): every history is legal, a
+//! colour that is ready has exactly one mark, which lies in the chain of its owner or on its way
+//! there, and no other colour has one. So a ready colour is never lost and never run twice at once,
+//! and no step meets a mark whose colour was run or stolen meanwhile.
 //!
-//! The colours below a setup's number of pinned colours are never stolen: they run on the core that they began on.
+//! The colours below a setup's number of pinned colours are never stolen: they run on the
+//! core that they began on.
 //!
-//! It is for whoever runs coloured events in an order of their own: to replay a schedule, to try an app against every order, or
-//! to end what threads began ([`Weave::gather`]). What a first weave is made of is public too ([`deal`], [`shards_of`],
-//! [`chains_of`], [`rested_of`]), for whoever puts shards and chains behind locks.
+//! It is for whoever runs coloured events in an order of their own: to replay a schedule, to try an
+//! app against every order, or to end what threads began ([`Weave::gather`]). What an initial weave
+//! is made of is public too ([`deal`], [`shards_of`], [`chains_of`], [`rested_of`]), for whoever
+//! puts shards and chains behind locks.
 //!
 //! ```text
 //! let mut weave = Weave::new(alloc, &setup, states)?;

@@ -1,9 +1,9 @@
 //! A weave at first, and what it is made of.
 ghost use Rattle.std.specs.Prelude.{◌≡◌, ℕ, IfOk, Some, [], length, slice_get};
 ghost use Rattle.mely_history.specs.Setup.{shape_of};
-ghost use Rattle.mely_shard.specs.Shard.{AreFirstStates, IsFirst};
+ghost use Rattle.mely_shard.specs.Shard.{AreInitialStates, IsInitialShard};
 ghost use Rattle.mely_weave.specs.Dealing.{AreDealt, AtEach};
-ghost use Rattle.mely_weave.specs.Making.{AreFirst, IsFirstWeave, empty_chain, first_rest, first_worker};
+ghost use Rattle.mely_weave.specs.Making.{AreInitial, IsInitialWeave, empty_chain, initial_idle_worker, initial_worker};
 
 use crate::room::WeaveRoom;
 use crate::weave::Weave;
@@ -18,15 +18,16 @@ use std::alloc::Global;
 impl<S: Fits<P> + Drop, P: Drop> Weave<S, P> {
     ghost use Rattle.mely_weave.specs.StandsWell.{StandsWell};
 
-    /// A weave at first: nothing was registered, the chains are empty, and the workers are free. There is
-    /// a state for each colour, in ascending order, each with an empty trail, all with one frame.
+    /// A weave at first: nothing was registered, the chains are empty, and the workers are
+    /// free. There is a state for each colour, in ascending order, each with an empty
+    /// trail, all with one frame.
     ///
     /// # Errors
     ///
     /// There was no memory: the states are dropped.
     pub fn new(alloc: Global, setup: &Setup, states: Vec<S>) -> Result<Weave<S, P>, Memory>
-        requires { AreFirst S.Trail setup.now states.items }
-        ensures first { IfOk result (λ weave. IsFirstWeave setup.now states.items weave) }
+        requires { AreInitial S.Trail setup.now states.items }
+        ensures first { IfOk result (λ weave. IsInitialWeave setup.now states.items weave) }
         ensures stands { IfOk result (λ weave. StandsWell S.Trail S.fits_under weave) }
     {
         let room = WeaveRoom::new(alloc, setup)?;
@@ -38,8 +39,8 @@ impl<S: Fits<P> + Drop, P: Drop> Weave<S, P> {
     }
 }
 
-/// Deals states, one for each colour in ascending order, to the shards of a setup: that of colour `c` goes
-/// to pile `c % shards`, where it lies at place `c / shards`.
+/// Deals states, one for each colour in ascending order, to the shards of a setup: that of colour
+/// `c` goes to pile `c % shards`, where it lies at place `c / shards`.
 ///
 /// # Errors
 ///
@@ -70,9 +71,9 @@ fn empty_piles<S: Drop>(alloc: Global, count: u16) -> Result<Vec<Vec<S>>, Memory
     Ok(piles)
 }
 
-/// The shards of a setup at first, in order, each with the states of its own colours in ascending order, as
-/// [`deal`] gives them. Nothing was registered in them. Whoever proves a call of it has the condition of dealt
-/// first states from the lemma `first_piles`.
+/// The shards of a setup at first, in order, each with the states of its own colours in ascending
+/// order, as [`deal`] gives them. Nothing was registered in them. Whoever proves a call of it has
+/// the condition of dealt initial states from the lemma `first_piles`.
 ///
 /// # Errors
 ///
@@ -84,11 +85,11 @@ pub fn shards_of<S: Fits<P> + Drop, P: Drop>(
 ) -> Result<Vec<Shard<S, P>>, Memory>
     requires many { length by_shard.items ≡ (shape_of setup.now).shards }
     requires first { AtEach (λ shard pile.
-        AreFirstStates S.Trail setup.now shard pile.items) by_shard.items }
+        AreInitialStates S.Trail setup.now shard pile.items) by_shard.items }
     ensures many { IfOk result (λ shards. length shards.items ≡ (shape_of setup.now).shards) }
     ensures first { IfOk result (λ shards. (shard : ℕ) (pile : _) (has : _)
         → slice_get by_shard.items shard ≡ Some pile
-        → slice_get shards.items shard ≡ Some has → IsFirst setup.now shard pile.items has) }
+        → slice_get shards.items shard ≡ Some has → IsInitialShard setup.now shard pile.items has) }
 {
     let mut shards = Vec::with_capacity(alloc, by_shard.len())?;
     let mut number = 0;
@@ -125,7 +126,7 @@ pub fn chains_of(alloc: Global, setup: &Setup) -> Result<Vec<CoreQueue>, Memory>
 fn workers_of<S, P: Drop>(alloc: Global, setup: &Setup) -> Result<Vec<Worker<S, P>>, Memory>
     ensures many { IfOk result (λ workers. length workers.items ≡ (shape_of setup.now).cores) }
     ensures first { IfOk result (λ workers.
-        AtEach (λ core w. w ≡ first_worker setup.now core) workers.items) }
+        AtEach (λ core w. w ≡ initial_worker setup.now core) workers.items) }
 {
     let rested = rested_of(alloc, setup)?;
     let mut workers = Vec::with_capacity(alloc, rested.len())?;
@@ -135,9 +136,9 @@ fn workers_of<S, P: Drop>(alloc: Global, setup: &Setup) -> Result<Vec<Worker<S, 
     Ok(workers)
 }
 
-/// A worker at rest for each core of a setup, in order, with the setup's batch and the core's victims in the
-/// order in which it hunts. Unlike a worker it may be let go, as it must be where there is no memory for the
-/// next one, and so it may cross into a thread.
+/// A worker at rest for each core of a setup, in order, with the setup's batch and the core's
+/// victims in the order in which it hunts. Unlike a worker it may be let go, as it must be where
+/// there is no memory for the next one, and so it may cross into a thread.
 ///
 /// # Errors
 ///
@@ -145,7 +146,7 @@ fn workers_of<S, P: Drop>(alloc: Global, setup: &Setup) -> Result<Vec<Worker<S, 
 pub fn rested_of<P: Drop>(alloc: Global, setup: &Setup) -> Result<Vec<IdleWorker<P>>, Memory>
     ensures many { IfOk result (λ rested. length rested.items ≡ (shape_of setup.now).cores) }
     ensures first { IfOk result (λ rested.
-        AtEach (λ core rest. rest ≡ first_rest setup.now core) rested.items) }
+        AtEach (λ core rest. rest ≡ initial_idle_worker setup.now core) rested.items) }
 {
     let mut rested = Vec::with_capacity(alloc, setup.cores() as usize)?;
     for core in 0..setup.cores() {

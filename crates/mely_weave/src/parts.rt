@@ -31,8 +31,9 @@ pub struct WeaveParts<S, P> {
 impl<S: Fits<P> + Drop, P: Drop> Weave<S, P> {
     ghost use Rattle.mely_weave.specs.Lanes.{AreByColour};
 
-    /// The histories by shard, the states and the queued events by colour, and by core the registrations
-    /// that were refused for memory. Every worker is free, so every state is at home. It takes no memory.
+    /// The histories by shard, the states and the queued events by colour, and by core the
+    /// registrations that were refused for memory. Every worker is free, so every state is at
+    /// home. It takes no memory.
     pub fn into_parts(self) -> WeaveParts<S, P>
         requires { AtEach (λ core w. IsTrue (is_free w.phase)) self.workers }
         ensures histories { map (λ history. history.items) result.histories.items
@@ -110,8 +111,8 @@ fn take_apart<S: Fits<P> + Drop, P: Drop>(
     }
 }
 
-/// Moves what each shard gives into a list by colour, which has room for it: what is of colour `c` lies at
-/// place `c / shards` of shard `c % shards`.
+/// Moves what each shard gives into a list by colour, which has room for it: what is of colour `c`
+/// lies at place `c / shards` of shard `c % shards`.
 fn spread<T: Drop>(colours: u32, mut by_shard: Vec<Vec<T>>, by_colour: &mut Vec<T>)
     requires some { 0 < length by_shard.items }
     requires full { AreFull (λ pile. pile.items) (length by_shard.items) colours by_shard.items }

@@ -6,14 +6,14 @@ use mely_history::{Entry, Setup};
 use std::alloc::Global;
 use std::marker::Model;
 
-/// Room for all that a weave of a setup is taken apart into, made beforehand, so that gathering a weave
-/// and taking it apart take no memory. Contracts see it as its setup.
+/// Room for all that a weave of a setup is taken apart into, made beforehand, so that gathering a
+/// weave and taking it apart take no memory. Contracts see it as its setup.
 #[derive(Drop)]
 pub struct WeaveRoom<S, P> {
     pub(crate) setup: Setup,
 
-    /// Empty lists with room: a history for each shard, a state and a queue for each colour, and the
-    /// registrations that all workers may have lost.
+    /// Empty lists with room: a history for each shard, a state and a queue for each colour, and
+    /// the registrations that all workers may have lost.
     pub(crate) histories: Vec<Vec<Entry>>,
     pub(crate) states: Vec<S>,
     pub(crate) queued: Vec<Vec<(Event, Option<P>)>>,

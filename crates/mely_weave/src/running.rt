@@ -21,8 +21,8 @@ pub enum Went {
 }
 
 impl<S: Fits<P> + Drop, P: Drop> Weave<S, P> {
-    /// Makes the steps that a schedule names, in order: of each core so many. It stops at once where a
-    /// step meets want of memory.
+    /// Makes the steps that a schedule names, in order: of each core so many. It stops at once
+    /// where a step meets want of memory.
     pub fn run<R: App<State = S, Load = P>>(&mut self, schedule: &[(u16, u32)], app: &R) -> Went
         requires cores { All (λ part. part.0 < (shape_of self.old.setup).cores) schedule.now }
         requires count { sum_by (λ part. part.1) schedule.now < 2 ^ 64 }

@@ -71,13 +71,15 @@ impl<S: Fits<P> + Drop, P: Drop> Shared<S, P> {
             (S.frame_of self.new.given) (IsOut (side_at self.new core)) worker.new }
         ensures stands { SideStands S.Trail S.fits_under (side_at self.new core) }
     {
-        // Where a field is read, contracts know what the shards and the chains keep before the step.
+        // Where a field is read, contracts know what the shards and the
+        // chains keep before the step.
         let _setup = &self.setup;
         let mut side = Side { shared: self, core };
         side.step(worker, app)
     }
 
-    /// Registers an event as the pass after the cores', and delivers the mark or the report at once.
+    /// Registers an event as the pass after the cores', and delivers the
+    /// mark or the report at once.
     pub(crate) fn post(
         &mut self,
         colour: Colour,
@@ -102,7 +104,8 @@ impl<S: Fits<P> + Drop, P: Drop> Shared<S, P> {
         }
     }
 
-    /// Lends a side to deliver what follows a registration: any core's will do, and there is a first one.
+    /// Lends a side to deliver what follows a registration: any core's will do,
+    /// and there is a first one.
     fn deliver(&mut self, delivery: Delivery) -> bool
         requires may { MayDeliver self.old.setup delivery }
         ensures delivers { Delivers (side_words S.Trail (SideStands S.Trail S.fits_under))

@@ -97,7 +97,8 @@ fn follows(weave: &mut Weave<TrailLog, u8>, core: u16, steps: &[Made]) -> bool
     true
 }
 
-/// A first event of handler 0 with argument 0 on colour 1, and one of handler 1 that registers such a one.
+/// A first event of handler 0 with argument 0 on colour 1, and one of handler 1
+/// that registers such a one.
 const FIRST: Event = Event { handler: 0, arg: 0 };
 
 const SENDS: Event = Event { handler: 1, arg: 1 };
@@ -208,8 +209,8 @@ fn post_twenty(weave: &mut Weave<TrailLog, u8>) -> bool
     true
 }
 
-/// The entry at a place behind twenty registrations: takes of so many events of colours 0 and 2 in turn, each followed by
-/// its finish.
+/// The entry at a place behind twenty registrations: takes of so many events of colours 0 and 2 in
+/// turn, each followed by its finish.
 fn entry_at(at: usize, count: u16) -> Entry {
     let colour = if at % 4 < 2 { C0 } else { Colour(2) };
     if at % 2 == 0 {

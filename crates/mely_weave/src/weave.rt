@@ -64,10 +64,10 @@ impl<S: Fits<P>, P> Weave<S, P> {
     ghost use Rattle.mely_weave.specs.StandsWell.{StandsWell};
     ghost use Rattle.mely_weave.specs.WeaveStands.{WeaveStands};
 
-    /// The law of this type, for contracts alone: whatever steps were made, refused or not, the weave
-    /// stands well. `keeps` is the form that each step is proved to keep, `parts` the eight rules that it
-    /// says: on histories, marks, their owners, what they tell, reports, turns, states and
-    /// registrations. A call does nothing.
+    /// The law of this type, for contracts alone: whatever steps were made, refused or not, the
+    /// weave stands well. `keeps` is the form that each step is proved to keep, `parts` the eight
+    /// rules that it says: on histories, marks, their owners, what they tell, reports, turns,
+    /// states and registrations. A call does nothing.
     pub fn stands_well(&self)
         ensures keeps { StandsWell S.Trail S.fits_under self.now }
         ensures parts { WeaveStands S.Trail S.fits_under self.now }
@@ -94,8 +94,8 @@ impl<S: Fits<P>, P> Weave<S, P> {
         self.shared.shards[place].state(colour)
     }
 
-    /// The mark at this place of the chain of a core, and nothing exactly where the chain isn't longer. The
-    /// next to run is at place 0.
+    /// The mark at this place of the chain of a core, and nothing exactly where the chain isn't
+    /// longer. The next to run is at place 0.
     pub fn chain_at(&self, core: u16, place: usize) -> Option<Mark>
         requires { core < (shape_of self.now.setup).cores }
         ensures { (queue : _) → slice_get self.now.chains core ≡ Some queue

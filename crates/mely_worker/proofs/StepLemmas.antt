@@ -25,7 +25,7 @@ fits_more m n k l Fits (put ∷ puts) p q h =
 
 module _ {A S P F : Type 0} (t : TrailWords S F) (Fits : F → Colour → Event → Option P → Type 0) (x : AccessWords A S P F) (access : A) where
   -- the turn will still be spent once the handler of its first event ran
-  pub turn_after_run : (turn : TurnState S P) (event : Event × Option P) (rest : List (Event × Option P)) (state : S) → WillBeSpentAt t Fits x access turn → turn.events ≡ event ∷ rest → t.colour_of state ≡ t.colour_of turn.state → t.frame_of state ≡ t.frame_of turn.state → t.trail_of state ≡ t.trail_of turn.state ++ event.0 ∷ [] → t.spare_of turn.state ≡ t.spare_of state + 1 → WillBeSpentAt t Fits x access (record turn { state = state; events = rest })
+  turn_after_run : (turn : TurnState S P) (event : Event × Option P) (rest : List (Event × Option P)) (state : S) → WillBeSpentAt t Fits x access turn → turn.events ≡ event ∷ rest → t.colour_of state ≡ t.colour_of turn.state → t.frame_of state ≡ t.frame_of turn.state → t.trail_of state ≡ t.trail_of turn.state ++ event.0 ∷ [] → t.spare_of turn.state ≡ t.spare_of state + 1 → WillBeSpentAt t Fits x access (record turn { state = state; events = rest })
   turn_after_run turn event rest state stands left colour fr trail spare =
       let room : length (event ∷ rest) ≤ t.spare_of turn.state = subst (λ (l : List (Event × Option P)). length l ≤ t.spare_of turn.state) left stands.room in
       let fits : AllByRecursion (λ (e : Event × Option P). Fits (x.frame_of access) turn.colour e.0 e.1) (event ∷ rest) = subst (λ (l : List (Event × Option P)). AllByRecursion (λ (e : Event × Option P). Fits (x.frame_of access) turn.colour e.0 e.1) l) left stands.events_fit in
@@ -41,7 +41,7 @@ module _ {A S P F : Type 0} (t : TrailWords S F) (Fits : F → Colour → Event 
       }
 
   -- the same, where the event was handed out and the handler was given the state
-  pub turn_after_next : (turn next : TurnState S P) (event : Event × Option P) (lent state : S) → WillBeSpentAt t Fits x access turn → turn.events ≡ event ∷ next.events → next ≡ record turn { events = next.events } → lent ≡ next.state → t.colour_of state ≡ t.colour_of lent → t.frame_of state ≡ t.frame_of lent → t.trail_of state ≡ t.trail_of lent ++ event.0 ∷ [] → t.spare_of lent ≡ t.spare_of state + 1 → WillBeSpentAt t Fits x access (record next { state = state })
+  turn_after_next : (turn next : TurnState S P) (event : Event × Option P) (lent state : S) → WillBeSpentAt t Fits x access turn → turn.events ≡ event ∷ next.events → next ≡ record turn { events = next.events } → lent ≡ next.state → t.colour_of state ≡ t.colour_of lent → t.frame_of state ≡ t.frame_of lent → t.trail_of state ≡ t.trail_of lent ++ event.0 ∷ [] → t.spare_of lent ≡ t.spare_of state + 1 → WillBeSpentAt t Fits x access (record next { state = state })
   turn_after_next turn next event lent state stands left rest given colour fr trail spare =
       let was : lent ≡ turn.state = given ∙ ap (λ (n : TurnState S P). n.state) rest in
       let after : WillBeSpentAt t Fits x access (record turn { state = state; events = next.events }) = turn_after_run turn event next.events state stands left (colour ∙ ap t.colour_of was) (fr ∙ ap t.frame_of was) (trail ∙ ap (λ (s : S). t.trail_of s ++ event.0 ∷ []) was) (sym (ap t.spare_of was) ∙ spare) in

@@ -24,7 +24,8 @@ abbrev pub IsCore : Setup → ℕ → Type 0
 IsCore setup core = core < (shape_of setup).cores
 
 -- a registration is of a colour and a handler that there are, and its event and load fit
-pub record FitsIn {P : Type 0} (colours handlers : ℕ) (fits : Colour → Event → Option P → Type 0) (put : Colour × Event × Option P) : Type 0 where
+pub record FitsIn {P : Type 0} (colours handlers : ℕ) (fits : Colour → Event → Option P → Type 0)
+    (put : Colour × Event × Option P) : Type 0 where
   pub colour : put.0.0 < colours
   pub handler : put.1.handler < handlers
   pub load : fits put.0 put.1 put.2
@@ -36,7 +37,8 @@ FitsSetup fits setup frame put =
     FitsIn (colours_of setup) (length (rows_of (handlers_of setup))) (fits frame) put
 
 -- setup, core and frame stay
-pub record Stays {A F : Type 0} (setup_of : A → Setup) (core_of : A → ℕ) (frame_of : A → F) (before after : A) : Type 0 where
+pub record Stays {A F : Type 0} (setup_of : A → Setup) (core_of : A → ℕ) (frame_of : A → F)
+    (before after : A) : Type 0 where
   pub setup : setup_of after ≡ setup_of before
   pub core : core_of after ≡ core_of before
   pub frame : frame_of after ≡ frame_of before
@@ -46,8 +48,12 @@ abbrev pub StillOwes : {A : Type 0} → (A → Colour → ℕ → ℕ → List E
 StillOwes owes before after = (c : Colour) (core count : ℕ) (trail : List Event)
     → owes before c core count trail → owes after c core count trail
 
--- the turn that a take of the colour gives: its state has room for its events, each of which fits, and once they were run its finish is owed
-pub record IsTaken {A S F P : Type 0} (t : TrailWords S F) (fits : F → Colour → Event → Option P → Type 0) (setup_of : A → Setup) (core_of : A → ℕ) (frame_of : A → F) (owes : A → Colour → ℕ → ℕ → List Event → Type 0) (before after : A) (c : Colour) (turn : TurnState S P) : Type 0 where
+-- the turn that a take of the colour gives: its state has room for its events, each of which fits,
+-- and once they were run its finish is owed
+pub record IsTaken {A S F P : Type 0} (t : TrailWords S F)
+    (fits : F → Colour → Event → Option P → Type 0) (setup_of : A → Setup) (core_of : A → ℕ)
+    (frame_of : A → F) (owes : A → Colour → ℕ → ℕ → List Event → Type 0) (before after : A)
+    (c : Colour) (turn : TurnState S P) : Type 0 where
   pub colour : turn.colour ≡ c
   pub core : turn.core ≡ core_of before
   pub count : turn.count ≡ length turn.events
@@ -59,7 +65,9 @@ pub record IsTaken {A S F P : Type 0} (t : TrailWords S F) (fits : F → Colour 
   pub owed : owes after c turn.core turn.count (t.trail_of turn.state ++ events_of turn.events)
 
 -- all events of the turn were run, and its finish is owed
-pub record IsSpent {A S F P : Type 0} (t : TrailWords S F) (setup_of : A → Setup) (frame_of : A → F) (owes : A → Colour → ℕ → ℕ → List Event → Type 0) (access : A) (turn : TurnState S P) : Type 0 where
+pub record IsSpent {A S F P : Type 0} (t : TrailWords S F) (setup_of : A → Setup) (frame_of : A → F)
+    (owes : A → Colour → ℕ → ℕ → List Event → Type 0) (access : A)
+    (turn : TurnState S P) : Type 0 where
   pub of_setup : IsColour (setup_of access) turn.colour
   pub none_left : turn.events ≡ []
   pub of_colour : t.colour_of turn.state ≡ turn.colour

@@ -10,7 +10,8 @@ use Rattle.mely_worker.specs.declared.delivery.Delivery.TheVariants.{Nothing, Pu
 use Rattle.mely_worker.specs.declared.access.Access.{Ghosts as AccessWords}
 use Rattle.mely_worker.specs.Access.{IsColour, IsCore}
 
--- what is to be delivered after a registration: a mark to the owner of a colour that it woke, a report to the owner of one that waited
+-- what is to be delivered after a registration: a mark to the owner of a colour that it woke, a
+-- report to the owner of one that waited
 abbrev pub delivery_after : Colour → Registered → Delivery
 delivery_after colour (Woke owner started worth) =
     PushMark owner (record { colour = colour; started = started; worth = worth })
@@ -23,7 +24,8 @@ MayDeliver setup Nothing = Unit {0}
 MayDeliver setup (PushMark core mark) = IsCore setup core × IsColour setup mark.colour
 MayDeliver setup (Report core colour started worth) = IsCore setup core × IsColour setup colour
 
--- the delivery on an access, and whether it arrived: a push of the mark, which may be there already, or a telling of the report, which may be late; no call where nothing is to be delivered
+-- the delivery on an access, and whether it arrived: a push of the mark, which may be there
+-- already, or a telling of the report, which may be late; no call where nothing is to be delivered
 abbrev pub Delivers : {A S P F : Type 0} → AccessWords A S P F → A → Delivery → Bool → A → Type 0
 Delivers x before Nothing arrived after = (after ≡ before) × (arrived ≡ true)
 Delivers x before (PushMark core mark) arrived after = (answer : Result (Unit {0}) There)

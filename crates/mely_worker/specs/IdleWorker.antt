@@ -1,4 +1,4 @@
--- A worker at rest.
+-- A worker at rest, as contracts see it, and the worker that it is when it goes on.
 use Rattle.std.specs.Prelude.{ℕ, List, Option, Bool}
 use Rattle.mely_event.specs.declared.colour.Colour.{Colour}
 use Rattle.mely_event.specs.declared.event.Event.{Event}

@@ -13,7 +13,9 @@ use Rattle.mely_worker.specs.Conditions.{MayStepAt, AppServesAt}
 use Rattle.mely_worker.specs.WorkerFields.{worker_of, IsConsistent}
 use Rattle.mely_worker.specs.Step.{Steps}
 
-module _ {A R S P F : Type 0} (t : TrailWords S F) (fits : F → Colour → Event → Option P → Type 0) (x : AccessWords A S P F) (y : AppWords R P S F) (app : R) (before : A) (h : WorkerFields P) (phase : Phase S P) where
+module _ {A R S P F : Type 0} (t : TrailWords S F) (fits : F → Colour → Event → Option P → Type 0)
+    (x : AccessWords A S P F) (y : AppWords R P S F) (app : R) (before : A) (h : WorkerFields P)
+    (phase : Phase S P) where
   -- the worker is well kept, and a step meets its conditions
   pub record StepsOn : Type 0 where
     pub kept : IsConsistent h phase
@@ -21,7 +23,8 @@ module _ {A R S P F : Type 0} (t : TrailWords S F) (fits : F → Colour → Even
     pub served : AppServesAt x y before app
 
   -- the step was made by the table, the worker is well kept, and a next step meets its conditions
-  pub record StepDone (step : Made) (after : A) (h' : WorkerFields P) (phase' : Phase S P) : Type 0 where
+  pub record StepDone (step : Made) (after : A) (h' : WorkerFields P)
+      (phase' : Phase S P) : Type 0 where
     pub kept : IsConsistent h' phase'
     pub steps : Steps x y app before (worker_of h phase) step after (worker_of h' phase')
     pub keeps : x.keeps before after

@@ -21,19 +21,21 @@ use mely_queue::Turn;
 /// The side of one core: what its worker may call of shards and chains.
 ///
 /// An access tells contracts its setup, its core and the frame of its states, and for each call a
-/// relation between what it was, the answer, and what it is afterwards. So [`Worker::step`](crate::Worker::step)
-/// is one promise for every kind of access: over plain values, behind locks, or scripted in a test.
+/// relation between what it was, the answer, and what it is afterwards. So
+/// [`Worker::step`](crate::Worker::step) is one promise for every kind of access: over plain
+/// values, behind locks, or scripted in a test.
 pub trait Access<S: Fits<P>, P> {
-    /// What the run is made with.
+    /// The shape, the colours and the handlers of the run, which no call changes.
     ghost setup_of: { Self → Setup };
 
     /// The core whose side this is.
     ghost core_of: { Self → ℕ };
 
-    /// The frame of the states.
+    /// What all states have in common, which no call changes.
     ghost frame_of: { Self → S.Frame };
 
-    /// A finish is owed of a turn of this colour, core and count, whose state is to have this trail.
+    /// A finish is owed of a turn of this colour, core and count, whose
+    /// state is to have this trail.
     ghost owes: { Self → Colour → ℕ → ℕ → List Event → Type 0 };
 
     /// What every call keeps beside setup, core and frame, as the name of what is lent.

@@ -28,7 +28,8 @@ pub trait App {
     /// The app serves states of the frame.
     ghost serves: { Self → Self.State.Frame → Type 0 };
 
-    /// What a handler may do: the state before, the event and its load, the state after, and the registrations that it put.
+    /// What a handler may do: the state before, the event and its load, the state after, and the
+    /// registrations that it put.
     ghost runs: { Self → Self.State → Event → Option Self.Load → Self.State
         → List (Colour × Event × Option Self.Load) → Type 0 };
 

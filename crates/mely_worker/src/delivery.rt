@@ -8,10 +8,11 @@ use crate::access::Access;
 use mely_event::{Colour, Fits, Mark};
 use mely_history::Registered;
 
-/// What follows a registration: who registered an event delivers the colour's mark, or a report, to the
-/// chain of the core that owns the colour.
+/// What follows a registration: who registered an event delivers the colour's mark, or a report, to
+/// the chain of the core that owns the colour.
 ///
-/// A worker keeps it in its hand until its next step; whoever posts from outside delivers it at once.
+/// A worker keeps it in its hand until its next step; whoever posts from
+/// outside delivers it at once.
 ///
 /// ```text
 /// let answer = access.register(colour, event, load)?;
@@ -71,8 +72,9 @@ impl Delivery {
         }
     }
 
-    /// Makes the one call on the access that delivers it, and answers whether it arrived: a mark entered the
-    /// chain, a report found its mark. With nothing to deliver it makes no call, and answers true.
+    /// Makes the one call on the access that delivers it, and answers whether it arrived:
+    /// a mark entered the chain, a report found its mark. With nothing to deliver it makes
+    /// no call, and answers true.
     // Inlined, the mark isn't copied for the call.
     #[inline(always)]
     pub fn deliver<S: Fits<P>, P, A: Access<S, P>>(self, access: &mut A) -> bool

@@ -7,8 +7,8 @@ use crate::worker_fields::WorkerFields;
 use mely_event::{Colour, Event};
 use std::marker::Model;
 
-/// A free worker at rest: a value that holds no turn and no mark, so it may be let go, and so it may
-/// cross into a thread, where [`wake`](IdleWorker::wake) gives the worker back.
+/// A free worker at rest: a value that holds no turn and no mark, so it may be let go, and so it
+/// may cross into a thread, where [`wake`](IdleWorker::wake) gives the worker back.
 #[derive(Drop)]
 pub struct IdleWorker<P> {
     pub(crate) fields: WorkerFields<P>,

@@ -1,17 +1,20 @@
 //! The rule by which a worker of one core runs coloured events.
 //!
-//! In libasync-smp (N. Zeldovich, A. Yip, F. Dabek, R. T. Morris, D. Mazières and F. Kaashoek, *Multiprocessor Support for
-//! Event-Driven Programs*, USENIX 2003) each processor has a worker that runs what is queued on it and steals a colour where
-//! nothing is; Mely (F. Gaud, S. Geneves, R. Lachaize, B. Lepers, F. Mottet, G. Muller and V. Quéma, *Efficient Workstealing for
-//! Multicore Event-Driven Systems*, ICDCS 2010) has it run batches and steal what is worth a steal. A [`Worker`] is such a worker
-//! as a plain value. Each [`step`](Worker::step) makes at most one call on shards and chains, or runs one handler, and is one line
-//! of a table; so whoever calls it may let steps of several workers follow one another in any order, and no lock is held over a
-//! handler.
+//! In libasync-smp (N. Zeldovich, A. Yip, F. Dabek, R. T. Morris, D. Mazières and F. Kaashoek,
+//! *Multiprocessor Support for Event-Driven Programs*, USENIX 2003) each processor has a worker
+//! that runs what is queued on it and steals a colour where nothing is; Mely (F. Gaud, S.
+//! Geneves, R. Lachaize, B. Lepers, F. Mottet, G. Muller and V. Quéma, *Efficient Workstealing
+//! for Multicore Event-Driven Systems*, ICDCS 2010) has it run batches and steal what is worth a
+//! steal. A [`Worker`] is such a worker as a plain value. Each [`step`](Worker::step) makes at
+//! most one call on shards and chains, or runs one handler, and is one line of a table; so
+//! whoever calls it may let steps of several workers follow one another in any order, and no
+//! lock is held over a handler.
 //!
-//! A program brings its handlers as an [`App`]. What the worker calls of shards and chains is an [`Access`], which says in
-//! contracts what each call does; a [`Gate`] is told before each handler. What follows a registration is a [`Delivery`], which a
-//! worker keeps in its hand until its next step, and whoever posts from outside makes at once. A worker that met want of memory
-//! is halted: it ends its turn, puts back its mark, and keeps what could not be registered.
+//! A program brings its handlers as an [`App`]. What the worker calls of shards and chains is an
+//! [`Access`], which says in contracts what each call does; a [`Gate`] is told before each handler.
+//! What follows a registration is a [`Delivery`], which a worker keeps in its hand until its next
+//! step, and whoever posts from outside makes at once. A worker that met want of memory is halted:
+//! it ends its turn, puts back its mark, and keeps what could not be registered.
 //!
 //! ```text
 //! let mut worker = Worker::new(alloc, core, victims, batch)?;

@@ -39,7 +39,8 @@ pub enum Phase<S, P> {
         mark: Mark,
     },
 
-    /// It runs a turn: what is in hand, and the registrations that the last handler put and that are left.
+    /// It runs a turn: what is in hand, and the registrations that the last
+    /// handler put and that are left.
     Turning {
         turn: Turn<S, P>,
         hand: Delivery,

@@ -16,7 +16,8 @@ use crate::worker_fields::WorkerFields;
 use mely_event::{Fits, Mark, Trail};
 use mely_history::{NoSteal, NoTake};
 
-/// The step of a worker that has popped a mark.
+/// The step of a worker that has popped a mark: it takes the colour, and where that
+/// is refused drops the mark.
 fn step_popped<S: Fits<P> + Drop, P: Drop, A: Access<S, P>, R: App<State = S, Load = P>>(
     fields: &mut WorkerFields<P>,
     phase: &mut Phase<S, P>,
@@ -59,7 +60,8 @@ fn step_popped<S: Fits<P> + Drop, P: Drop, A: Access<S, P>, R: App<State = S, Lo
     }
 }
 
-/// The step of a worker that has picked a mark.
+/// The step of a worker that has picked a mark: it steals the colour, and where that
+/// is refused drops the mark.
 fn step_picked<S: Fits<P> + Drop, P: Drop, A: Access<S, P>, R: App<State = S, Load = P>>(
     fields: &mut WorkerFields<P>,
     phase: &mut Phase<S, P>,
@@ -101,7 +103,7 @@ fn step_picked<S: Fits<P> + Drop, P: Drop, A: Access<S, P>, R: App<State = S, Lo
     }
 }
 
-/// The step of a free worker.
+/// The step of a free worker: it looks for a mark at the next place of its hunt.
 fn step_free<S: Fits<P> + Drop, P: Drop, A: Access<S, P>, R: App<State = S, Load = P>>(
     fields: &mut WorkerFields<P>,
     phase: &mut Phase<S, P>,

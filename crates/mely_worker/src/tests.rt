@@ -71,7 +71,8 @@ fn follows(
     true
 }
 
-/// Runs a worker of core 0 with victim 1 by a script, and answers what it lost and who passed the gate.
+/// Runs a worker of core 0 with victim 1 by a script, and answers what it lost
+/// and who passed the gate.
 fn run<R: AllocGlobal + Abort>(
     rt: &R,
     calls: &[Call],
@@ -269,7 +270,8 @@ fn what_follows_a_registration_is_delivered(rt: HostRuntime) -> Result<(), Fail>
     Ok(())
 }
 
-/// A worker may be lent to a thread wherever its states and loads may cross, and move into one at rest.
+/// A worker may be lent to a thread wherever its states and loads may cross,
+/// and move into one at rest.
 fn crosses<S: Send, P: Send>(worker: &Worker<S, P>, rested: &IdleWorker<P>) {
     may_cross(worker);
     may_cross(rested);

@@ -14,13 +14,13 @@ use mely_event::{Colour, Event, Fits, Memory, Trail};
 use std::alloc::Global;
 use std::marker::Model;
 
-/// The rule of one core: it takes colours off its chain, runs turns, delivers marks and reports, and
-/// hunts at its victims when its chain is empty.
+/// The rule of one core: it takes colours off its chain, runs turns, delivers marks and reports,
+/// and hunts at its victims when its chain is empty.
 ///
-/// It makes one step after another on an [`Access`], which it is lent for each step. Contracts see a
-/// worker as its core, its batch, whether it is halted, its victims, the registrations that were
-/// refused, and its phase. A worker may hold a turn, so it has no `Drop`: one that is free is spent by
-/// [`rest`](Worker::rest) or [`into_lost`](Worker::into_lost).
+/// It makes one step after another on an [`Access`], which it is lent for each step. Contracts see
+/// a worker as its core, its batch, whether it is halted, its victims, the registrations that were
+/// refused, and its phase. A worker may hold a turn, so it has no `Drop`: one that is free is spent
+/// by [`rest`](Worker::rest) or [`into_lost`](Worker::into_lost).
 pub struct Worker<S, P> {
     pub(crate) fields: WorkerFields<P>,
     pub(crate) phase: Phase<S, P>,
@@ -82,7 +82,8 @@ impl<S, P> Worker<S, P> {
         matches!(self.phase, Phase::Free { .. })
     }
 
-    /// Whether it met want of memory. It then ends its turn, puts back its mark, and does nothing more.
+    /// Whether it met want of memory. It then ends its turn, puts back its
+    /// mark, and does nothing more.
     pub fn is_halted(&self) -> bool
         ensures { result ≡ self.now.halted }
     {
@@ -110,13 +111,15 @@ impl<S, P: Drop> Worker<S, P> {
         self.rest().into_lost()
     }
 
-    /// A free worker as a value that may be let go, and so may cross into a thread. It takes no memory.
+    /// A free worker as a value that may be let go, and so may cross into a
+    /// thread. It takes no memory.
     pub fn rest(self) -> IdleWorker<P>
         requires { IsTrue (is_free self.phase) }
         ensures { resumed_worker result ≡ self }
     {
         let Worker { fields, phase } = self;
-        // A phase has no `Drop`, as it may hold a turn: that of a free worker is spent by reading its place.
+        // A phase has no `Drop`, as it may hold a turn: that of a free worker is
+        // spent by reading its place.
         let place = phase.place();
         IdleWorker { fields, place }
     }

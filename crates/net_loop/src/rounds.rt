@@ -1,6 +1,6 @@
 //! The rounds: accept, poll, and the steps of the connection that is ready.
 ghost use Rattle.std.specs.Prelude.{◌≡◌, false};
-ghost use Rattle.sws_link.specs.Links.{IsFresh};
+ghost use Rattle.sws_link.specs.Links.{IsInitialLink};
 
 use std::alloc::Global;
 use std::sync::Wait;
@@ -51,7 +51,7 @@ impl Counts {
 
 /// A connection over the link; nothing for want of memory.
 fn begin<'s, L: Link + Drop>(alloc: Global, site: &'s Site, link: L) -> Option<Conn<'s, L>>
-    requires fresh { IsFresh (L.tells link) }
+    requires initial { IsInitialLink (L.tells link) }
     requires not_shut { L.is_shut link ≡ false }
 {
     let mut conn = Conn::new(alloc, site).ok()?;
@@ -107,7 +107,8 @@ impl<'s> Rounds<'s> {
     }
 }
 
-/// Serves all connections of the world to their ends; nothing for want of memory, or where the world failed.
+/// Serves all connections of the world to their ends; nothing for want of memory,
+/// or where the world failed.
 pub fn serve<R: Wait>(
     rt: &R,
     alloc: Global,

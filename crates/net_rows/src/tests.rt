@@ -1,4 +1,5 @@
-//! Two clients on this machine, one after another, each of which asks for the index and ends its side.
+//! Two clients on this machine, one after another, each of which asks for the
+//! index and ends its side.
 
 use std::alloc::{AllocError, Global};
 use std::io::{self, Read, Write};

@@ -1,4 +1,5 @@
-//! `sws answer` for a file that is larger than what the program collects before it writes: the response leaves it in several pieces.
+//! `sws answer` for a file that is larger than what the program collects before it writes: the
+//! response leaves it in several pieces.
 #![tactic(auto)]
 
 use std::process::ExitCode;

@@ -1,4 +1,5 @@
-//! `sws answer` on folders within folders: their pages by the folder's name, a name with a space, a name that begins with a dot.
+//! `sws answer` on folders within folders: their pages by the folder's name, a name with a space, a
+//! name that begins with a dot.
 #![tactic(auto)]
 
 use std::process::ExitCode;

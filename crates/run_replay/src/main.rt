@@ -1,4 +1,5 @@
-//! `sws replay` by a schedule of two workers: a connection that sends nothing, its transcript, and every entry of the run.
+//! `sws replay` by a schedule of two workers: a connection that sends nothing, its transcript,
+//! and every entry of the run.
 #![tactic(auto)]
 
 use std::process::ExitCode;

@@ -4,7 +4,8 @@ use Rattle.mely_event.specs.declared.colour.Colour.{Colour}
 use Rattle.mely_event.specs.declared.event.Event.{Event}
 use Rattle.mely_machine.specs.Machine.{Acts}
 
--- handler 1 registers handler 0 with argument 0 on the colour of its argument, 0 or 1; nothing else registers anything
+-- handler 1 registers handler 0 with argument 0 on the colour of its argument, 0 or 1;
+-- nothing else registers anything
 abbrev pub registrations_of : Event → List (Colour × Event)
 registrations_of event = if (event.handler == 1) && nat_lt event.arg 2 then
     (record { 0 = event.arg }, record { handler = 0; arg = 0 }) ∷ [] else []

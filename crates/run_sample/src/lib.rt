@@ -1,12 +1,13 @@
 //! A run of a small app, whose contract is the machine's run: how an app's author uses `mely_run`.
 //!
-//! `sending.rt` has the app and what tells it, `specs/Sending.antt` the function; [`run`] is all that is left.
+//! `sending.rt` has the app and what tells it, `specs/Sending.antt` the function;
+//! [`run`] is all that is left.
 #![tactic(auto)]
 
 ghost use Rattle.std.specs.Prelude.{◌≡◌, ◌<◌, ◌≤◌, ◌^◌, ℕ, All, IfOk, IfSome, List, map, sum_by, length};
 ghost use Rattle.mely_history.specs.Setup.{shape_of, colours_of, handlers_of};
 ghost use Rattle.mely_event.specs.HandlerTable.{rows_of};
-ghost use Rattle.mely_weave.specs.Making.{AreBlank};
+ghost use Rattle.mely_weave.specs.Making.{AreInitialBelow};
 ghost use Rattle.mely_machine.specs.Rules.{rules_of};
 ghost use Rattle.mely_machine.specs.MachineRun.{RunsTo};
 ghost use Rattle.run_sample.specs.Sending.{sends};
@@ -23,9 +24,9 @@ use std::alloc::Global;
 use std::sync::Wait;
 
 /// A state for each colour, on which nothing was run.
-fn blank_states(alloc: Global, colours: u32) -> Result<Vec<TrailLog>, Memory>
+fn initial_states(alloc: Global, colours: u32) -> Result<Vec<TrailLog>, Memory>
     requires { colours ≤ 65536 }
-    ensures { IfOk result (λ states. AreBlank (λ state. state.colour) (λ state. state.events)
+    ensures { IfOk result (λ states. AreInitialBelow (λ state. state.colour) (λ state. state.events)
         colours states.items) }
 {
     let mut states = Vec::new(alloc);
@@ -35,8 +36,8 @@ fn blank_states(alloc: Global, colours: u32) -> Result<Vec<TrailLog>, Memory>
     Ok(states)
 }
 
-/// Posts an event, makes the steps of a schedule and drains. The histories are those that the machine writes, and no others;
-/// nothing for want of memory.
+/// Posts an event, makes the steps of a schedule and drains. The histories are those that the
+/// machine writes, and no others; nothing for want of memory.
 pub fn run<W: Wait>(
     rt: &W,
     alloc: Global,
@@ -55,9 +56,7 @@ pub fn run<W: Wait>(
         schedule.now (map (λ history. history.items) histories.items)) }
 {
     a_run_is_the_machines::<TrailLog, u8, Sending>();
-    let Ok(states) = blank_states(alloc, setup.colours()) else {
-        return None;
-    };
+    let states = initial_states(alloc, setup.colours()).ok()?;
     let parts = run_whole(
         rt, alloc, setup, states, &Sending, colour, event, None, schedule,
     )?;

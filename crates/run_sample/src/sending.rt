@@ -45,7 +45,8 @@ impl App for Sending {
     }
 }
 
-/// The app keeps nothing, so nothing has to agree: that a handler registers what the function says is its contract.
+/// The app keeps nothing, so nothing has to agree: that a handler registers what the
+/// function says is its contract.
 impl Told for Sending {
     type Is = ();
 

@@ -29,6 +29,32 @@ fn small_setup() -> Result<Setup, Fail>
     }
 }
 
+fn reg(colour: u16, event: Event, by: u16) -> Entry {
+    Entry::Reg {
+        colour: Colour(colour),
+        event,
+        by,
+    }
+}
+
+/// The core of the same number takes one event of a colour.
+fn take(colour: u16) -> Entry {
+    Entry::Take {
+        colour: Colour(colour),
+        core: colour,
+        count: 1,
+    }
+}
+
+/// It has finished it.
+fn fin(colour: u16) -> Entry {
+    Entry::Fin {
+        colour: Colour(colour),
+        core: colour,
+        count: 1,
+    }
+}
+
 #[test]
 fn an_event_that_sends_another(rt: HostRuntime) -> Result<(), Fail> {
     let setup = small_setup()?;
@@ -38,36 +64,12 @@ fn an_event_that_sends_another(rt: HostRuntime) -> Result<(), Fail> {
         return Err(Fail::from("no memory"));
     };
     let written = [
-        Entry::Reg {
-            colour: Colour(0),
-            event: sends,
-            by: 2,
-        },
-        Entry::Take {
-            colour: Colour(0),
-            core: 0,
-            count: 1,
-        },
-        Entry::Reg {
-            colour: Colour(1),
-            event: sent,
-            by: 0,
-        },
-        Entry::Fin {
-            colour: Colour(0),
-            core: 0,
-            count: 1,
-        },
-        Entry::Take {
-            colour: Colour(1),
-            core: 1,
-            count: 1,
-        },
-        Entry::Fin {
-            colour: Colour(1),
-            core: 1,
-            count: 1,
-        },
+        reg(0, sends, 2),
+        take(0),
+        reg(1, sent, 0),
+        fin(0),
+        take(1),
+        fin(1),
     ];
     let Some(history) = histories.get(0) else {
         return Err(Fail::from("no history"));

@@ -4,16 +4,16 @@ use Rattle.std.proofs.Math.ListN.{get_or-append}
 use Rattle.std.proofs.Math.Seq.{get_or-append_seam}
 use Rattle.std.proofs.lemmas.Bool.{cases_lt}
 use Rattle.std.proofs.lemmas.Option.{slice_get_within, slice_get-get_or, get_or_from_slice_get}
-use Rattle.shard_loop.specs.Loops.{AreBlankBelow}
+use Rattle.shard_loop.specs.Loops.{AreInitialBelow}
 use Rattle.mely_event.specs.TrailLog.{TrailLogState}
 
 -- no state at first
-pub blank_none : AreBlankBelow 0 []
-blank_none = record { many = refl; each = λ i state is. cc }
+pub initial_none : AreInitialBelow 0 []
+initial_none = record { many = refl; each = λ i state is. cc }
 
 -- one state more
-pub blank_more : (count : ℕ) (states : List TrailLogState) (state : TrailLogState) → AreBlankBelow count states → state.colour ≡ record { 0 = count } → state.events ≡ [] → AreBlankBelow (count + 1) (states ++ state ∷ [])
-blank_more count states state are coloured untouched = record {
+pub initial_more : (count : ℕ) (states : List TrailLogState) (state : TrailLogState) → AreInitialBelow count states → state.colour ≡ record { 0 = count } → state.events ≡ [] → AreInitialBelow (count + 1) (states ++ state ∷ [])
+initial_more count states state are coloured untouched = record {
   many = length-append states (state ∷ []) ∙ ap (λ n. n + 1) are.many;
   each = λ i other is. ⊎_elim
       (λ (low : i < length states). are.each i other (slice_get-get_or states i other low ∙ ap (λ s. Some s) (sym (get_or-append states (state ∷ []) other i low) ∙ get_or_from_slice_get (states ++ state ∷ []) i other other is)))

@@ -1,7 +1,7 @@
 //! The loop: register, take, run, finish.
 ghost use Rattle.std.specs.Prelude.{◌≡◌, ◌<◌, ◌≤◌, ℕ, length, All, IfOk, IfSome};
 ghost use Rattle.mely_shard.specs.Shard.{IsOwn, KeepsFrame, TurnStands};
-ghost use Rattle.shard_loop.specs.Loops.{IsLoop, AreBlank};
+ghost use Rattle.shard_loop.specs.Loops.{IsLoop, AreInitial};
 ghost use Rattle.shard_loop.specs.declared.event_loop.TheConstants.{COLOURS};
 
 use mely_event::{Colour, Event, Fits, Handlers, Memory, Trail, TrailLog};
@@ -15,8 +15,8 @@ use std::collections::VecDeque;
 const COLOURS: u16 = 1024;
 
 /// A state for each colour.
-fn blank_states(alloc: Global) -> Result<Vec<TrailLog>, Memory>
-    ensures { IfOk result (λ states. AreBlank states.items) }
+fn initial_states(alloc: Global) -> Result<Vec<TrailLog>, Memory>
+    ensures { IfOk result (λ states. AreInitial states.items) }
 {
     let mut states = Vec::new(alloc);
     for colour in 0..COLOURS {
@@ -42,7 +42,7 @@ fn make_shard(alloc: Global, batch: u16) -> Option<Shard<TrailLog, u32>>
     let Ok(setup) = Setup::new(&shape, u32::from(COLOURS), handlers, 0) else {
         return None;
     };
-    let Ok(states) = blank_states(alloc) else {
+    let Ok(states) = initial_states(alloc) else {
         return None;
     };
     match Shard::new(alloc, &setup, 0, states) {
@@ -89,7 +89,8 @@ fn register_all(
     Ok(())
 }
 
-/// Runs what a turn has on an empty handler, which only records the event, and takes its state home.
+/// Runs what a turn has on an empty handler, which only records the event,
+/// and takes its state home.
 fn run_and_finish(shard: &mut Shard<TrailLog, u32>, mut turn: Turn<TrailLog, u32>) -> After
     requires own { IsOwn shard.old turn.colour }
     requires stands { TurnStands ⟦<TrailLog as Trail>⟧
@@ -109,16 +110,13 @@ fn take_turn(shard: &mut Shard<TrailLog, u32>, colour: u16) -> Option<(u16, Afte
     requires colour { colour < COLOURS }
     ensures { IsLoop shard.new }
 {
-    match shard.take(Colour(colour), 0) {
-        Ok(turn) => {
-            let count = turn.count();
-            Some((count, run_and_finish(shard, turn)))
-        }
-        Err(_) => None,
-    }
+    let turn = shard.take(Colour(colour), 0).ok()?;
+    let count = turn.count();
+    Some((count, run_and_finish(shard, turn)))
 }
 
-/// Takes the next ready colour, and notes it again where more of it waits; answers how many events were run.
+/// Takes the next ready colour, and notes it again where more of it waits; answers
+/// how many events were run.
 fn step(shard: &mut Shard<TrailLog, u32>, ready: &mut VecDeque<u16>) -> Option<u16>
     requires is { IsLoop shard.old }
     requires known { All (λ c. c < COLOURS) ready.old.items }
@@ -127,23 +125,21 @@ fn step(shard: &mut Shard<TrailLog, u32>, ready: &mut VecDeque<u16>) -> Option<u
 {
     let colour = ready.pop_front()?;
     match take_turn(shard, colour) {
-        Some((count, After::More { .. })) => match ready.push_back(colour) {
-            Ok(()) => Some(count),
-            Err(_) => None,
-        },
+        Some((count, After::More { .. })) => {
+            ready.push_back(colour).ok()?;
+            Some(count)
+        }
         Some((count, After::Idle)) => Some(count),
         None => None,
     }
 }
 
-/// Registers so many events on the colours, runs them all in turns of at most `batch`, and answers how many were run;
-/// nothing for want of memory, or where the batch is out of its range.
+/// Registers so many events on the colours, runs them all in turns of at most `batch`, and answers
+/// how many were run; nothing for want of memory, or where the batch is out of its range.
 pub fn run(alloc: Global, events: u32, batch: u16) -> Option<u64> {
     let mut shard = make_shard(alloc, batch)?;
     let mut ready = VecDeque::new(alloc);
-    if register_all(&mut shard, events, &mut ready).is_err() {
-        return None;
-    }
+    register_all(&mut shard, events, &mut ready).ok()?;
     let mut ran = 0u64;
     'turns: for _ in 0..events {
         match step(&mut shard, &mut ready) {

@@ -1,8 +1,9 @@
 //! `shard_loop EVENTS BATCH`: an event loop on one core, over one shard.
 //!
-//! It registers so many events on 1,024 colours in turn. Then it takes each colour that is ready, up to BATCH events of it,
-//! runs an empty handler on them and finishes, until nothing is queued, and prints how many events were run. It is the
-//! smallest program that uses the runtime, and what the cost of a shard is measured by.
+//! It registers so many events on 1,024 colours in turn. Then it takes each colour that is ready,
+//! up to BATCH events of it, runs an empty handler on them and finishes, until nothing is queued,
+//! and prints how many events were run. It is the smallest program that uses a shard, and what
+//! the cost of a shard is measured by.
 #![tactic(auto)]
 
 mod event_loop;
@@ -10,7 +11,8 @@ mod event_loop;
 use std::process::ExitCode;
 use std::{env, io};
 
-/// The two numbers of the command line.
+/// How many events are run, and the batch, by the first two words; `None` where
+/// they aren't such numbers.
 fn numbers(rt: &HostRuntime) -> Option<(u32, u16)> {
     let mut words = env::args(rt).ok()?.skip(1);
     let events = words.next()?.as_str().parse::<u32>().ok()?;

@@ -1,4 +1,5 @@
--- Laws of answers, whatever was asked: which close, that a head is sent, and how long head and body are.
+-- Laws of answers, whatever was asked: which close, that a head is sent, and
+-- how long head and body are.
 use Rattle.std.specs.Prelude.{◌≡◌, ◌<◌, Bool, true, false, ◌||◌, length}
 use Rattle.std.proofs.Common.{refl, arith, length-append}
 use Rattle.sws_site.specs.ResponseHeads.{ResponseHead, head_text, head_lines, lines_text, line_end}

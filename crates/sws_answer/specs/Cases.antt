@@ -1,4 +1,5 @@
--- The status of the answer to a request: the first of a table of cases (RFC 9110, sections 9, 13 and 15; RFC 9112, section 3).
+-- The status of the answer to a request: the first of a table of cases (RFC 9110, sections 9, 13
+-- and 15; RFC 9112, section 3).
 use Rattle.std.specs.Prelude.{ℕ, Bool, not, ◌==◌, ◌&&◌, ◌||◌, if◌then◌else◌, nat_lt, List, [], ◌∷◌, length, codes, Option, option_and_then, is_none}
 use Rattle.std.specs.List.{list_any}
 use Rattle.std.specs.Str.{bytes_eq}
@@ -54,5 +55,7 @@ request_cases site asked =
     ∷ (is_part (selection_for asked (file_for site asked)), PartialContent)
     ∷ []
 
+-- the status of the first case that holds of the request, and success where none
+-- does: the file is sent whole
 unfoldable pub request_status : SiteState → Request → Status
 request_status site asked = first_case (request_cases site asked) Success

@@ -5,12 +5,14 @@ use Rattle.httpdate.specs.declared.date.HttpDate.{HttpDate}
 use Rattle.httpdate.specs.Date.{unix_secs, parse_secs, IsDateText}
 use Rattle.sws_answer.specs.Fields.{Field, values_of, has_field}
 
--- the value is a date in one of the three forms, and it is not before the date (RFC 9110, section 5.6.7)
+-- the value is a date in one of the three forms, and it is not before the date
+-- (RFC 9110, section 5.6.7)
 abbrev pub is_not_before : HttpDate → List ℕ → Bool
 is_not_before date value =
     option_map_or (λ secs. nat_le (unix_secs date) secs) (parse_secs value) false
 
--- the value is a text of a date in one of the three forms that is not before the date (RFC 9110, section 5.6.7)
+-- the value is a text of a date in one of the three forms that is not before the date
+-- (RFC 9110, section 5.6.7)
 abbrev pub NamesDateFrom : HttpDate → List ℕ → Type 0
 NamesDateFrom date value = (named : HttpDate) × IsDateText value named
     × (unix_secs date ≤ unix_secs named)

@@ -1,4 +1,5 @@
--- The answer to a request that no earlier case refuses, by the file that it names. Only clauses of private functions cite this.
+-- The answer to a request that no earlier case refuses, by the file that it names. Only clauses of
+-- private functions cite this.
 use Rattle.std.specs.Prelude.{ℕ, length, Bool, if◌then◌else◌, List, Option, Some, None}
 use Rattle.sws_request.specs.Request.{Request}
 use Rattle.sws_site.specs.declared.statuses.Status.{Status}

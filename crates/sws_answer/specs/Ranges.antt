@@ -42,13 +42,15 @@ spec_in text =
     let dash = position_or_len is_dash text in
     if nat_lt dash (length text) then spec_of (take dash text) (drop (dash + 1) text) else None
 
--- a value that says one range of bytes, without regard to ASCII case and to blanks round it (RFC 9110, sections 14.1.2 and 14.2)
+-- a value that says one range of bytes, without regard to ASCII case and to blanks round it (RFC
+-- 9110, sections 14.1.2 and 14.2)
 abbrev pub spec_in_value : List ℕ → Option RangeSpec
 spec_in_value value =
     let text = trim_blanks value in
     if str_eq_ignore_ascii_case (take 6 text) (codes "bytes=") then spec_in (drop 6 text) else None
 
--- the range that a request asks for, if it asks for one: by GET, with one field Range and no condition on it; all else is ignored
+-- the range that a request asks for, if it asks for one: by GET, with one field Range and no
+-- condition on it; all else is ignored
 abbrev pub asked_range : Request → Option RangeSpec
 asked_range asked =
     if bytes_eq asked.method (codes "GET") && not (has_field (codes "if-range") asked.fields)

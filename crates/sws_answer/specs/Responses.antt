@@ -1,4 +1,5 @@
--- What is sent for the bytes of a whole connection: heads are answered in order, one after another (RFC 9112, section 9.3.2).
+-- What is sent for the bytes of a whole connection: heads are answered in order, one after another
+-- (RFC 9112, section 9.3.2).
 use Rattle.std.specs.Prelude.{◌≡◌, ◌++◌, ℕ, zero, suc, Bool, ◌==◌, if◌then◌else◌, List, [], ◌∷◌, take, drop}
 use Rattle.std.specs.List.{flat_map, list_any}
 use Rattle.sws_request.specs.declared.cuts.Cut.{Cut}

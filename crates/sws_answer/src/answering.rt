@@ -82,7 +82,7 @@ fn own_parts<'s>(head: OwnHead, body: &'s [u8], is_head: bool) -> Parts<'s>
     Parts::with_own(head, body)
 }
 
-/// The response that refuses.
+/// The response that refuses with this status: its content says the status, in one line.
 fn refuse<'s>(site: &'s Site, status: Status, closes: bool, is_head: bool) -> Answer<'s>
     requires { IsTrue (is_fixed status) }
     ensures { Sends result (response site.now.date status None Whole closes is_head) }
@@ -95,7 +95,7 @@ fn refuse<'s>(site: &'s Site, status: Status, closes: bool, is_head: bool) -> An
     }
 }
 
-/// The response that sends a file.
+/// The response that sends a file whole.
 fn send_file<'s>(page: &Page<'s>, closes: bool, is_head: bool) -> Answer<'s>
     ensures { Sends result (response page.now.date StatusValue.Success (Some page.now.file)
         Whole closes is_head) }
@@ -237,7 +237,8 @@ fn closes_after(request: &RequestView<'_>, last: bool) -> bool
     closes_connection(request) || last
 }
 
-/// The answer to a request.
+/// The answer to a request: the first case that holds of it says the status, in the
+/// order of the definition.
 fn answer_request<'s>(
     site: &'s Site,
     request: &RequestView<'_>,

@@ -1,4 +1,4 @@
-//! What is sent.
+//! What is sent for one head, and whether the connection ends with it.
 
 use sws_parts::Parts;
 

@@ -1,4 +1,4 @@
-//! What is asked.
+//! What a client asks by a head: a request, or what is refused before it is one.
 ghost use Rattle.std.specs.Prelude.{◌≡◌};
 ghost use Rattle.sws_answer.specs.Asked.{asked_by};
 ghost use Rattle.sws_answer.specs.AnswerValues.{asked_value};

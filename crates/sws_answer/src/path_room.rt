@@ -1,4 +1,4 @@
-//! Room for a path.
+//! Room for the path that a target decodes to, made once a connection.
 ghost use Rattle.std.specs.Prelude.{◌≡◌, ◌<◌, ◌≤◌, ◌+◌, true, false, [], ◌∷◌, ◌++◌, length, IfOk};
 
 use std::alloc::Global;
@@ -49,7 +49,8 @@ impl PathRoom {
         self.bytes.clear();
     }
 
-    /// Puts the bytes behind what was put in, where there is room for them, and says whether there is.
+    /// Puts the bytes behind what was put in, where there is room for them,
+    /// and says whether there is.
     pub(crate) fn put(&mut self, bytes: &[u8]) -> bool
         ensures put { result ≡ true → self.new ≡ self.old ++ bytes.now }
         ensures full { result ≡ false → PATH_ROOM < length self.old + length bytes.now }

@@ -118,8 +118,8 @@ fn is_folder(name: &[u8]) -> bool
     name.is_empty() || name[name.len() - 1] == b'/'
 }
 
-/// Writes the name that a path says, which stands without its first slash, into the room, and says whether there
-/// was room for it.
+/// Writes the name that a path says, which stands without its first slash, into the room, and says
+/// whether there was room for it.
 pub fn write_name(path: &[u8], room: &mut PathRoom) -> bool
     ensures written { result ≡ true → room.new ≡ with_index (decoded path.now) }
     ensures outgrown { result ≡ false → PATH_ROOM < length (with_index (decoded path.now)) }

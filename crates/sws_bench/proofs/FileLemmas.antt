@@ -1,4 +1,5 @@
--- The files of the bench: how they lie in a folder in memory, and that they are within the limits of a site.
+-- The files of the bench: how they lie in a folder in memory, and that they are
+-- within the limits of a site.
 use Rattle.std.proofs.Common.{◌≡◌, ℕ, ◌+◌, ◌*◌, ◌%◌, ◌<◌, ◌≤◌, List, [], ◌∷◌, ◌++◌, length, codes, sym, ap, subst, ◌∙◌, arith, length-append, lit≤, refl, inl, inr, Vec, Global}
 use Rattle.std.specs.Prelude.{◌⊎◌, sum_by, None}
 use Rattle.std.specs.List.{range_with_len}

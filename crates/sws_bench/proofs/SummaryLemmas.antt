@@ -57,10 +57,10 @@ module _ (site : SiteState) (conns : List ScriptConn) (ended : Ended MemWorldSta
   all_ended : AllByRecursion (λ s. IsSome s.end) ended.served.items
   all_ended = all_have (λ (s : Served MemLinkState). IsSome s.end) ended.served.items conns serves.many (λ i conn s at there. subst (λ (e : Option End). IsSome e) (sym (serves.each i conn s at there).end) refl)
 
-  pub have_ended : All (λ s. IsSome s.end) ended.served.items
+  have_ended : All (λ s. IsSome s.end) ended.served.items
   have_ended = All-from_recursion (λ (s : Served MemLinkState). IsSome s.end) ended.served.items all_ended
 
-  pub ends_are : (ends : List End) → map (λ end. Some end) ends ≡ map (λ s. s.end) ended.served.items → ends ≡ map (λ conn. (alone site conn).end) conns
+  ends_are : (ends : List End) → map (λ end. Some end) ends ≡ map (λ s. s.end) ended.served.items → ends ≡ map (λ conn. (alone site conn).end) conns
   ends_are ends same =
       some_same ends (map (λ conn. (alone site conn).end) conns)
       (same
@@ -72,7 +72,7 @@ module _ (site : SiteState) (conns : List ScriptConn) (ended : Ended MemWorldSta
       All-from_recursion (λ (s : Served MemLinkState). s.written ≤ 2 ^ 40) ended.served.items
       (all_have (λ (s : Served MemLinkState). s.written ≤ 2 ^ 40) ended.served.items conns serves.many (λ i conn s at there. let few = (serves.each i conn s at there).few_written in omega arith))
 
-  pub written_fits : length conns ≤ 1024 → sum_by (λ s. s.written) ended.served.items < 2 ^ 64
+  written_fits : length conns ≤ 1024 → sum_by (λ s. s.written) ended.served.items < 2 ^ 64
   written_fits few =
       let all = sum_by-le (λ (s : Served MemLinkState). s.written) (2 ^ 40) ended.served.items few_written in
       let many = serves.many in

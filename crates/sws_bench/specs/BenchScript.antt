@@ -1,5 +1,5 @@
--- The connections that ask for them, each by what draws give from a state on: how many requests it has, which file each asks for, and
--- the size of the pieces in which its bytes come.
+-- The connections of a bench, each by what draws give from a state on: how many requests it has,
+-- which file each asks for, and the size of the pieces in which its bytes come.
 use Rattle.std.specs.Prelude.{ℕ, zero, suc, ◌+◌, ◌%◌, List, ◌++◌, length, map, sum, codes, None}
 use Rattle.std.specs.List.{flat_map, range_with_len}
 use Rattle.std.specs.Int.{div_ceil}
@@ -59,11 +59,14 @@ conn_from state = record {
 
 -- ---- all connections
 
--- the state with which the draws of a connection begin: those of the first begin with the number of the bench
+-- the state with which the draws of a connection begin: those of the first begin
+-- with the number of the bench
 abbrev pub conn_state : ℕ → ℕ → ℕ
 conn_state number zero = number
 conn_state number (suc conn) = behind_conn (conn_state number conn)
 
+-- so many connections of the bench of this number: they follow from the two numbers alone, so that
+-- each run serves the same
 unfoldable pub bench_conns : ℕ → ℕ → List ScriptConn
 bench_conns number count = map (λ conn. conn_from (conn_state number conn)) (range_with_len 0 count)
 

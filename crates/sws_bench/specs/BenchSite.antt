@@ -1,11 +1,12 @@
--- The files that are asked for.
+-- The files that the connections of a bench ask for.
 use Rattle.std.specs.Prelude.{ℕ, ◌+◌, ◌*◌, ◌%◌, List, ◌++◌, map, codes, None}
 use Rattle.std.specs.List.{range_with_len}
 use Rattle.std.specs.Fmt.{decimal}
 use Rattle.sws_site.specs.Files.{File}
 use Rattle.sws_site.specs.Site.{SiteState}
 
--- the letters from `a` to `z` over and over, 97 being `a`: a file of a greater number has more of them, and begins with a later one
+-- the letters from `a` to `z` over and over, 97 being `a`: a file of a greater number has more of
+-- them, and begins with a later one
 unfoldable pub contents : ℕ → List ℕ
 contents number = map (λ place. 97 + (place + number) % 26) (range_with_len 0 (64 * (number + 1)))
 

@@ -1,5 +1,6 @@
--- The draws of the generator: a linear congruential generator modulo 2^32, with the multiplier and the increment of Numerical Recipes
--- (Press et al., 2nd edition, section 7.1), of whose state each draw gives the upper 16 bits.
+-- The draws of the generator: a linear congruential generator modulo 2^32, with the multiplier and
+-- the increment of Numerical Recipes (Press et al., 2nd edition, section 7.1), of whose state each
+-- draw gives the upper 16 bits.
 use Rattle.std.specs.Prelude.{ℕ, zero, suc, ◌+◌, ◌*◌, ◌/◌, ◌%◌, ◌^◌, List, map}
 use Rattle.std.specs.List.{range_with_len}
 

@@ -30,15 +30,15 @@ struct Tally {
     written: u64,
 }
 
-/// Serves so many connections, whose requests the number draws, out of sixteen files, with a thread for each worker, and writes
-/// the summary. It need not return.
+/// Serves so many connections, whose requests the number draws, out of sixteen files, with a thread
+/// for each worker, and writes the summary. It need not return.
 ///
 /// The summary is the same for every shape. There are at most 1,024 connections.
 ///
 /// # Errors
 ///
-/// `Write` only where the sink failed, and `Memory` where an allocation was refused. Nothing is written before the run has
-/// ended.
+/// `Write` only where the sink failed, and `Memory` where an allocation was refused. Nothing is
+/// written before the run has ended.
 pub fn bench<R: Threads + Wait + Sync, O: Sink>(
     rt: &R,
     alloc: Global,

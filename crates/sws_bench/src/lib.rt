@@ -1,6 +1,8 @@
-//! A bench of the server: connections whose requests a generator draws, served by threads, and what it came to.
+//! A bench of the server: connections whose requests a generator draws, served by
+//! threads, and what it came to.
 //!
-//! The same two numbers give the same files, the same connections and so the same summary, whatever the shape of the run.
+//! The same two numbers give the same files, the same connections and so the same summary,
+//! whatever the shape of the run.
 //!
 //! ```text
 //! bench(&rt, alloc, 1, 1, &shape, &mut sink)?;

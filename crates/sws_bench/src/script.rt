@@ -18,7 +18,8 @@ pub(crate) struct Generated {
     pub(crate) bytes: u64,
 }
 
-/// So many connections with the requests that the number draws: they are those of a script, in whichever run.
+/// So many connections with the requests that the number draws: they are those of a
+/// script, in whichever run.
 pub fn bench_script(alloc: Global, connections: u16, number: u32) -> Result<Vec<ScriptConn>, Memory>
     ensures conns { IfOk result (λ conns. conns.items ≡ bench_conns number connections) }
     ensures input { IfOk result (λ conns. (cores : ℕ)

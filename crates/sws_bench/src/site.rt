@@ -12,7 +12,8 @@ use sws_site::{Site, SiteFault};
 /// How many files there are.
 const FILES: u8 = 16;
 
-/// The site that a bench asks for files: `f0.txt` to `f15.txt` of 64 to 1,024 letters, without a date.
+/// The site that a bench asks for files: `f0.txt` to `f15.txt` of 64 to 1,024
+/// letters, without a date.
 pub fn bench_site(alloc: Global) -> Result<Site, Memory>
     ensures { IfOk result (λ site. site ≡ bench_site) }
 {

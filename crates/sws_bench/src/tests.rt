@@ -82,7 +82,7 @@ fn one_request_is_counted(rt: HostRuntime) -> Result<(), Fail> {
     Ok(())
 }
 
-/// Many connections on several workers, with the numbers of a program of its own.
+/// Many connections on several workers, with the numbers that another program found.
 #[test]
 fn many_connections_are_counted(rt: HostRuntime) -> Result<(), Fail> {
     let sink = summary_of(&rt, rt.alloc(), 1024, 7, &EIGHT_WORKERS)?;

@@ -4,7 +4,8 @@ use std::alloc::Global;
 use sws_link::{Accepted, Opened, Polled, World};
 use sws_words::Order;
 
-/// The world of a server, which says a line once it is open, so that a user knows when clients can come.
+/// The world of a server, which says a line once it is open, so that a user
+/// knows when clients can come.
 ///
 /// It is the world that it is made of in all else.
 #[derive(Drop)]
@@ -51,8 +52,8 @@ impl<'r, W: World + Drop> World for Announced<'r, W> {
     }
 }
 
-/// What a server says of itself once it listens: its folder, its address, and what it was given. Nothing for an order that
-/// isn't to serve, or where there was no memory.
+/// What a server says of itself once it listens: its folder, its address, and what it was given.
+/// Nothing for an order that isn't to serve, or where there was no memory.
 pub fn line_of(alloc: Global, order: &Order) -> Option<String> {
     let Order::Serve {
         folder,

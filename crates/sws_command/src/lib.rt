@@ -1,10 +1,11 @@
-//! The command `sws` on the machine: its words, its folder, standard input and output, a port, and what it says of a fault.
+//! The command `sws` on the machine: its words, its folder, standard input and output, a port, and
+//! what it says of a fault.
 //!
-//! A program whose `main` is [`command`] is the command. `sws_main` is the one that users have; others beside it run it on
-//! data of their own, since a program has one stored run.
+//! A program whose `main` is [`command`] is the command. `sws_main` is the one that users have;
+//! others beside it run it on data of their own, since a program has one stored run.
 //!
 //! ```text
-//! sws answer FOLDER [--date SECONDS]              the responses to the bytes of standard input, out of the files below a folder
+//! sws answer FOLDER [--date SECONDS]              the responses to standard input, out of the files below a folder
 //! sws replay FOLDER [..] [--journal] [--schedule] the connections of a script on standard input, and what each is sent
 //! sws serve FOLDER --port P --connections N [..]  so many connections to a TCP port, and then a summary
 //! sws bench N NUMBER [..]                         so many connections of a generated script, and then a summary
@@ -24,8 +25,9 @@ use sws_net::{FileFolder, Output, StdSink, StdSource, TcpWorld};
 use sws_top::{TopFault, sws};
 use sws_words::{WordFault, read_words};
 
-/// Runs the command on the machine, with threads of the second handle, which is the same runtime: only where a program begins does
-/// it have threads to give. The fault of a run is said on standard error, in a line, and the status is the run's.
+/// Runs the command on the machine, with threads of the second handle, which is the same runtime:
+/// only where a program begins does it have threads to give. The fault of a run is said on standard
+/// error, in a line, and the status is the run's.
 pub fn command<T: AllocGlobal + Threads + Wait + Sync>(rt: &HostRuntime, threads: &T) -> ExitCode {
     let fault = match words(rt) {
         Ok(words) => run(rt, threads, &words),
@@ -56,7 +58,8 @@ fn words(rt: &HostRuntime) -> Result<Vec<String>, TopFault> {
     Ok(words)
 }
 
-/// Runs the command on the machine's files, streams and sockets, and answers its fault, if it has one.
+/// Runs the command on the machine's files, streams and sockets, and answers its fault, if it has
+/// one. The words are read here for the line of `serve` alone; `sws` reads them again.
 fn run<T: AllocGlobal + Threads + Wait + Sync>(
     rt: &HostRuntime,
     threads: &T,

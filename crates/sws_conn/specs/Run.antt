@@ -10,8 +10,8 @@ use Rattle.sws_conn.specs.Path.{Handler}
 pub use Rattle.sws_steps.specs.Run.{conn_at_open}
 
 module _ {L : Type 0} (x : LinkWords L) (site : SiteState) (first : L) where
-  -- the connection was opened over this link, which wasn't shut and of which nothing was taken or written before, and has run these
-  -- events since
+  -- the connection was opened over this link, which wasn't shut and of which nothing was taken or
+  -- written before, and has run these events since
   abbrev pub HasRun : List Handler → ConnState L → Type 0
   HasRun trail conn = runs.HasRun http x site first trail conn
 

@@ -1,7 +1,7 @@
-//! A connection.
+//! A connection of HTTP over a link, which does one step at a time.
 ghost use Rattle.std.specs.Prelude.{◌≡◌, ◌≢◌, ◌≤◌, ◌<◌, ◌^◌, ◌↔◌, ◌∷◌, [], false, IfOk, IsSome, Some, None};
 ghost use Rattle.sws_conn.specs.Conn.{reported_step, told_end};
-ghost use Rattle.sws_link.specs.Links.{IsFresh};
+ghost use Rattle.sws_link.specs.Links.{IsInitialLink};
 ghost use Rattle.sws_conn.specs.Step.{Steps, StepsFrom, Opens};
 ghost use Rattle.sws_conn.specs.Sound.{IsSound, IsShutAtEnd, core_before_open};
 ghost use Rattle.sws_conn.specs.Path.{FollowsScript, TakesEvent, TakesOff, HasNoEvents, open_link, known_path, known_rest, told_by_link};
@@ -22,8 +22,8 @@ use sws_parts::Parts;
 use sws_site::Site;
 use sws_steps::ConnCore;
 
-/// A connection over a link, which does one step at a time. All of it but the link lies in a box, so that little is
-/// moved where the connection is.
+/// A connection over a link, which does one step at a time. All of it but the link lies in a box,
+/// so that little is moved where the connection is.
 #[derive(Drop)]
 pub struct Conn<'s, L: Link> {
     core: Box<ConnCore<Http<'s>>>,
@@ -45,8 +45,8 @@ impl<'s, L: Link> Model for Conn<'s, L> {
 }
 
 impl<'s, L: Link + Drop> Conn<'s, L> {
-    /// A connection that waits for its link. All room is made here that it will need; where that was refused, the
-    /// answer is `Memory`.
+    /// A connection that waits for its link. All room is made here that it will need; where that
+    /// was refused, the answer is `Memory`.
     pub fn new(alloc: Global, site: &'s Site) -> Result<Conn<'s, L>, Memory>
         ensures new { IfOk result (λ conn. conn
             ≡ record { standing = core_before_open site.now; link = None }) }
@@ -77,10 +77,11 @@ impl<'s, L: Link + Drop> Conn<'s, L> {
         })
     }
 
-    /// Gives the connection its link, which isn't shut and of which nothing was taken or written; hands it back where
-    /// there is one already. Where the link tells its answers to come, the opening is the first event of their path.
+    /// Gives the connection its link, which isn't shut and of which nothing was taken or written;
+    /// hands it back where there is one already. Where the link tells its answers to come, the
+    /// opening is the first event of their path.
     pub fn open(&mut self, link: L) -> Result<Next, L>
-        requires fresh { IsFresh (L.tells link) }
+        requires initial { IsInitialLink (L.tells link) }
         requires not_shut { L.is_shut link ≡ false }
         ensures opens { Opens self.old link result self.new }
         ensures run { IfOk result (λ _. HasRun L.Link self.old.standing.hall link [] self.new) }
@@ -97,9 +98,10 @@ impl<'s, L: Link + Drop> Conn<'s, L> {
         Ok(Next::Read)
     }
 
-    /// Does the pending step, and answers the next one: `Wait` where the link was not ready and the same step is
-    /// pending. Before `open` and after the close it does nothing. Where the link tells its answers to come, the step takes
-    /// its event off the rest of their path. Only the close shuts the link. An end that is known stays.
+    /// Does the pending step, and answers the next one: `Wait` where the link was not ready and the
+    /// same step is pending. Before `open` and after the close it does nothing. Where the link
+    /// tells its answers to come, the step takes its event off the rest of their path. Only the
+    /// close shuts the link. An end that is known stays.
     pub fn step(&mut self) -> Next
         ensures steps { Steps L.Link self.old self.new }
         ensures told { result ≡ reported_step self.new.standing }
@@ -116,7 +118,8 @@ impl<'s, L: Link + Drop> Conn<'s, L> {
         self.core.next_step()
     }
 
-    /// The step that comes next, which is never `Wait`. The link is shut where the answer is `Nothing`, and not before.
+    /// The step that comes next, which is never `Wait`. The link is shut where the answer is
+    /// `Nothing`, and not before.
     pub fn pending(&self) -> Next
         ensures pending { result ≡ self.now.standing.pending }
         ensures never { result ≢ Next.Wait }

@@ -10,10 +10,10 @@ use sws_request::Cut;
 use sws_site::Site;
 use sws_steps::Speech;
 
-/// The most bytes of a connection that count.
+/// The most bytes that are read of a connection.
 const MAX_INPUT: u64 = 65536;
 
-/// The most answers of a connection.
+/// The most answers of a connection: the last of them closes it.
 const MAX_ANSWERS: u8 = 64;
 
 /// The heads in the bytes that were taken, answered out of a site.

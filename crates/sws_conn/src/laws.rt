@@ -1,6 +1,6 @@
 //! What holds of the path of a scripted connection, and of the events that a connection runs.
 ghost use Rattle.std.specs.Prelude.{◌≡◌, ℕ, false, List, Option, Some, [], ◌∷◌, ◌++◌};
-ghost use Rattle.sws_link.specs.Links.{IsFresh};
+ghost use Rattle.sws_link.specs.Links.{IsInitialLink};
 ghost use Rattle.sws_link.specs.Scripts.{Script, wait};
 ghost use Rattle.sws_site.specs.Site.{SiteState};
 ghost use Rattle.sws_site.specs.Limits.{IsWithinLimits};
@@ -15,9 +15,10 @@ ghost use Rattle.sws_conn.specs.Run.{conn_at_open, HasRun, EndsRun};
 
 use sws_link::Link;
 
-/// A connection has one path, and `path_of` is it, for each site that can be loaded. It begins with the opening and ends with
-/// the close. Where a connection stands as it may, the rest of the path begins with the event of the pending step, and what
-/// follows is the rest of the path after that step. `pause` is an example: a link that is not ready once, and then at its end.
+/// A connection has one path, and `path_of` is it, for each site that can be loaded. It begins with
+/// the opening and ends with the close. Where a connection stands as it may, the rest of the path
+/// begins with the event of the pending step, and what follows is the rest of the path after that
+/// step. `pause` is an example: a link that is not ready once, and then at its end.
 pub fn a_path_is_of_steps()
     ensures is { (site : SiteState) (script : Script) → IsWithinLimits site.files
         → IsPathFrom (record { standing = core_before_open site; script = script })
@@ -37,13 +38,14 @@ pub fn a_path_is_of_steps()
         ≡ event_of c.standing ++ rest_of_path (scripted_step c).standing (scripted_step c).script }
 {}
 
-/// A run of a connection, from `Conn::open` on and over all calls of `Conn::step`, each of which runs the event of the
-/// pending step. At every moment the connection is sound, and the events so far, with the opening, are a front of the path;
-/// at its end it has served the link, which is then shut, and the events are the whole path. The path is that of a link that told its answers
-/// to come, unless memory ran out.
+/// A run of a connection, from `Conn::open` on and over all calls of `Conn::step`, each of which
+/// runs the event of the pending step. At every moment the connection is sound, and the events so
+/// far, with the opening, are a front of the path; at its end it has served the link, which is then
+/// shut, and the events are the whole path. The path is that of a link that told its answers to
+/// come, unless memory ran out.
 pub fn a_run_serves_its_link<L: Link>()
     ensures start { (site : SiteState) (first : L) → IsWithinLimits site.files
-        → IsFresh (L.tells first) → L.is_shut first ≡ false
+        → IsInitialLink (L.tells first) → L.is_shut first ≡ false
         → HasRun L.Link site first [] (conn_at_open site first) }
     ensures goes_on { (site : SiteState) (first : L) (trail : List Handler) (event : Handler)
         (before after : ConnState L)

@@ -1,15 +1,17 @@
 //! One connection of the server, a step at a time.
 //!
-//! A [`Conn`] reads pieces from its link, cuts heads off them, answers these out of a site and writes what the
-//! peer takes. Each call of [`Conn::step`] makes at most one call of the link, so that a server can give way to
-//! another connection after every step. However the bytes come in pieces and whatever the link answers, what was
-//! written begins the responses to the bytes that were taken. [`serve_one`] runs a connection to its end. A server
-//! that runs many connections knows them by the trait [`Talk`], in which nothing is said of what they talk about.
+//! A [`Conn`] reads pieces from its link, cuts heads off them, answers these out of a site and
+//! writes what the peer takes. Each call of [`Conn::step`] makes at most one call of the link, so
+//! that a server can give way to another connection after every step. However the bytes come in
+//! pieces and whatever the link answers, what was written begins the responses to the bytes that
+//! were taken. [`serve_one`] runs a connection to its end. A server that runs many connections
+//! knows them by the trait [`Talk`], in which nothing is said of what they talk about.
 //!
-//! A connection ends after its last response, at the end of its input or after 65,536 bytes of it, after 30
-//! answers in succession that the link isn't ready, and where the link fails.
+//! A connection ends after its last response, at the end of its input or after 65,536 bytes of it,
+//! after 30 answers in succession that the link isn't ready, and where the link fails.
 //!
-//! No contract ties want of memory to anything, so one that always answers it in `new` is seen by tests alone.
+//! No contract ties want of memory to anything, so one that always answers it in
+//! `new` is seen by tests alone.
 //!
 //! ```text
 //! let mut conn = Conn::new(alloc, &site)?;

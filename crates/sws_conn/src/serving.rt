@@ -1,7 +1,7 @@
-//! A whole connection.
+//! A whole connection, run to its end in one call.
 ghost use Rattle.std.specs.Prelude.{◌≡◌, true, false, None, IfOk, IfErr};
 ghost use Rattle.sws_link.specs.Counts.{Rose};
-ghost use Rattle.sws_link.specs.Links.{IsFresh};
+ghost use Rattle.sws_link.specs.Links.{IsInitialLink};
 ghost use Rattle.sws_conn.specs.Step.{wait_limit};
 ghost use Rattle.sws_conn.specs.Run.{HasEnded};
 ghost use Rattle.sws_conn.specs.Serving.{EndsAs, Serves, RoseBy, KeepsBy};
@@ -14,18 +14,20 @@ use sws_site::Site;
 
 /// Runs a connection to its end, and gives the link back, which is then shut, with that.
 ///
-/// The run is one step after another from the opening to the close, so all that is said of a run holds of it: a read follows
-/// only where all was answered, and `Idle` means that the link was not ready 30 times in succession.
+/// The run is one step after another from the opening to the close, so all that is said of a run
+/// holds of it: a read follows only where all was answered, and `Idle` means that the link was not
+/// ready 30 times in succession.
 ///
-/// What was written begins the responses to the bytes that were taken; where the end is `Done` it is the responses
-/// to the whole input. A link that tells its answers to come gets exactly what its script says, and ends so, unless
-/// it found no memory in a write. `Fault` comes only where the link's count of faults rose, and `Idle` only where
-/// it was not ready 30 times more, or that count is full. `Done` comes only where the input has ended, 65,536 bytes were
-/// taken or an answer closes, and at a fault of reading all that was taken has been answered.
+/// What was written begins the responses to the bytes that were taken; where the end is `Done` it
+/// is the responses to the whole input. A link that tells its answers to come gets exactly what its
+/// script says, and ends so, unless it found no memory in a write. `Fault` comes only where the
+/// link's count of faults rose, and `Idle` only where it was not ready 30 times more, or that count
+/// is full. `Done` comes only where the input has ended, 65,536 bytes were taken or an answer
+/// closes, and at a fault of reading all that was taken has been answered.
 ///
 /// Where the room for the connection was refused, the link comes back as it was.
 pub fn serve_one<L: Link + Drop>(alloc: Global, site: &Site, link: L) -> Result<(L, End), L>
-    requires fresh { IsFresh (L.tells link) }
+    requires initial { IsInitialLink (L.tells link) }
     requires not_shut { L.is_shut link ≡ false }
     ensures ran { IfOk result (λ served. HasEnded L.Link site.now link served.0 served.1) }
     ensures scripted { IfOk result (λ served.

@@ -3,7 +3,7 @@ ghost use Rattle.std.specs.Prelude.{false, ◌≡◌, ◌≢◌, ◌≤◌, ◌<
 ghost use Rattle.std.specs.Option.{option_copied};
 ghost use Rattle.sws_link.specs.Scripts.{Script};
 ghost use Rattle.sws_link.specs.Contents.{IsPrefix};
-ghost use Rattle.sws_link.specs.Links.{IsFresh};
+ghost use Rattle.sws_link.specs.Links.{IsInitialLink};
 ghost use Rattle.sws_conn.specs.Outcome.{Outcome, UnlessMemory};
 ghost use Rattle.sws_conn.specs.Path.{Handler, open_link, TakesOff};
 ghost use Rattle.sws_conn.specs.Responses.{input_limit};
@@ -13,11 +13,13 @@ use crate::{End, Next};
 use std::alloc::Global;
 use sws_link::{Link, Memory};
 
-/// A connection over a link, a step at a time, which answers out of a hall that it shares with others.
+/// A connection over a link, a step at a time, which answers out of a hall
+/// that it shares with others.
 ///
-/// A talk tells contracts its hall, its link, how it stands, and which events it has run since its link was given.
-/// What these events come to is said by laws: what was written begins the responses to what was taken, and a link
-/// that told its answers to come gets exactly its outcome, by its path.
+/// A talk tells contracts its hall, its link, how it stands, and which events it has run
+/// since its link was given. What these events come to is said by laws: what was written
+/// begins the responses to what was taken, and a link that told its answers to come gets
+/// exactly its outcome, by its path.
 pub trait Talk<L: Link>: Sized {
     /// What is lent to it, which the answers are taken from.
     type Hall: Copy + Drop;
@@ -37,8 +39,8 @@ pub trait Talk<L: Link>: Sized {
     /// How it stands.
     ghost view_of: { Self → TalkView };
 
-    /// It was given this link, which wasn't shut and of which nothing was taken or written, and has run these events
-    /// since, of which the opening is the first.
+    /// It was given this link, which wasn't shut and of which nothing was taken or written, and has
+    /// run these events since, of which the opening is the first.
     ghost has_run: { L → List Handler → Self → Type 0 };
 
     /// The rest of the path, where the link told its answers to come.
@@ -53,24 +55,25 @@ pub trait Talk<L: Link>: Sized {
     /// The path of a scripted connection.
     ghost path: { Self.Contents → Script → List Handler };
 
-    /// A talk that waits for its link. All room is made here that it will need; where that was refused, the answer
-    /// is `Memory`.
+    /// A talk that waits for its link. All room is made here that it will need; where that was
+    /// refused, the answer is `Memory`.
     fn make(alloc: Global, hall: Self::Hall) -> Result<Self, Memory>
         ensures hall { IfOk result (λ talk. hall_of talk ≡ contents_of hall) }
         ensures link { IfOk result (λ talk. link_of talk ≡ None) }
         ensures view { IfOk result (λ talk. view_of talk ≡ unopened_view) };
 
-    /// Gives the talk its link, which isn't shut and of which nothing was taken or written; hands it back where there is
-    /// one already.
+    /// Gives the talk its link, which isn't shut and of which nothing was taken or written; hands
+    /// it back where there is one already.
     fn open(&mut self, link: L) -> Result<Next, L>
-        requires fresh { IsFresh (L.tells link) }
+        requires initial { IsInitialLink (L.tells link) }
         requires not_shut { L.is_shut link ≡ false }
         ensures opens { OpensTalk link_of view_of self.old link result self.new }
         ensures hall { hall_of self.new ≡ hall_of self.old }
         ensures runs { IfOk result (λ _. has_run link (open_link ∷ []) self.new) };
 
-    /// Does the pending step, and answers the next one: `Wait` where the link was not ready and the same step is
-    /// pending. Before `open` and after the close it does nothing. An end that is known stays.
+    /// Does the pending step, and answers the next one: `Wait` where the link was not ready
+    /// and the same step is pending. Before `open` and after the close it does nothing. An
+    /// end that is known stays.
     fn step(&mut self) -> Next
         ensures told { result ≡ reported_next (view_of self.new) }
         ensures nothing { HasNoStep (view_of self.old).pending → self.new ≡ self.old }
@@ -112,9 +115,9 @@ pub trait Talk<L: Link>: Sized {
 
     /// What holds of a run, for contracts alone: it does nothing when it runs.
     ///
-    /// `serves` is what has become of the link; `path`, that the events are those that come first on the path of a link
-    /// that told its answers to come, unless memory ran out; `due`, that the rest of the path begins with the event
-    /// that is due.
+    /// `serves` is what has become of the link; `path`, that the events are those that come first
+    /// on the path of a link that told its answers to come, unless memory ran out; `due`, that the
+    /// rest of the path begins with the event that is due.
     fn a_run_serves()
         ensures serves { (first : L) (trail : List Handler) (talk : Self) → has_run first trail talk
             → ServesNow (HasServed L.Link (responses (hall_of talk)) (outcome (hall_of talk)) first)

@@ -14,8 +14,8 @@ const ROOM: usize = 12288;
 
 /// Bytes at some place in a room of 12,288 bytes, which contracts see as a list.
 ///
-/// A read goes straight into the room behind the bytes. They are moved to the front of the room only at the start of a
-/// `fill` that finds too little room behind them.
+/// A read goes straight into the room behind the bytes. They are moved to the front of the room
+/// only at the start of a `fill` that finds too little room behind them.
 #[derive(Drop)]
 pub struct Window {
     room: Vec<u8>,
@@ -36,7 +36,8 @@ impl Model for Window {
 }
 
 impl Window {
-    /// A window without bytes. All its room is made here; where that was refused, the answer is `Memory`.
+    /// A window without bytes. All its room is made here; where that was
+    /// refused, the answer is `Memory`.
     pub fn new(alloc: Global) -> Result<Window, Memory>
         ensures { IfOk result (λ window. window ≡ []) }
     {
@@ -54,8 +55,8 @@ impl Window {
         &self.room[self.start..self.end]
     }
 
-    /// Makes one read of the link, of at most `most` bytes, straight behind the bytes that are there. The answer is the
-    /// link's own.
+    /// Makes one read of the link, of at most `most` bytes, straight behind the bytes that are
+    /// there. The answer is the link's own.
     pub fn fill<L: Link>(&mut self, link: &mut L, most: usize) -> LinkRead
         requires some { 0 < most }
         requires few { most ≤ read_limit }

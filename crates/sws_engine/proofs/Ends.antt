@@ -7,5 +7,5 @@ pub mod ConcludedLemmas
 pub mod RunLeftLemmas
 pub mod NeverApartLemmas
 pub mod ThreadLemmas
-pub mod FreshServedLemmas
+pub mod InitialServedLemmas
 pub mod HandedLemmas

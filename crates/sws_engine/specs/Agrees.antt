@@ -75,7 +75,8 @@ abbrev pub worlds_of : {S P : Type 0} → (S → ℕ) → (P → ℕ) → Piece 
 worlds_of holds carries (c, inl state) = holds state
 worlds_of holds carries (c, inr (event, load)) = worlds_in_load carries load
 
-module _ {S P : Type 0} (IsPlace : S → Place → Type 0) (IsLoad : P → Load → Type 0) (holds : S → ℕ) (carries : P → ℕ) (whole : List (List Handler)) where
+module _ {S P : Type 0} (IsPlace : S → Place → Type 0) (IsLoad : P → Load → Type 0) (holds : S → ℕ)
+    (carries : P → ℕ) (whole : List (List Handler)) where
   -- a state is at its colour as the server has it, and an event under way has its load
   abbrev pub PieceStands : Server → Piece S P → Type 0
   PieceStands s (c, inl state) = (place : Place) × IsPlace state place × PlaceStands whole s c place

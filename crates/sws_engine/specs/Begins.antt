@@ -10,18 +10,20 @@ use Rattle.mely_weave.specs.Drains.{AllFree, HistoriesAreDrained}
 use Rattle.mely_weave.specs.Weave.{WeaveState}
 use Rattle.sws_link.specs.declared.world.World.{Ghosts as WorldWords}
 use Rattle.sws_conn.specs.declared.talk.Talk.{Ghosts as TalkWords}
-use Rattle.sws_engine.specs.Fresh.{AreFirstPlaces}
+use Rattle.sws_engine.specs.Initial.{AreInitialPlacesOver}
 use Rattle.sws_engine.specs.Place.{PlaceState}
 use Rattle.sws_engine.specs.Limits.{conn_limit}
 
--- the setup has the server's handlers, and a colour for polling, for accepting and for each link of a world that has begun nothing
+-- the setup has the server's handlers, and a colour for polling, for accepting and for each link of
+-- a world that has begun nothing
 pub record IsSetFor {W L : Type 0} (x : WorldWords W L) (setup : Setup) (world : W) : Type 0 where
   pub colours : colours_of setup ≡ (x.tells world).total + 2
   pub handlers : 10 ≤ length (rows_of (handlers_of setup))
   pub few : (x.tells world).total ≤ conn_limit
   pub none : (x.tells world).accepted ≡ 0
 
--- a setup can be made of the shape for a world that has begun nothing: no number is out of its range
+-- a setup can be made of the shape for a world that has begun nothing: no
+-- number is out of its range
 pub record IsShapedFor {W L : Type 0} (x : WorldWords W L) (shape : Shape)
     (world : W) : Type 0 where
   pub in_range : first_out_of_range shape ((x.tells world).total + 2) 1 ≡ None
@@ -34,15 +36,16 @@ pub record IsScheduleOf (cores : ℕ) (schedule : List (ℕ × ℕ)) : Type 0 wh
   pub count : sum_by (λ part. part.1) schedule < 2 ^ 64
 
 -- setup, world and states are those of so many links, before the first event
-pub record AreAtFirst {W L T G H : Type 0} (x : WorldWords W L) (y : TalkWords T L G H)
+pub record AreInitialFor {W L T G H : Type 0} (x : WorldWords W L) (y : TalkWords T L G H)
     (setup : Setup) (world : W) (links : ℕ) (states : List (PlaceState H W T)) : Type 0 where
   pub colours : colours_of setup ≡ links + 2
   pub handlers : 10 ≤ length (rows_of (handlers_of setup))
   pub total : (x.tells world).total ≡ links
   pub none : (x.tells world).accepted ≡ 0
-  pub first : (hall : H) × AreFirstPlaces y world hall (links + 2) states
+  pub first : (hall : H) × AreInitialPlacesOver y world hall (links + 2) states
 
--- the weave that a run leaves is of its setup, its workers are free, and where nothing was left to do its histories are drained
+-- the weave that a run leaves is of its setup, its workers are free, and where nothing was left to
+-- do its histories are drained
 pub record IsAtRest {S P : Type 0} (setup : Setup) (weave : WeaveState S P)
     (end : Drained) : Type 0 where
   pub of_setup : weave.setup ≡ setup

@@ -34,7 +34,8 @@ abbrev pub failed_of : {W : Type 0} → Option (WorldLoad W) → Bool
 failed_of None = false
 failed_of (Some held) = held.failed
 
-module _ {W L T G H : Type 0} (y : TalkWords T L G H) (total : ℕ) (how : Drained) (parts : WeaveParts (PlaceState H W T) (Load W L)) (ended : Ended W L) where
+module _ {W L T G H : Type 0} (y : TalkWords T L G H) (total : ℕ) (how : Drained)
+    (parts : WeaveParts (PlaceState H W T) (Load W L)) (ended : Ended W L) where
   -- what is still under way: queued, or refused for memory
   abbrev pub ways_of : List (Event × Option (Load W L))
   ways_of = flat_map (λ events. events) (map (λ events. events.items) parts.queued.items)

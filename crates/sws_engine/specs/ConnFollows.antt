@@ -2,7 +2,7 @@
 use Rattle.std.specs.Prelude.{◌≡◌, ℕ, List, map, Some}
 use Rattle.mely_event.specs.declared.event.Event.{Event}
 use Rattle.sws_link.specs.declared.Link.{Ghosts as LinkWords}
-use Rattle.sws_link.specs.Links.{LinkTells}
+use Rattle.sws_link.specs.Links.{LinkContents}
 use Rattle.sws_link.specs.Scripts.{Script}
 use Rattle.sws_conn.specs.declared.talk.Talk.{Ghosts as TalkWords}
 use Rattle.sws_engine.specs.declared.ended.Served.{Served}
@@ -14,7 +14,7 @@ pub record ConnFollows {T L G H : Type 0} (l : LinkWords L) (y : TalkWords T L G
   pub path : trail ≡ map (event_for i) (y.path hall script)
   pub link : L
   pub there : s.link ≡ Some link
-  pub tells : LinkTells
+  pub tells : LinkContents
   pub told : l.tells link ≡ Some tells
   pub bytes : tells.written ≡ (y.outcome hall script).bytes
   pub end : s.end ≡ Some (y.outcome hall script).end

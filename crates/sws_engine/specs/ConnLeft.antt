@@ -13,8 +13,10 @@ use Rattle.sws_engine.specs.Loads.{LinkStands}
 use Rattle.sws_engine.specs.Place.{PlaceState}
 use Rattle.sws_engine.specs.Served.{SeatServes}
 
-module _ {W L T G H : Type 0} (x : WorldWords W L) (l : LinkWords L) (y : TalkWords T L G H) (hall : H) (first : W) (i : ℕ) where
-  -- the link is that of the connection, as it was served; without one the connection was never opened
+module _ {W L T G H : Type 0} (x : WorldWords W L) (l : LinkWords L) (y : TalkWords T L G H)
+    (hall : H) (first : W) (i : ℕ) where
+  -- the link is that of the connection, as it was served; without one the
+  -- connection was never opened
   abbrev pub LinkLeft : Option L → TalkView → Type 0
   LinkLeft None view = view ≡ unopened_view
   LinkLeft (Some now) view = (begun : L) × LinkStands x l first i begun
@@ -35,6 +37,7 @@ module _ {W L T G H : Type 0} (x : WorldWords W L) (l : LinkWords L) (y : TalkWo
     pub few_read : s.read ≤ input_limit
     pub written : s.written ≡ (y.view_of seat.talk).written
     pub few_written : s.written < 2 ^ 40
-    -- the first event that wasn't due; without one the trail is the steps that were run, which come first on the path
+    -- the first event that wasn't due; without one the trail is the steps that were run,
+    -- which come first on the path
     pub stray : s.stray ≡ seat.stray
     pub serves : SeatServes x l y place seat

@@ -1,4 +1,4 @@
--- Counts.
+-- How often a number stands in a list, and a test as a number.
 use Rattle.std.specs.Prelude.{ℕ, Bool, ◌==◌, if◌then◌else◌, List, count_by}
 
 -- one for true

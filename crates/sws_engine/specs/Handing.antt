@@ -1,4 +1,5 @@
--- What is still under way at the end of a run is handed out: the world, and links that never came to their connections.
+-- What is still under way at the end of a run is handed out: the world, and links that never
+-- came to their connections.
 use Rattle.std.specs.Prelude.{◌≡◌, ℕ, zero, suc, List, [], ◌∷◌, Option, None, Some}
 use Rattle.mely_event.specs.declared.event.Event.{Event}
 use Rattle.sws_engine.specs.declared.ended.Served.{Served}

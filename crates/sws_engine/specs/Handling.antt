@@ -63,7 +63,8 @@ number_of resume = 9
 abbrev pub step_put : {W L : Type 0} → ℕ → Handler → Put W L
 step_put i step = (record { 0 = i + 2 }, record { handler = number_of step; arg = i }, None)
 
--- the next step is put on the connection's colour; where the link was not ready, colour 0 is asked to wait for it
+-- the next step is put on the connection's colour; where the link was not ready, colour
+-- 0 is asked to wait for it
 abbrev pub next_put : {W L : Type 0} → ℕ → Handler → Put W L
 next_put i open_link = step_put i open_link
 next_put i read_piece = step_put i read_piece
@@ -75,7 +76,8 @@ next_put i resume = wait_put i
 
 -- ---- polling
 
--- what is known in a poll: who waits, whether no more links come, whether the world failed, and who is resumed
+-- what is known in a poll: who waits, whether no more links come, whether the world
+-- failed, and who is resumed
 pub record Asked : Type 0 where
   pub waiting : List ℕ
   pub last : Bool
@@ -125,7 +127,8 @@ onward false waiting held = accept_put held ∷ []
 onward true (w ∷ ws) held = poll_put 1 held ∷ []
 onward true [] held = []
 
--- the world that rests at the desk afterwards: where nothing more is to be accepted and nobody waits
+-- the world that rests at the desk afterwards: where nothing more is to be
+-- accepted and nobody waits
 abbrev pub rest_of : {W : Type 0} → Bool → List ℕ → WorldLoad W → Option (WorldLoad W)
     → Option (WorldLoad W)
 rest_of false waiting held resting = resting
@@ -244,7 +247,8 @@ module _ {W L T G H : Type 0} (y : TalkWords T L G H) where
   Stepped before (Some step) carried after = (first : L) (ran : List Handler)
       → y.has_run first ran before → y.has_run first (ran ++ step ∷ []) after
 
-  -- the due event does its step, and the next one is put; any other event is stray, of which the first is kept
+  -- the due event does its step, and the next one is put; any other event is stray,
+  -- of which the first is kept
   abbrev pub RunsSeat : Bool → ℕ → Seat T → Event → Option (Load W L) → Seat T
       → List (Put W L) → Type 0
   RunsSeat true i seat event carried after puts =

@@ -1,4 +1,5 @@
--- What the state of a colour keeps, whoever runs it: what it has is what the events of its trail have made of the fresh state.
+-- What the state of a colour keeps, whoever runs it: what it has is what the events of its trail
+-- have made of the initial state.
 use Rattle.std.specs.Prelude.{◌≡◌, ℕ, ◌≤◌, false, List, [], ◌∷◌, ◌++◌, map, Option, Some, None, IfSome}
 use Rattle.mely_event.specs.declared.colour.Colour.{Colour}
 use Rattle.mely_event.specs.declared.event.Event.{Event}
@@ -21,15 +22,17 @@ abbrev pub event_for : ℕ → Handler → Event
 event_for i step = record { handler = number_of step; arg = i }
 
 module _ {W L : Type 0} (x : WorldWords W L) (l : LinkWords L) (first : W) where
-  -- each connection of the run may wait, once at most, nobody else does, and a world that rests is the one of the run
+  -- each connection of the run may wait, once at most, nobody else does, and a world that
+  -- rests is the one of the run
   pub record DeskStands (desk : Desk W) : Type 0 where
     pub room : desk.waiting.total ≡ (x.tells first).total
     pub once : (i : ℕ) → times i desk.waiting.items ≤ 1
     pub below : (i : ℕ) → (x.tells first).total ≤ i → times i desk.waiting.items ≡ 0
     pub resting : IfSome desk.resting (WorldStands x l first)
 
-module _ {W L T G H : Type 0} (x : WorldWords W L) (l : LinkWords L) (y : TalkWords T L G H) (hall : H) (first : W) (i : ℕ) where
-  -- these steps were run on the connection, from the fresh one on
+module _ {W L T G H : Type 0} (x : WorldWords W L) (l : LinkWords L) (y : TalkWords T L G H)
+    (hall : H) (first : W) (i : ℕ) where
+  -- these steps were run on the connection, from the unopened one on
   abbrev pub RanBy : List Handler → T → Type 0
   RanBy [] talk = (y.link_of talk ≡ None) × (y.view_of talk ≡ unopened_view)
   RanBy (step ∷ steps) talk = (link : L) × LinkStands x l first i link

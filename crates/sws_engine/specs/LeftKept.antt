@@ -6,7 +6,8 @@ use Rattle.sws_engine.specs.declared.left.Left.{Left}
 use Rattle.sws_engine.specs.Place.{PlaceState}
 use Rattle.sws_engine.specs.RunLeaves.{ShowAll, resting_in, talkers}
 
--- of these states the connections came behind those that were there, and so did the trails; a world that rests is kept
+-- of these states the connections came behind those that were there, and so did the trails; a
+-- world that rests is kept
 pub record KeepsStates {W L T G H : Type 0} (y : TalkWords T L G H)
     (states : List (PlaceState H W T)) (before after : Left W L) : Type 0 where
   pub added : List (Served L)

@@ -14,7 +14,7 @@ pub mod PathPlaces
 pub mod PathStates
 pub mod RunStands
 pub mod RunFact
-pub mod Fresh
+pub mod Initial
 pub mod RunEnds
 pub mod PartsKept
 pub mod RunParts

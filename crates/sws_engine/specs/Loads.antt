@@ -5,8 +5,8 @@ use Rattle.mely_event.specs.declared.event.Event.{Event}
 use Rattle.sws_link.specs.declared.Link.{Ghosts as LinkWords}
 use Rattle.sws_link.specs.declared.world.World.{Ghosts as WorldWords}
 use Rattle.sws_link.specs.Counts.{Rose, IsLater, no_faults}
-use Rattle.sws_link.specs.Links.{LinkTells, IsFresh}
-use Rattle.sws_link.specs.Worlds.{WorldTells, Coming, fresh_tells}
+use Rattle.sws_link.specs.Links.{LinkContents, IsInitialLink}
+use Rattle.sws_link.specs.Worlds.{WorldContents, Coming, initial_contents}
 use Rattle.sws_engine.specs.declared.load.WorldLoad.{WorldLoad}
 use Rattle.sws_engine.specs.declared.load.Load.{Load}
 use Rattle.sws_engine.specs.declared.load.Load.TheVariants as load
@@ -21,14 +21,14 @@ world_of (Some (load.World held)) = Some held
 world_of (Some (load.Link link)) = None
 
 -- the link is the i-th of those to come, where these are known: nothing was taken or written
-abbrev pub IsComing : Option (List Coming) → ℕ → Option LinkTells → Type 0
-IsComing None i told = IsFresh told
+abbrev pub IsComing : Option (List Coming) → ℕ → Option LinkContents → Type 0
+IsComing None i told = IsInitialLink told
 IsComing (Some coming) i told = (first : Coming) × (slice_get coming i ≡ Some first)
-    × (told ≡ Some (fresh_tells first))
+    × (told ≡ Some (initial_contents first))
 
 module _ {W L : Type 0} (x : WorldWords W L) (l : LinkWords L) (first : W) where
   -- what the world told at first
-  abbrev pub at_first : WorldTells
+  abbrev pub at_first : WorldContents
   at_first = x.tells first
 
   -- the world that was given at first, of which so many links were accepted
@@ -80,7 +80,7 @@ module _ {W L : Type 0} (x : WorldWords W L) (l : LinkWords L) (first : W) where
   -- an opening: on the colour of its connection, with the link of that, still untouched
   pub record OpenFits (c : Colour) (i : ℕ) (link : L) : Type 0 where
     pub step : StepFits c i
-    pub fresh : LinkStands i link
+    pub initial : LinkStands i link
 
   -- what fits a task: its colour, its argument, and the load it takes, or none
   abbrev pub TaskFits : Colour → ℕ → Option Task → Option (Load W L) → Type 0

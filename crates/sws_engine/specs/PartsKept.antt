@@ -16,7 +16,9 @@ use Rattle.sws_engine.specs.declared.load.Load.{Load}
 use Rattle.sws_engine.specs.Place.{PlaceState}
 use Rattle.sws_engine.specs.RunEnds.{IsPlacedAs}
 
--- The histories are legal, one for each shard, and where the weave was drained each of them is and nothing is queued. There is a state for each colour, of its role, over the world that was handed in, and its trail is what was run of it.
+-- The histories are legal, one for each shard, and where the weave was drained each of them is and
+-- nothing is queued. There is a state for each colour, of its role, over the world that was handed
+-- in, and its trail is what was run of it.
 pub record PartsKept {W L T G H : Type 0} (x : WorldWords W L) (y : TalkWords T L G H)
     (setup : Setup) (first : W) (how : Drained) (histories : List (List Entry))
     (states : List (PlaceState H W T))

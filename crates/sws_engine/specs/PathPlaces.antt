@@ -1,5 +1,5 @@
--- The server on a scripted world, where nothing is known of a connection but the rest of its path: what each colour's state and each load
--- has, and what a handler makes of them.
+-- The server on a scripted world, where nothing is known of a connection but the rest of its path:
+-- what each colour's state and each load has, and what a handler makes of them.
 use Rattle.std.specs.Prelude.{ℕ, zero, suc, ◌+◌, ◌-◌, ◌==◌, ◌||◌, Bool, true, false, not, List, [], ◌∷◌, Option, None, Some, map, if◌then◌else◌}
 use Rattle.mely_event.specs.declared.colour.Colour.{Colour}
 use Rattle.mely_event.specs.declared.event.Event.{Event}
@@ -33,8 +33,8 @@ accept = put 1 2 0
 abbrev pub talk : ℕ → Handler → Colour × Event
 talk i handler = put (talk_colour i) (number_of handler) i
 
--- what follows a connection's step, by the rest of its path: where the event that comes is a resume the connection waits for it, else its next
--- event is registered
+-- what follows a connection's step, by the rest of its path: where the event that comes is a resume
+-- the connection waits for it, else its next event is registered
 abbrev pub follows : ℕ → List Handler → List (Colour × Event)
 follows i [] = []
 follows i (resume ∷ later) = wait_for i ∷ []
@@ -92,7 +92,8 @@ stays place = record { place = place; puts = [] }
 
 -- ---- polling
 
--- the world goes on, by whether no more links are to come: the next is accepted; or where somebody waits it is polled again; or it rests
+-- the world goes on, by whether no more links are to come: the next is accepted; or where somebody
+-- waits it is polled again; or it rests
 abbrev pub goes_on : Bool → List ℕ → World → List Put
 goes_on false waiting w = with_world w accept ∷ []
 goes_on true [] w = []

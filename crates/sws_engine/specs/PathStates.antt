@@ -1,4 +1,5 @@
--- What the states and loads of the server have of the paths of its connections, where its world is scripted.
+-- What the states and loads of the server have of the paths of its connections,
+-- where its world is scripted.
 use Rattle.std.specs.Prelude.{◌≡◌, ◌≢◌, ◌≤◌, ◌+◌, ℕ, Bool, true, false, ◌++◌, IsTrue, List, [], ◌∷◌, drop, Option, None, Some, ⊤, length, slice_get, option_map}
 use Rattle.mely_event.specs.declared.colour.Colour.{Colour}
 use Rattle.mely_event.specs.declared.event.Event.{Event}
@@ -21,7 +22,8 @@ use Rattle.sws_engine.specs.Loads.{Fit}
 use Rattle.sws_engine.specs.Handling.{Runs}
 use Rattle.sws_engine.specs.PathPlaces as path
 
-module _ {W L T G H : Type 0} (x : WorldWords W L) (l : LinkWords L) (y : TalkWords T L G H) (hall : H) where
+module _ {W L T G H : Type 0} (x : WorldWords W L) (l : LinkWords L) (y : TalkWords T L G H)
+    (hall : H) where
   -- the world is scripted, and these are the paths of its links to come
   pub record TellsPaths (first : W) (paths : List (List Handler)) : Type 0 where
     pub scripted : IsTrue (x.tells first).scripted
@@ -52,7 +54,8 @@ module _ {W L T G H : Type 0} (x : WorldWords W L) (l : LinkWords L) (y : TalkWo
       pub last : d.last ≡ desk.last
       pub resting : HasRest desk.resting d.resting
 
-    -- the connection was opened and has run a front of its path, and this is the rest of it; its link didn't meet want of memory
+    -- the connection was opened and has run a front of its path, and this is the rest of it; its
+    -- link didn't meet want of memory
     pub record HasRun (talk : T) (rest : List Handler) : Type 0 where
       pub link : L
       pub ran : List Handler
@@ -134,7 +137,8 @@ AreLoads IsLoad None (Some l) = ⊥
 AreLoads IsLoad (Some load) None = ⊥
 AreLoads IsLoad (Some load) (Some l) = IsLoad load l
 
--- two lists of what is put have the same colours and events, one by one, and loads of which the one is as the other
+-- two lists of what is put have the same colours and events, one by one, and loads of
+-- which the one is as the other
 abbrev pub ArePuts : {P : Type 0} → (P → path.Load → Type 0) → List (Colour × Event × Option P)
     → List path.Put → Type 0
 ArePuts IsLoad [] [] = ⊤
@@ -145,14 +149,17 @@ ArePuts IsLoad (p ∷ ps) (q ∷ qs) = ((p.0 ≡ q.0) × (p.1 ≡ q.1) × AreLoa
 
 -- ---- the law
 
-module _ {W L T G H : Type 0} (x : WorldWords W L) (l : LinkWords L) (y : TalkWords T L G H) (hall : H) (first : W) (paths : List (List Handler)) (total : ℕ) where
-  -- what a handler leaves and puts is what the paths say, unless its connection has met want of memory
+module _ {W L T G H : Type 0} (x : WorldWords W L) (l : LinkWords L) (y : TalkWords T L G H)
+    (hall : H) (first : W) (paths : List (List Handler)) (total : ℕ) where
+  -- what a handler leaves and puts is what the paths say, unless its
+  -- connection has met want of memory
   abbrev pub RanAs : PlaceState H W T → List (Colour × Event × Option (Load W L)) → path.Ran
       → Type 0
   RanAs after puts ran = is_spoilt y after ≡ false → HasPlace x l y hall paths after ran.place
       × ArePuts (HasLoad x l y hall paths) puts ran.puts
 
-  -- over a scripted world every handler makes of what its colour has, and of its load, what the paths say
+  -- over a scripted world every handler makes of what its colour has, and of its
+  -- load, what the paths say
   abbrev pub FollowsPaths : Type 0
   FollowsPaths =
       (before after : PlaceState H W T) (event : Event) (carried : Option (Load W L))

@@ -10,7 +10,9 @@ use Rattle.sws_engine.specs.PathPlaces.{Load, Place, polling, accepting, talking
 use Rattle.sws_engine.specs.Agrees.{PlaceStands, ComingStands}
 use Rattle.sws_engine.specs.PathStates.{AreLoads, ArePuts}
 
--- over a scripted world a handler makes of what a colour has and of its load what the place says, unless it leaves the state spoilt, as where the link met want of memory; a state or a load that is as a place or a load has as many worlds
+-- over a scripted world a handler makes of what a colour has and of its load what the place says,
+-- unless it leaves the state spoilt, as where the link met want of memory; a state or a load that
+-- is as a place or a load has as many worlds
 pub record IsPlaced {S P F R : Type 0} (t : TrailWords S F)
     (fits : F → Colour → Event → Option P → Type 0) (y : AppWords R P S F) (app : R) (frame : F)
     (IsPlace : S → Place → Type 0) (IsLoad : P → Load → Type 0) (holds : S → ℕ) (carries : P → ℕ)
@@ -34,13 +36,13 @@ pub record IsPlaced {S P F R : Type 0} (t : TrailWords S F)
       × Event × Option P)) → y.runs app state event load after puts
       → spoilt state ≡ true → spoilt after ≡ true
 
--- the places at first: the desk, the accepting, and connections that aren't open yet
-abbrev pub first_place : ℕ → Place
-first_place zero = polling (record { waiting = []; last = false; resting = None })
-first_place (suc zero) = accepting
-first_place (suc (suc i)) = talking None
+-- the initial place of each colour: the desk, the accepting, and connections that aren't open yet
+abbrev pub initial_place : ℕ → Place
+initial_place zero = polling (record { waiting = []; last = false; resting = None })
+initial_place (suc zero) = accepting
+initial_place (suc (suc i)) = talking None
 
--- the states, of which the first is of this colour, are as the places at first
-abbrev pub AreFirstPlaces : {S : Type 0} → (S → Place → Type 0) → ℕ → List S → Type 0
-AreFirstPlaces {S} IsPlace n states = (i : ℕ) (state : S) → slice_get states i ≡ Some state
-    → IsPlace state (first_place (n + i))
+-- the states, of which the first is of this colour, are as the initial places
+abbrev pub AreInitialPlacesBy : {S : Type 0} → (S → Place → Type 0) → ℕ → List S → Type 0
+AreInitialPlacesBy {S} IsPlace n states = (i : ℕ) (state : S) → slice_get states i ≡ Some state
+    → IsPlace state (initial_place (n + i))

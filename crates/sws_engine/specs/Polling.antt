@@ -2,7 +2,7 @@
 use Rattle.std.specs.Prelude.{◌≡◌, ◌<◌, ℕ, Bool, true, false, List, [], ◌∷◌, Option, Some, None}
 use Rattle.mely_worker.specs.Outs.{in_place}
 use Rattle.sws_link.specs.declared.world.World.{Ghosts as WorldWords}
-use Rattle.sws_link.specs.Worlds.{WorldTells}
+use Rattle.sws_link.specs.Worlds.{WorldContents}
 use Rattle.sws_engine.specs.declared.load.Load.{Load}
 use Rattle.sws_engine.specs.declared.load.Load.TheVariants as load
 use Rattle.sws_engine.specs.Handling.{Asked, Asks, is_to_ask, resumed_one}
@@ -34,7 +34,7 @@ module _ {W L : Type 0} (x : WorldWords W L) where
     pub failed_is : failed_now ≡ asked.failed
 
 -- the world of a load may be asked for one more link
-abbrev pub MayAccept : {W L : Type 0} → (W → WorldTells) → ℕ → Load W L → Type 0
+abbrev pub MayAccept : {W L : Type 0} → (W → WorldContents) → ℕ → Load W L → Type 0
 MayAccept tells total (load.World held) = ((tells held.world).accepted < (tells held.world).total)
     × (held.accepted < total)
 MayAccept tells total (load.Link link) = Unit {0}

@@ -22,7 +22,8 @@ module _ {W L : Type 0} (x : WorldWords W L) (l : LinkWords L) (first : W) where
         → slice_get waits c.0 ≡ Some events → EachFits (Fit x l first c) events
     pub lost : AllByRecursion (λ put. Fit x l first put.0 put.1 put.2) refused
 
-  -- what an event carries: the world of the run, or the link of the connection to which nothing was done
+  -- what an event carries: the world of the run, or the link of the connection
+  -- to which nothing was done
   abbrev pub CarriesStanding : ℕ → Option (Load W L) → Type 0
   CarriesStanding i None = Unit {0}
   CarriesStanding i (Some (load.World held)) = WorldStands x l first held

@@ -92,7 +92,7 @@ module _ {W L T G H : Type 0} (x : WorldWords W L) (l : LinkWords L) (y : TalkWo
 abbrev pub is_lacking : {L : Type 0} → Served L → Bool
 is_lacking s = (is_none s.link || is_none s.end) || is_some s.stray
 
--- memory was refused to its link
+-- the connection ended since a write of its link found no memory
 abbrev pub is_out_of_memory : Option End → Bool
 is_out_of_memory None = false
 is_out_of_memory (Some ending.Done) = false
@@ -100,7 +100,8 @@ is_out_of_memory (Some ending.Idle) = false
 is_out_of_memory (Some ending.Fault) = false
 is_out_of_memory (Some ending.Memory) = true
 
--- so many links were to be served
+-- so many links were to be served: all of the run, or, where the world failed,
+-- those that it gave before
 abbrev pub links_owed : Bool → ℕ → ℕ → ℕ
 links_owed failed accepted total = if failed then accepted else total
 
@@ -110,12 +111,12 @@ module _ {L : Type 0} (served : List (Served L)) where
   AreWhole count = (i : ℕ) (s : Served L) → i < count → slice_get served i ≡ Some s
       → is_lacking s ≡ false
 
-  -- no link met want of memory
+  -- no connection ended for want of memory
   abbrev pub NoneOutOfMemory : Type 0
   NoneOutOfMemory = (i : ℕ) (s : Served L) → slice_get served i ≡ Some s
       → is_out_of_memory s.end ≡ false
 
-  -- some link met want of memory
+  -- some connection ended for want of memory
   pub record SomeOutOfMemory : Type 0 where
     pub i : ℕ
     pub s : Served L
@@ -130,12 +131,13 @@ module _ {L : Type 0} (served : List (Served L)) where
     pub lacks : is_lacking s ≡ true
     pub before : AreWhole conn
 
-  -- all was run, and no link met want of memory
+  -- all was run, and no connection ended for want of memory
   pub record IsJudged (whole : Bool) : Type 0 where
     pub ran : whole ≡ true
     pub enough : NoneOutOfMemory
 
-  -- the verdict over what is shown: whether all was run, how many links there are, whether the world is there, how many links it gave and whether it failed
+  -- the verdict over what is shown: whether all was run, how many links there are, whether the
+  -- world is there, how many links it gave and whether it failed
   abbrev pub VerdictIs : Bool → ℕ → Bool → ℕ → Bool → Verdict → Type 0
   VerdictIs whole total there accepted failed verdict.Ok = IsJudged whole × (there ≡ true)
       × (failed ≡ false) × AreWhole (links_owed failed accepted total)

@@ -30,7 +30,8 @@ use Rattle.sws_engine.specs.ServerRun.{server_rules}
 use Rattle.sws_engine.specs.RunFits.{RunFits}
 use Rattle.sws_engine.specs.Conclusion.{IsConcluded}
 
-module _ {W L T G H : Type 0} (x : WorldWords W L) (l : LinkWords L) (y : TalkWords T L G H) (hall : H) (first : W) (ended : Ended W L) where
+module _ {W L T G H : Type 0} (x : WorldWords W L) (l : LinkWords L) (y : TalkWords T L G H)
+    (hall : H) (first : W) (ended : Ended W L) where
   -- a connection whose link answers by a known script has run its path and come to its outcome
   abbrev pub AllFollow : Type 0
   AllFollow = (coming : List Coming) (one : Coming) (script : Script) (i : ℕ) (s : Served L)
@@ -40,7 +41,8 @@ module _ {W L T G H : Type 0} (x : WorldWords W L) (l : LinkWords L) (y : TalkWo
       → slice_get (map (λ t. t.items) ended.trails.items) (i + 2) ≡ Some trail
       → ConnFollows l y hall i script trail s
 
-module _ {W L T G H : Type 0} (x : WorldWords W L) (l : LinkWords L) (y : TalkWords T L G H) (shape : Shape) (hall : H) (first : W) (ended : Ended W L) where
+module _ {W L T G H : Type 0} (x : WorldWords W L) (l : LinkWords L) (y : TalkWords T L G H)
+    (shape : Shape) (hall : H) (first : W) (ended : Ended W L) where
   -- the histories that the run left, as lists of entries
   abbrev pub histories_in : List (List Entry)
   histories_in = map (λ history. history.items) ended.histories.items
@@ -58,7 +60,8 @@ module _ {W L T G H : Type 0} (x : WorldWords W L) (l : LinkWords L) (y : TalkWo
         (map (λ events. events.items) parts.queued.items) parts.lost.items
     -- the verdict is exactly what these show
     pub concluded : IsConcluded y (x.tells first).total how parts ended
-    -- the histories, one for each shard, are legal, and drained unless memory was refused; each colour's trail is what was run of it
+    -- the histories, one for each shard, are legal, and drained unless memory was refused; each
+    -- colour's trail is what was run of it
     pub legal : AreLegal setup histories_in
     pub shards : length histories_in ≡ shape.shards
     pub drained : ended.verdict ≢ verdict.Memory → (shard : ℕ) (history : List Entry)
@@ -67,7 +70,8 @@ module _ {W L T G H : Type 0} (x : WorldWords W L) (l : LinkWords L) (y : TalkWo
         → slice_get (map (λ t. t.items) ended.trails.items) c.0 ≡ Some trail
         → slice_get histories_in (shard_of setup c) ≡ Some history → trail ≡ ran_of history c
     pub many_trails : length ended.trails.items ≡ (x.tells first).total + 2
-    -- there is a member for each link; at Ok the world is there and each has its link, an end, and no stray event, and at World so have those that were accepted
+    -- there is a member for each link; at Ok the world is there and each has its link, an end, and
+    -- no stray event, and at World so have those that were accepted
     pub many_served : length ended.served.items ≡ (x.tells first).total
     pub ok : ended.verdict ≡ verdict.Ok → IsSome ended.world × (ended.failed ≡ false)
         × AreWhole ended.served.items (x.tells first).total × NoneOutOfMemory ended.served.items
@@ -77,7 +81,8 @@ module _ {W L T G H : Type 0} (x : WorldWords W L) (l : LinkWords L) (y : TalkWo
     pub conn : (i : ℕ) (s : Served L) (trail : List Event) → slice_get ended.served.items i ≡ Some s
         → slice_get (map (λ t. t.items) ended.trails.items) (i + 2) ≡ Some trail
         → ConnLeft x l y hall first i trail s
-    -- the world is the one that was handed in: it has its port, gave so many links, failed only where its count of faults rose, and never where it is scripted
+    -- the world is the one that was handed in: it has its port, gave so many links, failed only
+    -- where its count of faults rose, and never where it is scripted
     pub stands : (world : W) → ended.world ≡ Some world
         → WorldStands x l first (record {
           world = world;

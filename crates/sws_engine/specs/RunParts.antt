@@ -17,7 +17,9 @@ use Rattle.sws_engine.specs.PartsKept.{PartsKept}
 use Rattle.sws_engine.specs.RunEnds.{RunEnds}
 use Rattle.sws_engine.specs.RunStands.{Way, RunStands}
 
-module _ {W L T G H : Type 0} (x : WorldWords W L) (y : TalkWords T L G H) (setup : Setup) (first : W) (ended : Drained) (histories : List (List Entry)) (states : List (PlaceState H W T)) (queued : List (List (Way W L))) (lost : List (Colour × Event × Option (Load W L))) where
+module _ {W L T G H : Type 0} (x : WorldWords W L) (y : TalkWords T L G H) (setup : Setup)
+    (first : W) (ended : Drained) (histories : List (List Entry)) (states : List (PlaceState H W T))
+    (queued : List (List (Way W L))) (lost : List (Colour × Event × Option (Load W L))) where
   -- what the parts keep, the sums of the run over them, and the end of a run that was drained
   pub record RunParts : Type 0 where
     pub kept : PartsKept x y setup first ended histories states queued

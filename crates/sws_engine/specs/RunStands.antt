@@ -153,7 +153,8 @@ module _ {W L T G H : Type 0} (y : TalkWords T L G H) where
   -- Of all states and all events under way in a run with so many links
   pub record RunStands (total : ℕ) (states : List (PlaceState H W T))
       (ways : List (Way W L)) : Type 0 where
-    -- each colour has the role that is its own, there is one state that polls, and one for each connection
+    -- each colour has the role that is its own, there is one state that polls,
+    -- and one for each connection
     pub placed : sum_by misplaced_count states ≡ 0
     pub one_desk : sum_by desks states ≡ 1
     pub one_seat : (i : ℕ) → i < total → sum_by (seats i) states ≡ 1
@@ -169,7 +170,8 @@ module _ {W L T G H : Type 0} (y : TalkWords T L G H) where
     pub waits : (i : ℕ) → i < total → sum_by (asks_for 9 i) ways + sum_by (asks_for 1 i) ways
         + sum_by (waits_for i) states ≡ sum_by (is_at i 9) states
     pub no_stray : sum_by strays states ≡ 0
-    -- the poll after the last link comes after the last link or a fault, and so does the rest of the world
+    -- the poll after the last link comes after the last link or a fault, and so
+    -- does the rest of the world
     pub ended : sum_by (unended_count total) ways + sum_by (unended_rests total) states ≡ 0
     pub late : sum_by early ways + sum_by is_last states ≤ 1
     pub not_in_vain : sum_by rests_in_vain states ≡ 0

@@ -9,7 +9,8 @@ use Rattle.sws_engine.specs.declared.ended.Ended.{Ended}
 use Rattle.sws_engine.specs.declared.ended.Verdict.TheVariants as verdict
 use Rattle.sws_engine.specs.ServerRun.{IsServerRun}
 
--- nothing of the outside stands in the way of the world, and its links, of which none was accepted, answer by these scripts
+-- nothing of the outside stands in the way of the world, and its links, of which none was
+-- accepted, answer by these scripts
 pub record TellsScripts {W L : Type 0} (x : WorldWords W L) (first : W)
     (scripts : List Script) : Type 0 where
   pub scripted : IsTrue (x.tells first).scripted
@@ -19,7 +20,8 @@ pub record TellsScripts {W L : Type 0} (x : WorldWords W L) (first : W)
   pub each : (i : ℕ) (link : Coming) (script : Script) → slice_get coming i ≡ Some link
       → slice_get scripts i ≡ Some script → link.answers ≡ Some script
 
--- over such a world the histories at Ok are those of the server on these scripts, by the definition of a run, and so no others
+-- over such a world the histories at Ok are those of the server on these scripts, by the definition
+-- of a run, and so no others
 abbrev pub IsScheduled : {W L : Type 0} → WorldWords W L → SiteState → Shape → W
     → List (ℕ × ℕ) → Ended W L → Type 0
 IsScheduled x site shape first schedule ended =

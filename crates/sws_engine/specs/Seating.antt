@@ -1,16 +1,17 @@
--- A connection in a run: it is fresh, or has run some steps.
+-- A connection in a run: it was never opened, or has run some steps.
 use Rattle.std.specs.Prelude.{◌≡◌, ◌⊎◌, Bool, true, false, List, Option, Some, None}
 use Rattle.sws_link.specs.declared.Link.{Ghosts as LinkWords}
-use Rattle.sws_link.specs.Links.{IsFresh}
+use Rattle.sws_link.specs.Links.{IsInitialLink}
 use Rattle.sws_conn.specs.declared.talk.Talk.{Ghosts as TalkWords}
 use Rattle.sws_conn.specs.Path.{Handler}
 use Rattle.sws_conn.specs.Talks.{unopened_view}
 use Rattle.sws_engine.specs.declared.load.Load.{Load}
 use Rattle.sws_engine.specs.declared.load.Load.TheVariants as load
 
--- an opening has a link, of which nothing was taken or written and which isn't shut, and no other event has one
+-- an opening has a link, of which nothing was taken or written and which isn't shut,
+-- and no other event has one
 abbrev pub LoadSuits : {W L : Type 0} → LinkWords L → Bool → Option (Load W L) → Type 0
-LoadSuits l true (Some (load.Link link)) = IsFresh (l.tells link) × (l.is_shut link ≡ false)
+LoadSuits l true (Some (load.Link link)) = IsInitialLink (l.tells link) × (l.is_shut link ≡ false)
 LoadSuits l true (Some (load.World held)) = ⊥
 LoadSuits l true None = ⊥
 LoadSuits l false (Some (load.Link link)) = ⊥
@@ -29,5 +30,5 @@ module _ {T L G H : Type 0} (y : TalkWords T L G H) where
     pub is : y.has_run first ran talk
 
   -- the connection was never opened, or has run some steps
-  abbrev pub IsFreshOrRan : T → Type 0
-  IsFreshOrRan talk = IsUnopened talk ⊎ HasRunSome talk
+  abbrev pub IsUnopenedOrRan : T → Type 0
+  IsUnopenedOrRan talk = IsUnopened talk ⊎ HasRunSome talk

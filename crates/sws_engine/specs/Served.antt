@@ -1,4 +1,5 @@
--- What has become of a connection, by the state of its colour alone: over a weave and over threads alike.
+-- What has become of a connection, by the state of its colour alone: over a
+-- weave and over threads alike.
 use Rattle.std.specs.Prelude.{◌≡◌, ℕ, List, [], ◌∷◌, map, Option, Some, None}
 use Rattle.sws_link.specs.declared.Link.{Ghosts as LinkWords}
 use Rattle.sws_link.specs.declared.world.World.{Ghosts as WorldWords}
@@ -12,18 +13,21 @@ use Rattle.sws_engine.specs.Loads.{LinkStands}
 use Rattle.sws_engine.specs.Handling.{conn_of}
 use Rattle.sws_engine.specs.Invariant.{event_for}
 
-module _ {W L T G H : Type 0} (x : WorldWords W L) (l : LinkWords L) (y : TalkWords T L G H) (place : PlaceState H W T) (seat : Seat T) where
+module _ {W L T G H : Type 0} (x : WorldWords W L) (l : LinkWords L) (y : TalkWords T L G H)
+    (place : PlaceState H W T) (seat : Seat T) where
   -- the number of the connection of the place
   abbrev pub conn : ℕ
   conn = conn_of place.colour
 
-  -- a connection without a link is fresh; one with a link was given the link of its number, and has served it so far
+  -- a connection without a link is unopened; one with a link was given the link of its number,
+  -- and has served it so far
   abbrev pub ServedBy : Option L → Type 0
   ServedBy None = y.view_of seat.talk ≡ unopened_view
   ServedBy (Some now) = (first : L) × LinkStands x l place.first conn first
       × HasServed l (y.responses place.hall) (y.outcome place.hall) first now (y.view_of seat.talk)
 
-  -- the steps that were run come first on the path of a link that told its answers to come, whose rest begins with the due one
+  -- the steps that were run come first on the path of a link that told its answers to come, whose
+  -- rest begins with the due one
   abbrev pub OnPath : List Handler → Type 0
   OnPath [] = y.view_of seat.talk ≡ unopened_view
   OnPath (step ∷ steps) =

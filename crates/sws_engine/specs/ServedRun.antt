@@ -1,4 +1,5 @@
--- A run of the server that came to its end, and which histories it wrote where the world is scripted.
+-- A run of the server that came to its end, and which histories it wrote
+-- where the world is scripted.
 use Rattle.std.specs.Prelude.{◌≡◌, ◌+◌, ℕ, false, All, List, Option, Some}
 use Rattle.mely_event.specs.declared.colour.Colour.{Colour}
 use Rattle.mely_event.specs.declared.event.Event.{Event}
@@ -20,13 +21,14 @@ use Rattle.sws_engine.specs.declared.load.Load.{Load}
 use Rattle.sws_engine.specs.declared.load.Load.TheVariants as load
 use Rattle.sws_engine.specs.declared.place.Frame.{Frame}
 use Rattle.sws_engine.specs.Place.{PlaceState}
-use Rattle.sws_engine.specs.Fresh.{AreFirstPlaces, first_poll, first_load}
+use Rattle.sws_engine.specs.Initial.{AreInitialPlacesOver, first_poll, initial_load}
 use Rattle.sws_engine.specs.PathStates.{TellsPaths, is_spoilt}
 use Rattle.sws_engine.specs.Agrees.{AreOpened}
 use Rattle.sws_engine.specs.ServerRun.{server_rules, IsRunOfPaths}
 
 module _ {W L T G H : Type 0} (x : WorldWords W L) (y : TalkWords T L G H) where
-  -- a weave of the fresh states was made, the first poll was posted with the world, the schedule was run, and a drain came to its end
+  -- a weave of the initial states was made, the first poll was posted with the world, the schedule
+  -- was run, and a drain came to its end
   pub record HasRunOut {R : Type 0} (t : TrailWords (PlaceState H W T) (Frame H W))
       (fits : Frame H W → Colour → Event → Option (Load W L) → Type 0)
       (a : AppWords R (Load W L) (PlaceState H W T) (Frame H W)) (total_of : R → ℕ) (setup : Setup)
@@ -35,13 +37,16 @@ module _ {W L T G H : Type 0} (x : WorldWords W L) (y : TalkWords T L G H) where
     pub app : R
     pub total : total_of app ≡ (x.tells first).total
     pub states : List (PlaceState H W T)
-    pub fresh : AreFirstPlaces y first hall ((x.tells first).total + 2) states
+    pub initial : AreInitialPlacesOver y first hall ((x.tells first).total + 2) states
     pub posted : WeaveState (PlaceState H W T) (Load W L)
     pub begun : IsBegun t fits setup states (record { 0 = 0 }) (first_poll (x.tells first).total)
-        (Some (load.World (first_load first))) posted
+        (Some (load.World (initial_load first))) posted
     pub out : IsRunOut t fits a app posted schedule end
 
-  -- The histories are those of the server on the paths of the world's links, by the definition of a run, and so no others. That is so where the world is scripted and each path opens once, the setup says the rules of the server at this shape, the weave was drained, and no link met want of memory.
+  -- The histories are those of the server on the paths of the world's links, by the definition
+  -- of a run, and so no others. That is so where the world is scripted and each path opens
+  -- once, the setup says the rules of the server at this shape, the weave was drained, and no
+  -- link met want of memory.
   abbrev pub IsOfPaths : LinkWords L → H → Setup → W → List (ℕ × ℕ) → Drained → List (List Entry)
       → List (PlaceState H W T) → Type 0
   IsOfPaths l hall setup first schedule ended histories states =

@@ -1,4 +1,5 @@
--- The server on a scripted world as a function: what each handler does, on what the world and its connections are. Nothing is known of a connection but the rest of its path.
+-- The server on a scripted world as a function: what each handler does, on what the world and its
+-- connections are. Nothing is known of a connection but the rest of its path.
 use Rattle.std.specs.Prelude.{ℕ, zero, suc, ◌+◌, ◌-◌, ◌==◌, ◌&&◌, ◌||◌, Bool, true, false, not, List, [], ◌∷◌, Option, None, Some, length, slice_get, slice_set, if◌then◌else◌}
 use Rattle.mely_event.specs.declared.colour.Colour.{Colour}
 use Rattle.mely_event.specs.declared.event.Event.{Event}
@@ -8,7 +9,8 @@ use Rattle.sws_engine.specs.Handling.{number_of}
 use Rattle.sws_engine.specs.Waiting.{waiting_with}
 use Rattle.sws_engine.specs.PathPlaces.{poll, accept, talk, follows}
 
--- who waits, whether no more links are to come, whether the world rests, how many links were accepted, and of each connection the rest of its path
+-- who waits, whether no more links are to come, whether the world rests, how many links were
+-- accepted, and of each connection the rest of its path
 pub record Server : Type 0 where
   pub waiting : List ℕ
   pub last : Bool
@@ -17,8 +19,8 @@ pub record Server : Type 0 where
   pub paths : List (List Handler)
 
 -- nothing was accepted, and no connection is open
-abbrev pub first_server : List (List Handler) → Server
-first_server paths = record {
+abbrev pub initial_server : List (List Handler) → Server
+initial_server paths = record {
   waiting = [];
   last = false;
   rests = false;
@@ -26,7 +28,8 @@ first_server paths = record {
   paths = paths;
 }
 
--- the world goes on, by whether no more links are to come: the next is accepted; or where somebody waits it is polled again; or it rests
+-- the world goes on, by whether no more links are to come: the next is accepted; or where somebody
+-- waits it is polled again; or it rests
 abbrev pub world_goes : Bool → List ℕ → List (Colour × Event)
 world_goes false waiting = accept ∷ []
 world_goes true [] = []
@@ -59,7 +62,8 @@ after_accept s i = record {
   becomes = record s { accepted = i + 1 };
 }
 
--- a connection's event: where it is the next of the path, it is taken off the path, and what follows is registered; any other does nothing
+-- a connection's event: where it is the next of the path, it is taken off the path, and what
+-- follows is registered; any other does nothing
 abbrev pub after_talk : Server → ℕ → Bool → List Handler → Acted Server
 after_talk s i false later = record { puts = []; becomes = s }
 after_talk s i true later =

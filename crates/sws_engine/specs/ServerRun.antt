@@ -7,7 +7,7 @@ use Rattle.sws_site.specs.Site.{SiteState}
 use Rattle.mely_machine.specs.Rules.{Rules}
 use Rattle.mely_machine.specs.MachineRun.{RunsTo}
 use Rattle.sws_conn.specs.Path.{Handler, path_of}
-use Rattle.sws_engine.specs.Server.{first_server, first_event, serve}
+use Rattle.sws_engine.specs.Server.{initial_server, first_event, serve}
 
 -- the time and the penalty of each handler
 abbrev pub handler_rows : List (ℕ × ℕ)
@@ -18,13 +18,15 @@ handler_rows = (40, 4) ∷ (10, 1) ∷ (40, 4) ∷ (20, 1) ∷ (60, 2) ∷ (80, 
 abbrev pub server_rules : Shape → Rules
 server_rules shape = record { shape = shape; rows = handler_rows; pinned = 1 }
 
--- these are the histories of the server on connections of these paths by this schedule, if the run ends
+-- these are the histories of the server on connections of these paths by this
+-- schedule, if the run ends
 abbrev pub IsRunOfPaths : Shape → List (List Handler) → List (ℕ × ℕ) → List (List Entry) → Type 0
 IsRunOfPaths shape paths schedule histories =
-    RunsTo (server_rules shape) serve (first_server paths)
+    RunsTo (server_rules shape) serve (initial_server paths)
     (first_event (length paths)) schedule histories
 
--- these are the histories of the server on connections of these scripts over the site by this schedule, if the run ends
+-- these are the histories of the server on connections of these scripts over the site by this
+-- schedule, if the run ends
 abbrev pub IsServerRun : Shape → SiteState → List Script → List (ℕ × ℕ) → List (List Entry) → Type 0
 IsServerRun shape site scripts schedule histories =
     IsRunOfPaths shape (map (path_of site) scripts) schedule histories

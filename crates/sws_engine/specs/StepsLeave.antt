@@ -19,7 +19,8 @@ pub record HasNotBegun {W L : Type 0} (world : W) (ended : Ended W L) : Type 0 w
   pub no_history : ended.histories.items ≡ []
   pub no_trail : ended.trails.items ≡ []
 
-module _ {W L T G H : Type 0} (x : WorldWords W L) (l : LinkWords L) (y : TalkWords T L G H) (shape : Shape) (hall : H) (first : W) (ended : Ended W L) where
+module _ {W L T G H : Type 0} (x : WorldWords W L) (l : LinkWords L) (y : TalkWords T L G H)
+    (shape : Shape) (hall : H) (first : W) (ended : Ended W L) where
   -- a run by the shape, over the world that was handed in
   pub record HasRun : Type 0 where
     pub left : RunLeft x l y shape hall first ended

@@ -14,8 +14,10 @@ use Rattle.sws_engine.specs.StepsLeave.{HasNotBegun}
 abbrev pub IsUnkept : {T L G H : Type 0} → TalkWords T L G H → Type 0
 IsUnkept {T} y = (talk : T) → IsSome (y.view_of talk).end → (y.view_of talk).waiting ≡ false
 
-module _ {W L T G H : Type 0} (x : WorldWords W L) (l : LinkWords L) (y : TalkWords T L G H) (shape : Shape) (hall : H) (first : W) (ended : Ended W L) where
-  -- a run by the shape, over the world that was handed in; the weave is the one that the fleet was closed into
+module _ {W L T G H : Type 0} (x : WorldWords W L) (l : LinkWords L) (y : TalkWords T L G H)
+    (shape : Shape) (hall : H) (first : W) (ended : Ended W L) where
+  -- a run by the shape, over the world that was handed in; the weave is the one that
+  -- the fleet was closed into
   pub record HasRunThreads : Type 0 where
     pub left : RunLeft x l y shape hall first ended
     pub open left use *

@@ -12,8 +12,8 @@ use mely_event::{Colour, Event};
 use mely_worker::Outs;
 use sws_link::{Accepted, Link, World};
 
-/// Asks the world for the next link. The world goes on to a poll, which is told whether more links are to come, and the link
-/// to the connection of its number.
+/// Asks the world for the next link. The world goes on to a poll, which is told whether more links
+/// are to come, and the link to the connection of its number.
 pub(crate) fn accept<W: World + Drop>(
     total: u16,
     held: WorldLoad<W>,

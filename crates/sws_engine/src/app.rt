@@ -16,8 +16,8 @@ use std::sync::Mutex;
 use sws_conn::Talk;
 use sws_link::{Link, World};
 
-/// The web server, over so many links: colour 0 asks which of the waiting connections is ready, colour 1 accepts, and colour
-/// `2 + i` is connection `i`.
+/// The web server, over so many links: colour 0 asks which of the waiting connections is ready,
+/// colour 1 accepts, and colour `2 + i` is connection `i`.
 #[derive(Drop)]
 pub struct Sws<W, T> {
     pub(crate) total: u16,
@@ -50,7 +50,8 @@ impl<W: World + Drop, T: Talk<W::Link> + Drop> App for Sws<W, T> {
 
     ghost handlers_of = { λ app. 10 };
 
-    ghost serves = { λ app frame. ((W.tells frame.first).total ≡ app.total) × (app.total ≤ conn_limit) };
+    ghost serves = { λ app frame.
+        ((W.tells frame.first).total ≡ app.total) × (app.total ≤ conn_limit) };
 
     ghost runs = { λ app before event load after puts.
         Runs W.World W.Link.Link T.Talk app.total before event load after puts };

@@ -38,10 +38,11 @@ fn split_world<W: Drop>(found: Option<WorldLoad<W>>) -> (Option<W>, u16, bool)
     }
 }
 
-/// What a run leaves, of the parts of its weave, whose workers were all driven to their rest. It takes no memory.
+/// What a run leaves, of the parts of its weave, whose workers were all driven to their
+/// rest. It takes no memory.
 ///
-/// The verdict is [`Memory`](crate::Verdict::Memory) exactly where memory was refused: the weave wasn't drained, a registration was
-/// lost, or a link met want of memory.
+/// The verdict is [`Memory`](crate::Verdict::Memory) exactly where memory was refused: the weave
+/// wasn't drained, a registration was lost, or a link met want of memory.
 pub fn conclude<W: World + Drop, T: Talk<W::Link> + Drop>(
     room: EndRoom<W::Link>,
     total: u16,

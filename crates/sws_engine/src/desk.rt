@@ -15,8 +15,8 @@ use mely_event::{Colour, Event};
 use mely_worker::Outs;
 use sws_link::{Polled, World};
 
-/// Asks the world which of those that wait may be ready, unless it has failed or there is nobody to ask for. Who
-/// is ready is taken off those that wait.
+/// Asks the world which of those that wait may be ready, unless it has failed or there is nobody to
+/// ask for. Who is ready is taken off those that wait.
 fn ask<W: World>(
     world: &mut W,
     waiting: &mut Waiting,
@@ -55,8 +55,8 @@ fn let_go(failed: bool, waiting: &mut Waiting) -> Option<u16>
     if failed { waiting.take_first() } else { None }
 }
 
-/// Asks the world, and answers who is resumed: who is ready, or where the world has failed the first of those that
-/// wait.
+/// Asks the world, and answers who is resumed: who is ready, or where the world has failed the
+/// first of those that wait.
 fn poll_once<W: World>(
     world: &mut W,
     waiting: &mut Waiting,
@@ -130,7 +130,8 @@ pub(crate) fn poll<W: World + Drop>(
     );
 }
 
-/// The world goes on to the next accept, or to another poll for those that wait; where neither is to be, it rests.
+/// The world goes on to the next accept, or to another poll for those that wait; where
+/// neither is to be, it rests.
 fn go_on<W: Drop, L: Drop>(desk: &mut Desk<W>, held: WorldLoad<W>, outs: &mut Outs<Load<W, L>>)
     requires room { length outs.old < 2 }
     ensures puts { outs.new ≡ outs.old ++ onward desk.old.last desk.old.waiting.items held }

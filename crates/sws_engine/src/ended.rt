@@ -18,8 +18,8 @@ pub enum Verdict {
     /// The world failed; all was run, and each link that was accepted was served.
     World,
 
-    /// All was run, but something is amiss: with the link of this number, or with the world where this is the number
-    /// of all links.
+    /// All was run, but something is amiss: with the link of this number, or with the world where
+    /// this is the number of all links.
     Apart { conn: u16 },
 
     /// Memory was refused.

@@ -12,7 +12,7 @@ fn lacks<L>(served: &Served<L>) -> bool
     (served.link.is_none() || served.end.is_none()) || served.stray.is_some()
 }
 
-/// Whether memory was refused to a link.
+/// Whether a connection ended for want of memory, by its end.
 fn ran_out(end: Option<End>) -> bool
     ensures { result ≡ is_out_of_memory end }
 {
@@ -25,7 +25,7 @@ fn ran_out(end: Option<End>) -> bool
     }
 }
 
-/// Whether memory was refused to some link.
+/// Whether some connection ended for want of memory.
 fn any_ran_out<L>(served: &[Served<L>]) -> bool
     ensures { MatchBool result (SomeOutOfMemory served.now) (NoneOutOfMemory served.now) }
 {
@@ -55,8 +55,8 @@ fn first_lacking<L>(served: &[Served<L>], count: u16) -> Option<u16>
     None
 }
 
-/// The verdict: by whether all was run, how many links there are, whether the world is there, how many links it
-/// gave and whether it failed, and what has become of each connection.
+/// The verdict: by whether all was run, how many links there are, whether the world is there, how
+/// many links it gave and whether it failed, and what has become of each connection.
 pub(crate) fn judge<L>(
     whole: bool,
     total: u16,

@@ -1,4 +1,5 @@
-//! Laws, for contracts alone: what a state tells of its connection, and what the handlers make of a scripted world.
+//! Laws, for contracts alone: what a state tells of its connection, and what the handlers make of a
+//! scripted world.
 ghost use Rattle.std.specs.Prelude.{◌≡◌, ℕ, List, map};
 ghost use Rattle.sws_engine.specs.declared.place.Role.TheVariants.{Talking};
 ghost use Rattle.sws_engine.specs.Served.{SeatServes};
@@ -15,9 +16,10 @@ use crate::place::Place;
 use sws_conn::Talk;
 use sws_link::{Link, World};
 
-/// The law of a connection's state, for contracts alone: its type keeps that the connection is what the events of its trail have
-/// made of it, so its link is the one of its number, what was written begins the responses, an end has its cause, and where no
-/// event was stray the trail is a front of the path. A call does nothing.
+/// The law of a connection's state, for contracts alone: its type keeps that the connection is what
+/// the events of its trail have made of it, so its link is the one of its number, what was written
+/// begins the responses, an end has its cause, and where no event was stray the trail is a front of
+/// the path. A call does nothing.
 pub fn a_state_tells_what_was_served<W: World, T: Talk<W::Link>>(place: &Place<W, T>)
     ensures { (seat : _) → place.now.role ≡ Talking seat
         → SeatServes W.World W.Link.Link T.Talk place.now seat }
@@ -26,8 +28,9 @@ pub fn a_state_tells_what_was_served<W: World, T: Talk<W::Link>>(place: &Place<W
     let _role = &place.role;
 }
 
-/// The law of a scripted world, for contracts alone. There the handlers are a function of what is left of the connections' paths: each
-/// leaves and puts what the paths say, unless its connection met want of memory, which then stays so. A call does nothing.
+/// The law of a scripted world, for contracts alone. There the handlers are a function of what is
+/// left of the connections' paths: each leaves and puts what the paths say, unless its connection
+/// met want of memory, which then stays so. A call does nothing.
 pub fn the_handlers_follow_the_paths<W: World, T: Talk<W::Link>>()
     ensures follows { (hall : T.Contents) (first : W) (paths : List (List Handler)) (total : ℕ)
         → TellsPaths W.World W.Link.Link T.Talk hall first paths
@@ -43,8 +46,8 @@ pub fn each_path_opens_once()
         → AreOpened (map (path_of site) scripts) }
 {}
 
-/// Two schedules of two cores, worked out by hand, write these histories by the definition of a run, whatever the site is. A call
-/// does nothing.
+/// Two schedules of two cores, worked out by hand, write these histories by the definition of a
+/// run, whatever the site is. A call does nothing.
 pub fn worked_schedules_hold()
     ensures { (site : SiteState) → IsWithinLimits site.files → WorkedSchedules site }
 {}

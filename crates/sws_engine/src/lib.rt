@@ -1,7 +1,8 @@
 //! The web server as an app of coloured events.
 //!
-//! Colour 0 asks the world which of the waiting connections is ready, colour 1 accepts links, and colour `2 + i` is the connection
-//! of the `i`-th link. There is one world; it lies in an event of colour 0 or 1, or rests in the state of colour 0.
+//! Colour 0 asks the world which of the waiting connections is ready, colour 1 accepts links, and
+//! colour `2 + i` is the connection of the `i`-th link. There is one world; it lies in an event of
+//! colour 0 or 1, or rests in the state of colour 0.
 #![tactic(auto)]
 
 mod accepting;
@@ -38,7 +39,7 @@ pub use load::{Load, WorldLoad};
 pub use place::{Desk, Frame, Place, Role, Seat};
 pub use running::run_through;
 pub use serving::serve_steps;
-pub use starting::{fresh_places, start};
+pub use starting::{initial_places, start};
 pub use steps::{handler_table, talk_steps};
 pub use task::Task;
 pub use threads::{serve_all, talk_all};

@@ -9,13 +9,15 @@ use std::snapshot::Snapshot;
 use sws_conn::{Next, Talk};
 use sws_link::{Link, World};
 
-/// What stays the same over a run: the hall, and the world as it was at first. It is for contracts alone.
+/// What stays the same over a run: the hall, and the world as it was at first.
+/// It is for contracts alone.
 pub struct Frame<H, W> {
     pub hall: H,
     pub first: W,
 }
 
-/// The state of colour 0: the connections that wait, whether no more links come, and the world, where it rests.
+/// The state of colour 0: the connections that wait, whether no more links come, and
+/// the world, where it rests.
 #[derive(Drop)]
 pub struct Desk<W> {
     pub(crate) waiting: Waiting,
@@ -23,7 +25,8 @@ pub struct Desk<W> {
     pub(crate) resting: Option<WorldLoad<W>>,
 }
 
-/// The state of a connection's colour: the connection, and the first event that was not the due one.
+/// The state of a connection's colour: the connection, and the first event
+/// that was not the due one.
 #[derive(Drop)]
 pub struct Seat<T> {
     pub(crate) talk: T,

@@ -18,7 +18,8 @@ use std::sync::Wait;
 use sws_conn::Talk;
 use sws_link::{Link, World};
 
-/// Runs the schedule, and then rounds until nothing is left. What stands of the run stands afterwards too.
+/// Runs the schedule, and then rounds until nothing is left. What stands of the
+/// run stands afterwards too.
 pub fn run_through<R: Wait, W: World + Drop, T: Talk<W::Link> + Drop>(
     rt: &R,
     weave: &mut Weave<Place<W, T>, Load<W, W::Link>>,

@@ -1,8 +1,8 @@
 //! What is done on the colour of a connection: its steps.
 ghost use Rattle.std.specs.Prelude.{false, ◌≡◌, ◌<◌, ◌≤◌, ◌≢◌, IsSome, ◌∷◌, ◌++◌, [], ◌↔◌, ◌+◌, ◌==◌, ◌&&◌, List, Option, Some, None, IsTrue, ℕ};
 ghost use Rattle.sws_conn.specs.Path.{Handler, open_link, read_piece};
-ghost use Rattle.sws_link.specs.Links.{IsFresh};
-ghost use Rattle.sws_engine.specs.Seating.{LoadSuits, IsUnopened, HasRunSome, IsFreshOrRan};
+ghost use Rattle.sws_link.specs.Links.{IsInitialLink};
+ghost use Rattle.sws_engine.specs.Seating.{LoadSuits, IsUnopened, HasRunSome, IsUnopenedOrRan};
 ghost use Rattle.sws_conn.specs.Talks.{due, due_after, reported_next, opened_view};
 ghost use Rattle.sws_engine.specs.Tasks.{number_of_task};
 ghost use Rattle.sws_engine.specs.Invariant.{RanBy};
@@ -56,8 +56,8 @@ fn put_step<W: Drop, L: Drop>(task: Task, conn: u16, outs: &mut Outs<Load<W, L>>
     outs.put(Colour(conn + 2), event_of(task, conn), None);
 }
 
-/// Puts what comes after a step that answered this: the next step on the connection's colour, or where the link was not
-/// ready that it waits.
+/// Puts what comes after a step that answered this: the next step on the connection's colour, or
+/// where the link was not ready that it waits.
 pub(crate) fn put_next<W: Drop, L: Drop>(next: Next, conn: u16, outs: &mut Outs<Load<W, L>>)
     requires empty { outs.old ≡ [] }
     requires small { conn < 65534 }
@@ -75,7 +75,7 @@ pub(crate) fn put_next<W: Drop, L: Drop>(next: Next, conn: u16, outs: &mut Outs<
     }
 }
 
-/// Gives a fresh connection its link.
+/// Gives an unopened connection its link.
 fn open_seat<W: Drop, L: Link + Drop, T: Talk<L>>(
     seat: &mut Seat<T>,
     conn: u16,
@@ -84,7 +84,7 @@ fn open_seat<W: Drop, L: Link + Drop, T: Talk<L>>(
 )
     requires empty { outs.old ≡ [] }
     requires small { conn < 65534 }
-    requires fresh { IsFresh (L.tells link) }
+    requires initial { IsInitialLink (L.tells link) }
     requires not_shut { L.is_shut link ≡ false }
     requires unopened { IsUnopened T.Talk seat.old.talk }
     ensures ran { T.has_run link (open_link ∷ []) seat.new.talk }
@@ -132,8 +132,8 @@ fn step_seat<W: Drop, L: Link + Drop, T: Talk<L>>(
     put_next(next, conn, outs);
 }
 
-/// What a connection does with an event: the due one does its step, and the next one is put; any other one is stray, of
-/// which the first is kept.
+/// What a connection does with an event: the due one does its step, and the next one is put; any
+/// other one is stray, of which the first is kept.
 pub(crate) fn serve<W: Drop, L: Link + Drop, T: Talk<L>>(
     seat: &mut Seat<T>,
     conn: u16,
@@ -144,7 +144,7 @@ pub(crate) fn serve<W: Drop, L: Link + Drop, T: Talk<L>>(
     requires empty { outs.old ≡ [] }
     requires small { conn < 65534 }
     requires next { seat.old.next ≡ reported_next (T.view_of seat.old.talk) }
-    requires ran { IsFreshOrRan T.Talk seat.old.talk }
+    requires ran { IsUnopenedOrRan T.Talk seat.old.talk }
     requires suits { LoadSuits L.Link (event.handler == 3) load }
     ensures runs { RunsSeat T.Talk (is_due conn (due (T.view_of seat.old.talk)) event) conn seat.old
         event load seat.new outs.new }

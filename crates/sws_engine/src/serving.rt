@@ -13,11 +13,11 @@ use sws_conn::{Conn, Talk};
 use sws_link::{Link, World};
 use sws_site::Site;
 
-/// Serves all links of a world out of a site, over a weave: the schedule's steps of each core, and then rounds of one step a core
-/// until nothing is left.
+/// Serves all links of a world out of a site, over a weave: the schedule's steps of each core, and
+/// then rounds of one step a core until nothing is left.
 ///
-/// Where the world's links answer by scripts, the histories at [`Verdict::Ok`](crate::Verdict::Ok) are those of the definition of a
-/// run, and no others.
+/// Where the world's links answer by scripts, the histories at [`Verdict::Ok`](crate::Verdict::Ok)
+/// are those of the definition of a run, and no others.
 pub fn serve_steps<'s, R: Wait, W: World + Drop>(
     rt: &R,
     alloc: Global,

@@ -1,8 +1,8 @@
 //! How a run starts: the states of all colours, and the first event.
 ghost use Rattle.std.specs.Prelude.{◌≡◌, ◌≤◌, ◌<◌, ◌+◌, IfOk, IfErr, List, Option};
 ghost use Rattle.mely_run.specs.WholeRuns.{IsBegun};
-ghost use Rattle.sws_engine.specs.Begins.{AreAtFirst};
-ghost use Rattle.sws_engine.specs.Fresh.{IsFirstPlace, AreFirstPlaces, first_poll, first_load};
+ghost use Rattle.sws_engine.specs.Begins.{AreInitialFor};
+ghost use Rattle.sws_engine.specs.Initial.{IsInitialPlaceOver, AreInitialPlacesOver, first_poll, initial_load};
 ghost use Rattle.sws_engine.specs.RunFact.{RunFact};
 ghost use Rattle.sws_engine.specs.Limits.{conn_limit};
 
@@ -13,15 +13,15 @@ use crate::task::Task;
 use crate::waiting::Waiting;
 use mely_event::{Colour, Event, Fits, Trail};
 use mely_history::Setup;
-use mely_tally::{a_first_weave_has_what_it_was_given, a_post_brings_its_event};
+use mely_tally::{a_post_brings_its_event, an_initial_weave_has_what_it_was_given};
 use mely_weave::Weave;
 use std::alloc::Global;
 use std::snapshot::Snapshot;
 use sws_conn::{Next, Talk};
 use sws_link::{Link, Memory, World};
 
-/// The state of a colour at first.
-fn fresh_place<W: World + Drop, T: Talk<W::Link> + Drop>(
+/// The initial state of a colour.
+fn initial_place<W: World + Drop, T: Talk<W::Link> + Drop>(
     alloc: Global,
     hall: T::Hall,
     world: &W,
@@ -30,7 +30,7 @@ fn fresh_place<W: World + Drop, T: Talk<W::Link> + Drop>(
 ) -> Result<Place<W, T>, Memory>
     requires { (W.tells world.now).total ≡ total }
     ensures { IfOk result (λ place.
-        IsFirstPlace T.Talk world.now (T.contents_of hall) number place) }
+        IsInitialPlaceOver T.Talk world.now (T.contents_of hall) number place) }
 {
     let role = match number {
         0 => Role::Polling(Desk {
@@ -55,8 +55,9 @@ fn fresh_place<W: World + Drop, T: Talk<W::Link> + Drop>(
     })
 }
 
-/// The states of all colours at first, in ascending order: colours 0 and 1, and one for each connection.
-pub fn fresh_places<W: World + Drop, T: Talk<W::Link> + Drop>(
+/// The initial states of all colours, in ascending order: colours 0 and 1, and
+/// one for each connection.
+pub fn initial_places<W: World + Drop, T: Talk<W::Link> + Drop>(
     alloc: Global,
     hall: T::Hall,
     world: &W,
@@ -65,11 +66,11 @@ pub fn fresh_places<W: World + Drop, T: Talk<W::Link> + Drop>(
     requires few { total ≤ conn_limit }
     requires total { (W.tells world.now).total ≡ total }
     ensures { IfOk result (λ places.
-        AreFirstPlaces T.Talk world.now (T.contents_of hall) (total + 2) places.items) }
+        AreInitialPlacesOver T.Talk world.now (T.contents_of hall) (total + 2) places.items) }
 {
     let mut places = Vec::with_capacity(alloc, total as usize + 2)?;
     for number in 0..total + 2 {
-        places.push_reserved(fresh_place(alloc, hall, world, number, total)?);
+        places.push_reserved(initial_place(alloc, hall, world, number, total)?);
     }
     Ok(places)
 }
@@ -81,8 +82,8 @@ pub(crate) fn first_event(total: u16) -> Event
     event_of(Task::Poll, if total == 0 { 1 } else { 0 })
 }
 
-/// The weave of the fresh states, with the first event posted: a poll of the world, which is told whether links are to come.
-/// What stands of a run stands then, and a whole run has begun.
+/// The weave of the initial states, with the first event posted: a poll of the world, which is told
+/// whether links are to come. What stands of a run stands then, and a whole run has begun.
 ///
 /// # Errors
 ///
@@ -94,13 +95,13 @@ pub fn start<W: World + Drop, T: Talk<W::Link> + Drop>(
     world: W,
     total: u16,
 ) -> Result<Weave<Place<W, T>, Load<W, W::Link>>, W>
-    requires { AreAtFirst W.World T.Talk setup.now world total states.items }
+    requires { AreInitialFor W.World T.Talk setup.now world total states.items }
     ensures stands { IfOk result (λ weave. RunFact W.World T.Talk world weave) }
     ensures begun { IfOk result (λ weave. IsBegun ⟦<Place<W, T> as Trail>⟧
         ⟦<Place<W, T> as Fits<Load<W, W::Link>>>⟧.fits_under setup.now states.items
-        (record { 0 = 0 }) (first_poll total) (Some (Load.World (first_load world))) weave) }
+        (record { 0 = 0 }) (first_poll total) (Some (Load.World (initial_load world))) weave) }
     ensures of_setup { IfOk result (λ weave. weave.setup ≡ setup.now) }
-    ensures of_hall { (hall : _) → AreFirstPlaces T.Talk world hall (total + 2) states.items
+    ensures of_hall { (hall : _) → AreInitialPlacesOver T.Talk world hall (total + 2) states.items
         → IfOk result (λ weave. weave.given.hall ≡ hall) }
     ensures back { IfErr result (λ back. back ≡ world) }
 {
@@ -108,7 +109,7 @@ pub fn start<W: World + Drop, T: Talk<W::Link> + Drop>(
         return Err(world);
     };
     weave.stands_well();
-    a_first_weave_has_what_it_was_given::<Place<W, T>, Load<W, W::Link>>();
+    an_initial_weave_has_what_it_was_given::<Place<W, T>, Load<W, W::Link>>();
     a_post_brings_its_event::<Place<W, T>, Load<W, W::Link>>();
     let load = Load::World(WorldLoad {
         world,

@@ -16,8 +16,8 @@ use std::sync::Wait;
 use sws_conn::Talk;
 use sws_link::{Link, World};
 
-/// The time and the penalty of each handler, in the order of their numbers: Poll, Wait, Accept, Open, Read, Parse, Look, Write,
-/// Close, Resume.
+/// The time and the penalty of each handler, in the order of their numbers: Poll, Wait, Accept,
+/// Open, Read, Parse, Look, Write, Close, Resume.
 const HANDLERS: [(u32, u32); 10] = [
     (40, 4),
     (10, 1),
@@ -57,10 +57,12 @@ pub(crate) fn unbegun<W: World>(alloc: Global, world: W) -> Ended<W>
     }
 }
 
-/// Serves all links of a world by talks of one hall: the schedule's steps of each core, and then rounds of one step a core
-/// until nothing is left. All room for what the run leaves is made before its first event.
+/// Serves all links of a world by talks of one hall: the schedule's steps of each core, and
+/// then rounds of one step a core until nothing is left. All room for what the run leaves is
+/// made before its first event.
 ///
-/// Where the world is scripted, the histories at [`Verdict::Ok`] are those of the definition of a run, and no others.
+/// Where the world is scripted, the histories at [`Verdict::Ok`] are those of the definition
+/// of a run, and no others.
 pub fn talk_steps<R: Wait, W: World + Drop, T: Talk<W::Link> + Drop>(
     rt: &R,
     alloc: Global,

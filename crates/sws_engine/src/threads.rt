@@ -1,11 +1,11 @@
 //! The server on threads, from the world and the hall to what the run leaves.
 ghost use Rattle.std.specs.Prelude.{◌≡◌, ◌≤◌, ◌+◌, Some, IfOk, IfErr, map, slice_get};
 ghost use Rattle.mely_weave.specs.Dealing.{AtEach};
-ghost use Rattle.mely_weave.specs.Making.{AreFirst};
+ghost use Rattle.mely_weave.specs.Making.{AreInitial};
 ghost use Rattle.mely_worker.specs.Access.{FitsSetup};
 ghost use Rattle.mely_worker.specs.Conditions.{AppServes};
-ghost use Rattle.sws_engine.specs.Begins.{AreAtFirst, IsAtRest, IsSetFor, IsShapedFor};
-ghost use Rattle.sws_engine.specs.Fresh.{AreFirstPlaces};
+ghost use Rattle.sws_engine.specs.Begins.{AreInitialFor, IsAtRest, IsSetFor, IsShapedFor};
+ghost use Rattle.sws_engine.specs.Initial.{AreInitialPlacesOver};
 ghost use Rattle.sws_engine.specs.Invariant.{IsConsistent};
 ghost use Rattle.sws_engine.specs.RunFits.{RunFits};
 ghost use Rattle.sws_engine.specs.PartsKept.{PartsKept};
@@ -17,7 +17,7 @@ use crate::concluding::conclude;
 use crate::ended::{EndRoom, Ended};
 use crate::load::{Load, WorldLoad};
 use crate::place::Place;
-use crate::starting::{first_event, fresh_places};
+use crate::starting::{first_event, initial_places};
 use crate::steps::{handler_table, unbegun};
 use mely_event::{Colour, Event, Fits, Trail, Unregistered};
 use mely_fleet::run_crew;
@@ -48,7 +48,8 @@ fn are_kept<W: World, T: Talk<W::Link>>(places: &[Place<W, T>])
     }
 }
 
-/// Runs a crew of the states of a list, which are taken out of it. Who is generic in a part of the states lends their list.
+/// Runs a crew of the states of a list, which are taken out of it. Who is generic in a part of the
+/// states lends their list.
 ///
 /// # Errors
 ///
@@ -68,7 +69,7 @@ fn run_lent<
     app: &A,
     gate: &G,
 ) -> Result<(Weave<S, P>, Drained), Unregistered<P>>
-    requires first { AreFirst S.Trail setup.now states.old.items }
+    requires first { AreInitial S.Trail setup.now states.old.items }
     requires fits { (state : _) → slice_get states.old.items 0 ≡ Some state
         → FitsSetup S.fits_under setup.now (S.frame_of state) begin }
     requires served { (state : _) → slice_get states.old.items 0 ≡ Some state
@@ -82,7 +83,7 @@ fn run_lent<
     run_crew(rt, alloc, setup, given, begin, app, gate)
 }
 
-/// Serves all links of a world over a fleet of these fresh states, with a thread for each core.
+/// Serves all links of a world over a fleet of these initial states, with a thread for each core.
 ///
 /// # Errors
 ///
@@ -104,10 +105,11 @@ fn run_places<
 where
     W::Link: Send,
     T::Hall: Send,
-    requires set { AreAtFirst W.World T.Talk setup.now world total states.old.items }
+    requires set { AreInitialFor W.World T.Talk setup.now world total states.old.items }
     requires few { total ≤ conn_limit }
     ensures of_world { IfOk result (λ ran. ran.0.given.first ≡ world) }
-    ensures of_hall { (hall : _) → AreFirstPlaces T.Talk world hall (total + 2) states.old.items
+    ensures of_hall { (hall : _)
+        → AreInitialPlacesOver T.Talk world hall (total + 2) states.old.items
         → IfOk result (λ ran. ran.0.given.hall ≡ hall) }
     ensures rests { IfOk result (λ ran. IsAtRest setup.now ran.0 ran.1) }
     ensures back { IfErr result (λ back. back ≡ world) }
@@ -129,7 +131,8 @@ where
     }
 }
 
-/// Serves all links of a world over a fleet, with a thread for each core, and the weave that it leaves is taken apart.
+/// Serves all links of a world over a fleet, with a thread for each core, and the weave that
+/// it leaves is taken apart.
 ///
 /// # Errors
 ///
@@ -159,7 +162,7 @@ where
     ensures back { IfErr result (λ back. back ≡ world) }
 {
     let total = world.total();
-    let Ok(mut states) = fresh_places(alloc, hall, &world, total) else {
+    let Ok(mut states) = initial_places(alloc, hall, &world, total) else {
         return Err(world);
     };
     let (weave, drained) = run_places::<R, W, T, G>(
@@ -179,11 +182,12 @@ where
     Ok((parts, drained))
 }
 
-/// Serves all links of a world by talks of one hall, with a thread for each worker; the gate is passed before each handler. All room
-/// for what the run leaves is made before its first event. It need not return.
+/// Serves all links of a world by talks of one hall, with a thread for each worker; the gate
+/// is passed before each handler. All room for what the run leaves is made before its first
+/// event. It need not return.
 ///
-/// What is left over where the fleet is closed, because memory was refused to a worker, is run by one core after another then, and
-/// passes no gate.
+/// What is left over where the fleet is closed, because memory was refused to a worker, is run by
+/// one core after another then, and passes no gate.
 pub fn talk_all<
     R: Threads + Wait + Sync,
     W: World + Drop + Send,
@@ -210,11 +214,11 @@ where
     }
 }
 
-/// Serves all links of a world out of a site, with a thread for each worker; the gate is passed before each handler. It need not
-/// return.
+/// Serves all links of a world out of a site, with a thread for each worker; the gate is passed
+/// before each handler. It need not return.
 ///
-/// The verdict is exactly what the run shows: [`Verdict::Apart`](crate::Verdict::Apart) tells the first connection that lacks what it
-/// is owed, and where none does that the world is gone.
+/// The verdict is exactly what the run shows: [`Verdict::Apart`](crate::Verdict::Apart) tells the
+/// first connection that lacks what it is owed, and where none does that the world is gone.
 pub fn serve_all<'s, R: Threads + Wait + Sync, W: World + Drop + Send, G: Gate + Sync>(
     rt: &R,
     alloc: Global,

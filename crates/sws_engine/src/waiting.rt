@@ -9,8 +9,9 @@ use sws_link::Memory;
 
 /// The connections that wait for their links, in the order in which they began to.
 ///
-/// The world is asked with all of them, so they lie side by side. A table says of each connection when it began to wait, if it
-/// does: so whether one waits is known at once, and its place is found by halving the list, along which these numbers rise.
+/// The world is asked with all of them, so they lie side by side. A table says of each connection
+/// when it began to wait, if it does: so whether one waits is known at once, and its place is found
+/// by halving the list, along which these numbers rise.
 ///
 /// Contracts see the list, and the number below which those that may wait are.
 #[derive(Drop)]
@@ -39,7 +40,8 @@ impl Model for Waiting {
 }
 
 impl Waiting {
-    /// Nobody waits yet, of so many connections. All room is made here; where that was refused, the answer is `Memory`.
+    /// Nobody waits yet, of so many connections. All room is made here; where that was refused, the
+    /// answer is `Memory`.
     pub(crate) fn new(alloc: Global, total: u16) -> Result<Waiting, Memory>
         ensures { IfOk result (λ waiting. waiting ≡ record { items = []; total = total }) }
     {
@@ -100,8 +102,8 @@ impl Waiting {
         }
     }
 
-    /// Where the connection stands, which waits. The list is halved by when each began to wait; only where that count has run
-    /// over it may have to be searched.
+    /// Where the connection stands, which waits. The list is halved by when each began to wait;
+    /// only where that count has run over it may have to be searched.
     fn place_of(&self, conn: u16) -> usize
         requires { Contains self.now.items conn }
         ensures within { result < length self.now.items }

@@ -11,7 +11,7 @@ use crate::app::Sws;
 use crate::load::Load;
 use crate::place::Place;
 use crate::running::run_through;
-use crate::starting::{fresh_places, start};
+use crate::starting::{initial_places, start};
 use mely_event::{Fits, Trail};
 use mely_history::Setup;
 use mely_tally::{the_parts_are_what_the_weave_had, what_is_left_in_the_parts_fits};
@@ -22,7 +22,8 @@ use std::sync::Wait;
 use sws_conn::Talk;
 use sws_link::{Link, World};
 
-/// Serves all links of a world over a weave: the schedule's steps, and then rounds until nothing is left.
+/// Serves all links of a world over a weave: the schedule's steps, and then
+/// rounds until nothing is left.
 ///
 /// # Errors
 ///
@@ -48,7 +49,7 @@ pub fn run_whole<R: Wait, W: World + Drop, T: Talk<W::Link> + Drop>(
     ensures back { IfErr result (λ back. back ≡ world) }
 {
     let total = world.total();
-    let Ok(states) = fresh_places(alloc, hall, &world, total) else {
+    let Ok(states) = initial_places(alloc, hall, &world, total) else {
         return Err(world);
     };
     let mut weave = start(alloc, setup, states, world, total)?;

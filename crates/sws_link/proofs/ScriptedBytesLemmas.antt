@@ -86,7 +86,7 @@ takes_or_fails (call ∷ failing) made failed before now room answer into true i
 
 -- ---- items of which none fails
 
-pub read_no_fault : (room : ℕ) (items : List Item) → HasNoFault items → HasNoFault (read_of room items).items
+read_no_fault : (room : ℕ) (items : List Item) → HasNoFault items → HasNoFault (read_of room items).items
 read_no_fault room [] sure = tt
 read_no_fault room (piece [] ∷ items) sure = read_no_fault room items sure
 read_no_fault room (piece (byte ∷ bytes) ∷ items) sure = sure

@@ -5,9 +5,10 @@ use Rattle.sws_link.specs.declared.LinkRead.TheVariants as read
 use Rattle.sws_link.specs.declared.LinkWrite.{LinkWrite}
 use Rattle.sws_link.specs.declared.LinkWrite.TheVariants as write
 use Rattle.sws_link.specs.Counts.{Count}
-use Rattle.sws_link.specs.Links.{LinkTells, Reads, Writes, Shuts}
+use Rattle.sws_link.specs.Links.{LinkContents, Reads, Writes, Shuts}
 
--- a read into a room of this size, which answered so and left this in the room; a write of a piece, which answered so; or a shut
+-- a read into a room of this size, which answered so and left this in the room; a write of a piece,
+-- which answered so; or a shut
 pub data LinkCall : Type 0 where
   read_call : ℕ → LinkRead → List ℕ → LinkCall
   write_call : List ℕ → LinkWrite → LinkCall
@@ -45,7 +46,8 @@ written_in (shut_call ∷ calls) = written_in calls
 
 -- ---- the calls
 
-module _ {L : Type 0} (tells : L → Option LinkTells) (is_shut : L → Bool) (faults waits : L → Count) where
+module _ {L : Type 0} (tells : L → Option LinkContents) (is_shut : L → Bool)
+    (faults waits : L → Count) where
   -- the call was made
   abbrev pub Makes : LinkCall → L → L → Type 0
   Makes (read_call room answer into) before after =

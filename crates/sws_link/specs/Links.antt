@@ -1,4 +1,5 @@
--- What a link tells, and what its calls change in that. A link that tells nothing has `None`, and goes on telling nothing.
+-- What a link tells, and what its calls change in that. A link that tells nothing has `None`, and
+-- goes on telling nothing.
 use Rattle.std.specs.Prelude.{◌≡◌, ℕ, ◌<◌, ◌≤◌, Bool, true, false, IsTrue, List, [], ◌++◌, length, take, Option, Some, None, ⊤}
 use Rattle.sws_link.specs.declared.LinkRead.{LinkRead}
 use Rattle.sws_link.specs.declared.LinkRead.TheVariants as read
@@ -8,9 +9,10 @@ use Rattle.sws_link.specs.Contents.{IsPrefix}
 use Rattle.sws_link.specs.Counts.{Count, HasCause}
 use Rattle.sws_link.specs.Scripts.{Script, read_of, write_of}
 
--- what was taken of the input and what is left of it, what was written, and the answers to come where the link is scripted; and whether
--- its writes write nothing but what their answers say, also where they fail
-pub record LinkTells : Type 0 where
+-- what was taken of the input and what is left of it, what was written, and the answers to
+-- come where the link is scripted; and whether its writes write nothing but what their answers
+-- say, also where they fail
+pub record LinkContents : Type 0 where
   pub taken : List ℕ
   pub left : List ℕ
   pub written : List ℕ
@@ -18,13 +20,13 @@ pub record LinkTells : Type 0 where
   pub says_all : Bool
 
 -- the whole input
-abbrev pub input_of : LinkTells → List ℕ
+abbrev pub input_of : LinkContents → List ℕ
 input_of tells = tells.taken ++ tells.left
 
 -- nothing was taken or written, where that is told
-abbrev pub IsFresh : Option LinkTells → Type 0
-IsFresh None = ⊤
-IsFresh (Some tells) = (tells.taken ≡ []) × (tells.written ≡ [])
+abbrev pub IsInitialLink : Option LinkContents → Type 0
+IsInitialLink None = ⊤
+IsInitialLink (Some tells) = (tells.taken ≡ []) × (tells.written ≡ [])
 
 -- ---- a read
 
@@ -58,8 +60,9 @@ EndsRead read.NotReady left = ⊤
 EndsRead read.Failed left = ⊤
 
 -- what was given moves from what is left to what was taken
-pub record TakesTold (before : LinkTells) (now : Option LinkTells) (room : ℕ) (answer : LinkRead) (into : List ℕ) : Type 0 where
-  pub after : LinkTells
+pub record TakesTold (before : LinkContents) (now : Option LinkContents) (room : ℕ)
+    (answer : LinkRead) (into : List ℕ) : Type 0 where
+  pub after : LinkContents
   pub is : now ≡ Some after
   pub left : before.left ≡ given_by answer into ++ after.left
   pub taken : after.taken ≡ before.taken ++ given_by answer into
@@ -69,7 +72,7 @@ pub record TakesTold (before : LinkTells) (now : Option LinkTells) (room : ℕ) 
   pub says_all : after.says_all ≡ before.says_all
 
 -- what a read takes of a link, where the link tells it
-abbrev pub LinkTakes : Option LinkTells → Option LinkTells → ℕ → LinkRead → List ℕ → Type 0
+abbrev pub LinkTakes : Option LinkContents → Option LinkContents → ℕ → LinkRead → List ℕ → Type 0
 LinkTakes None now room answer into = now ≡ None
 LinkTakes (Some before) now room answer into = TakesTold before now room answer into
 
@@ -114,8 +117,9 @@ IsExact None answer piece front = ⊤
 IsExact (Some script) answer piece front = front ≡ written_by answer piece
 
 -- a write puts a front of the piece behind what was sent, and the link goes on telling
-pub record PutsTold (before : LinkTells) (now : Option LinkTells) (answer : LinkWrite) (bytes : List ℕ) : Type 0 where
-  pub after : LinkTells
+pub record PutsTold (before : LinkContents) (now : Option LinkContents) (answer : LinkWrite)
+    (bytes : List ℕ) : Type 0 where
+  pub after : LinkContents
   pub front : List ℕ
   pub is : now ≡ Some after
   pub written : after.written ≡ before.written ++ front
@@ -128,7 +132,7 @@ pub record PutsTold (before : LinkTells) (now : Option LinkTells) (answer : Link
   pub said : IsTrue before.says_all → front ≡ written_by answer bytes
 
 -- what a write puts on a link, where the link tells it
-abbrev pub LinkPuts : Option LinkTells → Option LinkTells → LinkWrite → List ℕ → Type 0
+abbrev pub LinkPuts : Option LinkContents → Option LinkContents → LinkWrite → List ℕ → Type 0
 LinkPuts None now answer piece = now ≡ None
 LinkPuts (Some before) now answer piece = PutsTold before now answer piece
 
@@ -154,9 +158,11 @@ write_fault write.Memory = None
 
 -- ---- whole calls, of a link that is seen by what it tells, by whether it was shut and by its two counts
 
-module _ {L : Type 0} (tells : L → Option LinkTells) (is_shut : L → Bool) (faults waits : L → Count) where
+module _ {L : Type 0} (tells : L → Option LinkContents) (is_shut : L → Bool)
+    (faults waits : L → Count) where
   -- one read into a room of the size answered this, and left this in the room; the link isn't shut
-  pub record Reads (before : L) (room : ℕ) (answer : LinkRead) (into : List ℕ) (after : L) : Type 0 where
+  pub record Reads (before : L) (room : ℕ) (answer : LinkRead) (into : List ℕ)
+      (after : L) : Type 0 where
     pub size : length into ≡ room
     pub fits : IsReadWithin answer room
     pub takes : LinkTakes (tells before) (tells after) room answer into

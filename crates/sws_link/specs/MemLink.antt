@@ -3,7 +3,8 @@ use Rattle.std.specs.Prelude.{ℕ, Bool}
 use Rattle.sws_link.specs.Calls.{CallsState}
 use Rattle.sws_link.specs.ScriptedBytes.{ScriptedBytesState}
 
--- a link with calls that fail, which are its faults; how often it wasn't ready, and whether it was shut
+-- a link with calls that fail, which are its faults; how often it wasn't
+-- ready, and whether it was shut
 pub record MemLinkState : Type 0 where
   pub bytes : ScriptedBytesState
   pub calls : CallsState

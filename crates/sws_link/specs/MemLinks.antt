@@ -1,12 +1,12 @@
--- What the links in memory hold and tell, and what stands after each call: it follows from the items, the two bounds of writes and the
--- calls that are to fail alone, but for want of memory.
+-- What the links in memory hold and tell, and what stands after each call: it follows from the
+-- items, the two bounds of writes and the calls that are to fail alone, but for want of memory.
 use Rattle.std.specs.Prelude.{◌≡◌, ◌⊎◌, ℕ, zero, suc, Bool, true, false, if◌then◌else◌, IsTrue, List, [], ◌∷◌, ◌++◌, length, Option, Some, None}
 use Rattle.sws_link.specs.declared.LinkRead.{LinkRead}
 use Rattle.sws_link.specs.declared.LinkRead.TheVariants as read
 use Rattle.sws_link.specs.declared.LinkWrite.{LinkWrite}
 use Rattle.sws_link.specs.declared.LinkWrite.TheVariants as write
 use Rattle.sws_link.specs.Scripts.{Script, Item, left_of_limit, within, read_of}
-use Rattle.sws_link.specs.Links.{LinkTells, given_by, written_by}
+use Rattle.sws_link.specs.Links.{LinkContents, given_by, written_by}
 use Rattle.sws_link.specs.LinkItems.{all_bytes}
 use Rattle.sws_link.specs.Calls.{CallsState, count_up, next_fails}
 use Rattle.sws_link.specs.ScriptedBytes.{ScriptedBytesState}
@@ -14,8 +14,8 @@ use Rattle.sws_link.specs.MemLink.{MemLinkState}
 use Rattle.sws_link.specs.SureLink.{SureLinkState}
 
 -- nothing was taken or written
-abbrev pub fresh_bytes : List Item → Option ℕ → Option ℕ → ScriptedBytesState
-fresh_bytes items step cut = record {
+abbrev pub initial_bytes : List Item → Option ℕ → Option ℕ → ScriptedBytesState
+initial_bytes items step cut = record {
   input = record { taken = []; items = items };
   written = [];
   step = step;
@@ -44,7 +44,7 @@ script_unless [] script = script_by_step script.step script
 script_unless (call ∷ failing) script = None
 
 -- what scripted bytes tell, where these calls are to fail
-abbrev pub bytes_tell : List ℕ → ScriptedBytesState → LinkTells
+abbrev pub bytes_tell : List ℕ → ScriptedBytesState → LinkContents
 bytes_tell failing bytes = record {
   taken = bytes.input.taken;
   left = all_bytes bytes.input.items;
@@ -54,11 +54,11 @@ bytes_tell failing bytes = record {
 }
 
 -- what a link in memory tells
-abbrev pub mem_link_tells : MemLinkState → Option LinkTells
+abbrev pub mem_link_tells : MemLinkState → Option LinkContents
 mem_link_tells link = Some (bytes_tell link.calls.failing link.bytes)
 
 -- what a link in memory without faults tells
-abbrev pub sure_link_tells : SureLinkState → Option LinkTells
+abbrev pub sure_link_tells : SureLinkState → Option LinkContents
 sure_link_tells link = Some (bytes_tell [] link.bytes)
 
 -- ---- calls
@@ -69,7 +69,8 @@ bytes_after_read bytes room =
     let said = read_of room bytes.input.items in
     record bytes { input = record { taken = bytes.input.taken ++ said.bytes; items = said.items } }
 
--- a write fails where so many bytes were written as may be, and isn't ready where a write takes nothing
+-- a write fails where so many bytes were written as may be, and isn't ready
+-- where a write takes nothing
 abbrev pub write_answer : Option ℕ → Option ℕ → ℕ → LinkWrite
 write_answer None (Some zero) length = write.Failed
 write_answer (Some limit) (Some zero) length = write.Failed
@@ -136,7 +137,8 @@ waits_after waits waiting = if waiting then count_up waits else waits
 -- ---- whole calls
 
 -- a read that is to fail takes nothing, and another answers as the items say; either is counted
-pub record FailsOrReads (before : MemLinkState) (room : ℕ) (answer : LinkRead) (into : List ℕ) (after : MemLinkState) : Type 0 where
+pub record FailsOrReads (before : MemLinkState) (room : ℕ) (answer : LinkRead) (into : List ℕ)
+    (after : MemLinkState) : Type 0 where
   pub answer_is : answer
       ≡ (if next_fails before.calls then read.Failed else
       (read_of room before.bytes.input.items).answer)
@@ -148,9 +150,10 @@ pub record FailsOrReads (before : MemLinkState) (room : ℕ) (answer : LinkRead)
   pub waits_are : after.waits ≡ waits_after before.waits (is_waiting_read answer)
   pub shut_is : after.shut ≡ before.shut
 
--- a write that is to fail fails, and another answers as the bounds say, but for want of memory; either is counted, and writes nothing
--- but what it says
-pub record FailsOrWrites (before : MemLinkState) (piece : List ℕ) (answer : LinkWrite) (after : MemLinkState) : Type 0 where
+-- a write that is to fail fails, and another answers as the bounds say, but for want of memory;
+-- either is counted, and writes nothing but what it says
+pub record FailsOrWrites (before : MemLinkState) (piece : List ℕ) (answer : LinkWrite)
+    (after : MemLinkState) : Type 0 where
   pub to_fail : IsTrue (next_fails before.calls) → answer ≡ write.Failed
   pub else_by_bounds : next_fails before.calls ≡ false
       → MayAnswer before.bytes (length piece) answer
@@ -159,8 +162,10 @@ pub record FailsOrWrites (before : MemLinkState) (piece : List ℕ) (answer : Li
   pub waits_are : after.waits ≡ waits_after before.waits (is_waiting_write answer)
   pub shut_is : after.shut ≡ before.shut
 
--- a read and a write of a link without faults answer as its items and its bound say, for a read of this much room
-pub record SureReads (before : SureLinkState) (room : ℕ) (answer : LinkRead) (into : List ℕ) (after : SureLinkState) : Type 0 where
+-- a read and a write of a link without faults answer as its items and its bound say, for
+-- a read of this much room
+pub record SureReads (before : SureLinkState) (room : ℕ) (answer : LinkRead) (into : List ℕ)
+    (after : SureLinkState) : Type 0 where
   pub answer_is : answer ≡ (read_of room before.bytes.input.items).answer
   pub bytes_are : given_by answer into ≡ (read_of room before.bytes.input.items).bytes
   pub bytes_become : after.bytes ≡ bytes_after_read before.bytes room
@@ -168,7 +173,8 @@ pub record SureReads (before : SureLinkState) (room : ℕ) (answer : LinkRead) (
   pub shut_is : after.shut ≡ before.shut
 
 -- a write on a link without faults answers as its bound says, but for want of memory
-pub record SureWrites (before : SureLinkState) (piece : List ℕ) (answer : LinkWrite) (after : SureLinkState) : Type 0 where
+pub record SureWrites (before : SureLinkState) (piece : List ℕ) (answer : LinkWrite)
+    (after : SureLinkState) : Type 0 where
   pub by_bounds : MayAnswer before.bytes (length piece) answer
   pub bytes_become : after.bytes ≡ bytes_after_write before.bytes answer piece
   pub waits_are : after.waits ≡ waits_after before.waits (is_waiting_write answer)

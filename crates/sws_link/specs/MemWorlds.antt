@@ -1,5 +1,5 @@
--- What the worlds in memory hold and tell, and what stands after each call: it follows from the links that are to come and the calls that
--- are to fail alone.
+-- What the worlds in memory hold and tell, and what stands after each call: it follows from the
+-- links that are to come and the calls that are to fail alone.
 use Rattle.std.specs.Prelude.{◌≡◌, ℕ, ◌+◌, min, Bool, true, false, if◌then◌else◌, List, [], ◌∷◌, length, map, Some}
 use Rattle.sws_link.specs.declared.Opened.{Opened}
 use Rattle.sws_link.specs.declared.Opened.TheVariants as opened
@@ -13,13 +13,13 @@ use Rattle.sws_link.specs.MemLinks.{script_of, script_unless}
 use Rattle.sws_link.specs.SureLink.{SureLinkState}
 use Rattle.sws_link.specs.MemLink.{MemLinkState}
 use Rattle.sws_link.specs.ScriptedBytes.{ScriptedBytesState}
-use Rattle.sws_link.specs.Worlds.{Coming, WorldTells, first_ready}
+use Rattle.sws_link.specs.Worlds.{Coming, WorldContents, first_ready}
 use Rattle.sws_link.specs.Lobby.{LobbyState}
 use Rattle.sws_link.specs.MemWorld.{MemWorldState}
 
 -- all the links are to be given
-abbrev pub fresh_lobby : {L : Type 0} → List L → LobbyState L
-fresh_lobby links = record { links = links; total = length links; accepted = 0; port = 0 }
+abbrev pub initial_lobby : {L : Type 0} → List L → LobbyState L
+initial_lobby links = record { links = links; total = length links; accepted = 0; port = 0 }
 
 -- as many as are asked for, or as there are
 abbrev pub lobby_after_open : {L : Type 0} → LobbyState L → ℕ → ℕ → LobbyState L
@@ -30,14 +30,15 @@ lobby_after_open lobby port total = record lobby {
 }
 
 -- the next link was given
-pub record GivesNext {L : Type 0} (before : LobbyState L) (link : L) (after : LobbyState L) : Type 0 where
+pub record GivesNext {L : Type 0} (before : LobbyState L) (link : L)
+    (after : LobbyState L) : Type 0 where
   pub next : before.links ≡ link ∷ after.links
   pub becomes : after ≡ record before { links = after.links; accepted = before.accepted + 1 }
 
 -- ---- links that are to come
 
 -- nothing was taken or written, no call failed, the link was never waited for, and it isn't shut
-pub record IsFreshMemLink (link : MemLinkState) : Type 0 where
+pub record IsInitialMemLink (link : MemLinkState) : Type 0 where
   pub taken : link.bytes.input.taken ≡ []
   pub written : link.bytes.written ≡ []
   pub failed : link.calls.failed ≡ 0
@@ -45,7 +46,7 @@ pub record IsFreshMemLink (link : MemLinkState) : Type 0 where
   pub not_shut : link.shut ≡ false
 
 -- nothing was done with the link
-pub record IsFreshSureLink (link : SureLinkState) : Type 0 where
+pub record IsInitialSureLink (link : SureLinkState) : Type 0 where
   pub taken : link.bytes.input.taken ≡ []
   pub written : link.bytes.written ≡ []
   pub waits : link.waits ≡ 0
@@ -75,7 +76,7 @@ is_none [] = true
 is_none (call ∷ calls) = false
 
 -- what a world over a lobby tells
-abbrev pub lobby_tells : {L : Type 0} → (L → Coming) → Bool → LobbyState L → WorldTells
+abbrev pub lobby_tells : {L : Type 0} → (L → Coming) → Bool → LobbyState L → WorldContents
 lobby_tells coming scripted lobby = record {
   coming = Some (map coming lobby.links);
   total = lobby.total;
@@ -85,11 +86,11 @@ lobby_tells coming scripted lobby = record {
 }
 
 -- what a world in memory tells; it is scripted where no call is to fail
-abbrev pub mem_world_tells : MemWorldState → WorldTells
+abbrev pub mem_world_tells : MemWorldState → WorldContents
 mem_world_tells world = lobby_tells mem_coming (is_none world.calls.failing) world.lobby
 
 -- what a world in memory without faults tells
-abbrev pub sure_world_tells : LobbyState SureLinkState → WorldTells
+abbrev pub sure_world_tells : LobbyState SureLinkState → WorldContents
 sure_world_tells lobby = lobby_tells sure_coming true lobby
 
 -- ---- calls of a world with calls that fail
@@ -116,7 +117,8 @@ FailsOrGivesBy false before answer after = (link : MemLinkState) × (answer ≡ 
     × GivesNext before.lobby link after.lobby
 
 -- the next link is given or the call fails where it is to fail, and the call is counted
-pub record FailsOrGives (before : MemWorldState) (answer : Accepted MemLinkState) (after : MemWorldState) : Type 0 where
+pub record FailsOrGives (before : MemWorldState) (answer : Accepted MemLinkState)
+    (after : MemWorldState) : Type 0 where
   pub gives : FailsOrGivesBy (next_fails before.calls) before answer after
   pub calls_are : after.calls ≡ after_call before.calls
 

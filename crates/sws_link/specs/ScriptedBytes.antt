@@ -2,8 +2,8 @@
 use Rattle.std.specs.Prelude.{ℕ, List, Option}
 use Rattle.sws_link.specs.ScriptReader.{ScriptReaderState}
 
--- a link whose calls are not counted: what was taken and the items that are left, what was written, the most bytes of one write, and
--- the most bytes that are written in all
+-- a link whose calls are not counted: what was taken and the items that are left, what was written,
+-- the most bytes of one write, and the most bytes that are written in all
 pub record ScriptedBytesState : Type 0 where
   pub input : ScriptReaderState
   pub written : List ℕ

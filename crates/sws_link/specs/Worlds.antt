@@ -1,4 +1,5 @@
--- What a world tells, and what its calls change in that. A world that doesn't know its links to come has `None` for them, and goes on so.
+-- What a world tells, and what its calls change in that. A world that doesn't know its links to
+-- come has `None` for them, and goes on so.
 use Rattle.std.specs.Prelude.{◌≡◌, ◌≢◌, ℕ, ◌+◌, min, Bool, false, IsTrue, List, [], ◌∷◌, length, Option, Some, None, IsSome, Contains, ⊤}
 use Rattle.std.specs.List.{AllByRecursion}
 use Rattle.sws_link.specs.declared.Opened.{Opened}
@@ -8,18 +9,19 @@ use Rattle.sws_link.specs.declared.Polled.TheVariants as polled
 use Rattle.sws_link.specs.declared.Accepted.{Accepted}
 use Rattle.sws_link.specs.declared.Accepted.TheVariants as accepted
 use Rattle.sws_link.specs.Counts.{Count, HasCause, no_faults}
-use Rattle.sws_link.specs.Links.{LinkTells, IsFresh}
+use Rattle.sws_link.specs.Links.{LinkContents, IsInitialLink}
 use Rattle.sws_link.specs.Scripts.{Script}
 
--- a link to come: its whole input, its answers where it tells them, and whether its writes write nothing but what they say
+-- a link to come: its whole input, its answers where it tells them, and whether its writes write
+-- nothing but what they say
 pub record Coming : Type 0 where
   pub input : List ℕ
   pub answers : Option Script
   pub says_all : Bool
 
 -- what a link tells when it comes: nothing was taken or written
-abbrev pub fresh_tells : Coming → LinkTells
-fresh_tells coming = record {
+abbrev pub initial_contents : Coming → LinkContents
+initial_contents coming = record {
   taken = [];
   left = coming.input;
   written = [];
@@ -28,7 +30,7 @@ fresh_tells coming = record {
 }
 
 -- what a world tells of itself
-pub record WorldTells : Type 0 where
+pub record WorldContents : Type 0 where
   -- the links to come, the next one first, where these are known
   pub coming : Option (List Coming)
   -- how many links it gives in all since it was opened, and how many of these were accepted
@@ -36,7 +38,8 @@ pub record WorldTells : Type 0 where
   pub accepted : ℕ
   -- the port at which it was opened last, or 0
   pub port : ℕ
-  -- whether nothing of the outside stands in its way: no call fails, each link comes at once, and the first that waits is ready
+  -- whether nothing of the outside stands in its way: no call fails, each link comes at once, and
+  -- the first that waits is ready
   pub scripted : Bool
 
 -- the answers to come of each link that is to come are told
@@ -45,7 +48,7 @@ AreScripted None = ⊥
 AreScripted (Some coming) = AllByRecursion (λ link. IsSome link.answers) coming
 
 -- a link tells its answers to come
-abbrev pub IsScripted : Option LinkTells → Type 0
+abbrev pub IsScripted : Option LinkContents → Type 0
 IsScripted None = ⊥
 IsScripted (Some told) = IsSome told.to_come
 
@@ -57,7 +60,7 @@ total_within None total = total
 total_within (Some coming) total = min total (length coming)
 
 -- a world that gives links anew, of which none was accepted
-abbrev pub opened_at : WorldTells → ℕ → ℕ → WorldTells
+abbrev pub opened_at : WorldContents → ℕ → ℕ → WorldContents
 opened_at world port total = record world {
   total = total_within world.coming total;
   accepted = 0;
@@ -65,7 +68,7 @@ opened_at world port total = record world {
 }
 
 -- what a world tells after an opening
-abbrev pub after_open : WorldTells → ℕ → ℕ → Opened → WorldTells
+abbrev pub after_open : WorldContents → ℕ → ℕ → Opened → WorldContents
 after_open world port total opened.Ready = opened_at world port total
 after_open world port total opened.Failed = world
 after_open world port total opened.Memory = world
@@ -86,29 +89,33 @@ first_ready (conn ∷ waiting) = polled.Ready conn
 -- ---- to accept
 
 -- the next of the links to come, of which this is told, is taken off
-abbrev pub TakesNext : Option (List Coming) → Option LinkTells → Option (List Coming) → Type 0
+abbrev pub TakesNext : Option (List Coming) → Option LinkContents → Option (List Coming) → Type 0
 TakesNext None told now = now ≡ None
 TakesNext (Some coming) told now =
     (first : Coming) × (rest : List Coming) × (coming ≡ first ∷ rest) × (now ≡ Some rest)
-    × (told ≡ Some (fresh_tells first))
+    × (told ≡ Some (initial_contents first))
 
-module _ {L : Type 0} (link_tells : L → Option LinkTells) (link_shut : L → Bool) (link_faults link_waits : L → Count) where
-  -- the next link comes, of which nothing was taken or written, which isn't shut and whose counts begin
-  pub record GivesLink (before : WorldTells) (link : L) (after : WorldTells) : Type 0 where
+module _ {L : Type 0} (link_tells : L → Option LinkContents) (link_shut : L → Bool)
+    (link_faults link_waits : L → Count) where
+  -- the next link comes, of which nothing was taken or written, which isn't
+  -- shut and whose counts begin
+  pub record GivesLink (before : WorldContents) (link : L) (after : WorldContents) : Type 0 where
     pub next : TakesNext before.coming (link_tells link) after.coming
     pub counted : after ≡ record before { coming = after.coming; accepted = before.accepted + 1 }
-    pub fresh : IsFresh (link_tells link)
+    pub initial : IsInitialLink (link_tells link)
     pub not_shut : link_shut link ≡ false
     pub no_faults_yet : link_faults link ≡ no_faults
     pub no_waits_yet : link_waits link ≡ no_faults
 
-  abbrev pub GivesBy : WorldTells → Accepted L → WorldTells → Type 0
+  -- what an accept changes in what a world tells, by its answer: only one that
+  -- gives a link changes anything
+  abbrev pub GivesBy : WorldContents → Accepted L → WorldContents → Type 0
   GivesBy before (accepted.Link link) after = GivesLink before link after
   GivesBy before accepted.NotYet after = after ≡ before
   GivesBy before accepted.Failed after = after ≡ before
 
 -- the link that comes tells its answers to come
-abbrev pub GivesScripted : {L : Type 0} → (L → Option LinkTells) → Accepted L → Type 0
+abbrev pub GivesScripted : {L : Type 0} → (L → Option LinkContents) → Accepted L → Type 0
 GivesScripted tells (accepted.Link link) = IsScripted (tells link)
 GivesScripted tells accepted.NotYet = ⊤
 GivesScripted tells accepted.Failed = ⊤
@@ -121,7 +128,7 @@ IsLink accepted.Failed = ⊥
 
 -- ---- whole calls, of a world that is seen by what it tells and by its two counts
 
-module _ {W : Type 0} (tells : W → WorldTells) (faults waits : W → Count) where
+module _ {W : Type 0} (tells : W → WorldContents) (faults waits : W → Count) where
   -- the world was opened at the port for so many links
   pub record Listens (before : W) (port total : ℕ) (answer : Opened) (after : W) : Type 0 where
     pub becomes : tells after ≡ after_open (tells before) port total answer
@@ -138,7 +145,7 @@ module _ {W : Type 0} (tells : W → WorldTells) (faults waits : W → Count) wh
     pub waited : HasCause (waits before) (waits after) ((answer ≡ polled.Quiet) × (waiting ≢ []))
 
   -- the world was asked for the next link
-  pub record Accepts {L : Type 0} (link_tells : L → Option LinkTells) (link_shut : L
+  pub record Accepts {L : Type 0} (link_tells : L → Option LinkContents) (link_shut : L
       → Bool) (link_faults link_waits : L → Count)
       (before : W) (answer : Accepted L) (after : W) : Type 0 where
     pub gives : GivesBy link_tells link_shut link_faults link_waits

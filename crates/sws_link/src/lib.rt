@@ -1,21 +1,21 @@
-//! What the server asks of the outside: a source of bytes, a sink for bytes, a folder of files, links to
-//! clients, and a world that gives these links.
+//! What the server asks of the outside: a source of bytes, a sink for bytes, a folder of files,
+//! links to clients, and a world that gives these links.
 //!
 //! A server that reads and writes the machine itself can promise nothing of what it sends, since no
-//! contract knows what a socket or a disk holds. So everything of the server is written over the traits
-//! of this crate. An object of the outside *tells* contracts what it holds, as far as that is known: a
-//! source the bytes that are left, a sink the bytes that were written, a folder its files, a link its
-//! input, what was taken of it and what was written, a world the inputs of the links to come. An object
-//! that tells nothing goes on telling nothing. Each object also has a count of its faults, which never
-//! falls: every answer `Failed` comes only where that count rose in the call, and a call that answers
-//! anything else leaves it as it was. A link counts likewise how often it was not ready, and tells
-//! whether it was shut, after which it is neither read nor written. A link that answers as the lines of
-//! a script say tells these lines as well.
+//! contract knows what a socket or a disk holds. So everything of the server is written over the
+//! traits of this crate. An object of the outside *tells* contracts what it holds, as far as that
+//! is known: a source the bytes that are left, a sink the bytes that were written, a folder its
+//! files, a link its input, what was taken of it and what was written, a world the inputs of the
+//! links to come. An object that tells nothing goes on telling nothing. Each object also has a
+//! count of its faults, which never falls: every answer `Failed` comes only where that count rose
+//! in the call, and a call that answers anything else leaves it as it was. A link counts likewise
+//! how often it was not ready, and tells whether it was shut, after which it is neither read nor
+//! written. A link that answers as the lines of a script say tells these lines as well.
 //!
 //! [`MemSource`], [`MemSink`], [`MemFolder`], [`MemLink`] and [`MemWorld`] hold their contents in
-//! memory, tell all of them, and fail at the calls that they are told to. [`SureSource`], [`SureSink`],
-//! [`SureFolder`], [`SureLink`] and [`SureWorld`] are the same without faults. Adapters of the
-//! machine's own files and streams tell nothing and count errors.
+//! memory, tell all of them, and fail at the calls that they are told to. [`SureSource`],
+//! [`SureSink`], [`SureFolder`], [`SureLink`] and [`SureWorld`] are the same without faults.
+//! Adapters of the machine's own files and streams tell nothing and count errors.
 //!
 //! ```text
 //! let mut source = SureSource::new(bytes);
@@ -32,9 +32,9 @@
 ghost use Rattle.std.specs.Prelude.{◌≡◌, ◌<◌, List, ℕ, Bool, false, IsTrue, Option, None, length};
 ghost use Rattle.sws_link.specs.Counts.{Count, HasCause};
 ghost use Rattle.sws_link.specs.Contents.{TakesWithin, Takes, Puts};
-ghost use Rattle.sws_link.specs.Told.{FolderTells};
+ghost use Rattle.sws_link.specs.Told.{FolderContents};
 ghost use Rattle.sws_link.specs.Folders.{Opens, Gives, TakesOfFile, at_file_after_open, is_file};
-ghost use Rattle.sws_link.specs.Links.{LinkTells, Way, read_fault, write_fault, Reads, Writes, Shuts};
+ghost use Rattle.sws_link.specs.Links.{LinkContents, Way, read_fault, write_fault, Reads, Writes, Shuts};
 
 mod calls;
 mod copying;
@@ -175,7 +175,7 @@ pub enum NextFile {
 /// Files that are given one after another, each with its name and its bytes.
 pub trait Folder {
     /// The path, the files and how far they were given, where these are known.
-    ghost tells: { Self → Option FolderTells };
+    ghost tells: { Self → Option FolderContents };
 
     /// Whether a file is current: the last `next` gave it, and the folder was not opened since.
     ghost at_file: { Self → Bool };
@@ -231,11 +231,12 @@ pub enum LinkWrite {
     Memory,
 }
 
-/// The two ways of a connection to one client. No call changes the whole input: a read moves bytes from what
-/// is left to what was taken.
+/// The two ways of a connection to one client. No call changes the whole input: a read moves bytes
+/// from what is left to what was taken.
 pub trait Link {
-    /// The bytes that were taken, are left and were written, and the answers to come, where these are known.
-    ghost tells: { Self → Option LinkTells };
+    /// The bytes that were taken, are left and were written, and the answers to
+    /// come, where these are known.
+    ghost tells: { Self → Option LinkContents };
 
     /// How often a call has failed.
     ghost faults: { Self → Count };
@@ -246,12 +247,13 @@ pub trait Link {
     /// How often a call found the link not ready.
     ghost waits: { Self → Count };
 
-    /// What a link keeps of an earlier state over calls, of which the last one failed in this way, or in none. A link that
-    /// holds another object says by it that this is still the same one, and which of its two ways is at fault.
+    /// What a link keeps of an earlier state over calls, of which the last one failed in this way,
+    /// or in none. A link that holds another object says by it that this is still the same one, and
+    /// which of its two ways is at fault.
     ghost since: { Self → Option Way → Self → Type 0 };
 
-    /// Takes at least one of the bytes that are left, and at most as many as there is room for, unless the link
-    /// is at its end, not ready, or at fault.
+    /// Takes at least one of the bytes that are left, and at most as many as there is room for,
+    /// unless the link is at its end, not ready, or at fault.
     fn read(&mut self, into: &mut [u8]) -> LinkRead
         requires room { 0 < length into.old }
         requires not_shut { is_shut self.old ≡ false }
@@ -260,8 +262,8 @@ pub trait Link {
         ensures since { (first : Self) → since first None self.old
             → since first (read_fault result) self.new };
 
-    /// Writes at least one byte of the piece, and as many as the peer takes, unless the link is not ready or at
-    /// fault.
+    /// Writes at least one byte of the piece, and as many as the peer takes, unless the link is not
+    /// ready or at fault.
     fn write(&mut self, bytes: &[u8]) -> LinkWrite
         requires some { 0 < length bytes.now }
         requires not_shut { is_shut self.old ≡ false }

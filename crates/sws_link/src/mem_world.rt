@@ -5,15 +5,15 @@ ghost use Rattle.sws_link.specs.Counts.{kept_count, no_faults};
 ghost use Rattle.sws_link.specs.Calls.{no_calls, next_fails, after_call};
 ghost use Rattle.sws_link.specs.MemLinks.{mem_link_tells};
 ghost use Rattle.sws_link.specs.Worlds.{Listens, Polls, Accepts};
-ghost use Rattle.sws_link.specs.MemWorlds.{fresh_lobby, IsFreshMemLink, mem_world_tells, opened_or_fails, mem_world_after_open, ready_or_fails, FailsOrGives};
+ghost use Rattle.sws_link.specs.MemWorlds.{initial_lobby, IsInitialMemLink, mem_world_tells, opened_or_fails, mem_world_after_open, ready_or_fails, FailsOrGives};
 
 use crate::calls::Calls;
 use crate::lobby::Lobby;
 use crate::{Accepted, MemLink, Opened, Polled, World};
 use std::marker::Model;
 
-/// Gives its links in order, each at once, and fails at the calls that it is told to. Of those that wait the first
-/// is ready.
+/// Gives its links in order, each at once, and fails at the calls that it is told to. Of those that
+/// wait the first is ready.
 #[derive(Debug, Drop)]
 pub struct MemWorld {
     lobby: Lobby<MemLink>,
@@ -26,20 +26,20 @@ impl Model for MemWorld {
     ghost Value = { MemWorldState };
 
     ghost use Rattle.std.specs.List.{AllByRecursion};
-    ghost use Rattle.sws_link.specs.MemWorlds.{IsFreshMemLink};
+    ghost use Rattle.sws_link.specs.MemWorlds.{IsInitialMemLink};
 
     ghost view = { λ world. record { lobby = world.lobby; calls = world.calls } };
 
-    ghost invariant = { λ world. AllByRecursion IsFreshMemLink world.lobby.links };
+    ghost invariant = { λ world. AllByRecursion IsInitialMemLink world.lobby.links };
 }
 
 impl MemWorld {
-    /// A world of these links, which gives all of them until it is opened for fewer. Its calls `open`, `poll` and
-    /// `accept` of the numbers `failing`, counted from 1, are to fail.
+    /// A world of these links, which gives all of them until it is opened for fewer. Its calls
+    /// `open`, `poll` and `accept` of the numbers `failing`, counted from 1, are to fail.
     pub fn new(links: Vec<MemLink>, failing: Vec<u32>) -> MemWorld
         requires few { length links.items ≤ 65535 }
-        requires fresh { AllByRecursion IsFreshMemLink links.items }
-        ensures lobby { result.lobby ≡ fresh_lobby links.items }
+        requires initial { AllByRecursion IsInitialMemLink links.items }
+        ensures lobby { result.lobby ≡ initial_lobby links.items }
         ensures calls { result.calls ≡ no_calls failing.items }
     {
         MemWorld {

@@ -8,7 +8,8 @@ ghost use Rattle.sws_link.specs.ScriptReader.{size_of, Plays, GivesPiece};
 use crate::{LinkItem, LinkRead};
 use std::marker::Model;
 
-/// Items that are given in order. A contract sees the bytes that were taken, and the items that are left.
+/// Items that are given in order. A contract sees the bytes that were taken, and
+/// the items that are left.
 #[derive(Debug, Drop)]
 pub struct ScriptReader {
     items: Vec<LinkItem>,
@@ -68,7 +69,8 @@ impl ScriptReader {
     }
 }
 
-/// What an item answers of which so much is used up, and how much is used up then; `None` where nothing is left of it.
+/// What an item answers of which so much is used up, and how much is used up then; `None`
+/// where nothing is left of it.
 fn play(item: &LinkItem, used: usize, into: &mut [u8]) -> Option<(LinkRead, usize)>
     requires used { used ≤ size_of (item_of item.now) }
     requires room { 0 < length into.old }

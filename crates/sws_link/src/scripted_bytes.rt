@@ -3,14 +3,15 @@ ghost use Rattle.std.specs.Prelude.{◌≡◌, ◌<◌, ◌≤◌, length, map};
 ghost use Rattle.sws_link.specs.Scripts.{left_of_limit, within, read_of};
 ghost use Rattle.sws_link.specs.Links.{IsReadWithin, IsWriteWithin, given_by};
 ghost use Rattle.sws_link.specs.LinkItems.{item_of};
-ghost use Rattle.sws_link.specs.MemLinks.{fresh_bytes, bytes_after_read, MayAnswer, bytes_after_write};
+ghost use Rattle.sws_link.specs.MemLinks.{initial_bytes, bytes_after_read, MayAnswer, bytes_after_write};
 
 use crate::script_reader::ScriptReader;
 use crate::{LinkItem, LinkRead, LinkWrite};
 use std::alloc::Global;
 use std::marker::Model;
 
-/// Items that are read, and bytes that are kept, at most `step` in one write and at most `cut` in all.
+/// Items that are read, and bytes that are kept, at most `step` in one write
+/// and at most `cut` in all.
 #[derive(Debug, Drop)]
 pub struct ScriptedBytes {
     input: ScriptReader,
@@ -37,7 +38,7 @@ impl ScriptedBytes {
         step: Option<u32>,
         cut: Option<u64>,
     ) -> ScriptedBytes
-        ensures { result ≡ fresh_bytes (map item_of items.items) step cut }
+        ensures { result ≡ initial_bytes (map item_of items.items) step cut }
     {
         ScriptedBytes {
             input: ScriptReader::new(items),

@@ -4,14 +4,14 @@ ghost use Rattle.std.specs.List.{AllByRecursion};
 ghost use Rattle.sws_link.specs.Counts.{kept_count, no_faults};
 ghost use Rattle.sws_link.specs.MemLinks.{sure_link_tells};
 ghost use Rattle.sws_link.specs.Worlds.{first_ready, Listens, Polls, Accepts};
-ghost use Rattle.sws_link.specs.MemWorlds.{fresh_lobby, lobby_after_open, IsFreshSureLink, sure_world_tells, Gives};
+ghost use Rattle.sws_link.specs.MemWorlds.{initial_lobby, lobby_after_open, IsInitialSureLink, sure_world_tells, Gives};
 
 use crate::lobby::Lobby;
 use crate::{Accepted, Opened, Polled, SureLink, World};
 use std::marker::Model;
 
-/// Gives its links in order, each at once. Of those that wait the first is ready. A contract sees it as the links
-/// that are left, with how many are given in all.
+/// Gives its links in order, each at once. Of those that wait the first is ready. A contract sees
+/// it as the links that are left, with how many are given in all.
 #[derive(Debug, Drop)]
 pub struct SureWorld {
     lobby: Lobby<SureLink>,
@@ -24,19 +24,19 @@ impl Model for SureWorld {
     ghost Value = { LobbyState SureLinkState };
 
     ghost use Rattle.std.specs.List.{AllByRecursion};
-    ghost use Rattle.sws_link.specs.MemWorlds.{IsFreshSureLink};
+    ghost use Rattle.sws_link.specs.MemWorlds.{IsInitialSureLink};
 
     ghost view = { λ world. world.lobby };
 
-    ghost invariant = { λ world. AllByRecursion IsFreshSureLink world.lobby.links };
+    ghost invariant = { λ world. AllByRecursion IsInitialSureLink world.lobby.links };
 }
 
 impl SureWorld {
     /// A world of these links, which gives all of them until it is opened for fewer.
     pub fn new(links: Vec<SureLink>) -> SureWorld
         requires few { length links.items ≤ 65535 }
-        requires fresh { AllByRecursion IsFreshSureLink links.items }
-        ensures { result ≡ fresh_lobby links.items }
+        requires initial { AllByRecursion IsInitialSureLink links.items }
+        ensures { result ≡ initial_lobby links.items }
     {
         SureWorld {
             lobby: Lobby::new(links),

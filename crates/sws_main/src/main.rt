@@ -1,6 +1,8 @@
-//! The command `sws`: `answer`, `replay`, `serve`, `bench` and `check`, as [`sws_command`] lists them.
+//! The command `sws`: `answer`, `replay`, `serve`, `bench` and `check`, as
+//! [`sws_command`] lists them.
 //!
-//! The program is [`sws_command::command`]: the top call on the machine's folder, standard input, standard output and sockets.
+//! The program is [`sws_command::command`]: the top call on the machine's folder, standard input,
+//! standard output and sockets.
 #![tactic(auto)]
 
 use std::process::ExitCode;

@@ -1,2 +1,2 @@
-pub mod Fresh
+pub mod Initial
 pub mod Invariant

@@ -2,6 +2,26 @@
 
 use std::io::{self, ErrorKind};
 
+// The numbers that the C library on Linux gives errors (the manual's page `errno(3)`).
+
+const ENOMEM: i32 = 12;
+
+const ENFILE: i32 = 23;
+
+const EMFILE: i32 = 24;
+
+const ENONET: i32 = 64;
+
+const EPROTO: i32 = 71;
+
+const ENOPROTOOPT: i32 = 92;
+
+const EOPNOTSUPP: i32 = 95;
+
+const ENOBUFS: i32 = 105;
+
+const EHOSTDOWN: i32 = 112;
+
 /// Whether an allocation of this program was refused; every other error is one of the machine.
 pub fn is_want_of_memory(error: &io::Error) -> bool {
     error.kind() == ErrorKind::OutOfMemory && error.raw_os_error().is_none()
@@ -12,13 +32,16 @@ pub fn is_not_yet(error: &io::Error) -> bool {
     matches!(error.kind(), ErrorKind::WouldBlock | ErrorKind::Interrupted)
 }
 
-/// `ENFILE` and `EMFILE`, `ENOMEM` and `ENOBUFS`: the machine has no room for one more connection now.
+/// Whether the machine has no room for one more connection now.
 pub fn has_no_room(error: &io::Error) -> bool {
-    matches!(error.raw_os_error(), Some(23 | 24 | 12 | 105))
+    matches!(
+        error.raw_os_error(),
+        Some(ENFILE | EMFILE | ENOMEM | ENOBUFS)
+    )
 }
 
-/// The errors that a listening socket hands on from a connection that broke before it was accepted (the manual's page
-/// `accept(2)`), and a signal.
+/// The errors that a listening socket hands on from a connection that broke before it was accepted
+/// (the manual's page `accept(2)`), and a signal.
 pub fn is_of_one_connection(error: &io::Error) -> bool {
     matches!(
         error.kind(),
@@ -30,5 +53,8 @@ pub fn is_of_one_connection(error: &io::Error) -> bool {
             | ErrorKind::NetworkDown
             | ErrorKind::PermissionDenied
             | ErrorKind::TimedOut
-    ) || matches!(error.raw_os_error(), Some(71 | 92 | 95 | 64 | 112))
+    ) || matches!(
+        error.raw_os_error(),
+        Some(EPROTO | ENOPROTOOPT | EOPNOTSUPP | ENONET | EHOSTDOWN)
+    )
 }

@@ -8,7 +8,11 @@ use std::fs::File;
 use std::io::{self, Read};
 use sws_link::{Folder, Got, NextFile, Opened};
 
-/// Gives the regular files below a folder, of which nothing is known, and counts the machine's errors.
+/// The most bytes of a name that are copied.
+const NAME_ROOM: usize = 1024;
+
+/// Gives the regular files below a folder, of which nothing is known, and
+/// counts the machine's errors.
 #[derive(Drop)]
 pub struct FileFolder<'r> {
     rt: &'r HostRuntime,
@@ -30,8 +34,12 @@ impl<'r> FileFolder<'r> {
     }
 }
 
-/// Opens the next file, copies its name as far as there is room, and gives it with the length of its name.
-fn open_next(walk: &mut FileWalk<'_>, name: &mut [u8; 1024]) -> io::Result<Option<(File, usize)>> {
+/// Opens the next file, copies its name as far as there is room, and gives it
+/// with the length of its name.
+fn open_next(
+    walk: &mut FileWalk<'_>,
+    name: &mut [u8; NAME_ROOM],
+) -> io::Result<Option<(File, usize)>> {
     let Some(file) = walk.next_file()? else {
         return Ok(None);
     };
@@ -63,7 +71,7 @@ impl<'r> Folder for FileFolder<'r> {
         }
     }
 
-    fn next(&mut self, name: &mut [u8; 1024]) -> NextFile {
+    fn next(&mut self, name: &mut [u8; NAME_ROOM]) -> NextFile {
         self.file = None;
         let Some(walk) = &mut self.walk else {
             return NextFile::End;

@@ -25,7 +25,8 @@ impl Listed {
         }
     }
 
-    /// Opens it. Where something else has taken its place since it was listed, as a link, that is an error.
+    /// Opens it. Where something else has taken its place since it was listed, as
+    /// a link, that is an error.
     fn open(&self, rt: &HostRuntime) -> io::Result<File> {
         let file = fs::open(rt, self.entry.path())?;
         let opened = file.metadata()?;
@@ -38,8 +39,8 @@ impl Listed {
 
 /// A folder on the way to where the walk is.
 ///
-/// It is held open, and the paths of its entries go by its descriptor: whatever takes the place of a folder on the way, what
-/// is opened lies in this one.
+/// It is held open, and the paths of its entries go by its descriptor: whatever takes the place of
+/// a folder on the way, what is opened lies in this one.
 #[derive(Drop)]
 struct Level {
     _folder: File,
@@ -67,10 +68,12 @@ impl Level {
     }
 }
 
-/// Gives the regular files below a folder one after another, in the order in which the machine lists them.
+/// Gives the regular files below a folder one after another, in the order in
+/// which the machine lists them.
 ///
-/// Links are not followed, but for the folder itself. A folder that lies more than 32 deep is an error, as is a name that is
-/// not UTF-8, and an entry in whose place another file stands when it is opened.
+/// Links are not followed, but for the folder itself. A folder that lies more than 32 deep
+/// is an error, as is a name that is not UTF-8, and an entry in whose place another file
+/// stands when it is opened.
 #[derive(Drop)]
 pub struct FileWalk<'r> {
     rt: &'r HostRuntime,
@@ -95,6 +98,7 @@ impl<'r> FileWalk<'r> {
 
     /// Opens the next regular file, if there is one. [`FileWalk::name`] is then its name.
     pub fn next_file(&mut self) -> io::Result<Option<File>> {
+        // No walk takes as many steps; the bound shows that the loop ends.
         for _ in 0..u64::MAX {
             let Some(level) = self.levels.last_mut() else {
                 return Ok(None);

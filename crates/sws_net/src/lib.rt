@@ -1,7 +1,8 @@
 //! The machine as the outside of the server: files, standard input and output, and TCP.
 //!
-//! Each type meets a trait of `sws_link` over an object of the machine. It tells nothing of contents, and counts
-//! the machine's errors. What a file, a terminal or a socket carries is believed, and no contract speaks of it.
+//! Each type meets a trait of `sws_link` over an object of the machine. It tells nothing of
+//! contents, and counts the machine's errors. What a file, a terminal or a socket carries is
+//! believed, and no contract speaks of it.
 //!
 //! | Type | Is | Over |
 //! |---|---|---|
@@ -14,9 +15,10 @@
 //! ```text
 //! let mut world = TcpWorld::new(&rt);
 //! world.open(8080, 2);                         // listens on 0.0.0.0:8080 for two connections
-//! match world.accept() {                       // none yet, or the next
-//!     Accepted::Link(link) => ..               // its reads and writes don't block
-//!     ..
+//! match world.accept() {
+//!     Accepted::Link(link) => links.push(link)?, // its reads and writes don't block
+//!     Accepted::NotYet => (),
+//!     Accepted::Failed => println!(rt; "the network failed")?,
 //! }
 //! world.poll(&[0]);                            // which of those that wait may be ready
 //! ```

@@ -4,10 +4,11 @@ use std::alloc::Global;
 use std::cell::RefCell;
 use std::io::{self, BufWriter, Write};
 
-/// A writer that collects small pieces, shared by the sink that writes to it and by the source that hands over what was
-/// collected before it waits for more input.
+/// A writer that collects small pieces, shared by the sink that writes to it and by the source that
+/// hands over what was collected before it waits for more input.
 ///
-/// The head and the body of a response are two pieces, so most responses leave the program in one call of the machine.
+/// The head and the body of a response are two pieces, so most responses leave the program in
+/// one call of the machine.
 #[derive(Drop)]
 pub struct Output<W: Write + Drop> {
     collected: RefCell<Collected<W>>,
@@ -16,7 +17,8 @@ pub struct Output<W: Write + Drop> {
 #[derive(Drop)]
 struct Collected<W: Write + Drop> {
     writer: BufWriter<W>,
-    /// A write or a flush has failed. What was collected then is lost, so nothing is written after it.
+    /// A write or a flush has failed. What was collected then is lost, so
+    /// nothing is written after it.
     has_failed: bool,
 }
 

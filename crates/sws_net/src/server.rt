@@ -1,6 +1,6 @@
 //! The socket that listens, and all that waits.
 ghost use Rattle.std.specs.Prelude.{IfOk, IfSome, Contains};
-ghost use Rattle.sws_net.specs.Fresh.{IsUntouched, IsNew};
+ghost use Rattle.sws_net.specs.Initial.{IsInitialTcpLink, IsInitialIfCame};
 
 use crate::errors::{has_no_room, is_of_one_connection};
 use crate::lobby::Lobby;
@@ -20,24 +20,24 @@ const TICK: u64 = 250;
 const EVENTS: usize = 256;
 
 /// The place of the listener among the events; link `i` has place `i + 1`.
-const LISTENER: Token = Token(0);
+const LISTENER: usize = 0;
 
 /// What became of a call that was to give a connection.
 pub enum Came {
-    /// This one.
+    /// A connection came, and this is its link.
     Link(TcpLink),
 
-    /// None now.
+    /// None came for now: a later call may give one.
     NotYet,
 
-    /// The machine failed.
+    /// The machine failed, and not over one connection alone.
     Failed,
 }
 
 /// The listener, the links' signs of life, and what waits for both.
 ///
-/// All sockets are registered once, for both directions and edge-triggered, so no event costs a further call of the
-/// system.
+/// All sockets are registered once, for both directions and edge-triggered, so no event costs a
+/// further call of the system.
 #[derive(Drop)]
 pub struct Server {
     alloc: Global,
@@ -78,7 +78,7 @@ impl Server {
         let poll = Poll::new(rt)?;
         let mut listener = TcpListener::bind(rt, address)?;
         poll.registry()
-            .register(&mut listener, LISTENER, Interest::READABLE)?;
+            .register(&mut listener, Token(LISTENER), Interest::READABLE)?;
         Ok(Server {
             alloc,
             poll,
@@ -93,8 +93,9 @@ impl Server {
         })
     }
 
-    /// Which of those that wait may be ready. Where none showed it, the machine is asked; that waits for a moment where each
-    /// link that is there waits and no connection may be waiting to be accepted, and else not at all.
+    /// Which of those that wait may be ready. Where none showed it, the machine is asked; that
+    /// waits for a moment where each link that is there waits and no connection may be waiting to
+    /// be accepted, and else not at all.
     pub fn look(
         &mut self,
         rt: &HostRuntime,
@@ -138,7 +139,7 @@ impl Server {
         for event in &self.events {
             is_nothing = false;
             let Token(place) = event.token();
-            if place == 0 {
+            if place == LISTENER {
                 self.may_accept = true;
             } else {
                 self.signs.note(place - 1, self.now);
@@ -150,9 +151,10 @@ impl Server {
         is_nothing
     }
 
-    /// The next connection, as the link of this number. One that can't be set up is closed and isn't counted.
+    /// The next connection, as the link of this number. One that can't be set up is
+    /// closed and isn't counted.
     pub fn next(&mut self, number: u16) -> Came
-        ensures { IsNew result }
+        ensures { IsInitialIfCame result }
     {
         if !self.may_accept {
             return Came::NotYet;
@@ -166,9 +168,10 @@ impl Server {
         }
     }
 
-    /// What it means that no connection was accepted.
+    /// What an error of an accept means: that none waits, that the machine has no room for one now,
+    /// that the one that came is gone already, or that the machine failed.
     fn none_came(&mut self, error: &io::Error) -> Came
-        ensures { IsNew result }
+        ensures { IsInitialIfCame result }
     {
         if error.kind() == ErrorKind::WouldBlock {
             self.may_accept = false;
@@ -187,7 +190,7 @@ impl Server {
 
     /// A connection that was accepted, as a link of this number.
     fn admit(&mut self, mut stream: TcpStream, number: u16) -> io::Result<TcpLink>
-        ensures { IfOk result (λ link. IsUntouched link) }
+        ensures { IfOk result (λ link. IsInitialTcpLink link) }
     {
         stream.set_nodelay(true)?;
         let presence = self.lobby.enter(number)?;

@@ -3,9 +3,9 @@ ghost use Rattle.std.specs.Prelude.{IfOk, IfSome, Contains};
 
 use std::alloc::{AllocError, Global};
 
-/// After so many milliseconds without a sign a link that waits counts as ready, so that one whose peer says nothing
-/// comes to its end.
-const REST: u64 = 1000;
+/// After so many milliseconds without a sign a link that waits counts as ready, so that one whose
+/// peer says nothing comes to its end.
+const SILENCE: u64 = 1000;
 
 /// What is known of a link.
 #[derive(Clone, Copy)]
@@ -65,12 +65,12 @@ impl Signs {
         None
     }
 
-    /// Those that wait and have shown nothing for long count as ready. Each is counted from its own last sign, so that
-    /// one that stays idle comes to its end beside others that don't.
+    /// Those that wait and have shown nothing for long count as ready. Each is counted from its own
+    /// last sign, so that one that stays idle comes to its end beside others that don't.
     pub fn sweep(&mut self, waiting: &[u16], now: u64) {
         for conn in waiting {
             if let Some(sign) = self.signs.get_mut(*conn as usize) {
-                if now.saturating_sub(sign.seen) >= REST {
+                if now.saturating_sub(sign.seen) >= SILENCE {
                     sign.is_ready = true;
                     sign.seen = now;
                 }

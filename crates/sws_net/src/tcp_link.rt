@@ -1,7 +1,7 @@
 //! A connection over TCP.
 ghost use Rattle.std.specs.Prelude.{◌≡◌, ◌≤◌, None, not, is_some, IfOk, length};
 ghost use Rattle.sws_link.specs.Counts.{kept_count};
-ghost use Rattle.sws_net.specs.Fresh.{IsUntouched};
+ghost use Rattle.sws_net.specs.Initial.{IsInitialTcpLink};
 
 use crate::errors::is_not_yet;
 use crate::kept::Kept;
@@ -29,22 +29,27 @@ struct Socket {
     presence: Presence,
 }
 
-/// A link over a socket, of whose bytes nothing is known; it counts the machine's errors, but for those of its shutting.
+/// A link over a socket, of whose bytes nothing is known; it counts the machine's errors, but
+/// for those of its shutting.
 ///
-/// **Heads go with their bodies.** A small piece that begins a response is kept back, and goes to the machine with
-/// the piece behind it, by one call. It goes alone where a read or the end comes instead. What is kept back
-/// counts as written. Of the piece behind it, only what the machine took does.
+/// **Heads go with their bodies.** A small piece that begins a response is kept back, and
+/// goes to the machine with the piece behind it, by one call. It goes alone where a read or
+/// the end comes instead. What is kept back counts as written. Of the piece behind it, only
+/// what the machine took does.
 ///
-/// **A read that came up short isn't tried again at once.** Where the machine gave fewer bytes than there was room
-/// for, it had no more, so that the next read is answered without asking it. No wake-up is lost by this: the socket
-/// is registered edge-triggered, so what comes after that short read is a new edge, which the world reports and
-/// remembers until this link waits. Only the end of the input may have come together with those last bytes. Then
-/// there is no new edge; but then the edge that brought them said so too. If the world has seen that edge, the lobby
-/// says that the peer has hung up, and the machine is asked. If it has not, it is still to see it, and wakes this link.
+/// **A read that came up short isn't tried again at once.** Where the machine gave fewer bytes
+/// than there was room for, it had no more, so that the next read is answered without asking it.
+/// No wake-up is lost by this: the socket is registered edge-triggered, so what comes after that
+/// short read is a new edge, which the world reports and remembers until this link waits. Only
+/// the end of the input may have come together with those last bytes. Then there is no new edge;
+/// but then the edge that brought them said so too. If the world has seen that edge, the lobby
+/// says that the peer has hung up, and the machine is asked. If it has not, it is still to see
+/// it, and wakes this link.
 ///
-/// **The last answer isn't lost.** Shutting hands over what is kept, says that no more comes, and takes a little of what
-/// the peer still sent: a machine drops what it has for a peer with a connection that is closed over bytes that
-/// nobody took. Then the socket is closed, though the link lives on.
+/// **The last answer isn't lost.** Shutting hands over what is kept, says that no more comes,
+/// and takes a little of what the peer still sent: a machine drops what it has for a peer
+/// with a connection that is closed over bytes that nobody took. Then the socket is closed,
+/// though the link lives on.
 #[derive(Drop)]
 pub struct TcpLink {
     socket: Option<Socket>,
@@ -97,7 +102,8 @@ fn read_from(
     Ok(count)
 }
 
-/// Hands over a piece, with what is kept before it; or keeps it, where it is small and begins a response.
+/// Hands over a piece, with what is kept before it; or keeps it, where it is
+/// small and begins a response.
 fn write_to(socket: &Socket, kept: &mut Kept, in_piece: bool, piece: &[u8]) -> io::Result<usize>
     ensures { IfOk result (λ count. count ≤ length piece.now) }
 {
@@ -150,7 +156,7 @@ fn finish(socket: Socket, kept: &Kept, has_ended: bool) -> io::Result<()> {
 impl TcpLink {
     /// A link over a socket that doesn't block.
     pub(crate) fn new(alloc: Global, stream: TcpStream, presence: Presence) -> TcpLink
-        ensures { IsUntouched result }
+        ensures { IsInitialTcpLink result }
     {
         TcpLink {
             socket: Some(Socket { stream, presence }),

@@ -5,15 +5,17 @@ ghost use Rattle.sws_link.specs.Counts.{kept_count};
 use crate::errors::is_want_of_memory;
 use crate::server::{Came, Server};
 use crate::tcp_link::TcpLink;
-use std::io::{self, ErrorKind};
+use std::io;
 use sws_link::{Accepted, Opened, Polled, World};
 
 /// Gives the connections to a port of the machine as links; of what they bring nothing is known.
 ///
-/// It counts the errors of the machine, and how often it had nobody to name, though somebody waited, or nothing to give.
+/// It counts the errors of the machine, and how often it had nobody to name, though somebody
+/// waited, or nothing to give.
 ///
-/// `poll` waits where each link that is there waits, for a quarter of a second at most, and looks without waiting else,
-/// so that a link that waits holds up no other. A link that has shown nothing for a second counts as ready.
+/// `poll` waits where each link that is there waits, for a quarter of a second at most, and looks
+/// without waiting else, so that a link that waits holds up no other. A link that has shown nothing
+/// for a second counts as ready.
 #[derive(Drop)]
 pub struct TcpWorld<'r> {
     rt: &'r HostRuntime,
@@ -29,10 +31,7 @@ pub struct TcpWorld<'r> {
 /// Listens at the port for so many links.
 fn open_server(rt: &HostRuntime, port: u16, total: u16) -> io::Result<Box<Server>> {
     let server = Server::new(rt, port, total)?;
-    match Box::new(rt.alloc(), server) {
-        Ok(server) => Ok(server),
-        Err(_) => Err(io::Error::from(ErrorKind::OutOfMemory)),
-    }
+    Ok(Box::new(rt.alloc(), server)?)
 }
 
 impl<'r> TcpWorld<'r> {

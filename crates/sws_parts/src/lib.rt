@@ -1,9 +1,10 @@
 //! The bytes of a response that are still to be sent.
 //!
-//! A response is a head and a body. The body is kept by somebody else, as a site keeps the files that it sends, and so is a
-//! head that was built beforehand; a head that has numbers of the request in it is an [`OwnHead`], which lies in the value.
-//! [`Parts`] is a cursor over both. It never copies a byte of a body or of a lent head, and takes no memory. It is for whoever
-//! writes to a connection that takes as many bytes at a time as it likes.
+//! A response is a head and a body. The body is kept by somebody else, as a site keeps the files
+//! that it sends, and so is a head that was built beforehand; a head that has numbers of the
+//! request in it is an [`OwnHead`], which lies in the value. [`Parts`] is a cursor over both. It
+//! never copies a byte of a body or of a lent head, and takes no memory. It is for whoever writes
+//! to a connection that takes as many bytes at a time as it likes.
 //!
 //! ```text
 //! let mut parts = Parts::new(head, body);
@@ -25,7 +26,8 @@ mod tests;
 pub use own_heads::{MAX_OWN_HEAD, OwnHead};
 use std::marker::Model;
 
-/// The head of a response: lent, as far as it wasn't sent, or its own, with the number of bytes that were sent.
+/// The head of a response: lent, as far as it wasn't sent, or its own, with the number
+/// of bytes that were sent.
 #[derive(Drop)]
 enum Head<'s> {
     Lent(&'s [u8]),
@@ -54,7 +56,8 @@ impl Head<'_> {
         match self {
             Head::Lent(head) => *head = &head[count..],
             Head::Own(head, sent) => {
-                // A head of its own is short, so the sum is small.
+                // Read for contracts: by what its type keeps a head of its own is short,
+                // so the sum doesn't wrap.
                 let _short = head.bytes();
                 *sent += count;
             }
@@ -104,7 +107,8 @@ impl<'s> Parts<'s> {
         }
     }
 
-    /// The bytes to be sent next: the rest of the head or, where that is empty, the rest of the body.
+    /// The bytes to be sent next: the rest of the head or, where that is
+    /// empty, the rest of the body.
     ///
     /// It is empty only where nothing is left at all.
     pub fn front(&self) -> &[u8]

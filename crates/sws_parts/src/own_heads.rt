@@ -10,8 +10,8 @@ pub const MAX_OWN_HEAD: usize = 256;
 
 /// A head of at most [`MAX_OWN_HEAD`] bytes, which lies in the value itself.
 ///
-/// It is for a response whose head can't be built beforehand, as it has numbers in it that the request chose. It takes no
-/// memory.
+/// It is for a response whose head can't be built beforehand, as it has numbers in it that the
+/// request chose. It takes no memory.
 #[derive(Drop)]
 pub struct OwnHead {
     bytes: ArrayVec<u8, MAX_OWN_HEAD>,

@@ -27,12 +27,12 @@ use Rattle.sws_engine.specs.ThreadsLeave.{IsUnkept, ThreadsLeave}
 use Rattle.sws_engine.specs.declared.ended.Ended.{Ended}
 use Rattle.sws_engine.specs.declared.ended.Served.{Served}
 use Rattle.sws_engine.specs.declared.ended.Verdict.TheVariants as verdict
-use Rattle.sws_link.specs.Links.{LinkTells}
+use Rattle.sws_link.specs.Links.{LinkContents}
 use Rattle.sws_link.specs.MemLinks.{bytes_tell, mem_link_tells}
 use Rattle.sws_link.specs.MemLink.{MemLinkState}
 use Rattle.sws_link.specs.MemWorld.{MemWorldState}
 use Rattle.sws_link.specs.Scripts.{Script}
-use Rattle.sws_link.specs.Worlds.{Coming, WorldTells, fresh_tells}
+use Rattle.sws_link.specs.Worlds.{Coming, WorldContents, initial_contents}
 use Rattle.sws_link.specs.declared.Link.{Ghosts as LinkWords}
 use Rattle.sws_link.specs.declared.world.World.{Ghosts as WorldWords}
 use Rattle.sws_script.specs.Scripted.{coming_of, script_of, told_of}
@@ -54,28 +54,28 @@ some_of (Some a) some = (a, refl)
 
 module _ {T G : Type 0} (x : WorldWords MemWorldState MemLinkState) (l : LinkWords MemLinkState) (y : TalkWords T MemLinkState G SiteState) (site : SiteState) (first : MemWorldState) (conns : List ScriptConn)
     (told : x.tells first ≡ told_of conns) (link_told : (link : MemLinkState) → l.tells link ≡ mem_link_tells link) (outcome_is : (script : Script) → y.outcome site script ≡ outcome_of site script) where
-  tells_is : (link : MemLinkState) (tells : LinkTells) → l.tells link ≡ Some tells → tells ≡ bytes_tell link.calls.failing link.bytes
+  tells_is : (link : MemLinkState) (tells : LinkContents) → l.tells link ≡ Some tells → tells ≡ bytes_tell link.calls.failing link.bytes
   tells_is link tells is = same_Some tells (bytes_tell link.calls.failing link.bytes) (sym is ∙ link_told link)
 
   -- the link came with the input of its connection
-  came : (i : ℕ) (conn : ScriptConn) (begun : MemLinkState) → slice_get conns i ≡ Some conn → LinkStands x l first i begun → l.tells begun ≡ Some (fresh_tells (coming_of conn))
+  came : (i : ℕ) (conn : ScriptConn) (begun : MemLinkState) → slice_get conns i ≡ Some conn → LinkStands x l first i begun → l.tells begun ≡ Some (initial_contents (coming_of conn))
   came i conn begun at stands =
-      let coming : IsComing (Some (map coming_of conns)) i (l.tells begun) = subst (λ (t : WorldTells). IsComing t.coming i (l.tells begun)) told stands.coming in
+      let coming : IsComing (Some (map coming_of conns)) i (l.tells begun) = subst (λ (t : WorldContents). IsComing t.coming i (l.tells begun)) told stands.coming in
       let same : coming.0 ≡ coming_of conn = same_Some coming.0 (coming_of conn) (sym coming.1 ∙ map_at coming_of conns i conn at) in
-      coming.2 ∙ ap (λ (c : Coming). Some (fresh_tells c)) same
+      coming.2 ∙ ap (λ (c : Coming). Some (initial_contents c)) same
 
   -- what was taken and written of it, by the counts
   served_link : (i : ℕ) (conn : ScriptConn) (link : MemLinkState) (view : TalkView) → slice_get conns i ≡ Some conn → LinkLeft x l y site first i (Some link) view
-      → ServesLink (y.responses site) (fresh_tells (coming_of conn)) (bytes_tell link.calls.failing link.bytes) view
+      → ServesLink (y.responses site) (initial_contents (coming_of conn)) (bytes_tell link.calls.failing link.bytes) view
   served_link i conn link view at left =
-      let serves : ServesTold (y.responses site) (Some (fresh_tells (coming_of conn))) (l.tells link) view =
-      subst (λ (t : Option LinkTells). ServesTold (y.responses site) t (l.tells link) view) (came i conn left.0 at left.1) left.2.told in
-      subst (λ (t : LinkTells). ServesLink (y.responses site) (fresh_tells (coming_of conn)) t view) (tells_is link serves.0 serves.1) serves.2
+      let serves : ServesTold (y.responses site) (Some (initial_contents (coming_of conn))) (l.tells link) view =
+      subst (λ (t : Option LinkContents). ServesTold (y.responses site) t (l.tells link) view) (came i conn left.0 at left.1) left.2.told in
+      subst (λ (t : LinkContents). ServesLink (y.responses site) (initial_contents (coming_of conn)) t view) (tells_is link serves.0 serves.1) serves.2
 
   not_memory : (end : End) → is_out_of_memory (Some end) ≡ false → end ≢ Memory
   not_memory end enough same = true≢false (ap (λ (e : End). is_out_of_memory (Some e)) (sym same) ∙ enough)
 
-  pub served_alone : (i : ℕ) (conn : ScriptConn) (s : Served MemLinkState) (trail : List Event) → slice_get conns i ≡ Some conn → ConnLeft x l y site first i trail s → ConnFollows l y site i (script_of conn) trail s
+  served_alone : (i : ℕ) (conn : ScriptConn) (s : Served MemLinkState) (trail : List Event) → slice_get conns i ≡ Some conn → ConnLeft x l y site first i trail s → ConnFollows l y site i (script_of conn) trail s
       → is_out_of_memory s.end ≡ false → IsServedAlone site conn s
   served_alone i conn s trail at left follows enough =
       let view : TalkView = y.view_of left.seat.talk in
@@ -87,7 +87,7 @@ module _ {T G : Type 0} (x : WorldWords MemWorldState MemLinkState) (l : LinkWor
         there = follows.there;
         end = end_is;
         fine = not_memory (alone site conn).end (ap (λ (e : Option End). is_out_of_memory e) (sym end_is) ∙ enough);
-        bytes = ap (λ (t : LinkTells). t.written) (sym (tells_is link follows.tells follows.told)) ∙ follows.bytes ∙ ap (λ (o : Outcome). o.bytes) (outcome_is (script_of conn));
+        bytes = ap (λ (t : LinkContents). t.written) (sym (tells_is link follows.tells follows.told)) ∙ follows.bytes ∙ ap (λ (o : Outcome). o.bytes) (outcome_is (script_of conn));
         written = left.written ∙ serves.written (inr refl);
         few_written = left.few_written;
         read = left.read ∙ serves.read;
@@ -104,7 +104,7 @@ module _ {T G : Type 0} (x : WorldWords MemWorldState MemLinkState) (l : LinkWor
     (follows : (coming : List Coming) (one : Coming) (script : Script) (i : ℕ) (s : Served MemLinkState) (trail : List Event) → (x.tells first).coming ≡ Some coming → slice_get coming i ≡ Some one → one.answers ≡ Some script
     → slice_get ended.served.items i ≡ Some s → slice_get (map (λ t. t.items) ended.trails.items) (i + 2) ≡ Some trail → ConnFollows l y site i script trail s) where
   total_is : (x.tells first).total ≡ length conns
-  total_is = ap (λ (t : WorldTells). t.total) told
+  total_is = ap (λ (t : WorldContents). t.total) told
 
   trail_at : (i : ℕ) → i < length conns → (trail : List Event) × (slice_get (map (λ t. t.items) ended.trails.items) (i + 2) ≡ Some trail)
   trail_at i low =
@@ -116,9 +116,9 @@ module _ {T G : Type 0} (x : WorldWords MemWorldState MemLinkState) (l : LinkWor
 
   followed : (i : ℕ) (conn : ScriptConn) (s : Served MemLinkState) (trail : List Event) → slice_get conns i ≡ Some conn → slice_get ended.served.items i ≡ Some s → slice_get (map (λ t. t.items) ended.trails.items) (i + 2) ≡ Some trail
       → ConnFollows l y site i (script_of conn) trail s
-  followed i conn s trail at there ran = follows (map coming_of conns) (coming_of conn) (script_of conn) i s trail (ap (λ (t : WorldTells). t.coming) told) (map_at coming_of conns i conn at) refl there ran
+  followed i conn s trail at there ran = follows (map coming_of conns) (coming_of conn) (script_of conn) i s trail (ap (λ (t : WorldContents). t.coming) told) (map_at coming_of conns i conn at) refl there ran
 
-  pub serves_all : ServesAll site conns ended
+  serves_all : ServesAll site conns ended
   serves_all = record {
     well = well;
     many = many_served ∙ total_is;
@@ -128,7 +128,7 @@ module _ {T G : Type 0} (x : WorldWords MemWorldState MemLinkState) (l : LinkWor
   }
 
   -- what was run of a connection is its path
-  pub path_ran : (setup : Setup)
+  path_ran : (setup : Setup)
       → ((c : Colour) (history : List Entry) (trail : List Event) → slice_get (map (λ t. t.items) ended.trails.items) c.0 ≡ Some trail → slice_get (histories_of ended) (shard_of setup c) ≡ Some history → trail ≡ ran_of history c)
       → (i : ℕ) (conn : ScriptConn) (history : List Entry) → slice_get conns i ≡ Some conn → slice_get (histories_of ended) (shard_of setup (colour_for i)) ≡ Some history
       → ran_of history (colour_for i) ≡ map (event_for i) (path_of site (script_of conn))
@@ -154,7 +154,7 @@ run_well x l y site shape first conns ended run follow told link_told outcome_is
       served = record {
         setup = run.setup;
         rules = run.rules;
-        colours = run.colours ∙ ap (λ (t : WorldTells). t.total + 2) told;
+        colours = run.colours ∙ ap (λ (t : WorldContents). t.total + 2) told;
         shards = run.shards;
         legal = run.legal;
         drained = run.drained (λ same. ok≢memory (sym well ∙ same));
@@ -181,7 +181,7 @@ no_fault : (x : WorldWords MemWorldState MemLinkState) (l : LinkWords MemLinkSta
     → ((world : MemWorldState) → ended.world ≡ Some world → WorldStands x l first (record { world = world; accepted = ended.accepted; failed = ended.failed })) → ⊥
 no_fault x l first conns ended told some failed stands =
     let world = some_of ended.world some in
-    true≢false (sym failed ∙ (stands world.0 world.1).sure (subst (λ (t : WorldTells). IsTrue t.scripted) (sym told) refl))
+    true≢false (sym failed ∙ (stands world.0 world.1).sure (subst (λ (t : WorldContents). IsTrue t.scripted) (sym told) refl))
 
 world≢memory : verdict.World ≢ verdict.Memory
 world≢memory same = cc

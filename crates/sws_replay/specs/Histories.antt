@@ -20,11 +20,13 @@ use Rattle.sws_site.specs.Site.{SiteState}
 abbrev pub colour_for : ℕ → Colour
 colour_for i = record { 0 = i + 2 }
 
--- the histories of a server of this shape that has served these connections: one for each shard, legal and drained, by which the events that were run of each connection are those of its path
+-- the histories of a server of this shape that has served these connections: one for each shard,
+-- legal and drained, by which the events that were run of each connection are those of its path
 pub record AreServed (site : SiteState) (shape : Shape) (conns : List ScriptConn)
     (histories : List (List Entry)) : Type 0 where
   pub setup : Setup
-  -- of the shape, with the server's handlers, its first colour pinned, and two colours more than connections
+  -- of the shape, with the server's handlers, its first colour pinned, and two
+  -- colours more than connections
   pub rules : rules_of setup ≡ server_rules shape
   pub colours : colours_of setup ≡ length conns + 2
   pub shards : length histories ≡ shape.shards

@@ -3,7 +3,8 @@ use Rattle.std.specs.Prelude.{ℕ, Bool, List}
 use Rattle.sws_script.specs.declared.input.ScriptConn.{ScriptConn}
 use Rattle.sws_script.specs.Inputs.{IsInput}
 
--- they are those of some input, whatever its schedule is: their numbers are within their ranges, and their items stand in order
+-- they are those of some input, whatever its schedule is: their numbers are within their ranges,
+-- and their items stand in order
 pub record AreOfInput (conns : List ScriptConn) : Type 0 where
   pub schedule : Bool
   pub cores : ℕ

@@ -16,14 +16,16 @@ use Rattle.sws_replay.specs.declared.fault.RunFault.TheVariants.{Write, Memory}
 use Rattle.sws_replay.specs.Histories.{AreServed}
 use Rattle.sws_replay.specs.Transcripts.{transcript_of}
 
--- the text of a replay, with its journal where that is asked for: behind the transcript, that of histories by which these connections were served
+-- the text of a replay, with its journal where that is asked for: behind the transcript, that of
+-- histories by which these connections were served
 abbrev pub IsReplay : SiteState → Shape → List ScriptConn → Bool → List ℕ → Type 0
 IsReplay site shape conns false text = text ≡ transcript_of site conns
 IsReplay site shape conns true text =
     (histories : List (List Entry)) × AreServed site shape conns histories
     × (text ≡ transcript_of site conns ++ journal histories)
 
--- the one text of a replay by a schedule: behind the transcript, the journal of the histories that the definition of a run gives
+-- the one text of a replay by a schedule: behind the transcript, the journal of the histories that
+-- the definition of a run gives
 abbrev pub IsScheduledReplay : SiteState → Shape → Input → List ℕ → Type 0
 IsScheduledReplay site shape input text =
     (histories : List (List Entry))
@@ -34,7 +36,9 @@ IsScheduledReplay site shape input text =
 abbrev pub Begins : (List ℕ → Type 0) → List ℕ → Type 0
 Begins IsText front = (text : List ℕ) × IsText text × IsPrefix front text
 
--- Behind what a sink had before: one of these texts, whole, where the call is Ok; a front of one where the sink failed; and where there was no memory, a front of one or, as where the run found none, nothing.
+-- Behind what a sink had before: one of these texts, whole, where the call is Ok; a front of
+-- one where the sink failed; and where there was no memory, a front of one or, as where the
+-- run found none, nothing.
 abbrev pub WritesBehind : {T : Type 0} → (List ℕ → Type 0) → List ℕ → List ℕ
     → Result T RunFault → Type 0
 WritesBehind IsText before now (Ok done) = (text : List ℕ) × IsText text × (now ≡ before ++ text)
@@ -43,7 +47,8 @@ WritesBehind IsText before now (Err Write) = (front : List ℕ) × Begins IsText
 WritesBehind IsText before now (Err Memory) = (front : List ℕ)
     × ((front ≡ []) ⊎ Begins IsText front) × (now ≡ before ++ front)
 
--- behind what a sink tells that it had before stands what `WritesBehind` says; a sink that tells nothing goes on telling nothing
+-- behind what a sink tells that it had before stands what `WritesBehind` says; a sink that tells
+-- nothing goes on telling nothing
 abbrev pub WritesOne : {T : Type 0} → (List ℕ → Type 0) → Option (List ℕ) → Option (List ℕ)
     → Result T RunFault → Type 0
 WritesOne IsText None now result = now ≡ None

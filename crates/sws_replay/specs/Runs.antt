@@ -25,7 +25,8 @@ pub record IsServedAlone (site : SiteState) (conn : ScriptConn)
   pub end : s.end ≡ Some (alone site conn).end
   pub fine : (alone site conn).end ≢ Memory
   pub bytes : link.bytes.written ≡ (alone site conn).bytes
-  -- the counts are those of what was written and taken, and what was taken and is left is all that its lines give
+  -- the counts are those of what was written and taken, and what was taken and is left
+  -- is all that its lines give
   pub written : s.written ≡ length link.bytes.written
   pub few_written : s.written < 2 ^ 40
   pub read : s.read ≡ length link.bytes.input.taken
@@ -33,7 +34,7 @@ pub record IsServedAlone (site : SiteState) (conn : ScriptConn)
   pub input : link.bytes.input.taken ++ all_bytes link.bytes.input.items
       ≡ all_bytes (script_of conn).items
 
--- the run went well: each connection was served as if it were alone
+-- the verdict is Ok, and each connection was served as if it were alone
 pub record ServesAll (site : SiteState) (conns : List ScriptConn)
     (ended : Ended MemWorldState MemLinkState) : Type 0 where
   pub well : ended.verdict ≡ verdict.Ok
@@ -45,7 +46,7 @@ pub record ServesAll (site : SiteState) (conns : List ScriptConn)
 abbrev pub histories_of : Ended MemWorldState MemLinkState → List (List Entry)
 histories_of ended = map (λ history. history.items) ended.histories.items
 
--- and the histories are those of a server that has served them
+-- the run went well, and its histories are those of a server that has served these connections
 pub record RunsWell (site : SiteState) (shape : Shape) (conns : List ScriptConn)
     (ended : Ended MemWorldState MemLinkState) : Type 0 where
   pub serves : ServesAll site conns ended

@@ -13,12 +13,12 @@ pub record IsShowable (s : Served MemLinkState) : Type 0 where
   pub is : s.end ≡ Some end
   pub fine : end ≢ Memory
 
--- what was written on a connection, if it was opened
+-- what was written on a connection's link, and nothing where it isn't there
 abbrev pub shown_bytes : Option MemLinkState → List ℕ
 shown_bytes None = []
 shown_bytes (Some link) = link.bytes.written
 
--- how a connection ended; well, where it has no end
+-- how a connection ended, and `Done` where it has no end
 abbrev pub shown_end : Option End → End
 shown_end None = Done
 shown_end (Some end) = end

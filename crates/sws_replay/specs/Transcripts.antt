@@ -1,4 +1,5 @@
--- The one-core transcript: what is printed of connections that are each served alone. No worker, event or order occurs in it.
+-- The one-core transcript: what is printed of connections that are each served alone. No worker,
+-- event or order occurs in it.
 use Rattle.std.specs.Prelude.{ℕ, List, map}
 use Rattle.sws_conn.specs.Outcome.{Outcome, outcome_of}
 use Rattle.sws_steps.specs.declared.End.{End}

@@ -1,20 +1,26 @@
 //! A script run over a site, and what is written of that run.
 //!
-//! [`replay`] serves the connections of a script on threads and writes their transcript, which is the same for every number of
-//! workers and shards: each connection is served as if it were alone. With the journal it writes the entries of each shard as well.
-//! [`replay_by_schedule`] runs the same connections on one thread, by a schedule that says which core makes a step, and writes the
-//! one text of that schedule ([`laws::a_schedule_has_one_text`]). [`run_script`] is the run alone, for whoever counts what it leaves.
+//! [`replay`] serves the connections of a script on threads and writes their transcript, which is
+//! the same for every number of workers and shards: each connection is served as if it were alone.
+//! With the journal it writes the entries of each shard as well. [`replay_by_schedule`] runs the
+//! same connections on one thread, by a schedule that says which core makes a step, and writes the
+//! one text of that schedule ([`laws::a_schedule_has_one_text`]). [`run_script`] is the run alone,
+//! for whoever counts what it leaves.
 //!
-//! Nothing is written before a run has ended well. A run on threads tests on what it left what no contract says of running threads:
-//! that each connection met its link and the events that were due. Where that test fails, the connections are run again by
-//! one thread, of which it is proved.
+//! Nothing is written before a run has ended well. A run on threads tests on what it left what no
+//! contract says of running threads: that each connection met its link and the events that were
+//! due. Where that test fails, the connections are run again by one thread, of which it is proved.
 //!
 //! ```text
 //! let input = parse(alloc, text, false, shape.cores)?;
 //! replay(&rt, alloc, &site, &shape, input.conns.as_slice(), false, &mut sink)?;
 //! // conn 0 done 79
 //! // | HTTP/1.1 200 OK~
-//! // ..
+//! // | Server: sws~
+//! // | Content-Type: text/html~
+//! // | Content-Length: 3~
+//! // | ~
+//! // | hi\n
 //! ```
 #![tactic(auto)]
 

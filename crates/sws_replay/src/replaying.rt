@@ -18,14 +18,16 @@ use sws_link::{Put, Sink};
 use sws_script::{Input, ScriptConn};
 use sws_site::Site;
 
-/// Serves the connections of a script out of a site, with a thread for each worker, and writes their transcript; where the journal
-/// is asked for, that of the shards' histories behind it. It need not return.
+/// Serves the connections of a script out of a site, with a thread for each worker, and
+/// writes their transcript; where the journal is asked for, that of the shards' histories
+/// behind it. It need not return.
 ///
 /// The transcript is the one-core transcript, whatever the shape is and however the threads run.
 ///
 /// # Errors
 ///
-/// - `Write` only where the sink failed in this call. Without it the sink's count of faults stands as it was.
+/// - `Write` only where the sink failed in this call. Without it the sink's count of
+///   faults stands as it was.
 /// - `Memory` where an allocation was refused.
 pub fn replay<R: Threads + Wait + Sync, O: Sink>(
     rt: &R,
@@ -51,16 +53,18 @@ pub fn replay<R: Threads + Wait + Sync, O: Sink>(
     }
 }
 
-/// Serves the connections of an input out of a site on one thread, by its schedule, and writes their transcript and behind it the
-/// journal of the shards' histories. It need not return.
+/// Serves the connections of an input out of a site on one thread, by its schedule, and writes
+/// their transcript and behind it the journal of the shards' histories. It need not return.
 ///
-/// The schedule leaves no choice: there is one text that may be written (see [`a_schedule_has_one_text`]).
+/// The schedule leaves no choice: there is one text that may be written (see
+/// [`a_schedule_has_one_text`]).
 ///
 /// [`a_schedule_has_one_text`]: crate::laws::a_schedule_has_one_text
 ///
 /// # Errors
 ///
-/// - `Write` only where the sink failed in this call. Without it the sink's count of faults stands as it was.
+/// - `Write` only where the sink failed in this call. Without it the sink's count of
+///   faults stands as it was.
 /// - `Memory` where an allocation was refused.
 pub fn replay_by_schedule<R: Wait, O: Sink>(
     rt: &R,

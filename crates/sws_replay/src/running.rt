@@ -19,8 +19,8 @@ use sws_link::MemWorld;
 use sws_script::{ScriptConn, script_world};
 use sws_site::Site;
 
-/// Serves the connections of a script out of a site, with a thread for each worker, and gives what the run leaves. It need not
-/// return.
+/// Serves the connections of a script out of a site, with a thread for each worker, and gives what
+/// the run leaves. It need not return.
 ///
 /// However the threads run, each connection is served as if it were alone.
 ///
@@ -45,14 +45,15 @@ pub fn run_script<R: Threads + Wait + Sync>(
     match ended.verdict {
         Verdict::Ok => Ok(ended),
         Verdict::Memory => Err(RunFault::Memory),
-        // What threads may miss is proved of a weave.
+        // That threads miss nothing isn't proved; of a run by steps, which takes their
+        // place where they did, it is.
         Verdict::Apart { .. } => run_steps(rt, alloc, site, shape, conns, &[]),
         Verdict::World => unreachable!(),
     }
 }
 
-/// Serves the connections of a script out of a site on one thread: the schedule's steps of each core, and then rounds of one step
-/// a core until nothing is left. It need not return.
+/// Serves the connections of a script out of a site on one thread: the schedule's steps of each
+/// core, and then rounds of one step a core until nothing is left. It need not return.
 ///
 /// # Errors
 ///

@@ -22,7 +22,7 @@ const SCRIPT: &[u8] =
 const THREE: &[u8] =
     b"conn 0 done 79\n| HTTP/1.1 200 OK~\n| Server: sws~\n| Content-Type: text/html~\n| Content-Length: 3~\n| ~\n| hi\\n\nconn 1 done 75\n| HTTP/1.1 200 OK~\n| Server: sws~\n| Content-Type: text/css~\n| Content-Length: 0~\n| ~\nconn 2 done 0\n";
 
-/// The worked schedule, before a connection without input, and the text of its run.
+/// A schedule by which core 1 steals the connection, which has no input; and the text of its run.
 const WORKED: &[u8] = b"sws-schedule 1\nstep 0 6\nstep 1 12\nend\nsws-script 1\nconn\n";
 
 const WORKED_TEXT: &[u8] =
@@ -132,7 +132,7 @@ fn a_run_leaves_what_was_served(rt: HostRuntime) {
     }
 }
 
-/// The text of an input by its schedule.
+/// The replay of a text by its schedule writes what is expected.
 fn scheduled(rt: &(impl AllocGlobal + Abort + Wait), text: &[u8], expected: &[u8]) {
     let input = read(rt, text, true, &TWO);
     let mut sink = SureSink::new(rt.alloc());
@@ -142,7 +142,7 @@ fn scheduled(rt: &(impl AllocGlobal + Abort + Wait), text: &[u8], expected: &[u8
 }
 
 #[test]
-fn a_schedule_has_one_text(rt: HostRuntime) {
+fn worked_schedules_write_their_texts(rt: HostRuntime) {
     scheduled(&rt, WORKED, WORKED_TEXT);
     scheduled(&rt, SHORT, SHORT_TEXT);
 }

@@ -7,7 +7,8 @@ use Rattle.sws_link.specs.Contents.{Puts}
 use Rattle.sws_link.proofs.ContentLemmas.{Puts-then, Puts-stop}
 use Rattle.sws_link.proofs.CountLemmas.{HasCause-as}
 
--- so far a front of the whole was written, and no write failed; behind it are the piece and what is left
+-- so far a front of the whole was written, and no write failed; behind it are
+-- the piece and what is left
 pub record Going (before now : Option (List ℕ)) (faults_before faults_now : Count) (piece left whole : List ℕ) : Type 0 where
   pub front : List ℕ
   pub puts : Puts before now Done front

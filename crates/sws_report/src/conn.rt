@@ -13,7 +13,8 @@ use sws_conn::End;
 use sws_link::{Put, Sink};
 use sws_text::ShownLines;
 
-/// Writes the transcript of a connection: its number, how it ended, how many bytes were written, and these.
+/// Writes the transcript of a connection: its number, how it ended, how many bytes
+/// were written, and these.
 ///
 /// The connection has ended otherwise than for want of memory.
 pub fn write_conn<O: Sink>(alloc: Global, sink: &mut O, number: u16, end: End, bytes: &[u8]) -> Put

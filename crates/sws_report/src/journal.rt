@@ -14,8 +14,8 @@ use mely_history::Entry;
 use std::alloc::{AllocError, Global};
 use sws_link::{Put, Sink};
 
-/// Writes the journal of the shards' histories, in their order: for each shard its number, how many entries its history
-/// has, and these.
+/// Writes the journal of the shards' histories, in their order: for each shard its number, how many
+/// entries its history has, and these.
 pub fn write_journal<O: Sink>(alloc: Global, sink: &mut O, histories: &[Vec<Entry>]) -> Put
     ensures text { Puts (O.written sink.old) (O.written sink.new) result
         (journal (map (λ history. history.items) histories.now)) }

@@ -34,7 +34,7 @@ pub fn write_summary<O: Sink>(
     }
 }
 
-/// The summary.
+/// The text of the summary, made whole before any of it is written.
 fn make_summary(alloc: Global, ends: &[End], read: u64, written: u64) -> Result<Vec<u8>, AllocError>
     ensures { IfOk result (λ text. text.items ≡ summary ends.now read written) }
 {
@@ -75,21 +75,21 @@ fn push_counted(text: &mut Vec<u8>, word: &[u8], number: u64) -> Result<(), Allo
     Ok(())
 }
 
-/// How many are done.
+/// How many connections were answered to their end.
 fn done(ends: &[End]) -> usize
     ensures { result ≡ count_by is_done ends.now }
 {
     ends.iter().filter(|end| matches!(end, End::Done)).count()
 }
 
-/// How many stayed unready.
+/// How many ended since their link was not ready too often in succession.
 fn idle(ends: &[End]) -> usize
     ensures { result ≡ count_by is_idle ends.now }
 {
     ends.iter().filter(|end| matches!(end, End::Idle)).count()
 }
 
-/// How many failed.
+/// How many ended since their link failed.
 fn faults(ends: &[End]) -> usize
     ensures { result ≡ count_by is_fault ends.now }
 {

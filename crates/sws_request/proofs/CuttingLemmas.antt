@@ -14,7 +14,8 @@ use Rattle.sws_request.specs.Scans.{whole_lines, has_other, rest_len, IsFound}
 use Rattle.sws_request.proofs.HeadLemmas.{IsNotFeed, EndsAt, NeverEnds}
 use Rattle.sws_request.proofs.LineLemmas.{is_empty-true, is_empty-line, lines_of-none, lines_of-line, rest_len-last, rest_len-line}
 
--- in the first start bytes, which are whole lines, the head has not ended: what the bytes say of it, the bytes behind them say
+-- in the first start bytes, which are whole lines, the head has not ended: what the bytes say of
+-- it, the bytes behind them say
 pub record IsScanned (bytes : List ℕ) (first : Bool) (start : ℕ) (begun : Bool) : Type 0 where
   pub within : start ≤ length bytes
   pub ends : rest_len first (lines_of bytes) ≡ option_map (λ len. start + len) (rest_len begun (lines_of (drop start bytes)))

@@ -76,8 +76,9 @@ abbrev pub Ends : Bool → List ℕ → Type 0
 Ends false bytes = IsHead bytes
 Ends true bytes = IsRestOfHead bytes
 
--- what ends a head has a first line: an empty one, which is the last where another has begun; or another, which begins
-pub data FirstLine (begun : Bool) (bytes : List ℕ) : Type 0 where
+-- what ends a head has a first line: an empty one, which is the last where another has begun;
+-- or another, which begins
+data FirstLine (begun : Bool) (bytes : List ℕ) : Type 0 where
   last : (line : List ℕ) → IsEmptyLine line → begun ≡ true → bytes ≡ line ++ [] → FirstLine begun bytes
   blank : (line rest : List ℕ) → IsEmptyLine line → begun ≡ false → IsHead rest → bytes ≡ line ++ rest → FirstLine begun bytes
   other : (line rest : List ℕ) → IsOtherLine line → IsRestOfHead rest → bytes ≡ line ++ rest → FirstLine begun bytes

@@ -28,7 +28,8 @@ up_to_empty [] = None
 up_to_empty (line ∷ lines) = if is_empty_line line then Some (line ∷ []) else option_map (λ later.
     line ∷ later) (up_to_empty lines)
 
--- the lines of the first head: any number of empty ones, then another, and then those up to and with the first empty one
+-- the lines of the first head: any number of empty ones, then another, and then those up to and
+-- with the first empty one
 unfoldable pub head_lines : List (List ℕ) → Option (List (List ℕ))
 head_lines [] = None
 head_lines (line ∷ lines) =

@@ -38,7 +38,8 @@ pub record IsRestOfHead (bytes : List ℕ) : Type 0 where
   pub last_line : IsEmptyLine last
   pub is : bytes ≡ join_lines others ++ last
 
--- any number of empty lines, then at least one other line, then other lines up to and with the first empty line
+-- any number of empty lines, then at least one other line, then other lines up to and
+-- with the first empty line
 pub record IsHead (bytes : List ℕ) : Type 0 where
   pub blank : List (List ℕ)
   pub first : List ℕ
@@ -62,7 +63,8 @@ HasNoHeadWithin limit bytes = (n : ℕ) → n ≤ limit → IsHead (take n bytes
 abbrev pub head_limit : ℕ
 head_limit = 8192
 
--- the cut of the bytes: where their head ends, or that they are too many without one, or that more are to come
+-- the cut of the bytes: where their head ends, or that they are too many without one,
+-- or that more are to come
 abbrev pub IsCutOf : List ℕ → Cut → Type 0
 IsCutOf bytes (Head len) = BeginsWithHead bytes len × (len ≤ head_limit)
 IsCutOf bytes TooLong = HasNoHeadWithin head_limit bytes × (head_limit ≤ length bytes)

@@ -1,4 +1,5 @@
--- What the head of a request says, by the grammar of httparse (RFC 9112, sections 2.2 and 3; RFC 9110, section 5).
+-- What the head of a request says, by the grammar of httparse (RFC 9112, sections 2.2 and
+-- 3; RFC 9110, section 5).
 use Rattle.std.specs.Prelude.{◌≡◌, ℕ, ◌≤◌, List, [], ◌++◌, length, map, All}
 use Rattle.httparse.specs.Grammar.{RequestHead, ReadsRequest}
 use Rattle.httparse.specs.Spans.{name_and_value}
@@ -38,7 +39,8 @@ pub record IsLeftOf (bytes : List ℕ) (rest : List ℕ) : Type 0 where
   pub is : bytes ≡ join_lines blank ++ rest
   pub all_blank : BeginsEmpty rest → ⊥
 
--- the bytes as a whole are a head of the grammar, which has few enough fields, and says this request
+-- the bytes as a whole are a head of the grammar, which has few enough
+-- fields, and says this request
 pub record SaysRequest (bytes : List ℕ) (request : Request) : Type 0 where
   pub head : RequestHead
   pub reads : ReadsRequest bytes head []

@@ -1,4 +1,5 @@
--- Laws of requests: whether a head is one is decided, and the grammar's own dropping of empty lines is the same.
+-- Laws of requests: whether a head is one is decided, and the grammar's own dropping of
+-- empty lines is the same.
 use Rattle.std.specs.Prelude.{◌≡◌, ℕ, ◌<◌, ◌≤◌, ◌⊎◌, ◌==◌, Bool, true, false, nat_le, All, List, [], ◌∷◌, ◌++◌, length, map}
 use Rattle.std.specs.List.{flat_map}
 use Rattle.std.specs.Str.{is_utf8}

@@ -20,8 +20,8 @@ has_other lines = list_any (λ line. not (is_empty_line line)) lines
 abbrev pub EndsWithLine : List ℕ → Type 0
 EndsWithLine bytes = (bytes ≡ []) ⊎ ((text : List ℕ) × (bytes ≡ text ++ line_feed ∷ []))
 
--- The scan stands for these bytes: whole lines, so many bytes, in which no head has ended yet; and it knows whether one of the lines
--- isn't empty.
+-- The scan stands for these bytes: whole lines, so many bytes, in which no head has ended yet; and
+-- it knows whether one of the lines isn't empty.
 pub record StandsFor (scan : Scan) (front : List ℕ) : Type 0 where
   pub at : scan.at ≡ length front
   pub whole : EndsWithLine front
@@ -39,7 +39,8 @@ rest_lines false lines = head_lines lines
 abbrev pub rest_len : Bool → List (List ℕ) → Option ℕ
 rest_len begun lines = option_map (λ head. length (join_lines head)) (rest_lines begun lines)
 
--- where the head ends in them, or how many bytes their lines have, and whether a line has come that isn't empty
+-- where the head ends in them, or how many bytes their lines have, and whether a line
+-- has come that isn't empty
 abbrev pub IsFound : Bool → List ℕ → Found → Type 0
 IsFound begun bytes (End len) = rest_len begun (lines_of bytes) ≡ Some len
 IsFound begun bytes (Lines scan) = (rest_len begun (lines_of bytes) ≡ None)

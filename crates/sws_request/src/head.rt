@@ -1,7 +1,7 @@
 //! The end of a head.
 ghost use Rattle.std.specs.Prelude.{◌≡◌, ◌≢◌, ◌<◌, ◌↔◌, false, ℕ, List, ◌++◌, length, IsTrue};
 ghost use Rattle.sws_request.specs.declared.cuts.Cut.{Cut as CutValue};
-ghost use Rattle.sws_request.specs.Head.{IsCutOf, IsEmptyLine};
+ghost use Rattle.sws_request.specs.Head.{IsCutOf, IsEmptyLine, head_limit};
 ghost use Rattle.sws_request.specs.Cuts.{cut_of};
 ghost use Rattle.sws_request.specs.Scans.{StandsFor, whole_lines, IsFound, EndsWithin};
 
@@ -13,8 +13,8 @@ pub const MAX_HEAD: usize = 8192;
 
 /// Where the first head of the bytes ends (RFC 9112, section 2.2).
 ///
-/// A line ends at LF, and an empty one is LF or CR LF. A head is any number of empty lines, then at least one
-/// other line, then lines up to and with the first empty one.
+/// A line ends at LF, and an empty one is LF or CR LF. A head is any number of empty lines, then at
+/// least one other line, then lines up to and with the first empty one.
 pub fn cut(bytes: &[u8]) -> Cut
     ensures cut { IsCutOf bytes.now result }
     ensures only { result ≡ cut_of bytes.now }
@@ -24,10 +24,11 @@ pub fn cut(bytes: &[u8]) -> Cut
 
 /// The cut of some bytes of which the front was searched already, and how far that is searched now.
 ///
-/// `rest` is what comes behind the bytes that `from` stands for; these are not needed again. Where more bytes may
-/// still make up a head, the scan stands for all lines that are whole now; otherwise it is that of no bytes.
+/// `rest` is what comes behind the bytes that `from` stands for; these are not needed again. Where
+/// more bytes may still make up a head, the scan stands for all lines that are whole now;
+/// otherwise it is that of no bytes.
 pub fn scan(rest: &[u8], from: Scan) -> (Cut, Scan)
-    requires { from.at < 8192 }
+    requires { from.at < head_limit }
     ensures cut { (front : List ℕ) → StandsFor from front → result.0 ≡ cut_of (front ++ rest.now) }
     ensures goes_on { (front : List ℕ) → StandsFor from front → result.0 ≡ Cut.NotYet
         → StandsFor result.1 (whole_lines (front ++ rest.now)) }

@@ -1,9 +1,9 @@
 //! The heads of HTTP requests: where one ends in the bytes of a connection, and what it says.
 //!
 //! A server reads bytes piece by piece. [`cut`] says whether they begin with a whole head yet, and
-//! [`view`] shows such a head as a request: its method, target, version and fields are slices of it.
-//! Neither call copies a byte or takes memory. Where more bytes come behind those that were searched,
-//! [`scan`] goes on behind the last whole line and needs the bytes before it no more.
+//! [`view`] shows such a head as a request: its method, target, version and fields are slices of
+//! it. Neither call copies a byte or takes memory. Where more bytes come behind those that were
+//! searched, [`scan`] goes on behind the last whole line and needs the bytes before it no more.
 //!
 //! ```text
 //! match cut(bytes) {

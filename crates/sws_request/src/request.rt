@@ -106,8 +106,9 @@ impl<'b> RequestView<'b> {
 
 /// The request that a whole head says.
 ///
-/// Empty lines in front of it are dropped (RFC 9112, section 2.2). What is left is a request where `httparse`'s
-/// grammar reads it to its last byte, with [`MAX_FIELDS`] fields at most; else the answer is `NotARequest`.
+/// Empty lines in front of it are dropped (RFC 9112, section 2.2). What is left is a request where
+/// `httparse`'s grammar reads it to its last byte, with [`MAX_FIELDS`] fields at most; else the
+/// answer is `NotARequest`.
 pub fn view(head: &[u8]) -> Result<RequestView<'_>, NotARequest>
     ensures request { IfOk result (λ view. IsRequest head.now view) }
     ensures refused { OnErr result (IsNoRequest head.now) }
@@ -127,7 +128,8 @@ pub fn view(head: &[u8]) -> Result<RequestView<'_>, NotARequest>
     }
 }
 
-/// `httparse` drops the same empty lines by itself: what it reads from the front of a head is what it reads behind them.
+/// `httparse` drops the same empty lines by itself: what it reads from the front of a head is
+/// what it reads behind them.
 pub fn empty_lines_change_nothing()
     ensures dropped { (head : List ℕ) (request : Request) → IsRequest head request
         → SaysRequest head request }

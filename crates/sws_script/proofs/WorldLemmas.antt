@@ -4,8 +4,8 @@ use Rattle.std.specs.Prelude.{⊤}
 use Rattle.std.specs.List.{flat_map, AllByRecursion}
 use Rattle.sws_link.specs.Scripts.{Script, left_of_limit}
 use Rattle.sws_link.specs.MemLinks.{script_by_step}
-use Rattle.sws_link.specs.Worlds.{Coming, WorldTells, AreScripted}
-use Rattle.sws_link.specs.MemWorlds.{IsFreshMemLink, mem_coming, mem_world_tells}
+use Rattle.sws_link.specs.Worlds.{Coming, WorldContents, AreScripted}
+use Rattle.sws_link.specs.MemWorlds.{IsInitialMemLink, mem_coming, mem_world_tells}
 use Rattle.sws_script.specs.declared.input.Input.{Input}
 use Rattle.sws_script.specs.declared.input.ScriptConn.{ScriptConn}
 use Rattle.sws_script.specs.declared.line.Line.{Line}
@@ -15,9 +15,9 @@ use Rattle.sws_script.specs.Inputs.{step_lines, cut_lines, conn_lines, schedule_
 use Rattle.sws_script.specs.Scripted.{link_of, coming_of, script_of, world_of, told_of}
 
 -- nothing has happened on the links
-pub links_fresh : (conns : List ScriptConn) → AllByRecursion IsFreshMemLink (map link_of conns)
-links_fresh [] = tt
-links_fresh (conn ∷ conns) = (record { taken = refl; written = refl; failed = refl; waits = refl; not_shut = refl }, links_fresh conns)
+pub links_initial : (conns : List ScriptConn) → AllByRecursion IsInitialMemLink (map link_of conns)
+links_initial [] = tt
+links_initial (conn ∷ conns) = (record { taken = refl; written = refl; failed = refl; waits = refl; not_shut = refl }, links_initial conns)
 
 -- ---- the steps of an input aren't 0
 
@@ -85,7 +85,7 @@ as_many : (conns : List ScriptConn) → length (map link_of conns) ≡ length co
 as_many [] = refl
 as_many (conn ∷ conns) = let more = as_many conns in omega arith
 
-told_with : List Coming → ℕ → WorldTells
+told_with : List Coming → ℕ → WorldContents
 told_with coming total = record { coming = Some coming; total = total; accepted = 0; port = 0; scripted = true }
 
 -- what the world of an input tells
@@ -102,4 +102,4 @@ answers_told (conn ∷ conns) = (refl, answers_told conns)
 -- the world of an input tells the answers of each link
 pub world_scripted : (schedule : Bool) (cores : ℕ) (input : Input) → IsInput schedule cores input → AreScripted (mem_world_tells (world_of input.conns)).coming
 world_scripted schedule cores input is =
-    subst AreScripted (sym (ap (λ (told : WorldTells). told.coming) (world_told schedule cores input is))) (answers_told input.conns)
+    subst AreScripted (sym (ap (λ (told : WorldContents). told.coming) (world_told schedule cores input is))) (answers_told input.conns)

@@ -17,7 +17,8 @@ pub record AddsSpelled (old new : Parser) (text : List ℕ) : Type 0 where
   pub adds : Adds old new says
   pub room : says ≡ line.Conn → length (conns_of old.contents) ≢ conn_limit
 
--- a line was added, or refused as one outside the grammar, as one that may not follow, or as one connection too many
+-- a line was added, or refused as one outside the grammar, as one that may not follow, or
+-- as one connection too many
 abbrev pub AddsLine : Parser → Parser → List ℕ → ℕ → Result (Unit {0}) ScriptFault → Type 0
 AddsLine old new text number (Ok done) = AddsSpelled old new text
 AddsLine old new text number (Err (Bad at)) = (at ≡ number)

@@ -45,7 +45,8 @@ pub record MayStand (schedule : Bool) (cores : ℕ) (text : List ℕ) (count : �
   pub begin : Begin schedule cores (take count (lines_of text))
   pub within : min (length text) (size_of (take count (lines_of text))) ≤ byte_limit
 
--- so many lines may stand, and with the next one they may not; where there is none, they are no whole input
+-- so many lines may stand, and with the next one they may not; where there is
+-- none, they are no whole input
 pub record IsFirstOutside (schedule : Bool) (cores : ℕ) (text : List ℕ) (before : ℕ) : Type 0 where
   pub stand : MayStand schedule cores text before
   pub next : before < length (lines_of text) → MayStand schedule cores text (before + 1) → ⊥

@@ -66,8 +66,8 @@ abbrev pub total_of : List (ℕ × ℕ) → ℕ
 total_of [] = 0
 total_of (run ∷ runs) = run.1 + total_of runs
 
--- each number is within its range, cores are below the number of workers, the steps are 10,000,000 at most, items stand in order,
--- and without a schedule there are no steps
+-- each number is within its range, cores are below the number of workers, the steps are 10,000,000
+-- at most, items stand in order, and without a schedule there are no steps
 pub record IsInput (schedule : Bool) (cores : ℕ) (input : Input) : Type 0 where
   pub lines : AllByRecursion IsLine (input_lines schedule input)
   pub workers : AllByRecursion (λ run. run.0 < cores) input.steps

@@ -7,8 +7,10 @@ use Rattle.sws_script.specs.declared.input.Item.{Item}
 use Rattle.sws_script.specs.declared.input.Item.TheVariants.{Send, Fill, Pause, Fault}
 use Rattle.sws_script.specs.declared.line.Line.{Line}
 use Rattle.sws_script.specs.declared.line.Line.TheVariants as line
+use Rattle.sws_script.specs.Limits.{run_limit, write_limit, cut_limit, send_limit, fill_limit, pause_limit}
 
--- a number is its decimal digits, without leading zeros; words are separated by one space, 32; TEXT is any text that stands for the bytes
+-- a number is its decimal digits, without leading zeros; words are separated by one space, 32; TEXT
+-- is any text that stands for the bytes
 abbrev pub SpellsItem : List ℕ → Item → Type 0
 SpellsItem text (Send bytes) = (shown : List ℕ) × (text ≡ codes "send " ++ shown)
     × StandsFor shown bytes
@@ -33,20 +35,21 @@ IsWithin low high number = (low ≤ number) × (number ≤ high)
 
 -- the numbers of an item are within their ranges
 abbrev pub IsItem : Item → Type 0
-IsItem (Send bytes) = IsWithin 1 4096 (length bytes) × AllByRecursion (λ byte. byte < 256) bytes
-IsItem (Fill count) = IsWithin 1 65536 count
-IsItem (Pause count) = IsWithin 1 1000 count
+IsItem (Send bytes) = IsWithin 1 send_limit (length bytes)
+    × AllByRecursion (λ byte. byte < 256) bytes
+IsItem (Fill count) = IsWithin 1 fill_limit count
+IsItem (Pause count) = IsWithin 1 pause_limit count
 IsItem Fault = ⊤
 
 -- the numbers of a line are within their ranges
 abbrev pub IsLine : Line → Type 0
 IsLine line.ScheduleHead = ⊤
-IsLine (line.Run core count) = (core < 65536) × IsWithin 1 1000000 count
+IsLine (line.Run core count) = (core < 65536) × IsWithin 1 run_limit count
 IsLine line.End = ⊤
 IsLine line.ScriptHead = ⊤
 IsLine line.Conn = ⊤
-IsLine (line.Step count) = IsWithin 1 65536 count
-IsLine (line.Cut count) = IsWithin 0 1000000000 count
+IsLine (line.Step count) = IsWithin 1 write_limit count
+IsLine (line.Cut count) = IsWithin 0 cut_limit count
 IsLine (line.Item item) = IsItem item
 
 -- a line that is spelled, with its numbers in range

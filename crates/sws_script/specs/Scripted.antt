@@ -5,10 +5,10 @@ use Rattle.sws_link.specs.Scripts.{Script, piece, wait, fault}
 use Rattle.sws_link.specs.Scripts.{Item as LinkItem}
 use Rattle.sws_link.specs.Calls.{no_calls}
 use Rattle.sws_link.specs.LinkItems.{all_bytes}
-use Rattle.sws_link.specs.MemLinks.{fresh_bytes}
+use Rattle.sws_link.specs.MemLinks.{initial_bytes}
 use Rattle.sws_link.specs.MemLink.{MemLinkState}
-use Rattle.sws_link.specs.Worlds.{Coming, WorldTells}
-use Rattle.sws_link.specs.MemWorlds.{fresh_lobby}
+use Rattle.sws_link.specs.Worlds.{Coming, WorldContents}
+use Rattle.sws_link.specs.MemWorlds.{initial_lobby}
 use Rattle.sws_link.specs.MemWorld.{MemWorldState}
 use Rattle.sws_script.specs.declared.input.Item.{Item}
 use Rattle.sws_script.specs.declared.input.Item.TheVariants.{Send, Fill, Pause, Fault}
@@ -42,13 +42,14 @@ script_of conn = record { items = flat_map link_items conn.items; step = conn.st
 -- the link of a connection: nothing was taken or written, and no call is to fail but by its lines
 abbrev pub link_of : ScriptConn → MemLinkState
 link_of conn = record {
-  bytes = fresh_bytes (flat_map link_items conn.items) conn.step conn.cut;
+  bytes = initial_bytes (flat_map link_items conn.items) conn.step conn.cut;
   calls = no_calls [];
   waits = 0;
   shut = false;
 }
 
--- what is to come of the link of a connection: the bytes of its items, and the answers of its script
+-- what is to come of the link of a connection: the bytes of its items, and
+-- the answers of its script
 abbrev pub coming_of : ScriptConn → Coming
 coming_of conn = record {
   input = all_bytes (flat_map link_items conn.items);
@@ -56,12 +57,14 @@ coming_of conn = record {
   says_all = true;
 }
 
--- the world of connections: a link for each in order, none of them accepted, and no call of the world is to fail
+-- the world of connections: a link for each in order, none of them accepted, and no
+-- call of the world is to fail
 abbrev pub world_of : List ScriptConn → MemWorldState
-world_of conns = record { lobby = fresh_lobby (map link_of conns); calls = no_calls [] }
+world_of conns = record { lobby = initial_lobby (map link_of conns); calls = no_calls [] }
 
--- what the world of connections tells: as many links as connections, each with its input and its answers, and that nothing of the outside stands in its way
-abbrev pub told_of : List ScriptConn → WorldTells
+-- what the world of connections tells: as many links as connections, each with its input and its
+-- answers, and that nothing of the outside stands in its way
+abbrev pub told_of : List ScriptConn → WorldContents
 told_of conns = record {
   coming = Some (map coming_of conns);
   total = length conns;

@@ -9,6 +9,7 @@ use Rattle.sws_script.specs.declared.line.Line.TheVariants as line
 use Rattle.sws_script.specs.declared.words.Word.{Word}
 use Rattle.sws_script.specs.declared.words.Word.TheVariants.{ScheduleHead, End, ScriptHead, Conn, Step, Cut, Send, Fill, Pause, Fault}
 use Rattle.sws_script.specs.Lines.{IsWithin}
+use Rattle.sws_script.specs.Limits.{run_limit, write_limit, cut_limit, send_limit, fill_limit, pause_limit}
 
 -- a word as it is spelled at the front of a line
 abbrev pub word_text : Word → List ℕ
@@ -44,6 +45,7 @@ first_word [] text = None
 first_word (word ∷ words) text =
     onward word (strip_word (word_text word) text) (first_word words text)
 
+-- the word with which a line begins, and what stands behind it; `None` where it begins with no word
 unfoldable pub word_in : List ℕ → Option (Word × List ℕ)
 word_in text = first_word all_words text
 
@@ -58,17 +60,18 @@ Says End rest says = (rest ≡ []) × (says ≡ line.End)
 Says ScriptHead rest says = (rest ≡ []) × (says ≡ line.ScriptHead)
 Says Conn rest says = (rest ≡ []) × (says ≡ line.Conn)
 Says Step rest says =
-    ((count : ℕ) × (says ≡ line.Step count) × (rest ≡ decimal count) × IsWithin 1 65536 count)
+    ((count : ℕ) × (says ≡ line.Step count) × (rest ≡ decimal count)
+    × IsWithin 1 write_limit count)
     ⊎ ((core : ℕ) × (count : ℕ) × (says ≡ line.Run core count)
-    × (rest ≡ decimal core ++ 32 ∷ decimal count) × (core < 65536) × IsWithin 1 1000000 count)
+    × (rest ≡ decimal core ++ 32 ∷ decimal count) × (core < 65536) × IsWithin 1 run_limit count)
 Says Cut rest says = (count : ℕ) × (says ≡ line.Cut count) × (rest ≡ decimal count)
-    × IsWithin 0 1000000000 count
+    × IsWithin 0 cut_limit count
 Says Send rest says = (bytes : List ℕ) × (says ≡ line.Item (item.Send bytes)) × StandsFor rest bytes
-    × IsWithin 1 4096 (length bytes)
+    × IsWithin 1 send_limit (length bytes)
 Says Fill rest says = (count : ℕ) × (says ≡ line.Item (item.Fill count)) × (rest ≡ decimal count)
-    × IsWithin 1 65536 count
+    × IsWithin 1 fill_limit count
 Says Pause rest says = (count : ℕ) × (says ≡ line.Item (item.Pause count)) × (rest ≡ decimal count)
-    × IsWithin 1 1000 count
+    × IsWithin 1 pause_limit count
 Says Fault rest says = (rest ≡ []) × (says ≡ line.Item item.Fault)
 
 -- what was read of a line behind its word: the line that it says, or none where it says none

@@ -10,8 +10,8 @@ ghost use Rattle.sws_script.specs.Printed.{print_input};
 ghost use Rattle.sws_script.specs.Scripted.{fill_pieces};
 ghost use Rattle.sws_link.specs.LinkItems.{all_bytes};
 
-/// A text spells one input at most. One that spells an input of at most 1,024 connections has no fault but want of
-/// memory, and any other has one fault beside it.
+/// A text spells one input at most. One that spells an input of at most 1,024 connections has no
+/// fault but want of memory, and any other has one fault beside it.
 pub fn a_text_has_one_answer()
     ensures input { (schedule : Bool) (cores : ℕ) (text : List ℕ) (one other : InputValue)
         → Spells schedule cores text one → Spells schedule cores text other → one ≡ other }
@@ -33,7 +33,8 @@ pub fn what_is_printed_is_read()
         → Spells schedule cores (print_input schedule input) other → other ≡ input }
 {}
 
-/// What is printed of an input is the shortest of its texts, but for the LF at its end, which any other may lack.
+/// What is printed of an input is the shortest of its texts, but for the LF at its end,
+/// which any other may lack.
 pub fn what_is_printed_is_short()
     ensures { (schedule : Bool) (cores : ℕ) (text : List ℕ) (input : InputValue)
         → Spells schedule cores text input → length (print_input schedule input) ≤ length text + 1 }

@@ -1,6 +1,8 @@
-//! Scripts: what the links of a run give and take, line by line, and before it the schedule of a run.
+//! Scripts: what the links of a run give and take, line by line, and before
+//! it the schedule of a run.
 //!
-//! [`parse`] reads the text of an input, and [`print`] writes one; [`script_world`] is the world whose links answer so.
+//! [`parse`] reads the text of an input, and [`print`] writes one; [`script_world`] is the
+//! world whose links answer so.
 #![tactic(auto)]
 
 mod bytes;

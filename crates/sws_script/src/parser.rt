@@ -32,7 +32,7 @@ impl Parser {
     {
         Parser {
             cores,
-            place: first_place(schedule),
+            place: initial_place(schedule),
             total: 0,
             contents: Contents::new(alloc),
         }
@@ -93,7 +93,7 @@ impl Parser {
 }
 
 /// Where a text begins.
-fn first_place(schedule: bool) -> Place
+fn initial_place(schedule: bool) -> Place
     ensures { result ≡ (start schedule).place }
 {
     if schedule {

@@ -1,4 +1,4 @@
-//! Reading a text.
+//! Reading the text of a script, line by line, to the input that it spells or the first fault.
 ghost use Rattle.std.specs.Prelude.{◌≡◌, ◌≢◌, ◌≤◌, ◌↔◌, length, IsTrue, IfOk, IfErr};
 ghost use Rattle.sws_script.specs.declared.fault.ScriptFault.{ScriptFault as FaultValue};
 ghost use Rattle.sws_script.specs.declared.fault.ScriptFault.TheVariants.{Memory};
@@ -22,11 +22,12 @@ pub const MAX_BYTES: usize = 16_777_216;
 /// The most connections of a script.
 pub const MAX_CONNS: usize = 1_024;
 
-/// The input that a text spells: a script, with a schedule before it where `schedule` is true, whose cores are below
-/// `cores`.
+/// The input that a text spells: a script, with a schedule before it where `schedule` is true,
+/// whose cores are below `cores`.
 ///
-/// A text spells one input at most. The answer is that input where there is one with at most [`MAX_CONNS`] connections, and
-/// else the one fault that the text has; only where memory was refused it may be [`ScriptFault::Memory`] instead.
+/// A text spells one input at most. The answer is that input where there is one with at most
+/// [`MAX_CONNS`] connections, and else the one fault that the text has; only where memory was
+/// refused it may be [`ScriptFault::Memory`] instead.
 pub fn parse(alloc: Global, text: &[u8], schedule: bool, cores: u16) -> Result<Input, ScriptFault>
     ensures input { IfOk result (λ input. Spells schedule cores text.now input
         × (length input.conns ≤ conn_limit)) }

@@ -1,4 +1,4 @@
-//! Writing a text.
+//! Writing the text of an input, which is read again as the same input.
 ghost use Rattle.std.specs.Prelude.{◌≡◌, ◌≤◌, ◌++◌, ◌∷◌, [], ℕ, List, map, length, IfOk, OnOk};
 ghost use Rattle.std.specs.List.{flat_map};
 ghost use Rattle.std.specs.Fmt.{decimal};
@@ -15,8 +15,9 @@ use std::alloc::{AllocError, Global};
 use sws_link::Memory;
 use sws_text::push_text;
 
-/// The text of an input, with a schedule before the script where `schedule` is true. Where the input is one that is read
-/// with this `schedule`, and the text has at most [`MAX_BYTES`](crate::MAX_BYTES), it is read again as this input.
+/// The text of an input, with a schedule before the script where `schedule` is true. Where the
+/// input is one that is read with this `schedule`, and the text has at most
+/// [`MAX_BYTES`](crate::MAX_BYTES), it is read again as this input.
 pub fn print(alloc: Global, input: &Input, schedule: bool) -> Result<Vec<u8>, Memory>
     ensures text { IfOk result (λ text. text.items ≡ print_input schedule input.now) }
     ensures spells { IfOk result (λ text. (cores : ℕ) → IsInput schedule cores input.now

@@ -3,6 +3,7 @@ ghost use Rattle.std.specs.Prelude.{◌≡◌, ◌++◌, [], ◌∷◌, ℕ, IfO
 ghost use Rattle.sws_script.specs.declared.line.Line.TheVariants as line;
 ghost use Rattle.std.specs.Fmt.{decimal};
 ghost use Rattle.sws_script.specs.Lines.{ReadsLine, IsWithin};
+ghost use Rattle.sws_script.specs.Limits.{run_limit, write_limit};
 ghost use Rattle.sws_script.specs.Words.{ReadsBehind, HasNo};
 ghost use Rattle.sws_script.specs.declared.words.Word.TheVariants as word;
 
@@ -14,10 +15,11 @@ use memchr::memchr;
 use std::alloc::{AllocError, Global};
 use sws_text::read_text;
 
-/// The most bytes of a piece.
+/// The most bytes that a line `send` sends.
 const MAX_PIECE: usize = 4_096;
 
-/// The most bytes of a text of so many bytes: each has four at most. A longer one isn't read.
+/// The most bytes of a text that stands for so many: each of them is spelled with four at most.
+/// A longer text isn't read.
 const MAX_TEXT: usize = 16_384;
 
 /// The line that a text without its LF spells, or `None` where it spells none.
@@ -67,8 +69,9 @@ fn read_step(rest: &[u8]) -> Option<Line>
 
 /// `N` behind `step`.
 fn read_one_step(count: &[u8]) -> Option<Line>
-    ensures { MatchOption result ((n : ℕ) → count.now ≡ decimal n → IsWithin 1 65536 n → ⊥)
-        (λ says. (n : ℕ) × (says ≡ line.Step n) × (count.now ≡ decimal n) × IsWithin 1 65536 n) }
+    ensures { MatchOption result ((n : ℕ) → count.now ≡ decimal n → IsWithin 1 write_limit n → ⊥)
+        (λ says. (n : ℕ) × (says ≡ line.Step n) × (count.now ≡ decimal n)
+        × IsWithin 1 write_limit n) }
 {
     let count = number(count, 1, 65_536)?;
     Some(Line::Step(count as u32))
@@ -77,9 +80,9 @@ fn read_one_step(count: &[u8]) -> Option<Line>
 /// `CORE` and `COUNT` behind `step`.
 fn read_run(core: &[u8], count: &[u8]) -> Option<Line>
     ensures { MatchOption result ((m n : ℕ) → core.now ≡ decimal m → IsWithin 0 65535 m
-        → count.now ≡ decimal n → IsWithin 1 1000000 n → ⊥)
+        → count.now ≡ decimal n → IsWithin 1 run_limit n → ⊥)
         (λ says. (m : ℕ) × (n : ℕ) × (says ≡ line.Run m n) × (core.now ≡ decimal m)
-        × IsWithin 0 65535 m × (count.now ≡ decimal n) × IsWithin 1 1000000 n) }
+        × IsWithin 0 65535 m × (count.now ≡ decimal n) × IsWithin 1 run_limit n) }
 {
     let core = number(core, 0, 65_535)?;
     let count = number(count, 1, 1_000_000)?;

@@ -1,4 +1,4 @@
-//! A list of an input.
+//! The lists that an input has, of steps, connections and items.
 ghost use Rattle.std.specs.Prelude.{◌≡◌, ◌++◌, [], ◌∷◌, OnOk};
 
 use std::alloc::AllocError;

@@ -13,10 +13,12 @@ use sws_link::{LinkItem, MemLink, MemWorld, Memory};
 /// The most bytes of a piece of a filling.
 const PIECE: u32 = 4_096;
 
-/// The world of a script: a link for each connection, in their order, of which none was accepted and nothing was taken or
-/// written. No call of the world fails, and a call of a link does by the lines of its connection alone.
+/// The world of a script: a link for each connection, in their order, of which none was accepted
+/// and nothing was taken or written. No call of the world fails, and a call of a link does by the
+/// lines of its connection alone.
 ///
-/// There are at most 65,535 connections. Where they are those of an input, the world tells the answers of each link.
+/// There are at most 65,535 connections. Where they are those of an input, the world tells
+/// the answers of each link.
 pub fn script_world(alloc: Global, conns: &[ScriptConn]) -> Result<MemWorld, Memory>
     requires { length conns.now ≤ 65535 }
     ensures world { IfOk result (λ world. world ≡ world_of conns.now) }
@@ -42,7 +44,8 @@ fn script_links(alloc: Global, conns: &[ScriptConn]) -> Result<Vec<MemLink>, All
     Ok(links)
 }
 
-/// The link of a connection, of which nothing was taken or written, and whose calls fail by its lines alone.
+/// The link of a connection, of which nothing was taken or written, and whose calls
+/// fail by its lines alone.
 fn script_link(alloc: Global, conn: &ScriptConn) -> Result<MemLink, AllocError>
     ensures { IfOk result (λ link. link ≡ link_of conn.now) }
 {

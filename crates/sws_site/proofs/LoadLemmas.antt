@@ -3,7 +3,7 @@ use Rattle.std.proofs.Common.{◌≡◌, ℕ, ◌+◌, ◌<◌, ◌≤◌, List,
 use Rattle.std.proofs.lemmas.Option.{slice_get_cases}
 use Rattle.std.specs.Prelude.{min}
 use Rattle.std.specs.Option.{option_or}
-use Rattle.sws_link.specs.Told.{FolderTells}
+use Rattle.sws_link.specs.Told.{FolderContents}
 use Rattle.std.proofs.lemmas.List.{take-take, take-append-le, length-take-le}
 use Rattle.std.proofs.Math.Seq.{take-append-add, take-append_seam}
 use Rattle.sws_link.specs.Folders.{Gives, TakesOfFile}
@@ -14,17 +14,17 @@ use Rattle.sws_site.specs.declared.site_faults.SiteFault.{SiteFault}
 use Rattle.sws_site.specs.declared.site_faults.SiteFault.TheVariants.{TooManyFiles, LongName, TooManyBytes, Fault, Memory}
 use Rattle.sws_site.specs.Files.{File}
 use Rattle.sws_site.specs.Limits.{bytes_of, first_limit, limit_of, met_limit}
-use Rattle.sws_site.specs.Loading.{IsFresh, Loads, IsSameFolder}
+use Rattle.sws_site.specs.Loading.{IsInitialFolder, Loads, IsSameFolder}
 use Rattle.sws_site.specs.Steps.{HasRead, HasReadMore, HasReadAll, StepsTo, StepFails, HasLoaded}
 use Rattle.sws_site.proofs.LimitLemmas.{met_limit-none, met_limit-files, met_limit-name, met_limit-bytes, length-push}
 
-pub HasRead-nil : (folder : Option FolderTells) (bytes : List ℕ) → bytes ≡ [] → HasRead folder folder bytes
+pub HasRead-nil : (folder : Option FolderContents) (bytes : List ℕ) → bytes ≡ [] → HasRead folder folder bytes
 HasRead-nil None bytes none = refl
 HasRead-nil (Some before) bytes none = (before.left, refl, ap (λ (read : List ℕ). read ++ before.left) (sym none))
 
 -- ---- one file
 
-pub StepsTo-file : (len : ℕ) (before middle after : Option FolderTells) (name kept contents : List ℕ) (file : File)
+pub StepsTo-file : (len : ℕ) (before middle after : Option FolderContents) (name kept contents : List ℕ) (file : File)
     → Gives before middle (NextOne len) name → len ≤ 1024 → kept ≡ take len name → HasReadAll middle after contents
     → file ≡ (kept, contents) → StepsTo before after (Some file)
 StepsTo-file len None None after name kept contents file gives few is read same = read
@@ -34,21 +34,21 @@ StepsTo-file len (Some before) None after name kept contents file gives few is r
 StepsTo-file len (Some before) (Some middle) after name kept contents file gives few is read same =
     let given : middle ≡ record before { given = before.given + 1; left = gives.file.1 } =
     (let e : Some middle ≡ Some (record before { given = before.given + 1; left = gives.file.1 }) = gives.given in cc) in
-    let contents_are : gives.file.1 ≡ contents = sym (ap (λ (t : FolderTells). t.left) given) ∙ read.0 in
+    let contents_are : gives.file.1 ≡ contents = sym (ap (λ (t : FolderContents). t.left) given) ∙ read.0 in
     let len_is = gives.len_is in
     let least : min len 1024 ≡ len = omega arith in
     let name_is : kept ≡ gives.file.0 =
     is ∙ ap (λ n. take n name) (sym least) ∙ gives.copied ∙ take_all 1024 gives.file.0 (omega (arith, len_is)) in
     let file_is : gives.file ≡ file = (λ i. (sym name_is i, contents_are i)) ∙ sym same in
-    (gives.next ∙ ap Some file_is, read.1 ∙ ap (λ (t : FolderTells). Some (record t { left = [] })) given)
+    (gives.next ∙ ap Some file_is, read.1 ∙ ap (λ (t : FolderContents). Some (record t { left = [] })) given)
 
 -- ---- all files
 
-pub HasLoaded-nil : (folder : Option FolderTells) (files : List File) → IsFresh folder → files ≡ [] → HasLoaded folder folder files
-HasLoaded-nil None files fresh none = refl
-HasLoaded-nil (Some before) files fresh none = (
+pub HasLoaded-nil : (folder : Option FolderContents) (files : List File) → IsInitialFolder folder → files ≡ [] → HasLoaded folder folder files
+HasLoaded-nil None files initial none = refl
+HasLoaded-nil (Some before) files initial none = (
   before.left,
-  ap (λ n. Some (record before { given = n })) (fresh ∙ ap length (sym none)),
+  ap (λ n. Some (record before { given = n })) (initial ∙ ap length (sym none)),
   none ∙ ap (λ (f : List File). take (length f) before.files) (sym none),
   ap (λ (f : List File). first_limit f (drop (length f) before.files)) (sym none),
 )
@@ -67,16 +67,16 @@ from_place files i file at = elim (slice_get_cases files i).1 [
 ]
 
 -- the next file decides, where it meets a limit
-next_decides : (first before : FolderTells) (files : List File) (file : File) (found : Option SiteFault) → HasLoaded (Some first) (Some before) files
+next_decides : (first before : FolderContents) (files : List File) (file : File) (found : Option SiteFault) → HasLoaded (Some first) (Some before) files
     → slice_get before.files before.given ≡ Some file → met_limit files file ≡ found
     → limit_of first.files ≡ option_or found (first_limit (files ++ file ∷ []) (drop (length files + 1) first.files))
 next_decides first before files file found (left, now, is, limit) at met =
     let same : before ≡ record first { given = length files; left = left } = cc in
-    let place = from_place first.files (length files) file (subst (λ (t : FolderTells). slice_get t.files t.given ≡ Some file) same at) in
+    let place = from_place first.files (length files) file (subst (λ (t : FolderContents). slice_get t.files t.given ≡ Some file) same at) in
     limit ∙ ap (first_limit files) place.0
     ∙ ap (λ (f : Option SiteFault). option_or f (first_limit (files ++ file ∷ []) (drop (length files + 1) first.files))) met
 
-pub HasLoaded-step : (first before after : Option FolderTells) (files : List File) (file : File) → HasLoaded first before files
+pub HasLoaded-step : (first before after : Option FolderContents) (files : List File) (file : File) → HasLoaded first before files
     → StepsTo before after (Some file) → length files + 1 ≤ 4096 → length file.0 ≤ 1024 → bytes_of files + length file.1 ≤ 268435456
     → HasLoaded first after (files ++ file ∷ [])
 HasLoaded-step None None after files file loaded step few short fits = step
@@ -84,16 +84,16 @@ HasLoaded-step None (Some before) after files file loaded step few short fits = 
 HasLoaded-step (Some first) None after files file (left, now, is, limit) step few short fits = cc
 HasLoaded-step (Some first) (Some before) after files file (left, now, is, limit) (at, next) few short fits =
     let same : before ≡ record first { given = length files; left = left } = cc in
-    let place = from_place first.files (length files) file (subst (λ (t : FolderTells). slice_get t.files t.given ≡ Some file) same at) in
+    let place = from_place first.files (length files) file (subst (λ (t : FolderContents). slice_get t.files t.given ≡ Some file) same at) in
     let count : length (files ++ file ∷ []) ≡ length files + 1 = length-push files file in (
       [],
-      next ∙ ap (λ (t : FolderTells). Some (record t { given = t.given + 1; left = [] })) same ∙ ap (λ n. Some (record first { given = n; left = [] })) (sym count),
+      next ∙ ap (λ (t : FolderContents). Some (record t { given = t.given + 1; left = [] })) same ∙ ap (λ n. Some (record first { given = n; left = [] })) (sym count),
       ap (λ (f : List File). f ++ file ∷ []) is ∙ sym place.1 ∙ ap (λ n. take n first.files) (sym count),
       next_decides first before files file None (left, now, is, limit) at (met_limit-none files file few short fits)
           ∙ ap (λ n. first_limit (files ++ file ∷ []) (drop n first.files)) (sym count),
     )
 
-pub HasLoaded-fails : (first before : Option FolderTells) (files : List File) (number room : ℕ) (fault : SiteFault) → HasLoaded first before files
+pub HasLoaded-fails : (first before : Option FolderContents) (files : List File) (number room : ℕ) (fault : SiteFault) → HasLoaded first before files
     → StepFails number room before fault → number ≡ length files + 1 → bytes_of files + room ≡ 268435456 → Loads first (Err fault)
 HasLoaded-fails None before files number room _ loaded fails n all = tt
 HasLoaded-fails (Some first) None files number room _ (left, now, is, limit) fails n all = cc
@@ -109,11 +109,11 @@ HasLoaded-fails (Some first) (Some before) files number room (TooManyBytes found
 HasLoaded-fails (Some first) (Some before) files number room Fault loaded fails n all = tt
 HasLoaded-fails (Some first) (Some before) files number room Memory loaded fails n all = tt
 
-pub IsSameFolder-refl : (folder : Option FolderTells) → IsSameFolder folder folder
+pub IsSameFolder-refl : (folder : Option FolderContents) → IsSameFolder folder folder
 IsSameFolder-refl None = refl
 IsSameFolder-refl (Some folder) = (refl, refl)
 
-pub IsSameFolder-trans : (a b c : Option FolderTells) → IsSameFolder a b → IsSameFolder b c → IsSameFolder a c
+pub IsSameFolder-trans : (a b c : Option FolderContents) → IsSameFolder a b → IsSameFolder b c → IsSameFolder a c
 IsSameFolder-trans None None c first second = second
 IsSameFolder-trans None (Some b) c first second = cc
 IsSameFolder-trans (Some a) None c first second = absurd first
@@ -138,7 +138,7 @@ read_behind old items held room rest others filled count len is_held is_len fron
     ∙ ap (λ (x : List ℕ). read ++ x) (take-append-le count room (rest ++ others) few)
     ∙ ap (λ (x : List ℕ). x ++ take count room) old_is
 
-pub HasReadMore-took : (before now : Option FolderTells) (got : Got) (count : ℕ) (room old new : List ℕ) → got ≡ Took count
+pub HasReadMore-took : (before now : Option FolderContents) (got : Got) (count : ℕ) (room old new : List ℕ) → got ≡ Took count
     → TakesOfFile before now got room → 0 < count → count ≤ length room → new ≡ old ++ take count room
     → HasReadMore before now (Took count) old new
 HasReadMore-took before now got count room old new is takes some few is_new = (
@@ -148,7 +148,7 @@ HasReadMore-took before now got count room old new is takes some few is_new = (
   by_folder before (subst (λ (g : Got). TakesOfFile before now g room) is takes),
 )
   where
-    by_folder : (folder : Option FolderTells) → TakesOfFile folder now (Took count) room → HasRead folder now (take count room)
+    by_folder : (folder : Option FolderContents) → TakesOfFile folder now (Took count) room → HasRead folder now (take count room)
     by_folder None none = none
     by_folder (Some folder) read = read
 

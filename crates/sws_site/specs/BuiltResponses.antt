@@ -7,7 +7,8 @@ use Rattle.sws_site.specs.ResponseHeads.{head_text}
 use Rattle.sws_site.specs.Fixed.{fixed_body, plain_text}
 
 -- the two heads are those of such a response with this body
-pub record IsBuilt (status : Status) (date : Option HttpDate) (kind : List ℕ) (response : BuiltResponse) : Type 0 where
+pub record IsBuilt (status : Status) (date : Option HttpDate) (kind : List ℕ)
+    (response : BuiltResponse) : Type 0 where
   pub open_head : response.open_head.items
       ≡ head_text (record {
         status = status;

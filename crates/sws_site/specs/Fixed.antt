@@ -14,6 +14,8 @@ plain_text = codes "text/plain"
 unfoldable pub fixed_body : Status → List ℕ
 fixed_body status = status_text status ++ 10 ∷ []
 
+-- the head for this body, which says whether the connection closes; it has no date, since it
+-- is the same for each site
 unfoldable pub fixed_head : Status → Bool → List ℕ
 fixed_head status closes =
     head_text (record {
@@ -32,7 +34,8 @@ tells_status WholeFile = false
 tells_status PartOfFile = false
 tells_status StatusText = true
 
--- a status whose response is the same for each site: its content tells the status, and it is about no part of a file
+-- a status whose response is the same for each site: its content tells the status, and it
+-- is about no part of a file
 abbrev pub is_fixed : Status → Bool
 is_fixed status = tells_status (row_of status).body && not (row_of status).has_range
 

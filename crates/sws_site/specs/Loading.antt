@@ -1,29 +1,31 @@
 -- What loading a site makes of the files that a folder tells.
 use Rattle.std.specs.Prelude.{◌≡◌, List, Option, Some, None, ⊤, Result, Ok, Err}
-use Rattle.sws_link.specs.Told.{FolderTells}
+use Rattle.sws_link.specs.Told.{FolderContents}
 use Rattle.sws_site.specs.declared.site_faults.SiteFault.{SiteFault}
 use Rattle.sws_site.specs.Files.{File}
 use Rattle.sws_site.specs.Site.{SiteState}
 use Rattle.sws_site.specs.Limits.{limit_of, IsLimitOf}
 
 -- none of the files was given
-abbrev pub IsFresh : Option FolderTells → Type 0
-IsFresh None = ⊤
-IsFresh (Some folder) = folder.given ≡ 0
+abbrev pub IsInitialFolder : Option FolderContents → Type 0
+IsInitialFolder None = ⊤
+IsInitialFolder (Some folder) = folder.given ≡ 0
 
--- the files are those that the folder tells, in its order, and they meet no limit; or a refusal that names a limit is theirs
-abbrev pub Loads : Option FolderTells → Result (List File) SiteFault → Type 0
+-- the files are those that the folder tells, in its order, and they meet no limit; or a refusal
+-- that names a limit is theirs
+abbrev pub Loads : Option FolderContents → Result (List File) SiteFault → Type 0
 Loads None loaded = ⊤
 Loads (Some folder) (Ok files) = (files ≡ folder.files) × (limit_of folder.files ≡ None)
 Loads (Some folder) (Err fault) = IsLimitOf folder.files fault
 
--- the files of the site are those that the folder tells, and they meet no limit; or a refusal that names a limit is theirs
-abbrev pub LoadsSite : Option FolderTells → Result SiteState SiteFault → Type 0
+-- the files of the site are those that the folder tells, and they meet no limit; or a refusal
+-- that names a limit is theirs
+abbrev pub LoadsSite : Option FolderContents → Result SiteState SiteFault → Type 0
 LoadsSite folder (Ok site) = Loads folder (Ok site.files)
 LoadsSite folder (Err fault) = Loads folder (Err fault)
 
 -- the folder tells the same path and the same files as before, or still nothing
-abbrev pub IsSameFolder : Option FolderTells → Option FolderTells → Type 0
+abbrev pub IsSameFolder : Option FolderContents → Option FolderContents → Type 0
 IsSameFolder None now = now ≡ None
 IsSameFolder (Some before) None = ⊥
 IsSameFolder (Some before) (Some now) = (now.path ≡ before.path) × (now.files ≡ before.files)

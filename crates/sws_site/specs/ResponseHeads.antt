@@ -11,8 +11,9 @@ use Rattle.sws_site.specs.declared.heads.ContentRange.{ContentRange}
 use Rattle.sws_site.specs.declared.heads.ContentRange.TheVariants.{Selected, NoSuch}
 use Rattle.sws_site.specs.Statuses.{row_of, status_text}
 
--- what a head says: the status, whether the connection ends with this response, when the site was last modified, which part of a file
--- the response is about, and the media type and the length of the content that it has, or would have for GET
+-- what a head says: the status, whether the connection ends with this response, when the site was
+-- last modified, which part of a file the response is about, and the media type and the length of
+-- the content that it has, or would have for GET
 pub record ResponseHead : Type 0 where
   pub status : Status
   pub closes : Bool
@@ -47,7 +48,8 @@ last_modified_lines is_dated date = if is_dated then date_lines date else []
 abbrev pub allow_lines : Bool → List (List ℕ)
 allow_lines lists_methods = if lists_methods then codes "Allow: GET, HEAD" ∷ [] else []
 
--- the first and the last byte of the part, and how many the whole file has; or that the file has no such part
+-- the first and the last byte of the part, and how many the whole file has; or that
+-- the file has no such part
 abbrev pub range_text : ContentRange → List ℕ
 range_text (Selected first last len) =
     decimal first ++ codes "-" ++ decimal last ++ codes "/" ++ decimal len

@@ -15,13 +15,14 @@ abbrev pub found_in : SiteState → List ℕ → Option PageState
 found_in site name =
     option_map (λ file. record { file = file; date = site.date }) (file_named name site.files)
 
--- the head of the response to a request for the file, which has changed since the date that the request names or has not
+-- the head of the response to a request for the file, which has changed since the date that the
+-- request names or has not
 abbrev pub page_head : PageState → Bool → Bool → List ℕ
 page_head page changed closes =
     if changed then file_head page.date page.file closes else not_modified_head page.date closes
 
--- the last second of the year 9999, in seconds after the beginning of 1970, and so the last that a date shows
--- (RFC 9110, section 5.6.7)
+-- the last second of the year 9999, in seconds after the beginning of 1970, and so the last that a
+-- date shows, which has four digits for the year (RFC 9110, section 5.6.7)
 abbrev pub last_second : ℕ
 last_second = 253402300799
 

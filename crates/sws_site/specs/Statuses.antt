@@ -1,4 +1,5 @@
--- The statuses that the server answers with (RFC 9110, section 15; RFC 6585, section 5): one row of a table for each.
+-- The statuses that the server answers with (RFC 9110, section 15; RFC 6585, section 5): one
+-- row of a table for each.
 use Rattle.std.specs.Prelude.{ℕ, Bool, true, false, ◌==◌, List, [], ◌∷◌, codes, find, Option}
 use Rattle.sws_site.specs.declared.statuses.Status.{Status}
 use Rattle.sws_site.specs.declared.statuses.Status.TheVariants.{Success, PartialContent, NotModified, BadRequest, NotFound, MethodNotAllowed, RangeNotSatisfiable, HeaderFieldsTooLarge, NotImplemented}
@@ -6,8 +7,9 @@ use Rattle.sws_site.specs.declared.statuses.Body.{Body}
 use Rattle.sws_site.specs.declared.statuses.Body.TheVariants.{Nothing, WholeFile, PartOfFile, StatusText}
 use Rattle.sws_site.specs.declared.statuses.StatusRow.{StatusRow}
 
--- what the responses of one status have: the code; the code with the reason phrase, as the status line has them (RFC 9112, section 4);
--- the lines that not every head has; what the content is; and whether the connection ends with it, whatever the request says
+-- what the responses of one status have: the code; the code with the reason phrase, as the status
+-- line has them (RFC 9112, section 4); the lines that not every head has; what the content is; and
+-- whether the connection ends with it, whatever the request says
 pub record Row : Type 0 where
   pub code : ℕ
   pub text : List ℕ

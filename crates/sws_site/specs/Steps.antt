@@ -1,6 +1,6 @@
 -- What a folder tells from one file to the next, while they are read.
 use Rattle.std.specs.Prelude.{◌≡◌, ℕ, ◌+◌, ◌<◌, ◌≤◌, List, [], ◌++◌, length, take, drop, Option, Some, None, slice_get, ⊤}
-use Rattle.sws_link.specs.Told.{FolderTells}
+use Rattle.sws_link.specs.Told.{FolderContents}
 use Rattle.sws_link.specs.declared.Got.{Got}
 use Rattle.sws_link.specs.declared.Got.TheVariants.{Took, End, Failed}
 use Rattle.sws_site.specs.declared.site_faults.SiteFault.{SiteFault}
@@ -9,26 +9,27 @@ use Rattle.sws_site.specs.Files.{File}
 use Rattle.sws_site.specs.Limits.{file_limit, name_limit, first_limit, limit_of}
 
 -- these bytes of the current file were read
-abbrev pub HasRead : Option FolderTells → Option FolderTells → List ℕ → Type 0
+abbrev pub HasRead : Option FolderContents → Option FolderContents → List ℕ → Type 0
 HasRead None now bytes = now ≡ None
 HasRead (Some before) now bytes =
     (rest : List ℕ) × (now ≡ Some (record before { left = rest })) × (before.left ≡ bytes ++ rest)
 
 -- all of it was read
-abbrev pub HasReadAll : Option FolderTells → Option FolderTells → List ℕ → Type 0
+abbrev pub HasReadAll : Option FolderContents → Option FolderContents → List ℕ → Type 0
 HasReadAll None now bytes = now ≡ None
 HasReadAll (Some before) now bytes = (before.left ≡ bytes)
     × (now ≡ Some (record before { left = [] }))
 
 -- a read of the current file put what it took behind the bytes that were there
-abbrev pub HasReadMore : Option FolderTells → Option FolderTells → Got → List ℕ → List ℕ → Type 0
+abbrev pub HasReadMore : Option FolderContents → Option FolderContents
+    → Got → List ℕ → List ℕ → Type 0
 HasReadMore before now (Took count) old new =
     (more : List ℕ) × (new ≡ old ++ more) × (0 < length more) × HasRead before now more
 HasReadMore before now End old new = (new ≡ old) × HasReadAll before now []
 HasReadMore before now Failed old new = (new ≡ old) × (now ≡ before)
 
 -- it is more than there is room for
-abbrev pub ReadFails : ℕ → ℕ → Option FolderTells → SiteFault → Type 0
+abbrev pub ReadFails : ℕ → ℕ → Option FolderContents → SiteFault → Type 0
 ReadFails number room before (TooManyFiles count) = ⊥
 ReadFails number room before (LongName found) = ⊥
 ReadFails number room None (TooManyBytes found) = ⊤
@@ -38,7 +39,7 @@ ReadFails number room before Fault = ⊤
 ReadFails number room before Memory = ⊤
 
 -- the next file was read, or there is none
-abbrev pub StepsTo : Option FolderTells → Option FolderTells → Option File → Type 0
+abbrev pub StepsTo : Option FolderContents → Option FolderContents → Option File → Type 0
 StepsTo None now file = now ≡ None
 StepsTo (Some before) now None = (before.given ≡ length before.files) × (now ≡ Some before)
 StepsTo (Some before) now (Some file) =
@@ -52,7 +53,7 @@ pub record IsWithin (number room : ℕ) (file : File) : Type 0 where
   pub bytes : length file.1 ≤ room
 
 -- the limit that the next file meets
-abbrev pub StepFails : ℕ → ℕ → Option FolderTells → SiteFault → Type 0
+abbrev pub StepFails : ℕ → ℕ → Option FolderContents → SiteFault → Type 0
 StepFails number room None _ = ⊤
 StepFails number room (Some before) (TooManyFiles found) =
     (found ≡ number) × (file : File) × (slice_get before.files before.given ≡ Some file)
@@ -67,8 +68,9 @@ StepFails number room (Some before) (TooManyBytes found) =
 StepFails number room (Some before) Fault = ⊤
 StepFails number room (Some before) Memory = ⊤
 
--- the files so far are the first ones, and the first limit that all meet is that of the others beside them
-abbrev pub HasLoaded : Option FolderTells → Option FolderTells → List File → Type 0
+-- the files so far are the first ones, and the first limit that all meet is that
+-- of the others beside them
+abbrev pub HasLoaded : Option FolderContents → Option FolderContents → List File → Type 0
 HasLoaded None now files = now ≡ None
 HasLoaded (Some before) now files =
     (left : List ℕ) × (now ≡ Some (record before { given = length files; left = left }))

@@ -6,7 +6,7 @@ use Rattle.std.specs.Cmp.Lexicographic.{slice_cmp}
 use Rattle.std.specs.BTreeMap.{BTreeMap, get_by}
 use Rattle.std.specs.declared.alloc.Global.{Global}
 use Rattle.httpdate.specs.declared.date.HttpDate.{HttpDate}
-use Rattle.sws_link.specs.Told.{FolderTells}
+use Rattle.sws_link.specs.Told.{FolderContents}
 use Rattle.sws_site.specs.declared.site_faults.SiteFault.{SiteFault}
 use Rattle.sws_site.specs.declared.statuses.Status.TheVariants.{Success}
 use Rattle.sws_site.specs.declared.stored.StoredFile.{StoredFile}
@@ -32,7 +32,7 @@ abbrev pub AllHaveHeads : Option HttpDate → List StoredFile → Type 0
 AllHaveHeads date files = All (HasHeads date) files
 
 -- `Loads` of the files as they are stored
-abbrev pub LoadsStored : Option FolderTells → Result (Vec StoredFile Global) SiteFault → Type 0
+abbrev pub LoadsStored : Option FolderContents → Result (Vec StoredFile Global) SiteFault → Type 0
 LoadsStored folder (Ok files) = Loads folder (Ok (files_of files.items))
 LoadsStored folder (Err fault) = Loads folder (Err fault)
 

@@ -1,4 +1,4 @@
-//! Which head of a page.
+//! Which of the heads that are built for a file a response begins with.
 
 /// Which head of a page a response begins with.
 #[derive(Clone, Copy, Debug, PartialEq, Eq)]

@@ -10,7 +10,8 @@ use sws_parts::{MAX_OWN_HEAD, OwnHead};
 /// The most bytes of the media type of a content.
 pub const MAX_KIND: usize = 32;
 
-/// Which part of a file a response is about, as its `Content-Range` says (RFC 9110, section 14.4). Bytes are counted from 0.
+/// Which part of a file a response is about, as its `Content-Range` says (RFC 9110, section 14.4).
+/// Bytes are counted from 0.
 #[derive(Clone, Copy, Debug, PartialEq, Eq)]
 pub enum ContentRange {
     /// The response has the bytes from the first to the last.
@@ -154,8 +155,8 @@ fn add_content(head: &mut OwnHead, body: Body, kind: &[u8], len: usize)
 
 /// The head of these parts, which has room. It takes no memory.
 ///
-/// Every head has room whose media type is that of a page or `text/plain`, as a law has it that proofs can cite
-/// (`head_text-short`).
+/// Every head has room whose media type is that of a page or `text/plain`, as a law has it that
+/// proofs can cite (`head_text-short`).
 pub fn write_head(parts: &HeadParts<'_>) -> OwnHead
     requires { length (head_text (head_of parts.now)) ≤ MAX_OWN_HEAD }
     ensures { result ≡ head_text (head_of parts.now) }

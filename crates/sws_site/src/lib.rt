@@ -1,10 +1,12 @@
 //! The files of a site, with the heads of the responses that send them.
 //!
-//! A site is loaded once from a [`Folder`](sws_link::Folder), within fixed limits: at most 4,096 files, 268,435,456 bytes of
-//! contents, and names of 1,024 bytes. All that a response needs is built then: the two heads of each file, with and without
-//! `Connection: close`, those that say that a file was not modified, and the responses that refuse. So a server answers out of a
-//! site without taking memory and without copying a byte: every head and every body is lent. The head of a response about a
-//! part of a file has numbers of the request in it: [`write_head`] writes it into a room of its own, and takes no memory either.
+//! A site is loaded once from a [`Folder`](sws_link::Folder), within fixed limits: at most 4,096
+//! files, 268,435,456 bytes of contents, and names of 1,024 bytes. All that a response needs is
+//! built then: the two heads of each file, with and without `Connection: close`, those that say
+//! that a file was not modified, and the responses that refuse. So a server answers out of a site
+//! without taking memory and without copying a byte: every head and every body is lent. The head of
+//! a response about a part of a file has numbers of the request in it: [`write_head`] writes it
+//! into a room of its own, and takes no memory either.
 //!
 //! ```text
 //! let site = Site::load(alloc, &mut folder, Some(784111777))?;

@@ -2,7 +2,7 @@
 ghost use Rattle.std.specs.Prelude.{◌≡◌, ◌<◌, ◌≤◌, IfOk, IfErr, OnErr, IfSome, IsTrue, Ok, Err, length, option_map};
 ghost use Rattle.sws_link.specs.Counts.{HasCause};
 ghost use Rattle.sws_site.specs.Limits.{size_limit, IsWithinLimits};
-ghost use Rattle.sws_site.specs.Loading.{IsFresh, IsSameFolder};
+ghost use Rattle.sws_site.specs.Loading.{IsInitialFolder, IsSameFolder};
 ghost use Rattle.sws_site.specs.Steps.{HasReadMore, HasReadAll, ReadFails, StepsTo, IsWithin, StepFails};
 ghost use Rattle.sws_site.specs.Stored.{file_of, files_of, HasHeads, AllHaveHeads, LoadsStored};
 
@@ -90,7 +90,8 @@ fn read_file<F: Folder>(
     Err(SiteFault::TooManyBytes { number })
 }
 
-/// Reads the next file, which has this number, if there is one; `room` bytes of contents are still free.
+/// Reads the next file, which has this number, if there is one; `room` bytes of
+/// contents are still free.
 fn next_file<F: Folder>(
     alloc: Global,
     folder: &mut F,
@@ -133,7 +134,7 @@ pub(crate) fn read_files<F: Folder>(
     folder: &mut F,
     date: &Option<HttpDate>,
 ) -> Result<Vec<StoredFile>, SiteFault>
-    requires { IsFresh (F.tells folder.old) }
+    requires { IsInitialFolder (F.tells folder.old) }
     ensures loads { LoadsStored (F.tells folder.old) result }
     ensures limits { IfOk result (λ files. IsWithinLimits (files_of files.items)) }
     ensures heads { IfOk result (λ files. AllHaveHeads date.now files.items) }

@@ -12,7 +12,8 @@ use crate::stored::StoredFile;
 use httpdate::HttpDate;
 use std::marker::Model;
 
-/// One file of a site, with the heads of the responses about it. All of it is lent for `'s`, the life of the site.
+/// One file of a site, with the heads of the responses about it. All of it is lent for
+/// `'s`, the life of the site.
 #[derive(Drop)]
 pub struct Page<'s> {
     pub(crate) file: &'s StoredFile,

@@ -1,11 +1,11 @@
-//! A whole site.
+//! A whole site: loading it, looking files up by name, and its responses that refuse.
 ghost use Rattle.std.specs.Prelude.{◌≡◌, ◌≤◌, length, Err, IfOk, IfSome, IsTrue, Some, None};
 ghost use Rattle.sws_link.specs.Counts.{HasCause};
 ghost use Rattle.httpdate.specs.declared.date.HttpDate.{HttpDate as Date};
 ghost use Rattle.sws_site.specs.Fixed.{is_fixed, fixed_head, fixed_body, IsFixed, IsFixedHead, IsFixedBody};
 ghost use Rattle.sws_site.specs.Limits.{IsWithinLimits};
 ghost use Rattle.sws_site.specs.Site.{found_in, last_second, IsDateAt};
-ghost use Rattle.sws_site.specs.Loading.{IsFresh, LoadsSite, IsSameFolder};
+ghost use Rattle.sws_site.specs.Loading.{IsInitialFolder, LoadsSite, IsSameFolder};
 ghost use Rattle.sws_site.specs.Stored.{FindsPlaces, files_of, AllHaveHeads};
 
 use crate::built_responses::BuiltResponse;
@@ -21,7 +21,8 @@ use std::collections::BTreeMap;
 use std::marker::Model;
 use sws_link::Folder;
 
-/// The files of a folder as they were when it was loaded, and when they were last modified, if that is known.
+/// The files of a folder as they were when it was loaded, and when they were last
+/// modified, if that is known.
 #[derive(Drop)]
 pub struct Site {
     files: Vec<StoredFile>,
@@ -56,7 +57,8 @@ fn http_date(date: Option<u64>) -> Option<HttpDate>
     }
 }
 
-/// The place of the first file of each name: the last files are put first, and an earlier one takes the place of a later one.
+/// The place of the first file of each name: the last files are put first, and an earlier one takes
+/// the place of a later one.
 fn find_places(alloc: Global, files: &[StoredFile]) -> Result<BTreeMap<Vec<u8>, usize>, AllocError>
     ensures { IfOk result (FindsPlaces files.now) }
 {
@@ -73,18 +75,20 @@ fn find_places(alloc: Global, files: &[StoredFile]) -> Result<BTreeMap<Vec<u8>, 
 impl Site {
     /// Loads all files of an open folder, of which none was given yet.
     ///
-    /// `date` is when the files were last modified, in seconds after the beginning of 1970, if that is to be told.
+    /// `date` is when the files were last modified, in seconds after the beginning of
+    /// 1970, if that is to be told.
     ///
     /// # Errors
     ///
-    /// The first file that meets a limit decides, and of its limits the first in the order `TooManyFiles`, `LongName`,
-    /// `TooManyBytes`. `Fault` comes only where the folder failed in this call, and `Memory` where an allocation was refused.
+    /// The first file that meets a limit decides, and of its limits the first in the order
+    /// `TooManyFiles`, `LongName`, `TooManyBytes`. `Fault` comes only where the folder failed in
+    /// this call, and `Memory` where an allocation was refused.
     pub fn load<F: Folder>(
         alloc: Global,
         folder: &mut F,
         date: Option<u64>,
     ) -> Result<Site, SiteFault>
-        requires fresh { IsFresh (F.tells folder.old) }
+        requires initial { IsInitialFolder (F.tells folder.old) }
         requires date { IfSome date (λ secs. secs ≤ last_second) }
         ensures loads { LoadsSite (F.tells folder.old) result }
         ensures date { IfOk result (λ site. IsDateAt date site.date) }
@@ -127,7 +131,8 @@ impl Site {
         })
     }
 
-    /// The first file of the name, in the folder's order. It takes time in the logarithm of the number of files.
+    /// The first file of the name, in the folder's order. It takes time in the
+    /// logarithm of the number of files.
     pub fn lookup(&self, name: &[u8]) -> Option<Page<'_>>
         ensures { result ≡ found_in self.now name.now }
     {
@@ -143,7 +148,8 @@ impl Site {
 
     /// The head and the body of the response of this status that is the same for each site.
     ///
-    /// `status` is one whose content tells the status, and that is about no part of a file: all that refuse, but for 416.
+    /// `status` is one whose content tells the status, and that is about no part of a file: all
+    /// that refuse, but for 416.
     pub fn refusal(&self, status: Status, closes: bool) -> (&[u8], &[u8])
         requires { IsTrue (is_fixed status) }
         ensures head { result.0.now ≡ fixed_head status closes }
@@ -194,7 +200,8 @@ impl Site {
         &self.date
     }
 
-    /// A law, which does nothing when it runs: every site is within the limits that [`Site::load`] keeps.
+    /// A law, which does nothing when it runs: every site is within the limits
+    /// that [`Site::load`] keeps.
     pub fn limits(&self)
         ensures { IsWithinLimits self.now.files }
     {

@@ -153,7 +153,8 @@ fn the_extension_of_a_name_says_the_media_type(rt: HostRuntime) -> Result<(), Fa
 #[test]
 fn a_call_that_fails_ends_the_load(rt: HostRuntime) -> Result<(), Fail> {
     let files: [(&[u8], &[u8]); 2] = [(b"a", b"1"), (b"b", b"2")];
-    // After `open`: the step to a file, a read of it and the read that meets its end, twice; and the last step.
+    // After `open`: the step to a file, a read of it and the read that meets its end,
+    // twice; and the last step.
     for failing in 2..9 {
         let failing = vec![in rt.alloc(); failing]?;
         let mut folder = MemFolder::new(rt.alloc(), named(rt.alloc(), &files)?, failing);
@@ -164,7 +165,8 @@ fn a_call_that_fails_ends_the_load(rt: HostRuntime) -> Result<(), Fail> {
     Ok(())
 }
 
-/// A folder that gives files of the same length without holding them. Their names have one byte, but for the last one's.
+/// A folder that gives files of the same length without holding them. Their names have one
+/// byte, but for the last one's.
 #[derive(Drop)]
 struct Vast {
     files: u32,

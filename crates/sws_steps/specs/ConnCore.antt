@@ -16,7 +16,8 @@ pub record ConnCoreState (Hall : Type 0) : Type 0 where
   pub input_ended : Bool
   -- how often in succession the link was not ready
   pub waits : ℕ
-  -- what is left of the answer that is written, whether it closes, and how many requests were answered
+  -- what is left of the answer that is written, whether it closes, and how
+  -- many requests were answered
   pub parts : PartsState
   pub closes : Bool
   pub answered : ℕ

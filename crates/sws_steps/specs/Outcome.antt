@@ -1,4 +1,5 @@
--- What a scripted connection ends with: the bytes that are written and the end, in which no step occurs.
+-- What a scripted connection ends with: the bytes that are written and the end,
+-- in which no step occurs.
 use Rattle.std.specs.Prelude.{ℕ, ◌+◌, nat_le, nat_lt, Bool, true, false, if◌then◌else◌, List, [], ◌∷◌, ◌++◌, length, take, Option, Some, None, ⊤}
 use Rattle.sws_link.specs.Scripts.{Script, Item, piece, wait, fault}
 use Rattle.sws_steps.specs.Protocol.{Protocol, texts_of, is_closed}
@@ -69,6 +70,7 @@ module _ {Hall Answer : Type 0} (p : Protocol Hall Answer) where
   outcome_by cut input given =
       cut_off cut (texts_of p given) (end_of (is_closed p given) input.stop)
 
+  -- the input of a script that the protocol lets count
   abbrev pub scripted_input : Script → Input
   scripted_input script = limit_input p.input_limit (input_from 0 script.items)
 

@@ -1,9 +1,10 @@
--- The events of a scripted connection alone: what each step does to its standing and its script, and the list of them. It is defined
--- twice: `IsPathFrom` says what a path is, and `path_of` gives it, counting with a bound on the steps. A law has that both are the same.
+-- The events of a scripted connection alone: what each step does to its standing and its script,
+-- and the list of them. It is defined twice: `IsPathFrom` says what a path is, and `path_of` gives
+-- it, counting with a bound on the steps. A law has that both are the same.
 use Rattle.std.specs.Prelude.{ℕ, ◌+◌, ◌-◌, ◌*◌, zero, suc, Bool, true, false, if◌then◌else◌, List, [], ◌∷◌, ◌++◌, length, Option, Some, None, ◌≡◌, ⊤}
 use Rattle.sws_link.specs.Scripts.{Script, read_of, write_of}
 use Rattle.sws_link.specs.declared.Link.{Ghosts as LinkWords}
-use Rattle.sws_link.specs.Links.{LinkTells}
+use Rattle.sws_link.specs.Links.{LinkContents}
 use Rattle.sws_parts.specs.Parts.{front_of, unsent_bytes}
 use Rattle.sws_steps.specs.Protocol.{Protocol}
 use Rattle.sws_steps.specs.ConnCore.{ConnCoreState, is_waiting, ConnState}
@@ -13,7 +14,8 @@ use Rattle.sws_steps.specs.Step.{going_to, room_of, after_read, after_parse, aft
 use Rattle.sws_steps.specs.Sound.{core_before_open}
 use Rattle.sws_steps.specs.Outcome.{UnlessMemory}
 
--- the handler that does the pending step: its own, or `Resume` where the link was not ready in the step before
+-- the handler that does the pending step: its own, or `Resume` where the link was not
+-- ready in the step before
 pub data Handler : Type 0 where
   open_link read_piece parse look write_part resume close : Handler
 
@@ -38,7 +40,8 @@ pub record Scripted (Hall : Type 0) : Type 0 where
   pub script : Script
 
 module _ {Hall Answer : Type 0} (p : Protocol Hall Answer) where
-  -- one step of it
+  -- the step where this is pending: what the table of steps does over a link, with the
+  -- script in place of the link
   abbrev pub scripted_at : Next → Scripted Hall → Scripted Hall
   scripted_at next.Open c = record c { standing = going_to c.standing next.Read }
   scripted_at next.Read c =
@@ -58,13 +61,14 @@ module _ {Hall Answer : Type 0} (p : Protocol Hall Answer) where
   scripted_at next.Close c = record c { standing = going_to c.standing next.Nothing }
   scripted_at next.Nothing c = c
 
+  -- the step that is pending
   abbrev pub scripted_step : Scripted Hall → Scripted Hall
   scripted_step c = scripted_at c.standing.pending c
 
   -- ---- what a path is
 
-  -- the list begins with the event of the pending step and goes on as a path from what that step leaves; it is at its end where no step is
-  -- pending any more
+  -- the list begins with the event of the pending step and goes on as a path from what that step
+  -- leaves; it is at its end where no step is pending any more
   unfoldable pub IsPathFrom : Scripted Hall → List Handler → Type 0
   IsPathFrom c [] = event_of c.standing ≡ []
   IsPathFrom c (event ∷ later) = (event_of c.standing ≡ event ∷ [])
@@ -96,12 +100,12 @@ input_left true = 0
 input_left false = 1
 
 -- the answers to come of a link that tells them
-abbrev pub answers_to_come : Option LinkTells → Option Script
+abbrev pub answers_to_come : Option LinkContents → Option Script
 answers_to_come None = None
 answers_to_come (Some tells) = tells.to_come
 
 -- what the link tells, where there is one
-abbrev pub told_by_link : {L : Type 0} → LinkWords L → Option L → Option LinkTells
+abbrev pub told_by_link : {L : Type 0} → LinkWords L → Option L → Option LinkContents
 told_by_link x None = None
 told_by_link x (Some link) = x.tells link
 
@@ -117,8 +121,9 @@ HasNoEvents None = ⊤
 HasNoEvents (Some rest) = rest ≡ []
 
 -- the standing, and the answers to come that are told, are those of the scripted connection
-pub record Follows {Hall : Type 0} (next : Scripted Hall) (d : ConnCoreState Hall) (now : Option LinkTells) : Type 0 where
-  pub after : LinkTells
+pub record Follows {Hall : Type 0} (next : Scripted Hall) (d : ConnCoreState Hall)
+    (now : Option LinkContents) : Type 0 where
+  pub after : LinkContents
   pub is : now ≡ Some after
   pub to_come : after.to_come ≡ Some next.script
   pub standing : d ≡ next.standing
@@ -146,14 +151,18 @@ module _ {Hall Answer : Type 0} (p : Protocol Hall Answer) where
   path_by hall None = None
   path_by hall (Some script) = Some (path_of hall script)
 
+  -- the rest of the path as the connection stands, where these are the answers to come;
+  -- none where they aren't told
   abbrev pub rest_by : ConnCoreState Hall → Option Script → Option (List Handler)
   rest_by c None = None
   rest_by c (Some script) = Some (rest_of_path c script)
 
-  -- the path of a connection over such a link, and the rest of it as the connection stands; none where the link doesn't tell
-  abbrev pub known_path : Hall → Option LinkTells → Option (List Handler)
+  -- the path of a connection over such a link; none where the link doesn't tell its answers to come
+  abbrev pub known_path : Hall → Option LinkContents → Option (List Handler)
   known_path hall tells = path_by hall (answers_to_come tells)
 
+  -- the rest of its path as the connection stands; none where there is no link yet, or where it
+  -- doesn't tell its answers to come
   abbrev pub known_rest : {L : Type 0} → LinkWords L → ConnState Hall L → Option (List Handler)
   known_rest x conn = rest_by conn.standing (answers_to_come (told_by_link x conn.link))
 
@@ -164,19 +173,23 @@ module _ {Hall Answer : Type 0} (p : Protocol Hall Answer) where
       UnlessMemory after.standing.end
       (TakesOff (event_of before.standing) (known_rest x before) (known_rest x after))
 
-  abbrev pub FollowsBy : Option Script → ConnCoreState Hall → ConnCoreState Hall → Option LinkTells
-      → Type 0
+  -- from c, with these answers to come, the step led where that of the scripted connection leads,
+  -- unless memory ran out; of answers that aren't told nothing is said
+  abbrev pub FollowsBy : Option Script → ConnCoreState Hall → ConnCoreState Hall
+      → Option LinkContents → Type 0
   FollowsBy None c d now = ⊤
   FollowsBy (Some script) c d now =
       UnlessMemory d.end (Follows
       (scripted_step p (record { standing = c; script = script })) d now)
 
-  abbrev pub FollowsTold : Option LinkTells → ConnCoreState Hall → ConnCoreState Hall
-      → Option LinkTells → Type 0
+  -- and by what the link told before the step; of a link that tells nothing, nothing is said
+  abbrev pub FollowsTold : Option LinkContents → ConnCoreState Hall → ConnCoreState Hall
+      → Option LinkContents → Type 0
   FollowsTold None c d now = ⊤
   FollowsTold (Some tells) c d now = FollowsBy tells.to_come c d now
 
-  -- the step is the one of the scripted connection, where the link tells its answers to come, unless memory runs out
+  -- the step is the one of the scripted connection, where the link tells its answers to
+  -- come, unless memory runs out
   abbrev pub FollowsScript : {L : Type 0} → LinkWords L → ConnState Hall L
       → ConnState Hall L → Type 0
   FollowsScript x before after = FollowsTold (told_by_link x before.link) before.standing

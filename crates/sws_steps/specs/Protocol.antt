@@ -1,8 +1,10 @@
--- What a connection talks by: what cuts requests off its bytes, what answers them out of a hall, and how much of each there may be.
+-- What a connection talks by: what cuts requests off its bytes, what answers them out of a hall,
+-- and how much of each there may be.
 use Rattle.std.specs.Prelude.{◌≡◌, ℕ, ◌-◌, ◌<◌, ◌≤◌, ◌==◌, Bool, true, false, if◌then◌else◌, List, [], ◌∷◌, ◌++◌, length, take}
 use Rattle.std.specs.List.{flat_map, list_any}
 
--- where the first request of some bytes ends: behind so many of them, or it has more than a request may, or it is not whole yet
+-- where the first request of some bytes ends: behind so many of them, or it has more than a request
+-- may, or it is not whole yet
 pub data Cut : Type 0 where
   Whole : ℕ → Cut
   TooLong NotYet : Cut
@@ -30,11 +32,13 @@ pub record Protocol (Hall Answer : Type 0) : Type 1 where
   pub body : Answer → List ℕ
   pub is_empty : Answer → Bool
   pub closes : Answer → Bool
-  -- the answers to some bytes, so many at most; those to all bytes of a connection, and what is sent then
+  -- the answers to some bytes, so many at most; those to all bytes of a
+  -- connection, and what is sent then
   pub answers : ℕ → Hall → List ℕ → List Answer
   pub answers_to : Hall → List ℕ → List Answer
   pub responses_of : Hall → List ℕ → List ℕ
-  -- so many bytes of a connection count, so many requests are answered, and no answer has more bytes
+  -- so many bytes of a connection count, so many requests are answered, and
+  -- no answer has more bytes
   pub input_limit : ℕ
   pub answer_limit : ℕ
   pub text_limit : ℕ
@@ -60,8 +64,9 @@ module _ {Hall Answer : Type 0} (p : Protocol Hall Answer) where
   abbrev pub answers_from : Answer → List Answer → List Answer
   answers_from answer later = answer ∷ later_unless (p.closes answer) later
 
-  -- The answers are those to the requests, in order: to each as soon as it is whole, whatever comes behind it, up to the first that closes.
-  -- One that is too long is the last, and so is the answer that is given as the last one. What doesn't close has bytes.
+  -- The answers are those to the requests, in order: to each as soon as it is whole, whatever comes
+  -- behind it, up to the first that closes. One that is too long is the last, and so is the answer
+  -- that is given as the last one. What doesn't close has bytes.
   pub record IsOrderly : Type 0 where
     pub none_left : (hall : Hall) (bytes : List ℕ) → p.answers 0 hall bytes ≡ []
     pub none_yet : (left : ℕ) (hall : Hall) (bytes : List ℕ) → p.cut bytes ≡ NotYet

@@ -1,8 +1,9 @@
--- What a connection comes to that stands over a scripted link: what will be written of it yet, and the end. Only clauses of loops cite this.
+-- What a connection comes to that stands over a scripted link: what will be written of it yet, and
+-- the end. Only clauses of loops cite this.
 use Rattle.std.specs.Prelude.{ℕ, ◌-◌, Bool, true, false, ◌||◌, List, [], ◌++◌, Option, Some, None, ◌≡◌}
 use Rattle.sws_link.specs.Scripts.{Script}
 use Rattle.sws_link.specs.declared.Link.{Ghosts as LinkWords}
-use Rattle.sws_link.specs.Links.{LinkTells}
+use Rattle.sws_link.specs.Links.{LinkContents}
 use Rattle.sws_parts.specs.Parts.{unsent_bytes}
 use Rattle.sws_steps.specs.Protocol.{Protocol, later_unless, texts_of, is_closed}
 use Rattle.sws_steps.specs.ConnCore.{ConnCoreState}
@@ -32,12 +33,15 @@ abbrev pub with_written : List ℕ → Outcome → Outcome
 with_written written outcome = record { bytes = written ++ outcome.bytes; end = outcome.end }
 
 module _ {Hall Answer : Type 0} (p : Protocol Hall Answer) where
+  -- the input that is still to be taken: that of the items that are left, none where its end was
+  -- read, and no more than the connection may still take
   abbrev pub input_to_come : ConnCoreState Hall → Script → Input
   input_to_come c script =
       limit_input (p.input_limit - c.read)
       (input_by c.input_ended (waits_at c.pending c.waits) script)
 
-  -- what comes of the rest of the parts, and of what will be answered of the buffer and the input to come
+  -- what comes of the rest of the parts, and of what will be answered of the
+  -- buffer and the input to come
   abbrev pub ahead : ConnCoreState Hall → Option ℕ → Input → Outcome
   ahead c cut input =
       let later = later_unless c.closes (p.answers (p.answer_limit - c.answered) c.hall
@@ -50,6 +54,7 @@ module _ {Hall Answer : Type 0} (p : Protocol Hall Answer) where
   rest_outcome_by (Some end) c script = record { bytes = []; end = end }
   rest_outcome_by None c script = ahead c script.cut (input_to_come c script)
 
+  -- what will be written yet of a connection that stands so, and the end
   abbrev pub rest_outcome : ConnCoreState Hall → Script → Outcome
   rest_outcome c script = rest_outcome_by c.end c script
 
@@ -60,10 +65,12 @@ module _ {Hall Answer : Type 0} (p : Protocol Hall Answer) where
       UnlessMemory c.end (with_written written (rest_outcome c script) ≡ outcome)
 
   -- the link tells its answers to come, with which the connection comes to this outcome
-  abbrev pub HeadsFor : Option LinkTells → ConnCoreState Hall → Outcome → Type 0
+  abbrev pub HeadsFor : Option LinkContents → ConnCoreState Hall → Outcome → Type 0
   HeadsFor None c outcome = ⊥
   HeadsFor (Some tells) c outcome = HeadsByScript tells.to_come tells.written c outcome
 
+  -- there is a link, which tells its answers to come, and with them the
+  -- connection comes to this outcome
   abbrev pub HeadsForLink : {L : Type 0} → LinkWords L → Option L → ConnCoreState Hall → Outcome
       → Type 0
   HeadsForLink x None c outcome = ⊥

@@ -1,8 +1,9 @@
--- Runs of a connection: the events that were run since it was opened over a link, and how such a run ends.
+-- Runs of a connection: the events that were run since it was opened over a link,
+-- and how such a run ends.
 use Rattle.std.specs.Prelude.{◌≡◌, true, false, List, [], ◌∷◌, Option, Some, None, ⊤}
 use Rattle.sws_link.specs.declared.Link.{Ghosts as LinkWords}
 use Rattle.sws_link.specs.Counts.{Rose}
-use Rattle.sws_link.specs.Links.{IsFresh}
+use Rattle.sws_link.specs.Links.{IsInitialLink}
 use Rattle.sws_steps.specs.Protocol.{Protocol}
 use Rattle.sws_steps.specs.ConnCore.{ConnState}
 use Rattle.sws_steps.specs.declared.End.{End}
@@ -35,12 +36,13 @@ module _ {Hall Answer : Type 0} (p : Protocol Hall Answer) where
       (between : ConnState Hall L) × (event_of before.standing ≡ event ∷ [])
       × Steps p x before between × RunsBy x later between after
 
-module _ {Hall Answer L : Type 0} (p : Protocol Hall Answer) (x : LinkWords L) (hall : Hall) (first : L) where
-  -- the connection was opened over this link, which wasn't shut and of which nothing was taken or written before, and has run these
-  -- events since
+module _ {Hall Answer L : Type 0} (p : Protocol Hall Answer) (x : LinkWords L) (hall : Hall)
+    (first : L) where
+  -- the connection was opened over this link, which wasn't shut and of which nothing was taken or
+  -- written before, and has run these events since
   pub record HasRun (trail : List Handler) (conn : ConnState Hall L) : Type 0 where
     pub limits : p.IsHall hall
-    pub fresh : IsFresh (x.tells first)
+    pub initial : IsInitialLink (x.tells first)
     pub not_shut : x.is_shut first ≡ false
     pub runs : RunsBy p x trail (conn_at_open hall first) conn
 
@@ -55,7 +57,8 @@ module _ {Hall Answer L : Type 0} (p : Protocol Hall Answer) (x : LinkWords L) (
 
   -- how a run ends with which the link is shut, by the link before and after it
   pub record EndsRun (trail : List Handler) (now : L) (end : End) : Type 0 where
-    -- what was written begins the responses, and where all is done it is the responses to the whole input
+    -- what was written begins the responses, and where all is done it is the
+    -- responses to the whole input
     pub serves : Serves p hall (x.tells first) (x.tells now) end
     -- a link that told its answers to come got exactly its outcome, by its whole path
     pub outcome : EndsAs p hall (x.tells first) (x.tells now) end

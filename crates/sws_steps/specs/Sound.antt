@@ -1,8 +1,9 @@
--- What holds of a connection at every moment: how its bytes stand to the responses, and what is known at each pending step.
+-- What holds of a connection at every moment: how its bytes stand to the responses, and what is
+-- known at each pending step.
 use Rattle.std.specs.Prelude.{◌≡◌, ◌≢◌, ℕ, ◌-◌, ◌*◌, ◌<◌, ◌≤◌, ◌⊎◌, Bool, true, false, List, [], ◌++◌, length, Option, Some, None, IsSome, ⊤}
 use Rattle.sws_link.specs.declared.Link.{Ghosts as LinkWords}
 use Rattle.sws_link.specs.Contents.{IsPrefix}
-use Rattle.sws_link.specs.Links.{LinkTells}
+use Rattle.sws_link.specs.Links.{LinkContents}
 use Rattle.sws_parts.specs.Parts.{front_of, unsent_bytes}
 use Rattle.sws_steps.specs.Protocol.{Protocol, NotYet, later_unless, texts_of, is_closed}
 use Rattle.sws_steps.specs.ConnCore.{is_sent, ConnCoreState, ConnState}
@@ -37,7 +38,8 @@ module _ {Hall Answer : Type 0} (p : Protocol Hall Answer) where
     pub no_end : c.end ≡ None
     pub patient : c.waits < wait_limit
 
-  -- a read is made only between answers, where the buffer has no whole request, and few enough bytes were taken
+  -- a read is made only between answers, where the buffer has no whole request, and
+  -- few enough bytes were taken
   pub record IsToRead (c : ConnCoreState Hall) : Type 0 where
     pub between : IsBetween c
     pub not_yet : p.cut c.buffer ≡ NotYet
@@ -49,17 +51,20 @@ module _ {Hall Answer : Type 0} (p : Protocol Hall Answer) where
     pub between : IsBetween c
     pub no_waits : c.waits ≡ 0
 
+  -- the buffer has a whole request, or begins with one that is too long: either is answered
   pub record IsToLook (c : ConnCoreState Hall) : Type 0 where
     pub between : IsBetween c
     pub whole : p.cut c.buffer ≢ NotYet
 
+  -- something of an answer is left to write, and unless it closes there may be another after it
   pub record IsToWrite (c : ConnCoreState Hall) : Type 0 where
     pub something : is_sent c.parts ≡ false
     pub more : c.closes ≡ false → c.answered < p.answer_limit
     pub no_end : c.end ≡ None
     pub patient : c.waits < wait_limit
 
-  -- all that is to be written was written: the last answer closes, or no more input comes and none is left to be answered
+  -- all that is to be written was written: the last answer closes, or no more input comes and
+  -- none is left to be answered
   pub record IsDone (c : ConnCoreState Hall) : Type 0 where
     pub nothing : is_sent c.parts ≡ true
     pub last : (c.closes ≡ true) ⊎ ((c.closes ≡ false) × (p.cut c.buffer ≡ NotYet)
@@ -94,8 +99,9 @@ IsLinked next.Close link = IsSome link
 IsLinked next.Nothing link = IsSome link
 
 module _ {Hall Answer : Type 0} (p : Protocol Hall Answer) where
-  -- The bytes that were taken are those of the requests that were answered, followed by the buffer. The bytes that were sent, followed
-  -- by the rest of the parts, are the answers to those requests. Whatever comes behind these, they are answered first.
+  -- The bytes that were taken are those of the requests that were answered, followed by the buffer.
+  -- The bytes that were sent, followed by the rest of the parts, are the answers to those requests.
+  -- Whatever comes behind these, they are answered first.
   pub record Progress (c : ConnCoreState Hall) (taken sent : List ℕ) : Type 0 where
     pub consumed : List ℕ
     pub given : List Answer
@@ -119,15 +125,17 @@ IsUncut (Some ending.Idle) = ⊤
 IsUncut (Some ending.Fault) = ⊥
 IsUncut (Some ending.Memory) = ⊥
 
--- what was written is what was sent, and after a write that failed also a front of what it was given
-pub record WritesSent {Hall : Type 0} (c : ConnCoreState Hall) (written sent : List ℕ) : Type 0 where
+-- what was written is what was sent, and after a write that failed also a
+-- front of what it was given
+pub record WritesSent {Hall : Type 0} (c : ConnCoreState Hall)
+    (written sent : List ℕ) : Type 0 where
   pub front : List ℕ
   pub is : written ≡ sent ++ front
   pub prefix : IsPrefix front (front_of c.parts)
   pub none : IsUncut c.end → front ≡ []
 
 -- what the link tells, where it does
-abbrev pub IsTold : {Hall : Type 0} → ConnCoreState Hall → Option LinkTells → List ℕ → List ℕ
+abbrev pub IsTold : {Hall : Type 0} → ConnCoreState Hall → Option LinkContents → List ℕ → List ℕ
     → Type 0
 IsTold c None taken sent = ⊤
 IsTold c (Some tells) taken sent = (tells.taken ≡ taken) × WritesSent c tells.written sent
@@ -156,6 +164,9 @@ IsShutAtEnd x pending None = ⊤
 IsShutAtEnd x pending (Some link) = x.is_shut link ≡ is_over pending
 
 module _ {Hall Answer : Type 0} (p : Protocol Hall Answer) where
+  -- What every connection keeps: what its pending step asks; a link once it was opened, shut
+  -- exactly at the end; how the bytes that were taken and sent stand to the responses; and that
+  -- these are the bytes of which the link tells.
   pub record IsSound {L : Type 0} (x : LinkWords L) (c : ConnState Hall L) : Type 0 where
     pub taken : List ℕ
     pub sent : List ℕ

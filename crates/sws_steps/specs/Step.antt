@@ -1,4 +1,5 @@
--- The table of a connection's steps: what each does and what is next, over what a contract sees of the connection.
+-- The table of a connection's steps: what each does and what is next, over what a
+-- contract sees of the connection.
 use Rattle.std.specs.Prelude.{◌≡◌, ℕ, ◌+◌, ◌-◌, ◌^◌, ◌==◌, nat_le, min, Bool, true, false, ◌||◌, if◌then◌else◌, List, [], ◌++◌, take, drop, Option, Some, None, Result, Ok, Err}
 use Rattle.sws_link.specs.declared.Link.{Ghosts as LinkWords}
 use Rattle.sws_link.specs.declared.LinkRead.{LinkRead}
@@ -18,7 +19,8 @@ use Rattle.sws_steps.specs.declared.Next.TheVariants as next
 abbrev pub read_limit : ℕ
 read_limit = 4096
 
--- nothing is written once so many bytes were, far more than all the answers of a connection come to: the count never wraps
+-- nothing is written once so many bytes were, far more than all the answers of a connection come
+-- to: the count never wraps
 abbrev pub written_limit : ℕ
 written_limit = 2 ^ 60
 
@@ -27,6 +29,7 @@ abbrev pub wait_limit : ℕ
 wait_limit = 30
 
 module _ {Hall : Type 0} (c : ConnCoreState Hall) where
+  -- this step comes next, and all else stays
   abbrev pub going_to : Next → ConnCoreState Hall
   going_to pending = record c { pending = pending }
 
@@ -34,7 +37,7 @@ module _ {Hall : Type 0} (c : ConnCoreState Hall) where
   abbrev pub ending_as : End → ConnCoreState Hall
   ending_as end = record c { end = Some end; pending = next.Close }
 
-  -- the link was not ready once more
+  -- the link was not ready once more: the connection ends as idle where that was once too often
   abbrev pub still_waiting : Bool → ConnCoreState Hall
   still_waiting true = record c {
     waits = c.waits + 1;
@@ -43,9 +46,13 @@ module _ {Hall : Type 0} (c : ConnCoreState Hall) where
   }
   still_waiting false = record c { waits = c.waits + 1 }
 
+  -- the same step stays pending, until the link was not ready so often in
+  -- succession as the limit says
   abbrev pub not_ready : ConnCoreState Hall
   not_ready = still_waiting (nat_le wait_limit (c.waits + 1))
 
+  -- a connection after an answer of its link to a read: bytes that came go behind the buffer, and a
+  -- request is looked for in it
   abbrev pub after_read : LinkRead → List ℕ → ConnCoreState Hall
   after_read (read.Took count) into = record c {
     buffer = c.buffer ++ take count into;
@@ -87,6 +94,8 @@ module _ {Hall Answer : Type 0} (p : Protocol Hall Answer) (c : ConnCoreState Ha
   abbrev pub has_all_input : Bool
   has_all_input = c.input_ended || nat_le p.input_limit c.read
 
+  -- what follows the cut of the buffer: a request, whole or too long, is answered; where there is
+  -- none yet more is read, and where no more comes all is done
   abbrev pub after_parse : Cut → ConnCoreState Hall
   after_parse (Whole len) = going_to c next.Look
   after_parse TooLong = going_to c next.Look
@@ -107,9 +116,12 @@ module _ {Hall Answer : Type 0} (p : Protocol Hall Answer) (c : ConnCoreState Ha
   after_answer answer rest =
       after_part (p.is_empty answer) (p.closes answer) (with_answer answer rest)
 
+  -- whether the next answer is the last that the connection may give, which has to close it
   abbrev pub is_last : Bool
   is_last = c.answered + 1 == p.answer_limit
 
+  -- the request at the front of the buffer is answered and taken off it; one that is too long takes
+  -- the whole buffer with it, since where the next begins isn't known
   abbrev pub after_look : Cut → ConnCoreState Hall
   after_look (Whole len) =
       after_answer (p.answer c.hall (request (take len c.buffer)) is_last) (drop len c.buffer)
@@ -137,7 +149,8 @@ module _ {Hall L : Type 0} (x : LinkWords L) (before after : ConnCoreState Hall)
   OverLink Does (Some link) None = ⊥
   OverLink Does None now = ⊥
 
-module _ {Hall Answer L : Type 0} (p : Protocol Hall Answer) (x : LinkWords L) (before after : ConnCoreState Hall) where
+module _ {Hall Answer L : Type 0} (p : Protocol Hall Answer) (x : LinkWords L)
+    (before after : ConnCoreState Hall) where
   -- one read of the link was made, which keeps what the link kept of an earlier state
   pub record ReadsOnce (link now : L) : Type 0 where
     pub answer : LinkRead

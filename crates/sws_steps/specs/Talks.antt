@@ -1,10 +1,11 @@
--- What contracts see of a talk, which is a connection over any hall: how it stands, what opening it does, and what its link was served.
+-- What contracts see of a talk, which is a connection over any hall: how it stands, what opening it
+-- does, and what its link was served.
 use Rattle.std.specs.Prelude.{◌≡◌, ℕ, ◌⊎◌, IsTrue, Bool, false, List, [], ◌∷◌, ◌++◌, length, Option, Some, None, Result, Ok, Err, ⊤, option_map}
 use Rattle.sws_link.specs.declared.Link.{Ghosts as LinkWords}
 use Rattle.sws_link.specs.Contents.{IsPrefix}
 use Rattle.sws_link.specs.Counts.{Rose, IsLater}
 use Rattle.sws_link.specs.Exchanges.{LinkCall, Exchanges, taken_in, written_in}
-use Rattle.sws_link.specs.Links.{LinkTells, input_of}
+use Rattle.sws_link.specs.Links.{LinkContents, input_of}
 use Rattle.sws_link.specs.Scripts.{Script}
 use Rattle.sws_steps.specs.declared.End.{End}
 use Rattle.sws_steps.specs.declared.End.TheVariants as ending
@@ -23,7 +24,8 @@ use Rattle.sws_steps.specs.Serving.{RoseBy}
 
 -- a talk, as a server sees it
 pub record TalkView : Type 0 where
-  -- the step that comes next, which is never `Wait`, and whether it was tried and the link was not ready
+  -- the step that comes next, which is never `Wait`, and whether it was tried
+  -- and the link was not ready
   pub pending : Next
   pub waiting : Bool
   -- the end, as soon as it is known
@@ -72,6 +74,7 @@ module _ {T L : Type 0} (link_of : T → Option L) (view_of : T → TalkView) wh
       × (view_of after ≡ opened_view)
   OpensBy (Some there) before link answer after = (answer ≡ Err link) × (after ≡ before)
 
+  -- the talk was offered a link, which it takes only where it had none
   abbrev pub OpensTalk : T → L → Result Next L → T → Type 0
   OpensTalk before link answer after = OpensBy (link_of before) before link answer after
 
@@ -88,44 +91,52 @@ HasNoStep next.Nothing = ⊤
 
 -- ---- what a link was served
 
--- the bytes of the answered requests, and those that were taken behind them: what was written begins the responses to the first
-pub record Consumes (respond : List ℕ → List ℕ) (tells : LinkTells) : Type 0 where
+-- the bytes of the answered requests, and those that were taken behind them: what was written
+-- begins the responses to the first
+pub record Consumes (respond : List ℕ → List ℕ) (tells : LinkContents) : Type 0 where
   pub consumed : List ℕ
   pub buffer : List ℕ
   pub taken_is : tells.taken ≡ consumed ++ buffer
   pub begins : IsPrefix tells.written (respond consumed)
 
--- a link that tells its contents: its input is what it was, what was written begins the responses, and where all is done it is the responses
--- to the whole input
-pub record ServesLink (respond : List ℕ → List ℕ) (before now : LinkTells) (view : TalkView) : Type 0 where
+-- a link that tells its contents: its input is what it was, what was written begins the responses,
+-- and where all is done it is the responses to the whole input
+pub record ServesLink (respond : List ℕ → List ℕ) (before now : LinkContents)
+    (view : TalkView) : Type 0 where
   pub input : input_of now ≡ input_of before
   pub consumes : Consumes respond now
   pub begins : IsPrefix now.written (respond now.taken)
   pub whole : view.end ≡ Some ending.Done → now.written ≡ respond (input_of before)
   pub read : view.read ≡ length now.taken
-  -- as many bytes were written as the answers say, unless a write failed or met want of memory and may have written more
+  -- as many bytes were written as the answers say, unless a write failed or met want of memory
+  -- and may have written more
   pub written : IsUncut view.end ⊎ IsTrue now.says_all → view.written ≡ length now.written
 
 -- a link that told what it has was served, and tells it still
-abbrev pub ServesTold : (List ℕ → List ℕ) → Option LinkTells → Option LinkTells → TalkView → Type 0
+abbrev pub ServesTold : (List ℕ → List ℕ) → Option LinkContents
+    → Option LinkContents → TalkView → Type 0
 ServesTold respond None now view = now ≡ None
-ServesTold respond (Some before) now view = (told : LinkTells) × (now ≡ Some told)
+ServesTold respond (Some before) now view = (told : LinkContents) × (now ≡ Some told)
     × ServesLink respond before told view
 
 -- a link that told its answers to come ends with exactly its outcome
-abbrev pub ComesTo : Option Outcome → Option LinkTells → End → Type 0
+abbrev pub ComesTo : Option Outcome → Option LinkContents → End → Type 0
 ComesTo None now end = ⊤
-ComesTo (Some outcome) now end = UnlessMemory (Some end) ((tells : LinkTells) × (now ≡ Some tells)
+ComesTo (Some outcome) now end = UnlessMemory (Some end)
+    ((tells : LinkContents) × (now ≡ Some tells)
     × (tells.written ≡ outcome.bytes) × (end ≡ outcome.end))
 
--- the calls of a link that led from one to the other, whose answers count the bytes that were taken and written
-pub record ExchangesBy {L : Type 0} (x : LinkWords L) (first now : L) (view : TalkView) : Type 0 where
+-- the calls of a link that led from one to the other, whose answers count the bytes
+-- that were taken and written
+pub record ExchangesBy {L : Type 0} (x : LinkWords L) (first now : L)
+    (view : TalkView) : Type 0 where
   pub calls : List LinkCall
   pub leads : Exchanges x.tells x.is_shut x.faults x.waits calls first now
   pub read : view.read ≡ taken_in calls
   pub written : view.written ≡ written_in calls
 
-module _ {L : Type 0} (x : LinkWords L) (respond : List ℕ → List ℕ) (outcome : Script → Outcome) (first : L) where
+module _ {L : Type 0} (x : LinkWords L) (respond : List ℕ → List ℕ) (outcome : Script → Outcome)
+    (first : L) where
   -- what has become of a link since it was given to a talk
   pub record HasServed (now : L) (view : TalkView) : Type 0 where
     pub told : ServesTold respond (x.tells first) (x.tells now) view
@@ -150,7 +161,7 @@ ServesNow Served (Some now) view = Served now view
 -- ---- the rest of the path
 
 -- the path of the answers to come, where these are told
-abbrev pub path_to_come : (Script → List Handler) → Option LinkTells → Option (List Handler)
+abbrev pub path_to_come : (Script → List Handler) → Option LinkContents → Option (List Handler)
 path_to_come path tells = option_map path (answers_to_come tells)
 
 -- the rest begins with the event that is due, and is at its end where none is

@@ -38,7 +38,8 @@ pub trait Speech: Sized {
     fn answer_limit(&self) -> u8
         ensures { result ≡ protocol.answer_limit };
 
-    /// Adds what one read of the link gives, of at most so many bytes, where no request is whole yet.
+    /// Adds what one read of the link gives, of at most so many bytes, where
+    /// no request is whole yet.
     fn fill<L: Link>(&mut self, link: &mut L, most: usize) -> LinkRead
         requires some { 0 < most }
         requires few { most ≤ read_limit }
@@ -58,7 +59,8 @@ pub trait Speech: Sized {
         ensures bytes { bytes_of self.new ≡ bytes_of self.old }
         ensures parts { parts_of self.new ≡ parts_of self.old };
 
-    /// Answers the first request, which is whole or too long, and drops it. Answers whether the connection ends with it.
+    /// Answers the first request, which is whole or too long, and drops it. Answers whether the
+    /// connection ends with it.
     fn answer(&mut self, last: bool) -> bool
         requires there { protocol.cut (bytes_of self.old) ≢ NotYet }
         ensures answers { AnswersFirst protocol (hall_of self.old) (bytes_of self.old) last

@@ -18,7 +18,8 @@ bytes_of Backslash = 92 ∷ []
 bytes_of Tilde = 126 ∷ []
 bytes_of (Hex byte) = byte ∷ []
 
--- the text of a sign: 126 is `~`, and 92 is a backslash, with `n`, `r`, `t`, itself, `~`, or `x` and two digits behind it
+-- the text of a sign: 126 is `~`, and 92 is a backslash, with `n`, `r`, `t`, itself, `~`, or `x`
+-- and two digits behind it
 abbrev pub spelling_of : Sign → List ℕ
 spelling_of (Plain byte) = byte ∷ []
 spelling_of LineEnd = 126 ∷ []

@@ -3,8 +3,8 @@ ghost use Rattle.std.specs.Prelude.{◌≡◌, ◌≤◌, ◌<◌, ◌*◌, List
 ghost use Rattle.std.specs.List.{AllByRecursion};
 ghost use Rattle.sws_text.specs.Texts.{StandsFor, text_of};
 
-/// A text stands for one list of bytes, however it is spelled, and is made of bytes that can be seen, at most four for
-/// each byte.
+/// A text stands for one list of bytes, however it is spelled, and is made of bytes that can be
+/// seen, at most four for each byte.
 pub fn a_text_stands_for_one_list()
     ensures one { (text one other : List ℕ) → StandsFor text one → StandsFor text other
         → one ≡ other }

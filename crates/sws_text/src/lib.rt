@@ -1,9 +1,10 @@
 //! The text that stands for bytes in scripts, transcripts and logs.
 //!
-//! A text is made of signs. Most bytes that can be seen stand for themselves; `~` stands for CR LF, and what begins
-//! with a backslash for one byte. Some bytes have several spellings: [`push_text`] writes the one that is looked for
-//! from the left, which is the shortest, and [`read_text`] reads all of them. [`ShownLines`] are the lines of a transcript,
-//! in which the text of bytes is broken behind each LF. [`read_decimal`] reads the numbers that stand beside texts.
+//! A text is made of signs. Most bytes that can be seen stand for themselves; `~` stands for CR LF,
+//! and what begins with a backslash for one byte. Some bytes have several spellings: [`push_text`]
+//! writes the one that is looked for from the left, which is the shortest, and [`read_text`] reads
+//! all of them. [`ShownLines`] are the lines of a transcript, in which the text of bytes is broken
+//! behind each LF. [`read_decimal`] reads the numbers that stand beside texts.
 //!
 //! ```text
 //! let mut text = Vec::new(alloc);

@@ -6,6 +6,10 @@ ghost use Rattle.std.specs.Fmt.{decimal};
 const MAX_DIGITS: usize = 20;
 
 /// The number that a word writes in decimal digits without leading zeros, at most `high`.
+///
+/// It is `None` where the word writes no such number: where it is empty or has a byte
+/// that is no digit, where it begins with `0` and isn't `0` alone, and where its
+/// number is greater than `high`.
 pub fn read_decimal(word: &[u8], high: u64) -> Option<u64>
     ensures { MatchOption result ((n : ℕ) → word.now ≡ decimal n → n ≤ high → ⊥)
         (λ n. (word.now ≡ decimal n) × (n ≤ high)) }

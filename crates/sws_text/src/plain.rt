@@ -3,7 +3,8 @@ ghost use Rattle.std.specs.Prelude.{◌≡◌, ◌≤◌, ◌<◌, ◌↔◌, So
 ghost use Rattle.std.specs.List.{AllByRecursion};
 ghost use Rattle.sws_text.specs.Signs.{IsPlain};
 
-/// How many bytes in front stand for themselves, counted up to `most`: the byte behind them, where there is one, doesn't.
+/// How many bytes in front stand for themselves, counted up to `most`: the byte behind them,
+/// where there is one, doesn't.
 pub fn plain_front(bytes: &[u8], most: usize) -> usize
     ensures there { result ≤ length bytes.now }
     ensures few { result ≤ most }

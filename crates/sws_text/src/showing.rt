@@ -13,8 +13,9 @@ use std::marker::Model;
 /// The most bytes that are moved at a time, but for the beginning of their line.
 const MAX_RUN: usize = 4_096;
 
-/// The lines that show some bytes: each begins with `| `, and ends behind an LF that is shown or behind the last byte.
-/// They are handed out a few bytes at a time, so that long ones can be written piece by piece.
+/// The lines that show some bytes: each begins with `| `, and ends behind an LF that is shown
+/// or behind the last byte. They are handed out a few bytes at a time, so that long ones can
+/// be written piece by piece.
 ///
 /// Contracts see the text that is still to be written.
 #[derive(Debug, Drop)]
@@ -45,7 +46,8 @@ impl<'b> ShownLines<'b> {
         }
     }
 
-    /// Moves the next few bytes of the lines to the end of a text, 4,098 at most, and says whether there were any.
+    /// Moves the next few bytes of the lines to the end of a text, 4,098 at most, and
+    /// says whether there were any.
     pub fn push_next(&mut self, text: &mut Vec<u8>) -> Result<bool, AllocError>
         ensures moves { OnOk result (text.new.items ++ self.new ≡ text.old.items ++ self.old) }
         ensures some { IfOk result (λ some. OnTrue some (vec_len text.old < vec_len text.new)) }
@@ -74,7 +76,8 @@ impl<'b> ShownLines<'b> {
     }
 }
 
-/// Adds bytes that stand for themselves, behind the beginning of their line where that has not begun.
+/// Adds bytes that stand for themselves, behind the beginning of their line
+/// where that has not begun.
 fn push_run(text: &mut Vec<u8>, in_line: bool, run: &[u8]) -> Result<(), AllocError>
     ensures { OnOk result (text.new.items ≡ text.old.items ++ (margin in_line ++ run.now)) }
 {
@@ -85,7 +88,8 @@ fn push_run(text: &mut Vec<u8>, in_line: bool, run: &[u8]) -> Result<(), AllocEr
     Ok(())
 }
 
-/// Adds a sign, behind the beginning of its line where that has not begun, and before the end of a line that it ends.
+/// Adds a sign, behind the beginning of its line where that has not begun, and before the
+/// end of a line that it ends.
 fn push_shown_sign(text: &mut Vec<u8>, in_line: bool, sign: Sign) -> Result<(), AllocError>
     requires { IsSign sign }
     ensures { OnOk result (text.new.items ≡ text.old.items ++ shown_sign in_line sign) }

@@ -1,4 +1,5 @@
--- What follows of a run, whatever its order: the cause of its fault, and that without a cause all was done.
+-- What follows of a run, whatever its order: the cause of its fault, and that
+-- without a cause all was done.
 use Rattle.std.specs.Prelude.{Ok, Err, is_some}
 use Rattle.std.proofs.Common.{◌≡◌, ◌≢◌, ◌⊎◌, inl, inr, ℕ, Bool, List, Option, Some, None, IsSome, refl, sym, ap, ◌∙◌, subst, Result}
 use Rattle.mely_check.specs.Verdicts.{Accepts, IsAcceptance}
@@ -9,7 +10,7 @@ use Rattle.mely_history.specs.declared.setup.Setup.{Setup}
 use Rattle.mely_history.specs.declared.shape.Shape.{Shape}
 use Rattle.sws_link.proofs.CountLemmas.{HasCause-none, HasCause-as}
 use Rattle.sws_link.specs.Counts.{Count, Rose, HasCause}
-use Rattle.sws_link.specs.Told.{FolderTells}
+use Rattle.sws_link.specs.Told.{FolderContents}
 use Rattle.sws_link.specs.Worlds.{Listens}
 use Rattle.sws_link.specs.declared.Folder.{Ghosts as FolderWords}
 use Rattle.sws_link.specs.declared.Source.{Ghosts as SourceWords}
@@ -53,7 +54,8 @@ use Rattle.sws_top.specs.Texts.{WritesText}
 
 -- ---- one object after another
 
--- A count, by the fault with which a run ends: it rose where the fault is its own, and else it stands.
+-- A count, by the fault with which a run ends: it rose where the fault is its
+-- own, and else it stands.
 record Reads (folder folder_now source source_now : Count) (fault : Option TopFault) : Type 0 where
   rose : fault ≡ Some ReadFault → Rose folder folder_now ⊎ Rose source source_now
   stays : fault ≢ Some ReadFault → (folder_now ≡ folder) × (source_now ≡ source)
@@ -111,7 +113,7 @@ module _ {O : Type 0} (o : SinkWords O) (before now : O) (fault : Option TopFaul
 -- ---- a run that asks nothing of the world
 
 -- the fault isn't the world's
-pub record NotTheWorlds (fault : Option TopFault) : Type 0 where
+record NotTheWorlds (fault : Option TopFault) : Type 0 where
   pub unfailed : fault ≢ Some WorldFault
   pub unlost : (conn : ℕ) → fault ≢ Some (Apart conn)
 
@@ -259,7 +261,7 @@ module _ {F R W L O : Type 0} (f : FolderWords F) (r : SourceWords R) (x : World
   }
 
   -- nothing was touched
-  pub untouched_causes : (fault : TopFault) → outcome.fault ≡ Some fault → (Some fault ≢ Some ReadFault) → (Some fault ≢ Some WriteFault) → NotTheWorlds (Some fault)
+  untouched_causes : (fault : TopFault) → outcome.fault ≡ Some fault → (Some fault ≢ Some ReadFault) → (Some fault ≢ Some WriteFault) → NotTheWorlds (Some fault)
       → IsUntouched before now world outcome → HasCauses f r x o before now world outcome
   untouched_causes fault is read write kind untouched =
       let same = untouched.same in
@@ -431,8 +433,8 @@ module _ {F R W L O T G : Type 0} (f : FolderWords F) (r : SourceWords R) (x : W
 
   -- ---- all is done
 
-  not_full : (told : Option FolderTells) (limit : SiteLimit) → TellsWithinLimits told
-      → ((folder : FolderTells) → told ≡ Some folder → limit_of folder.files ≡ Some (refusal_of limit)) → ⊥
+  not_full : (told : Option FolderContents) (limit : SiteLimit) → TellsWithinLimits told
+      → ((folder : FolderContents) → told ≡ Some folder → limit_of folder.files ≡ Some (refusal_of limit)) → ⊥
   not_full None limit within full = within
   not_full (Some folder) limit within full = (let none = limit_of-none folder.files within in let some = full folder refl in cc)
 
@@ -546,7 +548,8 @@ module _ {F R W L O T G : Type 0} (f : FolderWords F) (r : SourceWords R) (x : W
       check_done checked.found checked.cause checked.writes
       (check_accepts connections (run_shape shape) checked.setup (r.left before.source) checked.found checked.of_server sound checked.accepts) nothing
 
-  -- with words, site and script in order, and no fault of the outside, all is done, or there was no memory, or a connection was lost
+  -- with words, site and script in order, and no fault of the outside, all is done, or there was no
+  -- memory, or a connection was lost
   pub done_of : (order : Order) → Ran f r x l o y before now world outcome order → IsSound f r x o before now world outcome order → Undisturbed → AllDone
   done_of order (inl (is, untouched)) sound nothing = inr (inl is)
   done_of order (inr ran) sound nothing = done_as order ran sound nothing

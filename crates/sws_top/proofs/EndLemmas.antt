@@ -20,7 +20,8 @@ use Rattle.sws_top.proofs.AnswerLemmas.{answered_by}
 pub never_idle : (end : End) → (end ≡ ending.Idle → RoseBy wait_limit no_faults no_faults) → end ≡ ending.Idle → ⊥
 never_idle end idle is = elim (idle is) [ inl more ↦ absurd (omega arith) | inr full ↦ absurd (let no : false ≡ true = full in cc) ]
 
--- what is kept by the end, of a link of which this is so by the way in which it failed, and of which that all is answered
+-- what is kept by the end, of a link of which this is so by the way in which it failed, and of
+-- which that all is answered
 abbrev pub KeptAs : (Option Way → Type 0) → Type 0 → End → Type 0
 KeptAs Since Answers ending.Done = Since None
 KeptAs Since Answers ending.Idle = Since None

@@ -1,4 +1,5 @@
--- Where a text is longer than a script may be, it goes wrong at the same line whatever stands behind it.
+-- Where a text is longer than a script may be, it goes wrong at the same line
+-- whatever stands behind it.
 use Rattle.std.specs.Prelude.{codes}
 use Rattle.std.specs.List.{onto_first}
 use Rattle.std.proofs.Common.{◌≡◌, ℕ, zero, suc, ◌+◌, ◌<◌, ◌≤◌, Bool, true, false, cond, eqb, List, [], ◌∷◌, ◌++◌, length, take, refl, sym, ◌∙◌, ap, subst, arith, length-append}

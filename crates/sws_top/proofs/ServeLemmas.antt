@@ -9,7 +9,7 @@ use Rattle.mely_history.specs.declared.shape.Shape.{Shape}
 use Rattle.sws_link.proofs.CountLemmas.{HasCause-as}
 use Rattle.sws_link.specs.Contents.{Puts}
 use Rattle.sws_link.specs.Counts.{Rose, HasCause}
-use Rattle.sws_link.specs.Worlds.{Coming, WorldTells, Listens, total_within}
+use Rattle.sws_link.specs.Worlds.{Coming, WorldContents, Listens, total_within}
 use Rattle.sws_link.specs.declared.Link.{Ghosts as LinkWords}
 use Rattle.sws_link.specs.declared.Opened.TheVariants as opened
 use Rattle.sws_link.specs.declared.Put.{Put}
@@ -41,16 +41,16 @@ total_few (Some coming) total = omega arith
 
 module _ {W L : Type 0} (x : WorldWords W L) (before : W) (port connections : ℕ) (first : W)
     (listens : Listens x.tells x.faults x.waits before port connections opened.Ready first) where
-  pub opened_total : (x.tells first).total ≡ total_within (x.tells before).coming connections
-  opened_total = ap (λ (t : WorldTells). t.total) listens.becomes
+  opened_total : (x.tells first).total ≡ total_within (x.tells before).coming connections
+  opened_total = ap (λ (t : WorldContents). t.total) listens.becomes
 
   pub opened_few : connections ≤ 1024 → (x.tells first).total ≤ 1024
   opened_few few = let most = total_few (x.tells before).coming connections in omega (arith, opened_total)
 
-  pub opened_port : (x.tells first).port ≡ port
-  opened_port = ap (λ (t : WorldTells). t.port) listens.becomes
+  opened_port : (x.tells first).port ≡ port
+  opened_port = ap (λ (t : WorldContents). t.port) listens.becomes
 
-  pub opened_faults : x.faults first ≡ x.faults before
+  opened_faults : x.faults first ≡ x.faults before
   opened_faults = listens.failed.stays (λ e. cc)
 
 -- ---- sums over what was served

@@ -9,8 +9,9 @@ use Rattle.sws_top.specs.declared.faults.TopFault.{TopFault}
 use Rattle.sws_top.specs.declared.faults.TopFault.TheVariants.{ReadFault, WriteFault}
 use Rattle.sws_top.specs.Faults.{EndsAnswering}
 
--- The first bytes of the input were read, and a front of the responses to them was written: all of them where there was no fault, and
--- where the source failed. Without a fault the input was read to its end, or as far as it counts, or up to an answer that closes.
+-- The first bytes of the input were read, and a front of the responses to them was written: all of
+-- them where there was no fault, and where the source failed. Without a fault the input was read to
+-- its end, or as far as it counts, or up to an answer that closes.
 pub record Answered (site : SiteState) (input before : List ℕ) (left written : Option (List ℕ))
     (fault : Option TopFault) : Type 0 where
   pub read : List ℕ
@@ -35,8 +36,9 @@ AnswersFrom site input left before written fault =
     → Answered site bytes sent left written fault
 
 module _ {R O : Type 0} (r : SourceWords R) (o : SinkWords O) where
-  -- The connection whose input is the source's, and whose output the sink takes, was answered from the site. A fault of reading comes
-  -- only where the source failed, one of writing only where the sink did, and without it the count stands.
+  -- The connection whose input is the source's, and whose output the sink takes, was answered from
+  -- the site. A fault of reading comes only where the source failed, one of writing only where the
+  -- sink did, and without it the count stands.
   pub record AnswersInput (site : SiteState) (source source_now : R) (out out_now : O)
       (fault : Option TopFault) : Type 0 where
     pub answered : AnswersFrom site (r.left source) (r.left source_now) (o.written out)

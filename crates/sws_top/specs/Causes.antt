@@ -35,9 +35,11 @@ abbrev pub HasLost : {W L : Type 0} → Outcome W L → ℕ → Type 0
 HasLost {W} {L} outcome conn = (ended : Ended W L) × (outcome.ended ≡ Some ended)
     × (ended.verdict ≡ verdict.Apart conn)
 
-module _ {F R W L O : Type 0} (f : FolderWords F) (r : SourceWords R) (x : WorldWords W L) (o : SinkWords O) (before now : Hands F R O) (world : W) (outcome : Outcome W L) where
-  -- Each fault of the outside comes only where the count of what failed rose, and the sink's, the folder's and the source's counts stand
-  -- where they have none. A connection is lost exactly where the run has left that verdict.
+module _ {F R W L O : Type 0} (f : FolderWords F) (r : SourceWords R) (x : WorldWords W L)
+    (o : SinkWords O) (before now : Hands F R O) (world : W) (outcome : Outcome W L) where
+  -- Each fault of the outside comes only where the count of what failed rose, and the sink's, the
+  -- folder's and the source's counts stand where they have none. A connection is lost exactly where
+  -- the run has left that verdict.
   pub record HasCauses : Type 0 where
     pub read : outcome.fault ≡ Some ReadFault
         → Rose (f.faults before.folder) (f.faults now.folder)

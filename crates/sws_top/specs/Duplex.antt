@@ -2,7 +2,7 @@
 use Rattle.std.specs.Prelude.{false, ◌≡◌, ℕ, ◌+◌, ◌-◌, ◌||◌, List, [], ◌++◌, length, take, drop, Option, Some, None, option_map, option_and_then}
 use Rattle.sws_link.specs.Counts.{Count, Rose, IsLater}
 use Rattle.sws_link.specs.Contents.{Puts}
-use Rattle.sws_link.specs.Links.{LinkTells, Way, reading, writing}
+use Rattle.sws_link.specs.Links.{LinkContents, Way, reading, writing}
 use Rattle.sws_link.specs.declared.Put.TheVariants.{Done, Failed, Memory}
 use Rattle.sws_link.specs.declared.LinkWrite.{LinkWrite}
 use Rattle.sws_link.specs.declared.LinkWrite.TheVariants as write
@@ -19,7 +19,8 @@ abbrev pub written_behind : List ℕ → Option (List ℕ) → List ℕ
 written_behind first None = []
 written_behind first (Some bytes) = drop (length first) bytes
 
--- the whole is what was taken and what is left; what was written is the first bytes and those behind them
+-- the whole is what was taken and what is left; what was written is the first
+-- bytes and those behind them
 abbrev pub IsLeftOf : Option (List ℕ) → Option (List ℕ) → Type 0
 IsLeftOf whole left = whole ≡ option_map (λ rest. taken_before rest whole ++ rest) left
 
@@ -29,7 +30,7 @@ IsWrittenBehind first bytes =
     bytes ≡ option_map (λ front. front ++ written_behind front bytes) first
 
 -- what the link tells, where both its source and its sink do
-abbrev pub duplex_tells : (whole left first bytes : Option (List ℕ)) → Option LinkTells
+abbrev pub duplex_tells : (whole left first bytes : Option (List ℕ)) → Option LinkContents
 duplex_tells whole left first bytes = option_and_then (λ rest. option_map (λ front. record {
   taken = taken_before rest whole;
   left = rest;
@@ -47,8 +48,9 @@ pub record HasRisen (before now : Count) : Type 0 where
   pub later : IsLater before now
   pub rose : Rose before now
 
--- The counts of a source and of a sink, and the fault that is kept, where a link over them failed last in this way: where it didn't
--- fail, both counts stand; else the count of the one that failed rose, alone, and the fault says which of the two that is.
+-- The counts of a source and of a sink, and the fault that is kept, where a link over them failed
+-- last in this way: where it didn't fail, both counts stand; else the count of the one that failed
+-- rose, alone, and the fault says which of the two that is.
 abbrev pub GoesOn : Option Way → Count → Count → Count → Count → Option TopFault → Type 0
 GoesOn None source source_now sink sink_now kept = (source_now ≡ source) × (sink_now ≡ sink)
 GoesOn (Some reading) source source_now sink sink_now kept = (kept ≡ Some ReadFault)

@@ -1,4 +1,4 @@
--- How a run ends.
+-- How a run ends: its status by its fault, and its fault by what went wrong in a part.
 use Rattle.std.specs.Prelude.{ℕ, Option, Some, None, Result, Ok, Err, ⊤}
 use Rattle.sws_link.specs.declared.Put.{Put}
 use Rattle.sws_link.specs.declared.Put.TheVariants as put
@@ -62,7 +62,8 @@ script_fault_of (script_fault.Bad line) = BadScript line
 script_fault_of (script_fault.TooMany line) = TooMany line
 script_fault_of script_fault.Memory = Memory
 
--- how a run of `answer` ends, by the end of its connection and the fault of the one of source and sink that failed
+-- how a run of `answer` ends, by the end of its connection and the fault of the one of
+-- source and sink that failed
 abbrev pub fault_at_end : End → Option TopFault → Option TopFault
 fault_at_end Done fault = None
 fault_at_end Idle fault = None

@@ -30,7 +30,9 @@ pub record IsRefused {F R O W L : Type 0} (before now : Hands F R O) (world : W)
   pub fault : (outcome.fault ≡ Some Usage) ⊎ (outcome.fault ≡ Some Memory)
   pub untouched : IsUntouched before now world outcome
 
-module _ {F R W L O T G : Type 0} (f : FolderWords F) (r : SourceWords R) (x : WorldWords W L) (l : LinkWords L) (o : SinkWords O) (y : TalkWords T L G SiteState) (before now : Hands F R O) (world : W) (outcome : Outcome W L) where
+module _ {F R W L O T G : Type 0} (f : FolderWords F) (r : SourceWords R) (x : WorldWords W L)
+    (l : LinkWords L) (o : SinkWords O) (y : TalkWords T L G SiteState) (before now : Hands F R O)
+    (world : W) (outcome : Outcome W L) where
   -- the order was run; only `serve` asks anything of the world
   abbrev pub RanAs : Order → Type 0
   RanAs (answer path date) = RanAnswer f r o before now outcome.fault path date

@@ -8,8 +8,10 @@ use Rattle.sws_top.specs.Answered.{AnswersInput}
 use Rattle.sws_top.specs.Hands.{Hands}
 use Rattle.sws_top.specs.Sites.{RunsOnSite}
 
-module _ {F R O : Type 0} (f : FolderWords F) (r : SourceWords R) (o : SinkWords O) (before now : Hands F R O) (fault : Option TopFault) where
-  -- on the site, the connection whose input is the source's was answered, and the sink took the responses
+module _ {F R O : Type 0} (f : FolderWords F) (r : SourceWords R) (o : SinkWords O)
+    (before now : Hands F R O) (fault : Option TopFault) where
+  -- on the site, the connection whose input is the source's was answered, and
+  -- the sink took the responses
   abbrev pub RanAnswer : List ℕ → Option ℕ → Type 0
   RanAnswer path date =
       RunsOnSite f path before.folder now.folder date fault

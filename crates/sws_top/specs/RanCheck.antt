@@ -14,7 +14,8 @@ use Rattle.sws_top.specs.Checked.{IsServerSetup, report_text}
 use Rattle.sws_top.specs.Faults.{check_fault_of}
 use Rattle.sws_top.specs.Texts.{WritesText}
 
--- what was written by what was found: the report's text, and of a journal that isn't accepted nothing
+-- what was written by what was found: the report's text, and of a journal
+-- that isn't accepted nothing
 abbrev pub WritesFound : {O : Type 0} → SinkWords O → O → O → Option TopFault
     → Result Report CheckFault → Type 0
 WritesFound o out now fault (Ok report) =

@@ -13,14 +13,16 @@ use Rattle.sws_top.specs.Scripts.{RunsOnInput}
 use Rattle.sws_top.specs.Sites.{RunsOnSite}
 use Rattle.sws_top.specs.Texts.{WritesText}
 
--- the texts of a replay: with a schedule there is one, the transcript and its journal; without it the transcript, and behind it a journal
--- where that is asked for
+-- the texts of a replay: with a schedule there is one, the transcript and its journal; without it
+-- the transcript, and behind it a journal where that is asked for
 abbrev pub IsReplayText : Shape → (journal schedule : Bool) → SiteState → Input → List ℕ → Type 0
 IsReplayText shape journal true site input = IsScheduledReplay site shape input
 IsReplayText shape journal false site input = IsReplay site shape input.conns journal
 
-module _ {F R O : Type 0} (f : FolderWords F) (r : SourceWords R) (o : SinkWords O) (before now : Hands F R O) (fault : Option TopFault) where
-  -- on the site, the source was read to its end as an input, with a schedule where that is asked for; it was run, and its text written
+module _ {F R O : Type 0} (f : FolderWords F) (r : SourceWords R) (o : SinkWords O)
+    (before now : Hands F R O) (fault : Option TopFault) where
+  -- on the site, the source was read to its end as an input, with a schedule where that is asked
+  -- for; it was run, and its text written
   abbrev pub RanReplay : List ℕ → Shape → Option ℕ → (journal schedule : Bool) → Type 0
   RanReplay path shape date journal schedule =
       RunsOnSite f path before.folder now.folder date fault

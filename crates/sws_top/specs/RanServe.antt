@@ -30,7 +30,8 @@ use Rattle.sws_top.specs.Texts.{WritesText}
 abbrev pub ends_of : {L : Type 0} → List (Served L) → List End
 ends_of served = filter_map (λ s. s.end) served
 
--- the summary of what has become of connections: how many ended in each way, and how many bytes were read and written in all
+-- the summary of what has become of connections: how many ended in each way, and how many bytes
+-- were read and written in all
 unfoldable pub summary_of : {L : Type 0} → List (Served L) → List ℕ
 summary_of served =
     summary (ends_of served) (sum_by (λ s. s.read) served) (sum_by (λ s. s.written) served)
@@ -46,21 +47,24 @@ LacksWorld opened.Ready fault = ⊥
 LacksWorld opened.Failed fault = fault ≡ Some WorldFault
 LacksWorld opened.Memory fault = fault ≡ Some Memory
 
--- The ends and the counts of these connections can be summed up: memory was refused to none, and the sums fit 64 bits.
+-- The ends and the counts of these connections can be summed up: memory was refused to none,
+-- and the sums fit 64 bits.
 pub record CanSumUp {L : Type 0} (served : List (Served L)) : Type 0 where
   pub ends : AllByRecursion (λ end. end ≢ ending.Memory) (ends_of served)
   pub read : sum_by (λ s. s.read) served < 2 ^ 64
   pub written : sum_by (λ s. s.written) served < 2 ^ 64
 
--- how a run ends by its verdict: at Ok the summary was written, and else nothing
-module _ {L O : Type 0} (o : SinkWords O) (out out_now : O) (fault : Option TopFault) (served : List (Served L)) where
+module _ {L O : Type 0} (o : SinkWords O) (out out_now : O) (fault : Option TopFault)
+    (served : List (Served L)) where
+  -- how a run ends by its verdict: at Ok the summary was written, and else nothing
   abbrev pub EndsBy : Verdict → Type 0
   EndsBy verdict.Ok = WritesText o out out_now fault (λ text. text ≡ summary_of served)
   EndsBy verdict.World = (fault ≡ Some WorldFault) × (out_now ≡ out)
   EndsBy (verdict.Apart conn) = (fault ≡ Some (Apart conn)) × (out_now ≡ out)
   EndsBy verdict.Memory = (fault ≡ Some Memory) × (out_now ≡ out)
 
-module _ {W L O T G : Type 0} (x : WorldWords W L) (l : LinkWords L) (o : SinkWords O) (y : TalkWords T L G SiteState) (out out_now : O) (world : W) (outcome : Outcome W L) where
+module _ {W L O T G : Type 0} (x : WorldWords W L) (l : LinkWords L) (o : SinkWords O)
+    (y : TalkWords T L G SiteState) (out out_now : O) (world : W) (outcome : Outcome W L) where
   -- the world wasn't ready: it comes back as it stands, and nothing was written
   pub record IsNotReady (port connections : ℕ) : Type 0 where
     pub now_world : W
@@ -70,7 +74,8 @@ module _ {W L O T G : Type 0} (x : WorldWords W L) (l : LinkWords L) (o : SinkWo
     pub back : IsBack now_world outcome
     pub unwritten : out_now ≡ out
 
-  -- The world was opened at the port for so many connections, and they were served on threads, with all that this leaves.
+  -- The world was opened at the port for so many connections, and they were served on threads,
+  -- with all that this leaves.
   pub record HasServed (port connections : ℕ) (shape : Shape) (site : SiteState) : Type 0 where
     pub first : W
     pub listens : Listens x.tells x.faults x.waits world port connections opened.Ready first
@@ -79,12 +84,14 @@ module _ {W L O T G : Type 0} (x : WorldWords W L) (l : LinkWords L) (o : SinkWo
     pub gone : outcome.world ≡ None
     pub leaves : ThreadsLeave x l y shape site first ended
     pub unkept : IsUnkept y
-    -- the world that is handed out has the port, and where it failed its count of faults rose; at Ok and World it is handed out
+    -- the world that is handed out has the port, and where it failed its count of faults rose; at
+    -- Ok and World it is handed out
     pub port_is : (last : W) → ended.world ≡ Some last → (x.tells last).port ≡ port
     pub rose : (last : W) → ended.world ≡ Some last → ended.verdict ≡ verdict.World
         → Rose (x.faults world) (x.faults last)
     pub held : (ended.verdict ≡ verdict.Ok) ⊎ (ended.verdict ≡ verdict.World) → IsSome ended.world
-    -- there is a member for each connection, or for each input that the world told where these were fewer
+    -- there is a member for each connection, or for each input that the world
+    -- told where these were fewer
     pub many : ended.verdict ≢ verdict.Memory
         → length ended.served.items ≡ total_within (x.tells world).coming connections
     pub ends : EndsBy o out out_now outcome.fault ended.served.items ended.verdict
@@ -94,7 +101,9 @@ module _ {W L O T G : Type 0} (x : WorldWords W L) (l : LinkWords L) (o : SinkWo
   IsServeEnd port connections shape site = IsNotReady port connections
       ⊎ HasServed port connections shape site
 
-module _ {F W L O T G : Type 0} (f : FolderWords F) (x : WorldWords W L) (l : LinkWords L) (o : SinkWords O) (y : TalkWords T L G SiteState) (folder folder_now : F) (out out_now : O) (world : W) (outcome : Outcome W L) where
+module _ {F W L O T G : Type 0} (f : FolderWords F) (x : WorldWords W L) (l : LinkWords L)
+    (o : SinkWords O) (y : TalkWords T L G SiteState) (folder folder_now : F) (out out_now : O)
+    (world : W) (outcome : Outcome W L) where
   -- on the site, the world was opened and served, and the summary was written
   abbrev pub RanServe : List ℕ → (port connections : ℕ) → Shape → Option ℕ → Type 0
   RanServe path port connections shape date =

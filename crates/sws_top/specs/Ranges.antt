@@ -1,8 +1,9 @@
 -- The ranges of the numbers in an order.
 use Rattle.std.specs.Prelude.{ℕ, ◌≤◌, IfSome, Option}
 use Rattle.mely_history.specs.declared.shape.Shape.{Shape as RunShape}
+use Rattle.mely_history.specs.Ranges.{core_limit, shard_limit, batch_limit, group_limit}
 use Rattle.sws_site.specs.Site.{last_second}
-use Rattle.sws_words.specs.Orders.{Order, Shape, answer, replay, serve, bench, check}
+use Rattle.sws_words.specs.Orders.{Order, Shape, cost_limit, answer, replay, serve, bench, check}
 use Rattle.sws_engine.specs.Limits.{conn_limit}
 
 -- the number is in the range, whose ends belong to it
@@ -15,11 +16,11 @@ IsDate date = IfSome date (λ secs. secs ≤ last_second)
 
 -- each number of the shape of a run is within its range
 pub record IsRunShape (shape : RunShape) : Type 0 where
-  pub cores : IsBetween 1 64 shape.cores
-  pub shards : IsBetween 1 64 shape.shards
-  pub batch : IsBetween 1 1000 shape.batch
-  pub group : IsBetween 1 64 shape.group
-  pub steal_cost : shape.steal_cost ≤ 1000000
+  pub cores : IsBetween 1 core_limit shape.cores
+  pub shards : IsBetween 1 shard_limit shape.shards
+  pub batch : IsBetween 1 batch_limit shape.batch
+  pub group : IsBetween 1 group_limit shape.group
+  pub steal_cost : shape.steal_cost ≤ cost_limit
 
 -- the shape of a run, as the runtime has it
 abbrev pub run_shape : Shape → RunShape

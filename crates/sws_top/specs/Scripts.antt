@@ -10,7 +10,8 @@ use Rattle.sws_script.specs.declared.input.Input.{Input}
 use Rattle.sws_top.specs.declared.faults.TopFault.{TopFault}
 use Rattle.sws_top.specs.declared.faults.TopFault.TheVariants.{BadScript, ReadFault, Memory, TooMany}
 
--- these bytes were read, and what is left is what stands behind them; a source that tells nothing goes on telling nothing
+-- these bytes were read, and what is left is what stands behind them; a source that tells
+-- nothing goes on telling nothing
 abbrev pub IsReadOf : List ℕ → Option (List ℕ) → Option (List ℕ) → Type 0
 IsReadOf read None now = now ≡ None
 IsReadOf read (Some text) now = (rest : List ℕ) × (now ≡ Some rest) × (text ≡ read ++ rest)
@@ -40,7 +41,8 @@ module _ {R : Type 0} (r : SourceWords R) (schedule : Bool) (cores : ℕ) (sourc
     pub to_the_end : (text : List ℕ) → r.left source ≡ Some text → r.left now ≡ Some []
     pub no_fault : r.faults now ≡ r.faults source
 
-  -- Why there is no input: the source failed, there was no memory, or this is the first line at which all of its bytes together go wrong.
+  -- Why there is no input: the source failed, there was no memory, or this is the first line at
+  -- which all of its bytes together go wrong.
   abbrev pub LacksInput : TopFault → Type 0
   LacksInput ReadFault = Rose (r.faults source) (r.faults now)
   LacksInput Memory = r.faults now ≡ r.faults source
@@ -52,6 +54,8 @@ module _ {R : Type 0} (r : SourceWords R) (schedule : Bool) (cores : ℕ) (sourc
       → IsCause schedule cores text (script_fault.TooMany line))
   LacksInput other = ⊥
 
+  -- There is no input, for the reason that the fault names; what was read is a
+  -- front of what the source had.
   pub record HasNoInput (fault : TopFault) : Type 0 where
     pub why : LacksInput fault
     pub later : IsLater (r.faults source) (r.faults now)

@@ -8,8 +8,9 @@ use Rattle.sws_replay.specs.declared.fault.RunFault.TheVariants.{Write}
 use Rattle.sws_top.specs.declared.faults.TopFault.{TopFault}
 use Rattle.sws_top.specs.Faults.{fault_of_run}
 
--- One of these texts was written, all of it where there is no fault, and a front of one or nothing where there is. A fault of writing
--- comes only where the sink failed, and without it the sink's count stands.
+-- One of these texts was written, all of it where there is no fault, and a front of one or
+-- nothing where there is. A fault of writing comes only where the sink failed, and without it
+-- the sink's count stands.
 pub record WritesText {O : Type 0} (o : SinkWords O) (out now : O) (fault : Option TopFault)
     (IsText : List ℕ → Type 0) : Type 0 where
   pub answer : Result (Unit {0}) RunFault

@@ -87,7 +87,8 @@ fn serve<'f, 'p, R: Source, O: Sink>(
     }
 }
 
-/// The fault by which a run has ended, by the end of its connection and the fault that the link kept.
+/// The fault by which a run has ended, by the end of its connection and the
+/// fault that the link kept.
 fn fault_at(end: End, kept: Option<TopFault>) -> Option<TopFault>
     requires { end ≢ End.Idle }
     ensures { result ≡ fault_at_end end kept }

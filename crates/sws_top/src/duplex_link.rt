@@ -8,12 +8,13 @@ use crate::faults::TopFault;
 use std::snapshot::Snapshot;
 use sws_link::{Got, Link, LinkRead, LinkWrite, Put, Sink, Source};
 
-/// Reads a source and writes to a sink, and keeps which of the two failed. It is never kept waiting, and shuts neither.
+/// Reads a source and writes to a sink, and keeps which of the two failed. It is never kept
+/// waiting, and shuts neither.
 #[derive(Drop)]
 pub struct DuplexLink<'f, 'p, R: Source, O: Sink> {
     pub source: &'p mut R,
     pub out: &'p mut O,
-    /// Both as they were before. They are for contracts alone and hold no bytes.
+    /// Both as they were when the link was made. They are for contracts alone and hold no bytes.
     pub first_source: &'f Snapshot<R>,
     pub first_out: &'f Snapshot<O>,
     /// The fault of the one that failed last.
@@ -25,7 +26,8 @@ pub struct DuplexLink<'f, 'p, R: Source, O: Sink> {
 }
 
 impl<'f, 'p, R: Source, O: Sink> DuplexLink<'f, 'p, R, O> {
-    /// A link of which nothing was taken or written. The last two are the source and the sink as they are.
+    /// A link of which nothing was taken or written. The last two are the source
+    /// and the sink as they are.
     pub fn new(
         source: &'p mut R,
         out: &'p mut O,

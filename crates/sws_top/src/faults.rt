@@ -23,7 +23,8 @@ pub enum SiteLimit {
 pub enum TopFault {
     /// The words are no command line.
     Usage,
-    /// This line of the script or of its schedule, counted from 1, is the first outside the grammar.
+    /// This line of the script or of its schedule, counted from 1, is the
+    /// first outside the grammar.
     BadScript { line: u32 },
     /// The folder or the input could not be read.
     ReadFault,
@@ -43,7 +44,8 @@ pub enum TopFault {
     NotLegal { line: u32 },
     /// The text is the journal of a legal run, and this colour is the least that runs or waits.
     NotDrained { colour: u16 },
-    /// A run on threads lost this connection, or, where the number is that of all connections, its world.
+    /// A run on threads lost this connection, or, where the number is that of
+    /// all connections, its world.
     Apart { conn: u16 },
 }
 

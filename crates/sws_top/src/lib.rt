@@ -1,15 +1,17 @@
-//! The server from its words to its bytes: what the program does, over any folder, source, sink and world.
+//! The server from its words to its bytes: what the program does, over any
+//! folder, source, sink and world.
 //!
-//! [`sws`] takes the words of the command line behind the program's name and runs the command that they say. It is for a
-//! program that hands it the machine's files, streams and sockets, and for whoever wants to know what that program writes: what is
-//! read and written is stated for every folder, source, sink and world that tell what they hold.
+//! [`sws`] takes the words of the command line behind the program's name and runs the command that
+//! they say. It is for a program that hands it the machine's files, streams and sockets, and for
+//! whoever wants to know what that program writes: what is read and written is stated for every
+//! folder, source, sink and world that tell what they hold.
 //!
 //! ```text
 //! answer FOLDER ..                              one connection, from the source to the sink
 //! replay FOLDER .. [--journal] [--schedule]     a script of the source's, run in memory; its transcript is written
 //! serve FOLDER --port P --connections N ..      the connections that the world gives; a summary is written
 //! bench N NUMBER ..                             a generated site and script, run in memory; a summary is written
-//! check --connections N ..                      a printed journal of the source's, checked; what each core did is written
+//! check --connections N ..                      a journal of the source's is checked; what each core did is written
 //! ```
 //!
 //! ```text

@@ -23,23 +23,28 @@ use sws_words::{Order, WordFault, read_words};
 
 /// Runs the command that the words say, and says how that ended.
 ///
-/// The words are those behind the program's name. The order is: words, site, reading the source, script, run, output; the first
-/// fault decides. `answer` answers what was read before it tells a fault of the source; the others write nothing before
-/// their run has ended well.
+/// The words are those behind the program's name. The order is: words, site, reading the source,
+/// script, run, output; the first fault decides. `answer` answers what was read before it tells a
+/// fault of the source; the others write nothing before their run has ended well.
 ///
 /// # Errors
 ///
-/// - `Usage` (status 2) exactly where the words are no command line; nothing is opened, read or written.
-/// - `BadScript` (3) exactly where this line is the first outside the grammar, and no earlier one begins connection 1,025.
+/// - `Usage` (status 2) exactly where the words are no command line; nothing is
+///   opened, read or written.
+/// - `BadScript` (3) exactly where this line is the first outside the grammar, and no earlier one
+///   begins connection 1,025.
 /// - `ReadFault` (4) only where the folder or the source failed in this call.
 /// - `WriteFault` (5) only where the sink failed in this call.
 /// - `WorldFault` (6) only where the world failed in this call.
-/// - `Memory` (7) where an allocation was refused.
-/// - `SiteFull` (8) exactly at the first file that is more than a site holds; nothing is read or written.
-/// - `TooMany` (9) exactly where this line begins connection 1,025, and no earlier one is outside the grammar.
-/// - `BadJournal` (10), `NotLegal` (11) and `NotDrained` (12) exactly where the source's bytes are no accepted journal, and the first
-///   of these three that is so of them.
-/// - `Apart` (13) exactly where a run on the world that was handed in has lost a connection, which `ended` shows.
+/// - `Memory` (7) where an allocation was refused, in place of whatever else would have come.
+/// - `SiteFull` (8) exactly at the first file that is more than a site holds;
+///   nothing is read or written.
+/// - `TooMany` (9) exactly where this line begins connection 1,025, and no earlier
+///   one is outside the grammar.
+/// - `BadJournal` (10), `NotLegal` (11) and `NotDrained` (12) exactly where the source's bytes are
+///   no accepted journal, and the first of these three that is so of them.
+/// - `Apart` (13) exactly where a run on the world that was handed in has lost a connection, which
+///   `ended` shows.
 pub fn sws<
     T: AllocGlobal + Threads + Wait + Sync,
     F: Folder,
@@ -64,7 +69,7 @@ where
         (hands folder.old source.old out.old) (hands folder.new source.new out.new)
         world result }
 
-    // words in the grammar, a site and a script within theirs and their limits, and no fault outside
+    // words in the grammar, a site, a script and a journal as they must be, and no fault outside
     ensures complete { (order : OrderValue) → order_of (map string_bytes words.now) ≡ Some order
         → IsSound F.Folder R.Source W.World O.Sink
         (hands folder.old source.old out.old) (hands folder.new source.new out.new)
@@ -83,7 +88,7 @@ where
     }
 }
 
-/// Runs an order.
+/// Runs an order with what it needs of the outside, and leaves the rest alone.
 fn run<
     T: AllocGlobal + Threads + Wait + Sync,
     F: Folder,

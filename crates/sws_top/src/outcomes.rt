@@ -14,7 +14,8 @@ pub struct Outcome<W: World> {
 
     pub fault: Option<TopFault>,
 
-    /// What a run on the world that was handed in has left, where that was opened: its links, their ends, and the world.
+    /// What a run on the world that was handed in has left, where that was opened: its links, their
+    /// ends, and the world.
     pub ended: Option<Ended<W>>,
 
     /// The world that was handed in, where nothing was run on it, as it stands now.

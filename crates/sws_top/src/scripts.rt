@@ -11,9 +11,11 @@ use sws_script::{Input, MAX_BYTES, ScriptFault, parse};
 /// How many bytes are read at a time.
 const PIECE: usize = 4096;
 
-/// Reads the source to its end, as a script, before which a schedule stands where `schedule` is true.
+/// Reads the source to its end, as a script, before which a schedule stands
+/// where `schedule` is true.
 ///
-/// Of a source that gives more than a script may have no more is read than shows this. The line at fault is that of all its bytes.
+/// Of a source that gives more than a script may have no more is read than shows this. The line at
+/// fault is that of all its bytes.
 pub fn read_input<R: Source>(
     alloc: Global,
     source: &mut R,

@@ -9,7 +9,8 @@ use std::alloc::Global;
 use sws_link::{Folder, Opened};
 use sws_site::{Site, SiteFault};
 
-/// Opens the folder at the path, and loads its files, which were last modified at this date where one is given.
+/// Opens the folder at the path, and loads its files, which were last modified at this
+/// date where one is given.
 pub fn open_site<F: Folder>(
     alloc: Global,
     path: &str,

@@ -4,7 +4,7 @@ use crate::{SiteLimit, TopFault};
 use std::test::Fail;
 
 #[test]
-fn each_fault_prints_its_line(rt: HostRuntime) -> Result<(), Fail> {
+fn faults_of_words_scripts_and_the_outside_have_lines(rt: HostRuntime) -> Result<(), Fail> {
     let rows = [
         (TopFault::Usage, "sws: the command line is not understood"),
         (
@@ -15,6 +15,20 @@ fn each_fault_prints_its_line(rt: HostRuntime) -> Result<(), Fail> {
         (TopFault::WriteFault, "sws: writing failed"),
         (TopFault::WorldFault, "sws: the network failed"),
         (TopFault::Memory, "sws: no memory"),
+        (
+            TopFault::TooMany { line: 1026 },
+            "sws: line 1026 begins connection 1025",
+        ),
+    ];
+    for (fault, line) in rows {
+        assert_eq!(rt; fault.to_string(rt.alloc())?.as_str(), line);
+    }
+    Ok(())
+}
+
+#[test]
+fn each_limit_of_a_site_prints_its_line(rt: HostRuntime) -> Result<(), Fail> {
+    let rows = [
         (
             TopFault::SiteFull(SiteLimit::Files { count: 4097 }),
             "sws: the site has more than 4096 files",
@@ -27,10 +41,16 @@ fn each_fault_prints_its_line(rt: HostRuntime) -> Result<(), Fail> {
             TopFault::SiteFull(SiteLimit::Name { number: 2 }),
             "sws: the name of file 2 is too long",
         ),
-        (
-            TopFault::TooMany { line: 1026 },
-            "sws: line 1026 begins connection 1025",
-        ),
+    ];
+    for (fault, line) in rows {
+        assert_eq!(rt; fault.to_string(rt.alloc())?.as_str(), line);
+    }
+    Ok(())
+}
+
+#[test]
+fn faults_of_journals_and_a_lost_connection_have_lines(rt: HostRuntime) -> Result<(), Fail> {
+    let rows = [
         (
             TopFault::BadJournal { line: 23 },
             "sws: line 23 is not a journal line",

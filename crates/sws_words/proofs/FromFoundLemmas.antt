@@ -74,7 +74,7 @@ answer_no_date o d e = none_after (λ f. option_map (λ x. answer f x) d) o (λ 
 answer_all : {f : Text} {x : Option ℕ} (o : Option Text) (d : Option (Option ℕ)) → o ≡ Some f → d ≡ Some x → answer_parts o d ≡ Some (answer f x)
 answer_all o d e1 e2 = rw (e1, e2) refl
 
-abbrev pub replay_parts : Option Text → Option orders.Shape → Option (Option ℕ) → Bool → Bool → Option Order
+abbrev replay_parts : Option Text → Option orders.Shape → Option (Option ℕ) → Bool → Bool → Option Order
 replay_parts o s d j t = option_and_then (λ f. option_and_then (λ h. option_map (λ x. replay f h x j t) d) s) o
 
 replay_no_shape : (o : Option Text) (s : Option orders.Shape) (d : Option (Option ℕ)) (j t : Bool) → s ≡ None → replay_parts o s d j t ≡ None
@@ -106,7 +106,7 @@ pub serve_all : {f : Text} {q c : ℕ} {h : orders.Shape} {x : Option ℕ} (o : 
     → o ≡ Some f → p ≡ Some q → n ≡ Some c → s ≡ Some h → d ≡ Some x → serve_parts o p n s d ≡ Some (serve f q c h x)
 serve_all o p n s d e1 e2 e3 e4 e5 = rw (e1, e2, e3, e4, e5) refl
 
-abbrev pub bench_parts : Option ℕ → Option ℕ → Option orders.Shape → Option Order
+abbrev bench_parts : Option ℕ → Option ℕ → Option orders.Shape → Option Order
 bench_parts n m s = option_and_then (λ c. option_and_then (λ k. option_map (λ h. bench c k h) s) m) n
 
 bench_no_number : (n m : Option ℕ) (s : Option orders.Shape) → m ≡ None → bench_parts n m s ≡ None
@@ -135,7 +135,7 @@ answer_refused app words is clear faults = refused_order answer_at app answer_ap
 
 -- ---- `replay`
 
-abbrev pub replay_of : Found → Bool → Bool → Option Order
+abbrev replay_of : Found → Bool → Bool → Option Order
 replay_of f journal schedule = replay_parts (first_value f (codes "folder")) (shape_told f) (date_in (first_value f (codes "date"))) journal schedule
 
 replay_found : (app : App) (words : List Text) (f : Found) (journal schedule : Bool) → app ≡ replay_app → has_bundle words ≡ false → fault_of app words ≡ [] → rows_of f ≡ matches_of app words
@@ -170,7 +170,7 @@ replay_lacks app words f is clear taken rows lacks =
 
 -- ---- `serve`
 
-abbrev pub serve_of : Found → Option Order
+abbrev serve_of : Found → Option Order
 serve_of f = serve_parts (first_value f (codes "folder")) (option_and_then (within 1 65535) (first_value f (codes "port"))) (option_and_then (within 1 1024) (first_value f (codes "connections"))) (shape_told f) (date_in (first_value f (codes "date")))
 
 serve_found : (app : App) (words : List Text) (f : Found) → app ≡ serve_app → has_bundle words ≡ false → fault_of app words ≡ [] → rows_of f ≡ matches_of app words
@@ -185,7 +185,7 @@ serve_refused app words is clear faults = refused_order serve_at app serve_app w
 
 -- ---- `bench`
 
-abbrev pub bench_of : Found → Option Order
+abbrev bench_of : Found → Option Order
 bench_of f = bench_parts (option_and_then (within 1 1024) (first_value f (codes "connections"))) (option_and_then (within 0 4294967295) (first_value f (codes "number"))) (shape_told f)
 
 bench_found : (app : App) (words : List Text) (f : Found) → app ≡ bench_app → has_bundle words ≡ false → fault_of app words ≡ [] → rows_of f ≡ matches_of app words

@@ -1,4 +1,5 @@
--- The rows that things given one by one make: each of its own name, and no more places than the command has.
+-- The rows that things given one by one make: each of its own name, and no more
+-- places than the command has.
 use Rattle.std.proofs.Common.{◌≡◌, ◌∙◌, ◌&&◌, ◌+◌, ℕ, Bool, true, false, not, List, [], ◌∷◌, ◌++◌, Option, Some, None, refl, sym, ap, ap₂, min, true≢false, append-nil, append_assoc, codes}
 use Rattle.std.specs.Prelude.{◌||◌, if◌then◌else◌, option_and_then, is_some, ⊤}
 use Rattle.std.specs.List.{list_any}
@@ -112,11 +113,11 @@ fits names [] = true
 fits [] (word ∷ words) = false
 fits (name ∷ names) (word ∷ words) = fits names words
 
-abbrev fresh : List Row → List Given → Bool
-fresh rows [] = true
-fresh rows (place word ∷ rest) = fresh rows rest
-fresh rows (option name value ∷ rest) = not (has_row name rows) && fresh rows rest
-fresh rows (flag name ∷ rest) = not (has_row name rows) && fresh rows rest
+abbrev initial : List Row → List Given → Bool
+initial rows [] = true
+initial rows (place word ∷ rest) = initial rows rest
+initial rows (option name value ∷ rest) = not (has_row name rows) && initial rows rest
+initial rows (flag name ∷ rest) = not (has_row name rows) && initial rows rest
 
 abbrev place_row : List Text → Text → (List Text → List Row) → List Row
 place_row [] word rest = rest []
@@ -154,16 +155,16 @@ none_of_both false true true l = refl
 none_of_both false true false l = refl
 none_of_both false false f l = refl
 
-fresh_more : (name value : Text) (rows : List Row) (rest : List Given)
-    → fresh (rows ++ given_row name value ∷ []) rest ≡ (fresh rows rest && not (list_any (is_named name) rest))
-fresh_more name value rows [] = refl
-fresh_more name value rows (place word ∷ rest) = fresh_more name value rows rest
-fresh_more name value rows (option o v ∷ rest) =
-    ap₂ (λ h f. not h && f) (grown_row o name value rows ∙ ap (λ b. has_row o rows || (b || false)) (same_name name o)) (fresh_more name value rows rest)
-    ∙ none_of_both (has_row o rows) (bytes_eq o name) (fresh rows rest) (list_any (is_named name) rest)
-fresh_more name value rows (flag o ∷ rest) =
-    ap₂ (λ h f. not h && f) (grown_row o name value rows ∙ ap (λ b. has_row o rows || (b || false)) (same_name name o)) (fresh_more name value rows rest)
-    ∙ none_of_both (has_row o rows) (bytes_eq o name) (fresh rows rest) (list_any (is_named name) rest)
+initial_more : (name value : Text) (rows : List Row) (rest : List Given)
+    → initial (rows ++ given_row name value ∷ []) rest ≡ (initial rows rest && not (list_any (is_named name) rest))
+initial_more name value rows [] = refl
+initial_more name value rows (place word ∷ rest) = initial_more name value rows rest
+initial_more name value rows (option o v ∷ rest) =
+    ap₂ (λ h f. not h && f) (grown_row o name value rows ∙ ap (λ b. has_row o rows || (b || false)) (same_name name o)) (initial_more name value rows rest)
+    ∙ none_of_both (has_row o rows) (bytes_eq o name) (initial rows rest) (list_any (is_named name) rest)
+initial_more name value rows (flag o ∷ rest) =
+    ap₂ (λ h f. not h && f) (grown_row o name value rows ∙ ap (λ b. has_row o rows || (b || false)) (same_name name o)) (initial_more name value rows rest)
+    ∙ none_of_both (has_row o rows) (bytes_eq o name) (initial rows rest) (list_any (is_named name) rest)
 
 not_named : (known : Known) (name : Text) → is_among name known.options ≡ false → is_among name known.flags ≡ false
     → (given : List Given) → AllKnown known given → list_any (is_named name) given ≡ false
@@ -214,14 +215,14 @@ regroup true false l e = refl
 regroup false n l e = refl
 
 with_all : (known : Known) (given : List Given) → AllKnown known given → (rows : List Row) (names : List Text) → Apart known names → NoRows rows names
-    → rows_with rows names given ≡ rows_if (fits names (places given) && (fresh rows given && each_once given)) (rows ++ rows_of names given)
+    → rows_with rows names given ≡ rows_if (fits names (places given) && (initial rows given && each_once given)) (rows ++ rows_of names given)
 with_all known [] is rows names apart none = ap (λ r. Some r) (sym (append-nil rows))
 with_all known (place word ∷ rest) is rows [] apart none = refl
 with_all known (place word ∷ rest) is rows (name ∷ names) apart none =
     let more = rows ++ given_row name word ∷ [] in
     let later = with_all known rest is.1 more names apart.1.1.1 (still_none rows name word names apart.1.1.0 none.1) in
-    let kept : fresh more rest ≡ fresh rows rest =
-    fresh_more name word rows rest ∙ ap (λ b. fresh rows rest && not b) (not_named known name apart.0 apart.1.0 rest is.1) ∙ and_true (fresh rows rest) in
+    let kept : initial more rest ≡ initial rows rest =
+    initial_more name word rows rest ∙ ap (λ b. initial rows rest && not b) (not_named known name apart.0 apart.1.0 rest is.1) ∙ and_true (initial rows rest) in
     ap (λ (b : Bool). option_and_then (λ m. rows_with m names rest) (if b then None else Some more)) none.0
     ∙ later
     ∙ ap₂ (λ t r. rows_if (fits names (places rest) && (t && each_once rest)) r) kept (append_assoc rows (given_row name word ∷ []) (rows_of names rest))
@@ -237,14 +238,14 @@ with_all known (option name value ∷ rest) is rows names apart none =
     more = rows ++ given_row name value ∷ []
 
     by_row : (b : Bool) → has_row name rows ≡ b
-        → rows_with more names rest ≡ rows_if (fits names (places rest) && (fresh more rest && each_once rest)) (more ++ rows_of names rest)
+        → rows_with more names rest ≡ rows_if (fits names (places rest) && (initial more rest && each_once rest)) (more ++ rows_of names rest)
         → rows_with rows names (option name value ∷ rest)
-        ≡ rows_if (fits names (places rest) && (fresh rows (option name value ∷ rest) && each_once (option name value ∷ rest))) (rows ++ given_row name value ∷ rows_of names rest)
+        ≡ rows_if (fits names (places rest) && (initial rows (option name value ∷ rest) && each_once (option name value ∷ rest))) (rows ++ given_row name value ∷ rows_of names rest)
     by_row true h later = rw h (sym (ap (λ t. rows_if t (rows ++ given_row name value ∷ rows_of names rest)) (never (fits names (places rest)) (each_once (option name value ∷ rest)))))
     by_row false h later = rw h (
         later
-        ∙ ap₂ (λ t r. rows_if (fits names (places rest) && (t && each_once rest)) r) (fresh_more name value rows rest) (append_assoc rows (given_row name value ∷ []) (rows_of names rest))
-        ∙ ap (λ t. rows_if t (rows ++ given_row name value ∷ rows_of names rest)) (regroup (fits names (places rest)) (fresh rows rest) (list_any (is_named name) rest) (each_once rest)))
+        ∙ ap₂ (λ t r. rows_if (fits names (places rest) && (t && each_once rest)) r) (initial_more name value rows rest) (append_assoc rows (given_row name value ∷ []) (rows_of names rest))
+        ∙ ap (λ t. rows_if t (rows ++ given_row name value ∷ rows_of names rest)) (regroup (fits names (places rest)) (initial rows rest) (list_any (is_named name) rest) (each_once rest)))
 with_all known (flag name ∷ rest) is rows names apart none =
     by_row (has_row name rows) refl
     (with_all known rest is.1 (rows ++ given_row name (codes "true") ∷ []) names apart (still_none rows name (codes "true") names (flag_others known name is.0 names apart) none))
@@ -253,20 +254,20 @@ with_all known (flag name ∷ rest) is rows names apart none =
     more = rows ++ given_row name (codes "true") ∷ []
 
     by_row : (b : Bool) → has_row name rows ≡ b
-        → rows_with more names rest ≡ rows_if (fits names (places rest) && (fresh more rest && each_once rest)) (more ++ rows_of names rest)
+        → rows_with more names rest ≡ rows_if (fits names (places rest) && (initial more rest && each_once rest)) (more ++ rows_of names rest)
         → rows_with rows names (flag name ∷ rest)
-        ≡ rows_if (fits names (places rest) && (fresh rows (flag name ∷ rest) && each_once (flag name ∷ rest))) (rows ++ given_row name (codes "true") ∷ rows_of names rest)
+        ≡ rows_if (fits names (places rest) && (initial rows (flag name ∷ rest) && each_once (flag name ∷ rest))) (rows ++ given_row name (codes "true") ∷ rows_of names rest)
     by_row true h later = rw h (sym (ap (λ t. rows_if t (rows ++ given_row name (codes "true") ∷ rows_of names rest)) (never (fits names (places rest)) (each_once (flag name ∷ rest)))))
     by_row false h later = rw h (
         later
-        ∙ ap₂ (λ t r. rows_if (fits names (places rest) && (t && each_once rest)) r) (fresh_more name (codes "true") rows rest) (append_assoc rows (given_row name (codes "true") ∷ []) (rows_of names rest))
-        ∙ ap (λ t. rows_if t (rows ++ given_row name (codes "true") ∷ rows_of names rest)) (regroup (fits names (places rest)) (fresh rows rest) (list_any (is_named name) rest) (each_once rest)))
+        ∙ ap₂ (λ t r. rows_if (fits names (places rest) && (t && each_once rest)) r) (initial_more name (codes "true") rows rest) (append_assoc rows (given_row name (codes "true") ∷ []) (rows_of names rest))
+        ∙ ap (λ t. rows_if t (rows ++ given_row name (codes "true") ∷ rows_of names rest)) (regroup (fits names (places rest)) (initial rows rest) (list_any (is_named name) rest) (each_once rest)))
 
-all_fresh : (given : List Given) → fresh [] given ≡ true
-all_fresh [] = refl
-all_fresh (place word ∷ rest) = all_fresh rest
-all_fresh (option name value ∷ rest) = all_fresh rest
-all_fresh (flag name ∷ rest) = all_fresh rest
+all_initial : (given : List Given) → initial [] given ≡ true
+all_initial [] = refl
+all_initial (place word ∷ rest) = all_initial rest
+all_initial (option name value ∷ rest) = all_initial rest
+all_initial (flag name ∷ rest) = all_initial rest
 
 no_rows : (names : List Text) → NoRows [] names
 no_rows [] = tt
@@ -282,7 +283,7 @@ pub rows_given : (s : Shape) (known : Known)
 rows_given s known options flags names p at apart given is =
     adds_all s known options flags given is [] names p at
     ∙ with_all known given is [] names apart (no_rows names)
-    ∙ ap (λ t. rows_if (fits names (places given) && (t && each_once given)) (rows_of names given)) (all_fresh given)
+    ∙ ap (λ t. rows_if (fits names (places given) && (t && each_once given)) (rows_of names given)) (all_initial given)
 
 -- ---- what is read of the rows
 

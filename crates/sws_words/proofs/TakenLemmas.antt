@@ -1,4 +1,5 @@
--- What `clap` takes and finds at a command without subcommands, and what the grammar gives for bundles.
+-- What `clap` takes and finds at a command without subcommands, and what the
+-- grammar gives for bundles.
 use Rattle.std.proofs.Common.{◌≡◌, ◌∙◌, ◌==◌, ◌&&◌, ℕ, suc, Bool, true, false, not, List, [], ◌∷◌, map, Option, Some, None, refl, sym, ap, ap₂, true≢false, nat_le, le-leb, arith, length}
 use Rattle.std.specs.Prelude.{◌||◌, if◌then◌else◌, option_and_then, is_some, fold, codes, IfSome, ⊤}
 use Rattle.std.specs.Str.{bytes_eq}

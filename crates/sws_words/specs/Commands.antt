@@ -4,7 +4,7 @@ use Rattle.clap.specs.Simple.{App, on_top, new_app, new_rule, with_rule}
 use Rattle.clap.specs.Walk.{Rule, Text}
 use Rattle.clap.specs.declared.builder.action.ArgAction.TheVariants.{Set, SetTrue}
 
--- a word at a place, an option with a value, and a flag
+-- a word at a place, which must be there
 abbrev pub place_rule : Text → Rule
 place_rule name = record (new_rule name) { required = true; action = Some Set }
 

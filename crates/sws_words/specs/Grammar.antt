@@ -37,7 +37,8 @@ abbrev pub with_value : Text → Option Text
 with_value name (Some value) rest = before (option name value) (rest None)
 with_value name None rest = rest (Some name)
 
--- a word that begins with a minus sign: `--name` or `--name=value`, where the command knows the name
+-- a word that begins with a minus sign: `--name` or `--name=value`, where
+-- the command knows the name
 abbrev pub by_name : Known → Option (Text × Option Text)
     → (Option Text → Option (List Given)) → Option (List Given)
 by_name known None rest = None
@@ -47,7 +48,8 @@ by_name known (Some named) rest =
     (flag named.0) (rest None)
     else None
 
--- what the words give, one after another; `awaited` is the option of which the next word is the value
+-- what the words give, one after another; `awaited` is the option of which
+-- the next word is the value
 unfoldable pub given_by : Known → Option Text → List Text → Option (List Given)
 given_by known None [] = Some []
 given_by known (Some name) [] = None
@@ -107,7 +109,8 @@ given_of known words = option_and_then (λ given. if each_once given then Some g
 
 -- ---- what is refused before `clap` sees it
 
--- a minus sign and other characters, of which the first is no minus sign: a bundle of short flags to `clap`
+-- a minus sign and other characters, of which the first is no minus sign: a bundle
+-- of short flags to `clap`
 abbrev pub is_bundle : Text → Bool
 is_bundle [] = false
 is_bundle (x ∷ []) = false

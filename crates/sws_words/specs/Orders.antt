@@ -2,6 +2,7 @@
 use Rattle.std.specs.Prelude.{ℕ, ◌==◌, ◌&&◌, Bool, not, nat_le, if◌then◌else◌, List, [], ◌∷◌, length, codes, Option, Some, None, option_map, option_and_then}
 use Rattle.std.specs.Str.{bytes_eq, all_ascii_digits}
 use Rattle.std.specs.Str.Parse.{digits_value, without_leading_plus}
+use Rattle.mely_history.specs.Ranges.{core_limit, shard_limit, batch_limit, group_limit}
 use Rattle.sws_words.specs.Grammar.{Text, Known, Given, given_of, places, value_of, has_flag}
 
 -- ---- numbers
@@ -19,7 +20,7 @@ within least most word =
     option_and_then (λ number.
     if nat_le least number && nat_le number most then Some number else None) (number_in word)
 
--- the value of an option: none where it isn't given, and nothing where it is given and out of form
+-- the value of an option: `Some None` where it isn't given, `None` where it is out of form
 abbrev pub optional : (Text → Option ℕ) → Option Text → Option (Option ℕ)
 optional read None = Some None
 optional read (Some word) = option_map Some (read word)
@@ -47,6 +48,14 @@ pub data Order : Type 0 where
   bench : (connections number : ℕ) → (shape : Shape) → Order
   check : (connections : ℕ) → (shape : Shape) → Order
 
+-- the highest cost of a steal, which is what the time left of a colour has to exceed for it
+abbrev pub cost_limit : ℕ
+cost_limit = 1000000
+
+-- the most connections of a run
+abbrev pub conn_limit : ℕ
+conn_limit = 1024
+
 -- the options that shape a run
 abbrev pub shape_options : List Text
 shape_options = codes "workers" ∷ codes "shards" ∷ codes "batch" ∷ codes "group" ∷ codes "cost" ∷ []
@@ -65,11 +74,11 @@ shape_in workers shards batch group cost =
       group = near;
       steal_cost = steal;
     })
-    (or_default (within 0 1000000) 20 cost))
-    (or_default (within 1 64) 4 group))
-    (or_default (within 1 1000) 10 batch))
-    (or_default (within 1 64) 1 shards))
-    (or_default (within 1 64) 1 workers)
+    (or_default (within 0 cost_limit) 20 cost))
+    (or_default (within 1 group_limit) 4 group))
+    (or_default (within 1 batch_limit) 10 batch))
+    (or_default (within 1 shard_limit) 1 shards))
+    (or_default (within 1 core_limit) 1 workers)
 
 -- the shape that the options give
 abbrev pub shape_of : List Given → Option Shape
@@ -77,7 +86,8 @@ shape_of given = shape_in (value_of (codes "workers") given) (value_of (codes "s
     (value_of (codes "batch") given)
     (value_of (codes "group") given) (value_of (codes "cost") given)
 
--- the last second of the year 9999, in seconds after the beginning of 1970
+-- the last second of the year 9999, in seconds after the beginning of 1970, and so the last that a
+-- date shows, which has four digits for the year (RFC 9110, section 5.6.7)
 abbrev pub last_second : ℕ
 last_second = 253402300799
 
@@ -113,7 +123,8 @@ answer_by given =
     option_map (λ date. answer folder date) (date_of given))
     (only_place (places given))
 
--- replay FOLDER [--workers K] [--shards G] [--batch B] [--group N] [--cost S] [--date D] [--journal] [--schedule]
+-- replay FOLDER [--workers K] [--shards G] [--batch B] [--group N] [--cost S] [--date D]
+-- [--journal] [--schedule]
 abbrev pub replay_known : Known
 replay_known = record {
   options = codes "date" ∷ shape_options;
@@ -146,7 +157,7 @@ serve_by given =
     option_and_then (λ shape.
     option_map (λ date. serve folder port connections shape date) (date_of given))
     (shape_of given))
-    (option_and_then (within 1 1024) (value_of (codes "connections") given)))
+    (option_and_then (within 1 conn_limit) (value_of (codes "connections") given)))
     (option_and_then (within 1 65535) (value_of (codes "port") given)))
     (only_place (places given))
 
@@ -162,14 +173,14 @@ bench_by given =
     option_and_then (λ number.
     option_map (λ shape. bench connections number shape) (shape_of given))
     (within 0 4294967295 words.1))
-    (within 1 1024 words.0))
+    (within 1 conn_limit words.0))
     (two_places (places given))
 
 -- check --connections N, with the options of the shape
 abbrev pub check_known : Known
 check_known = record { options = codes "connections" ∷ shape_options; flags = [] }
 
--- the order of `check`, which has no word but options
+-- the order of `check` by the words that are no options, of which it has none
 abbrev pub check_in : List Text → Option ℕ → Option Shape → Option Order
 check_in [] connections shape =
     option_and_then (λ most. option_map (λ form. check most form) shape) connections
@@ -178,10 +189,11 @@ check_in (word ∷ words) connections shape = None
 -- the order of `check`
 abbrev pub check_by : List Given → Option Order
 check_by given =
-    check_in (places given) (option_and_then (within 0 1024) (value_of (codes "connections") given))
+    check_in (places given)
+    (option_and_then (within 0 conn_limit) (value_of (codes "connections") given))
     (shape_of given)
 
--- the words of a command line: the command, and what is behind it
+-- the order of a command line: by its first word the command, which reads those behind it
 abbrev pub order_of : List Text → Option Order
 order_of [] = None
 order_of (command ∷ words) =

@@ -43,7 +43,8 @@ pub enum Order {
     Answer {
         /// The folder of the site.
         folder: String,
-        /// When its files were last modified, in seconds after the beginning of 1970, up to the end of the year 9999.
+        /// When its files were last modified, in seconds after the beginning of 1970, up to
+        /// the end of the year 9999.
         date: Option<u64>,
     },
     /// A script, run in memory.

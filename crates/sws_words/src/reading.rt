@@ -14,11 +14,17 @@ use crate::numbers::number_within;
 use crate::parsing::{has_bundle, parsed};
 use crate::{Order, WordFault};
 use clap::ArgMatches;
-use mely_history::Shape;
+use mely_history::{MAX_BATCH, MAX_CORES, MAX_GROUP, MAX_SHARDS, Shape};
 use std::alloc::Global;
 
-/// The last second of the year 9999.
+/// The last second of the year 9999, the last that a date shows: it has four digits for the year.
 const LAST_SECOND: u64 = 253_402_300_799;
+
+/// The highest cost of a steal, which is what the time left of a colour has to exceed for it.
+const MAX_COST: u64 = 1_000_000;
+
+/// The most connections of a run.
+const MAX_CONNECTIONS: u64 = 1_024;
 
 /// The number that an option gives, or one that stands for it.
 fn number_or(
@@ -126,11 +132,11 @@ fn shape_of(matches: &ArgMatches<'_>) -> Result<Shape, WordFault>
         (first_value (found_of matches.now) (codes "cost"))
         ≡ None) }
 {
-    let cores = number_or(matches, "workers", 1, 64, 1)?;
-    let shards = number_or(matches, "shards", 1, 64, 1)?;
-    let batch = number_or(matches, "batch", 1, 1000, 10)?;
-    let group = number_or(matches, "group", 1, 64, 4)?;
-    let steal_cost = number_or(matches, "cost", 0, 1_000_000, 20)?;
+    let cores = number_or(matches, "workers", 1, MAX_CORES as u64, 1)?;
+    let shards = number_or(matches, "shards", 1, MAX_SHARDS as u64, 1)?;
+    let batch = number_or(matches, "batch", 1, MAX_BATCH as u64, 10)?;
+    let group = number_or(matches, "group", 1, MAX_GROUP as u64, 4)?;
+    let steal_cost = number_or(matches, "cost", 0, MAX_COST, 20)?;
     Ok(Shape {
         cores: cores as u16,
         shards: shards as u16,
@@ -206,7 +212,7 @@ fn read_serve(alloc: Global, words: &[String]) -> Result<Order, WordFault>
     let command = serve_command(alloc)?;
     let matches = parsed(command, words)?;
     let port = small_of(&matches, "port", 1, 65_535)?;
-    let connections = small_of(&matches, "connections", 1, 1024)?;
+    let connections = small_of(&matches, "connections", 1, MAX_CONNECTIONS)?;
     let shape = shape_of(&matches)?;
     let date = date_of(&matches)?;
     let folder = folder_of(alloc, &matches)?;
@@ -230,7 +236,7 @@ fn read_bench(alloc: Global, words: &[String]) -> Result<Order, WordFault>
 {
     let command = bench_command(alloc)?;
     let matches = parsed(command, words)?;
-    let connections = small_of(&matches, "connections", 1, 1024)?;
+    let connections = small_of(&matches, "connections", 1, MAX_CONNECTIONS)?;
     let number = seed_of(&matches)?;
     let shape = shape_of(&matches)?;
     Ok(Order::Bench {
@@ -251,15 +257,15 @@ fn read_check(alloc: Global, words: &[String]) -> Result<Order, WordFault>
 {
     let command = check_command(alloc)?;
     let matches = parsed(command, words)?;
-    let connections = small_of(&matches, "connections", 0, 1024)?;
+    let connections = small_of(&matches, "connections", 0, MAX_CONNECTIONS)?;
     let shape = shape_of(&matches)?;
     Ok(Order::Check { connections, shape })
 }
 
 /// The order that the words behind the program's name give.
 ///
-/// `Err(WordFault::Usage)` comes exactly where the words are no command line, `Err(WordFault::Memory)` where there was no
-/// memory.
+/// `Err(WordFault::Usage)` comes exactly where the words are no command line, but that
+/// `Err(WordFault::Memory)` may come in place of any answer where there was no memory.
 pub fn read_words(alloc: Global, words: &[String]) -> Result<Order, WordFault>
     ensures read { IfOk result (λ order. order_of (map string_bytes words.now)
         ≡ Some (order_view order)) }

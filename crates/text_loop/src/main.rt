@@ -1,8 +1,9 @@
 //! `text_loop script|transcript < FILE`: reading a script, or printing a transcript.
 //!
-//! With `script` the file is read as a script, and it prints how many connections that has and how many things their reads
-//! give. With `transcript` the file is what was written to a connection, and it prints the transcript. It is the smallest
-//! program that uses these texts, and what they are measured by.
+//! With `script` the file is read as a script, and it prints how many connections that has and
+//! how many items in all. With `transcript` the file is what was written to a
+//! connection, and it prints the transcript. It is the smallest program that uses these texts,
+//! and what they are measured by.
 #![tactic(auto)]
 
 mod out;

@@ -1,4 +1,4 @@
-//! The two texts.
+//! What the loop does with a text: it reads a script, or prints a transcript.
 
 use std::alloc::Global;
 use sws_conn::End;
@@ -6,7 +6,7 @@ use sws_link::{Put, Sink};
 use sws_report::write_conn;
 use sws_script::{ScriptFault, parse};
 
-/// How many connections a script has, and how many things their reads give.
+/// How many connections a script has, and how many items these have in all.
 pub fn count(alloc: Global, text: &[u8]) -> Result<(usize, u64), ScriptFault> {
     let input = parse(alloc, text, false, 1)?;
     let conns = input.conns.as_slice();

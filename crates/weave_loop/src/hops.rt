@@ -7,8 +7,8 @@ use counting_app::{Tally, pass_on};
 use mely_event::Event;
 use mely_worker::{App, Outs};
 
-/// The handler of `Passing` without its count, which threads share and which would be a twentieth of a
-/// step: here the steps tell what ran.
+/// The handler of `Passing` without its count, which threads share and which would be a twentieth
+/// of a step: here the steps tell what ran.
 #[derive(Drop)]
 pub struct Hops {
     pub colours: u16,

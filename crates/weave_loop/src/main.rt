@@ -1,8 +1,9 @@
 //! `weave_loop COLOURS PASSES`: events that are passed on at random, over a weave of four cores.
 //!
-//! It registers one event on each of so many colours. The handler of an event draws a colour and registers an event there, until
-//! an event was passed on so often. The cores make a step in turn until all events were run, and it prints how many steps that
-//! were. It is the smallest program that uses a weave, and what a weave is measured by.
+//! It registers one event on each of so many colours. The handler of an event draws a colour and
+//! registers an event there, until an event was passed on so often. The cores make a step in turn
+//! until all events were run, and it prints how many steps that were. It is the smallest program
+//! that uses a weave, and what a weave is measured by.
 #![tactic(auto)]
 
 mod hops;
@@ -11,7 +12,8 @@ mod steps;
 use std::process::ExitCode;
 use std::{env, io};
 
-/// The two numbers of the command line.
+/// How many colours there are, and how often an event is passed on, by the first two words; `None`
+/// where they aren't such numbers.
 fn numbers(rt: &HostRuntime) -> Option<(u16, u16)> {
     let mut words = env::args(rt).ok()?.skip(1);
     let colours = words.next()?.as_str().parse::<u16>().ok()?;

@@ -1,9 +1,10 @@
-//! The steps.
+//! A run of the loop: the weave is made, events are posted, and the cores make
+//! steps until all were run.
 ghost use Rattle.std.specs.Prelude.{◌≡◌, ◌<◌, ◌≤◌, ℕ, IfOk, IfSome};
 ghost use Rattle.weave_loop.specs.Loops.{IsLoop};
 
 use crate::hops::Hops;
-use counting_app::{Tally, blank_states};
+use counting_app::{Tally, initial_states};
 use mely_event::{Colour, Event, Handlers, Memory, Trail};
 use mely_history::{Setup, Shape};
 use mely_weave::Weave;
@@ -11,12 +12,16 @@ use mely_worker::Made;
 use std::alloc::Global;
 use std::sync::Wait;
 
-/// Four cores in one group, four shards, batches of 10; a colour is worth a steal where three events wait.
+/// How many cores there are.
+const CORES: u16 = 4;
+
+/// Four cores in one group, four shards, batches of 10; a colour is worth a steal
+/// where three events wait.
 fn setup_of(colours: u16) -> Option<Setup>
     ensures { IfSome result (λ setup. IsLoop colours setup) }
 {
     let shape = Shape {
-        cores: 4,
+        cores: CORES,
         shards: 4,
         batch: 10,
         steal_cost: 20,
@@ -31,12 +36,12 @@ fn setup_of(colours: u16) -> Option<Setup>
     }
 }
 
-/// The weave at first.
+/// The initial weave.
 fn make_weave(alloc: Global, colours: u16) -> Option<Weave<Tally, u8>>
     ensures { IfSome result (λ weave. IsLoop colours weave.setup) }
 {
     let setup = setup_of(colours)?;
-    let states = blank_states(alloc, colours).ok()?;
+    let states = initial_states(alloc, colours).ok()?;
     match Weave::new(alloc, &setup, states) {
         Ok(weave) => Some(weave),
         Err(_) => None,
@@ -60,7 +65,8 @@ fn post_all(weave: &mut Weave<Tally, u8>, colours: u16, passes: u16) -> bool
     true
 }
 
-/// Lets the cores make a step in turn until so many events were run, and answers how many steps and events that were.
+/// Lets the cores make a step in turn until so many events were run, and answers how many steps and
+/// events that were.
 fn make_steps(weave: &mut Weave<Tally, u8>, app: &Hops, events: u32) -> (u32, u32)
     requires { IsLoop app.now.colours weave.old.setup }
     ensures { IsLoop app.now.colours weave.new.setup }
@@ -70,7 +76,7 @@ fn make_steps(weave: &mut Weave<Tally, u8>, app: &Hops, events: u32) -> (u32, u3
         if ran >= events {
             return (number, ran);
         }
-        let core = (number % 4) as u16;
+        let core = (number % u32::from(CORES)) as u16;
         if let Made::Ran { .. } = weave.step(core, app) {
             ran = ran.saturating_add(1);
         }
@@ -78,8 +84,8 @@ fn make_steps(weave: &mut Weave<Tally, u8>, app: &Hops, events: u32) -> (u32, u3
     (u32::MAX, ran)
 }
 
-/// Runs an event on each of so many colours, passed on so often, and answers how many steps were made for how many events;
-/// nothing for want of memory, or where there is no colour.
+/// Runs an event on each of so many colours, passed on so often, and answers how many steps were
+/// made for how many events; nothing for want of memory, or where there is no colour.
 pub fn run<R: Wait>(rt: &R, alloc: Global, colours: u16, passes: u16) -> Option<(u32, u32)> {
     let mut weave = make_weave(alloc, colours)?;
     let app = Hops { colours };

@@ -4,8 +4,8 @@ use super::{A, G};
 use sws_conn::{End, serve_one};
 use sws_link::{LinkItem, MemLink};
 
-/// A read, a write of the head, one of the body, and a read that finds the end: whichever of them fails ends the
-/// connection, and what was written stands.
+/// A read, a write of the head, one of the body, and a read that finds the end: whichever of them
+/// fails ends the connection, and what was written stands.
 #[test]
 fn a_call_that_fails_ends_its_connection_with_what_was_written(rt: HostRuntime) {
     let site = site(&rt, None);

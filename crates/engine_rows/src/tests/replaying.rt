@@ -1,7 +1,8 @@
 //! A run of links in memory, with what it leaves as a text.
 ghost use Rattle.std.specs.Prelude.{◌≤◌, ◌<◌, ◌^◌, All, IfSome, sum_by, length};
 ghost use Rattle.std.specs.List.{AllByRecursion};
-ghost use Rattle.sws_link.specs.MemWorlds.{IsFreshMemLink};
+ghost use Rattle.sws_link.specs.MemWorlds.{IsInitialMemLink};
+ghost use Rattle.sws_engine.specs.Limits.{conn_limit};
 
 use mely_event::Handlers;
 use mely_history::{Setup, Shape};
@@ -37,14 +38,15 @@ fn piece(rt: &(impl AllocGlobal + Abort), bytes: &[u8]) -> LinkItem {
     LinkItem::Bytes(Vec::from_slice(rt.alloc(), bytes).expect(rt, "memory"))
 }
 
-/// A link that gives these parts, takes at most `step` bytes a write, and fails where `cut` bytes were written.
+/// A link that gives these parts, takes at most `step` bytes a write, and fails where
+/// `cut` bytes were written.
 pub(super) fn link(
     rt: &(impl AllocGlobal + Abort),
     parts: &[Part],
     step: Option<u32>,
     cut: Option<u64>,
 ) -> MemLink
-    ensures { IsFreshMemLink result }
+    ensures { IsInitialMemLink result }
 {
     let mut items = Vec::new(rt.alloc());
     for part in parts {
@@ -93,8 +95,8 @@ pub(super) fn run<R: AllocGlobal + Abort + Wait>(
     links: Vec<MemLink>,
     schedule: &[(u16, u32)],
 ) -> Ended<MemWorld>
-    requires few { length links.items ≤ 1024 }
-    requires fresh { AllByRecursion IsFreshMemLink links.items }
+    requires few { length links.items ≤ conn_limit }
+    requires initial { AllByRecursion IsInitialMemLink links.items }
     requires cores { All (λ part. part.0 < shape.now.cores) schedule.now }
     requires count { sum_by (λ part. part.1) schedule.now < 2 ^ 64 }
 {
@@ -108,7 +110,8 @@ pub(super) fn run<R: AllocGlobal + Abort + Wait>(
     serve_steps(rt, rt.alloc(), site, shape, world, schedule)
 }
 
-/// What a run left, as a replay prints it: each connection, and the histories where they are asked for.
+/// What a run left, as a replay prints it: each connection, and the histories
+/// where they are asked for.
 pub(super) fn printed(
     rt: &(impl AllocGlobal + Abort),
     ended: &Ended<MemWorld>,

@@ -7,7 +7,8 @@ ghost use Rattle.sws_link.specs.MemWorlds.{mem_world_tells};
 
 use sws_link::{Accepted, Link, LinkRead, LinkWrite, MemLink, MemWorld, Opened, Polled, World};
 
-/// A link in memory, whose writes all answer that there is no memory where it is to refuse. It tells nothing.
+/// A link in memory, whose writes all answer that there is no memory where it is to
+/// refuse. It tells nothing.
 #[derive(Drop)]
 pub(super) struct Thrifty {
     pub(super) link: MemLink,
@@ -44,7 +45,8 @@ impl Link for Thrifty {
     }
 }
 
-/// A world in memory, whose link of this number refuses to write, counted from 1. It knows no link to come.
+/// A world in memory, whose link of this number refuses to write, counted from 1.
+/// It knows no link to come.
 #[derive(Drop)]
 pub(super) struct Starving {
     pub(super) world: MemWorld,

@@ -1,12 +1,15 @@
-//! The web server on threads at work: whatever the threads do, each connection is served as if it were alone.
+//! The web server on threads at work: whatever the threads do, each connection is
+//! served as if it were alone.
 ghost use Rattle.std.specs.Prelude.{◌≤◌, length};
 ghost use Rattle.std.specs.List.{AllByRecursion};
-ghost use Rattle.sws_link.specs.MemWorlds.{IsFreshMemLink};
+ghost use Rattle.sws_link.specs.MemWorlds.{IsInitialMemLink};
+ghost use Rattle.sws_engine.specs.Limits.{conn_limit};
 
+use super::counted::CountedWorld;
 use super::replaying::{Part, link, printed, site};
 use super::starving::Starving;
 use super::{A, G, GET_EMPTY, PLAIN};
-use mely_event::{Colour, Event, Handlers};
+use mely_event::{Colour, Event};
 use mely_history::{Judged, Setup, Shape, judge};
 use mely_worker::{Gate, OpenGate};
 use std::process::Abort;
@@ -16,7 +19,7 @@ use std::thread;
 use std::thread::Threads;
 use std::time::Duration;
 use sws_conn::End;
-use sws_engine::{Ended, Verdict, serve_all};
+use sws_engine::{Ended, Verdict, handler_table, serve_all};
 use sws_link::{Link, MemLink, MemWorld, World};
 use sws_site::Site;
 
@@ -28,6 +31,15 @@ const THREE: &[u8] =
 const FOUR: Shape = Shape {
     cores: 4,
     shards: 2,
+    batch: 10,
+    steal_cost: 20,
+    group: 4,
+};
+
+/// One worker, and one shard.
+const ONE: Shape = Shape {
+    cores: 1,
+    shards: 1,
     batch: 10,
     steal_cost: 20,
     group: 4,
@@ -48,11 +60,37 @@ impl Gate for Counting {
 /// The number of the handler that answers a head.
 const LOOK: u8 = 6;
 
+/// Whether a handler makes a call of its connection's link: it reads, writes, closes, or does again
+/// a read or a write that found the link not ready. It makes one.
+fn calls_link(handler: u8) -> bool {
+    handler == 4 || handler == 7 || handler == 8 || handler == 9
+}
+
+/// A gate that compares how many calls the links had with how many the handlers make that have
+/// passed it before. With one worker, a handler that has run by its own pass is one call ahead.
+#[derive(Drop)]
+struct Before<'r> {
+    calls: &'r AtomicU64,
+    due: AtomicU64,
+    is_late: AtomicU64,
+}
+
+impl Gate for Before<'_> {
+    fn pass(&self, _core: u16, _colour: Colour, event: Event) {
+        if self.calls.load(Ordering::SeqCst) != self.due.load(Ordering::SeqCst) {
+            self.is_late.store(1, Ordering::SeqCst);
+        }
+        if calls_link(event.handler) {
+            self.due.fetch_add(1, Ordering::SeqCst);
+        }
+    }
+}
+
 /// How often a handler that is held looks again.
 const TURNS: u32 = 100_000;
 
-/// A gate that holds the answer of the first connection until that of the second has come to it, and counts as well. One thread
-/// alone never gets through.
+/// A gate that holds the handler `LOOK` of the first connection until that of the second has come
+/// to it, and counts as well. One thread alone never gets through.
 #[derive(Drop)]
 struct Meeting<'r> {
     clock: &'r HostRuntime,
@@ -98,25 +136,12 @@ fn serve<R: AllocGlobal + Abort + Threads + Wait + Sync, G: Gate + Sync>(
     links: Vec<MemLink>,
     gate: &G,
 ) -> Ended<MemWorld>
-    requires few { length links.items ≤ 1024 }
-    requires fresh { AllByRecursion IsFreshMemLink links.items }
+    requires few { length links.items ≤ conn_limit }
+    requires initial { AllByRecursion IsInitialMemLink links.items }
 {
     let world = MemWorld::new(links, Vec::new(rt.alloc()));
-    let Ok(handlers) = Handlers::new(&[
-        (40, 4),
-        (10, 1),
-        (40, 4),
-        (20, 1),
-        (60, 2),
-        (80, 1),
-        (50, 1),
-        (100, 2),
-        (30, 1),
-        (60, 2),
-    ]) else {
-        panic!(rt; "no table");
-    };
-    let Ok(setup) = Setup::new(shape, u32::from(world.total()) + 2, handlers, 1) else {
+    let colours = u32::from(world.total()) + 2;
+    let Ok(setup) = Setup::new(shape, colours, handler_table(), 1) else {
         panic!(rt; "a number of the shape is out of its range");
     };
     let ended = serve_all(rt, rt.alloc(), site, shape, world, gate);
@@ -169,7 +194,7 @@ fn three_connections_are_served_so_each_time(rt: HostRuntime) {
 }
 
 #[test]
-fn the_gate_is_passed_before_each_handler(rt: HostRuntime) {
+fn the_gate_is_passed_as_often_as_handlers_run(rt: HostRuntime) {
     let site = site(&rt, None);
     for shards in [1, 4] {
         let gate = Counting {
@@ -185,7 +210,41 @@ fn the_gate_is_passed_before_each_handler(rt: HostRuntime) {
 }
 
 #[test]
-fn two_handlers_are_under_way_at_once(rt: HostRuntime) {
+fn the_gate_is_passed_before_the_handler_runs(rt: HostRuntime) {
+    let site = site(&rt, None);
+    let mut links = Vec::new(rt.alloc());
+    links
+        .push(link(&rt, &[Part::Pause(1), Part::Send(G)], None, None))
+        .expect(&rt, "memory");
+    let calls = AtomicU64::new(0);
+    let gate = Before {
+        calls: &calls,
+        due: AtomicU64::new(0),
+        is_late: AtomicU64::new(0),
+    };
+    let world = CountedWorld {
+        world: MemWorld::new(links, Vec::new(rt.alloc())),
+        calls: &calls,
+    };
+    let ended = serve_all(&rt, rt.alloc(), &site, &ONE, world, &gate);
+    assert_eq!(rt; ended.verdict, Verdict::Ok);
+    assert_eq!(rt; gate.is_late.load(Ordering::SeqCst), 0);
+    // a read that finds the link not ready, that read again, a write of the answer's head, one of
+    // its body, a read that finds the end, and the close
+    assert_eq!(rt; calls.load(Ordering::SeqCst), 6);
+    assert_eq!(rt; gate.due.load(Ordering::SeqCst), 6);
+    assert_eq!(rt; ended.served.len(), 1);
+    for served in &ended.served {
+        assert_eq!(rt; (served.end, served.stray), (Some(End::Done), None));
+        match &served.link {
+            Some(held) => assert_eq!(rt; held.link.written(), A),
+            None => panic!(rt; "a link is gone"),
+        }
+    }
+}
+
+#[test]
+fn two_workers_are_at_the_gate_at_once(rt: HostRuntime) {
     let site = site(&rt, None);
     let mut links = Vec::new(rt.alloc());
     links
@@ -261,7 +320,8 @@ fn nothing_is_to_be_served_by_threads_where_there_is_no_link(rt: HostRuntime) {
     assert_eq!(rt; (ended.accepted, ended.served.len()), (0, 0));
 }
 
-/// Four connections on four workers: one fails, one waits, one finds no memory to write, and one is served.
+/// Four connections on four workers: one fails, one waits, one finds no memory to
+/// write, and one is served.
 #[test]
 fn want_of_memory_of_a_link_ends_its_own_connection_on_threads(rt: HostRuntime) {
     let site = site(&rt, None);

@@ -4,12 +4,12 @@ ghost use Rattle.std.specs.Prelude.{◌≡◌, ◌≤◌, ◌<◌, ◌^◌, All,
 use super::replaying::{Part, link, site};
 use super::starving::{Starving, Thrifty};
 use super::{A, EMPTY, G, GET_EMPTY, PLAIN};
-use mely_event::{Colour, Handlers};
+use mely_event::Colour;
 use mely_history::{Entry, Judged, Setup, Shape, judge};
 use std::process::Abort;
 use std::sync::Wait;
 use sws_conn::End;
-use sws_engine::{Ended, Verdict, serve_steps};
+use sws_engine::{Ended, Verdict, handler_table, serve_steps};
 use sws_link::{Link, MemWorld, World};
 
 /// Two workers, who steal what is worth more than 5.
@@ -41,21 +41,7 @@ fn two<R: AllocGlobal + Abort + Wait>(rt: &R, refuses: u16) -> Ended<Starving> {
 
 /// The server's setup of so many colours.
 fn setup_of(rt: &impl Abort, shape: &Shape, colours: u32) -> Setup {
-    let Ok(handlers) = Handlers::new(&[
-        (40, 4),
-        (10, 1),
-        (40, 4),
-        (20, 1),
-        (60, 2),
-        (80, 1),
-        (50, 1),
-        (100, 2),
-        (30, 1),
-        (60, 2),
-    ]) else {
-        panic!(rt; "no table");
-    };
-    match Setup::new(shape, colours, handlers, 1) {
+    match Setup::new(shape, colours, handler_table(), 1) {
         Ok(setup) => setup,
         Err(_) => panic!(rt; "no setup"),
     }
@@ -75,8 +61,8 @@ fn finished(history: &[Entry], sought: Colour) -> u64 {
     finished
 }
 
-/// What a run leaves that had begun, whatever it was refused: legal histories, of each colour a trail of what was finished,
-/// the world, and each link that it gave.
+/// What a run leaves that had begun, whatever it was refused: legal histories, of each colour a
+/// trail of what was finished, the world, and each link that it gave.
 fn stands(rt: &(impl AllocGlobal + Abort), ended: &Ended<Starving>, shape: &Shape) {
     let setup = setup_of(rt, shape, 4);
     for history in &ended.histories {
@@ -118,7 +104,8 @@ fn a_link_without_memory_ends_its_own_connection(rt: HostRuntime) {
     stands(&rt, &ended, &PLAIN);
 }
 
-/// Two workers serve a connection of one request and one of two, by a schedule in which one is stolen.
+/// Two workers serve a connection of one request and one of two, by a
+/// schedule in which one is stolen.
 fn by_schedule<R: AllocGlobal + Abort + Wait>(rt: &R) -> Ended<Starving> {
     let site = site(rt, None);
     let mut links = Vec::new(rt.alloc());
@@ -136,7 +123,8 @@ fn by_schedule<R: AllocGlobal + Abort + Wait>(rt: &R) -> Ended<Starving> {
     serve_steps(rt, rt.alloc(), &site, &TWO_CORES, world, &[(0, 6), (1, 12)])
 }
 
-/// A connection was written a front of these answers, and all of them where the run was not refused.
+/// A connection was written a front of these answers, and all of them where
+/// the run was not refused.
 fn has_front(
     rt: &(impl AllocGlobal + Abort),
     ended: &Ended<Starving>,
@@ -161,7 +149,8 @@ fn has_front(
     }
 }
 
-/// Whatever request for memory is refused in the run: it answers `Ok` with all of it, or `Memory` with fronts.
+/// Whatever request for memory is refused in the run: it answers `Ok` with all of it, or `Memory`
+/// with fronts. By itself the test refuses none: it is for `bench/memory.py --tests`.
 #[test]
 fn a_run_that_is_refused_memory_leaves_fronts(rt: HostRuntime) {
     let ended = by_schedule(&rt);

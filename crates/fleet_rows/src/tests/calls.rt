@@ -4,7 +4,7 @@ ghost use Rattle.mely_weave.specs.Dealing.{AtEach};
 ghost use Rattle.mely_history.specs.Setup.{shape_of, colours_of};
 ghost use Rattle.mely_fleet.specs.Fleets.{ArePasses};
 ghost use Rattle.mely_fleet.specs.Frames.{shard_frame};
-ghost use Rattle.mely_fleet.specs.Opening.{AreFirstPasses};
+ghost use Rattle.mely_fleet.specs.Opening.{AreInitialPasses};
 ghost use Rattle.fleet_rows.specs.Callers.{IsRow, MayFinish};
 
 use super::{EVENT, fleet_of, setup_of};
@@ -16,6 +16,31 @@ use mely_queue::Turn;
 use std::process::Abort;
 use std::sync::Wait;
 use std::test::Fail;
+
+/// The replies to the first and the second registration on a colour of core 0.
+const WOKE: Registered = Registered::Woke {
+    owner: 0,
+    started: 0,
+    worth: 30,
+};
+
+const TOLD: Registered = Registered::Told {
+    owner: 0,
+    started: 0,
+    worth: 60,
+};
+
+/// The replies to a finish that leaves one event, and to a steal of that one.
+const MORE: After = After::More {
+    started: 2,
+    worth: 30,
+};
+
+const TAKEN_OVER: Stolen = Stolen {
+    from: 0,
+    started: 2,
+    worth: 30,
+};
 
 fn register<R: Wait>(
     rt: &R,
@@ -131,9 +156,11 @@ fn last_of(
     passes: &mut Vec<Passes<Tally, u8>>,
 ) -> Result<Passes<Tally, u8>, Fail>
     requires { AtEach (λ n own.
-        AreFirstPasses (shard_frame ⟦<Tally as Trail>⟧.frame_of) fleet.now n own) passes.old.items }
+        AreInitialPasses (shard_frame ⟦<Tally as Trail>⟧.frame_of) fleet.now n own)
+        passes.old.items }
     ensures rest { AtEach (λ n own.
-        AreFirstPasses (shard_frame ⟦<Tally as Trail>⟧.frame_of) fleet.now n own) passes.new.items }
+        AreInitialPasses (shard_frame ⟦<Tally as Trail>⟧.frame_of) fleet.now n own)
+        passes.new.items }
     ensures own { IfOk result (λ own.
         ArePasses (shard_frame ⟦<Tally as Trail>⟧.frame_of) fleet.now own) }
     ensures number { IfOk result (λ own. own.number ≡ length passes.new.items) }
@@ -172,18 +199,8 @@ fn replies_are_right<R: Wait + Abort>(
     requires two { ArePasses (shard_frame ⟦<Tally as Trail>⟧.frame_of) fleet.now two.old }
     requires cores { (zero.old.number < 2) × (one.old.number < 2) }
 {
-    let woke = Registered::Woke {
-        owner: 0,
-        started: 0,
-        worth: 30,
-    };
-    let told = Registered::Told {
-        owner: 0,
-        started: 0,
-        worth: 60,
-    };
-    assert_eq!(rt; register(rt, fleet, two, 2), Some(woke));
-    assert_eq!(rt; register(rt, fleet, two, 2), Some(told));
+    assert_eq!(rt; register(rt, fleet, two, 2), Some(WOKE));
+    assert_eq!(rt; register(rt, fleet, two, 2), Some(TOLD));
     assert_eq!(rt;
         take_turn(rt, fleet, one, 2),
         Err(NoTake::Elsewhere { owner: 0 })
@@ -200,21 +217,10 @@ fn replies_are_right<R: Wait + Abort>(
     assert_eq!(rt; meanwhile, Some(Registered::Running { core: 0 }));
     assert_eq!(rt; busy, Some(NoTake::Busy { core: 0 }));
     assert_eq!(rt; not_stolen, Err(NoSteal::Busy { core: 0 }));
-    assert_eq!(rt;
-        finished,
-        After::More {
-            started: 2,
-            worth: 30
-        }
-    );
+    assert_eq!(rt; finished, MORE);
     assert_eq!(rt; steal(rt, fleet, zero, 2), Err(NoSteal::Own));
     assert!(rt; fleet.reserve(rt, two, 0, 1).is_ok());
-    let stolen = Stolen {
-        from: 0,
-        started: 2,
-        worth: 30,
-    };
-    assert_eq!(rt; steal(rt, fleet, one, 2), Ok(stolen));
+    assert_eq!(rt; steal(rt, fleet, one, 2), Ok(TAKEN_OVER));
     assert_eq!(rt; take_turn(rt, fleet, one, 2), Ok((1, After::Idle)));
     assert_eq!(rt;
         take_turn(rt, fleet, one, 2),

@@ -2,7 +2,7 @@
 ghost use Rattle.std.specs.Prelude.{◌≡◌, ◌<◌, ◌≤◌, ◌+◌, ◌↔◌, IfOk, IsTrue, Some, length, slice_get};
 ghost use Rattle.mely_history.specs.Setup.{shape_of, colours_of};
 ghost use Rattle.mely_weave.specs.Dealing.{AtEach};
-ghost use Rattle.mely_weave.specs.Making.{first_rest};
+ghost use Rattle.mely_weave.specs.Making.{initial_idle_worker};
 ghost use Rattle.mely_worker.specs.Phase.{is_free};
 ghost use Rattle.mely_fleet.specs.Fleets.{ArePasses};
 ghost use Rattle.mely_fleet.specs.Frames.{shard_frame};
@@ -30,8 +30,8 @@ use std::thread::Threads;
 struct Run {
     app: Passing,
 
-    /// What each caller that is no core's posts: so many events, on all colours in turn but on the one that is skipped. Each is
-    /// passed on so often.
+    /// What each caller that is no core's posts: so many events, on all colours in turn but on the
+    /// one that is skipped. Each is passed on so often.
     posts: u16,
     passes: u16,
     skipped: Option<u16>,
@@ -64,7 +64,7 @@ impl Run {
 /// The worker of a core, at rest, and none for a number that is no core's.
 fn worker_for(alloc: Global, setup: &Setup, number: u16) -> Result<Option<IdleWorker<u8>>, Memory>
     ensures { IfOk result (λ worker. number < (shape_of setup.now).cores
-        → worker ≡ Some (first_rest setup.now number)) }
+        → worker ≡ Some (initial_idle_worker setup.now number)) }
 {
     if number >= setup.cores() {
         return Ok(None);
@@ -243,7 +243,8 @@ fn part(
     Ok(outside)
 }
 
-/// What a run left: the weave, and how many workers answered that all is quiet.
+/// What a run left: the weave, how many workers answered that all is quiet, and how many posts were
+/// refused.
 struct Left {
     weave: Weave<Tally, u8>,
     quiet: u64,
@@ -356,7 +357,8 @@ fn a_worker_whose_fellow_never_begins_gives_up_and_nothing_is_lost(
     Ok(())
 }
 
-/// Eight workers and three outsiders at once: whether each history is legal, and each of so many events was registered and run.
+/// Eight workers and three outsiders at once: whether each history is legal, and each of so many
+/// events was registered and run.
 fn crowd_is_right<R: Threads + Wait + Sync + Abort>(
     rt: &R,
     alloc: Global,

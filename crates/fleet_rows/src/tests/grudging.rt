@@ -1,15 +1,15 @@
 //! A state that once finds no room for its trail, and an app over it.
 ghost use Rattle.std.specs.Prelude.{◌≡◌, ◌≤◌, ◌+◌, ◌++◌, ◌∷◌, [], IfOk, length};
 ghost use Rattle.std.specs.List.{AllByRecursion};
-ghost use Rattle.mely_weave.specs.Making.{AreBlank};
+ghost use Rattle.mely_weave.specs.Making.{AreInitialBelow};
 ghost use Rattle.mely_worker.specs.Access.{FitsIn};
 
 use mely_event::{Colour, Event, Fits, Memory, Trail, TrailLog};
 use mely_worker::{App, Outs};
 use std::alloc::Global;
 
-/// A state that keeps its trail. Where it refuses, one request for room is answered with want of memory, after so many that
-/// were granted.
+/// A state that keeps its trail. Where it refuses, one request for room is answered with want of
+/// memory, after so many that were granted.
 #[derive(Drop)]
 pub(super) struct Grudging {
     pub(super) log: TrailLog,
@@ -66,7 +66,7 @@ impl Fits<u8> for Grudging {
 /// A state for each of two colours, of which that of colour 1 refuses once, after so many requests.
 pub(super) fn grudging_states(alloc: Global, granted: u16) -> Result<Vec<Grudging>, Memory>
     ensures { IfOk result (λ states.
-        AreBlank (λ state. state.log.colour) (λ state. state.log.events) 2 states.items) }
+        AreInitialBelow (λ state. state.log.colour) (λ state. state.log.events) 2 states.items) }
 {
     let mut states = Vec::new(alloc);
     'colours: for colour in 0..2u16 {
@@ -79,8 +79,8 @@ pub(super) fn grudging_states(alloc: Global, granted: u16) -> Result<Vec<Grudgin
     Ok(states)
 }
 
-/// One handler. An event whose argument is not 0 puts one of argument 0 on colour 1, and one on colour 0 whose argument is less by
-/// one; both carry its load.
+/// One handler. An event whose argument is not 0 puts one of argument 0 on colour 1, and one on
+/// colour 0 whose argument is less by one; both carry its load.
 #[derive(Drop)]
 pub(super) struct Sowing;
 

@@ -20,6 +20,29 @@ const C0: Colour = Colour(0);
 
 const C1: Colour = Colour(1);
 
+/// The steps of core 1 that run one event of colour 1 where more wait.
+const POPPED: Made = Made::Popped { colour: C1 };
+
+const TOOK: Made = Made::Took {
+    colour: C1,
+    count: 1,
+};
+
+const RAN: Made = Made::Ran {
+    colour: C1,
+    handler: 0,
+};
+
+const FINISHED: Made = Made::Finished {
+    colour: C1,
+    more: true,
+};
+
+const PUSHED: Made = Made::Pushed {
+    colour: C1,
+    core: 1,
+};
+
 /// An event that sows so many.
 fn sowing(count: u16) -> Event
     ensures { result.handler ≡ 0 }
@@ -100,8 +123,8 @@ struct Remains {
     lost: usize,
 }
 
-/// How many events a run registered or lost where it all began with one post: that one, and two for each event that ran and
-/// sows.
+/// How many events a run registered or lost where it all began with one post: that one, and two for
+/// each event that ran and sows.
 fn sown_by(trail: &[Event]) -> usize {
     let mut count: usize = 1;
     for event in trail {
@@ -112,8 +135,9 @@ fn sown_by(trail: &[Event]) -> usize {
     count
 }
 
-/// Whatever a run was refused, each history is legal; the events that were registered on a colour are those of its trail and then
-/// those that wait; and those that wait or were lost have their loads.
+/// Whatever a run was refused, each history is legal; the events that were registered
+/// on a colour are those of its trail and then those that wait; and those that wait or
+/// were lost have their loads.
 fn remains_of(
     rt: &impl Abort,
     alloc: Global,
@@ -135,6 +159,7 @@ fn remains_of(
             handed.push(*event)?;
         }
         assert_eq!(rt; handed, known);
+        // In the end that of the last, which is colour 1.
         waiting = queued.len();
     }
     for (_colour, _event, load) in &parts.lost {
@@ -151,25 +176,7 @@ fn a_take_without_memory_puts_the_mark_back_on_its_chain(rt: HostRuntime) -> Res
     assert!(rt; post(&mut weave, 1, sowing(0)));
     assert!(rt; post(&mut weave, 1, sowing(0)));
     assert!(rt; post(&mut weave, 1, sowing(0)));
-    let takes = [
-        Made::Popped { colour: C1 },
-        Made::Took {
-            colour: C1,
-            count: 1,
-        },
-        Made::Ran {
-            colour: C1,
-            handler: 0,
-        },
-        Made::Finished {
-            colour: C1,
-            more: true,
-        },
-        Made::Pushed {
-            colour: C1,
-            core: 1,
-        },
-    ];
+    let takes = [POPPED, TOOK, RAN, FINISHED, PUSHED];
     assert!(rt; follows(&mut weave, 1, &takes));
     let mark = Mark {
         colour: C1,
@@ -177,16 +184,10 @@ fn a_take_without_memory_puts_the_mark_back_on_its_chain(rt: HostRuntime) -> Res
         worth: 20,
     };
     assert_eq!(rt; weave.chain_at(1, 0), Some(mark));
-    let refused = [Made::Popped { colour: C1 }, Made::Memory];
+    let refused = [POPPED, Made::Memory];
     assert!(rt; follows(&mut weave, 1, &refused));
     assert_eq!(rt; weave.chain_at(1, 0), None);
-    let pushed = [
-        Made::Pushed {
-            colour: C1,
-            core: 1,
-        },
-        Made::Halted,
-    ];
+    let pushed = [PUSHED, Made::Halted];
     assert!(rt; follows(&mut weave, 1, &pushed));
     assert_eq!(rt; weave.chain_at(1, 0), Some(mark));
     assert_eq!(rt; weave.drain(&rt, &Sowing), Drained::Memory);
@@ -208,15 +209,7 @@ fn a_mark_that_was_put_back_is_as_good_as_before(rt: HostRuntime) -> Result<(), 
     let mut weave = weave_of(rt.alloc(), &setup, 0)?;
     assert!(rt; post(&mut weave, 1, sowing(0)));
     assert!(rt; post(&mut weave, 1, sowing(0)));
-    let refused = [
-        Made::Popped { colour: C1 },
-        Made::Memory,
-        Made::Pushed {
-            colour: C1,
-            core: 1,
-        },
-        Made::Halted,
-    ];
+    let refused = [POPPED, Made::Memory, PUSHED, Made::Halted];
     assert!(rt; follows(&mut weave, 1, &refused));
     let stolen = [
         Made::NoneHere,
@@ -229,11 +222,8 @@ fn a_mark_that_was_put_back_is_as_good_as_before(rt: HostRuntime) -> Result<(), 
             from: 1,
         },
         Made::Landed { colour: C1 },
-        Made::Popped { colour: C1 },
-        Made::Took {
-            colour: C1,
-            count: 1,
-        },
+        POPPED,
+        TOOK,
     ];
     assert!(rt; follows(&mut weave, 0, &stolen));
     assert_eq!(rt; weave.drain(&rt, &Sowing), Drained::Memory);
@@ -248,7 +238,8 @@ fn a_mark_that_was_put_back_is_as_good_as_before(rt: HostRuntime) -> Result<(), 
     Ok(())
 }
 
-/// Two threads run what one event sows, where a take of colour 1 is refused after so many. How it ended, and what remains.
+/// Two threads run what one event sows, where a take of colour 1 is refused after so many. How it
+/// ended, and what remains.
 fn sow<R: AllocGlobal + Threads + Wait + Sync + Abort>(
     rt: &R,
     setup: &Setup,
@@ -303,8 +294,9 @@ fn threads_that_meet_want_of_memory_in_a_take_hand_all_out(rt: HostRuntime) -> R
     Ok(())
 }
 
-/// Whatever request for memory is refused, in the making of the fleet or in its run: nothing was run, or all that was registered is
-/// handed out, and nothing is lost where all was run.
+/// Whatever request for memory is refused, in the making of the fleet or in its run: nothing was
+/// run, or all that was registered is handed out, and nothing is lost where all was run. By itself
+/// the test refuses none: it is for `bench/memory.py --tests`.
 #[test]
 fn threads_that_are_refused_memory_hand_all_out(rt: HostRuntime) -> Result<(), Fail> {
     let setup = pair(2, 5)?;

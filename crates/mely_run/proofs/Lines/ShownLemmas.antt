@@ -19,7 +19,7 @@ module _ {S P : Type 0} (shards : List (ShardState S P)) (chains : List CoreQueu
   history_shown g has there = ap (λ (hs : List (List Entry)). slice_get hs g) is.entered ∙ slice_get-map (λ (h : ShardState S P). h.history) shards g ∙ ap (option_map (λ (h : ShardState S P). h.history)) there
 
   -- the list of a chain
-  pub list_shown : (core : ℕ) (queue : CoreQueueState) → slice_get chains core ≡ Some queue → slice_get lists core ≡ Some (unwrap_or (slice_get lists core) [])
+  list_shown : (core : ℕ) (queue : CoreQueueState) → slice_get chains core ≡ Some queue → slice_get lists core ≡ Some (unwrap_or (slice_get lists core) [])
   list_shown core queue there =
       let low = slice_get_within chains core queue there in
       let many = is.many in

@@ -84,7 +84,7 @@ module _ (cost : ℕ) (since : ℕ → ℕ) where
       (all_both _ _ xs (found_before (has_class k) xs m h up) low)
 
   -- what is picked goes before all others
-  pub pick_goes : (xs : List Mark) (m : Mark) → AllByRecursion (λ o. cost < o.worth) xs → Increases (times since xs) → pick_of cost xs ≡ Some m → AllByRecursion (λ o. (o ≡ m) ⊎ (goes m o ≡ true)) xs
+  pick_goes : (xs : List Mark) (m : Mark) → AllByRecursion (λ o. cost < o.worth) xs → Increases (times since xs) → pick_of cost xs ≡ Some m → AllByRecursion (λ o. (o ≡ m) ⊎ (goes m o ≡ true)) xs
   pick_goes xs m worth up h =
       let at_most : AllByRecursion (λ o. class_of o.worth cost ≤ 3) xs =
       all_weaker (λ o. cost < o.worth) (λ o. class_of o.worth cost ≤ 3) xs

@@ -81,7 +81,7 @@ module _ (cost now : ℕ) (c : Colour) (started worth : ℕ) where
         let rest = tail_stays xs parts.1 in
         λ i. head i ∷ rest i
 
-    pub one_hears : (xs : List Mark) → IsOneEach xs → mark_of c xs ≡ Some old → map hear (map (listed_mark since) xs) ≡ map (listed_mark then) (after_replacement told xs)
+    one_hears : (xs : List Mark) → IsOneEach xs → mark_of c xs ≡ Some old → map hear (map (listed_mark since) xs) ≡ map (listed_mark then) (after_replacement told xs)
     one_hears [] one there = absurd (none-some old there)
     one_hears (x ∷ xs) one there = elim (cases_Bool (is_of c x)) [
       | inl met ↦

@@ -1,4 +1,5 @@
--- What a step does to what an app has: pieces are in other places, or a state has more room, or a handler ran.
+-- What a step does to what an app has: pieces are in other places, or a state has
+-- more room, or a handler ran.
 use Rattle.std.proofs.Common.{◌≡◌, ◌≤◌, ℕ, Bool, true, false, cond, List, ◌∷◌, ◌++◌, Option, map, arith, refl, inl, inr}
 use Rattle.std.specs.Prelude.{IsPermutation, sum_by}
 use Rattle.std.proofs.lemmas.List.Sums.{sum_by-append, sum_by-cons}

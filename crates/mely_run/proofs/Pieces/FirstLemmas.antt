@@ -11,14 +11,14 @@ use Rattle.mely_event.specs.declared.event.Event.{Event}
 use Rattle.mely_event.specs.declared.trail.Trail.{Ghosts as TrailWords}
 use Rattle.mely_history.specs.declared.setup.Setup.{Setup}
 use Rattle.mely_history.specs.Setup.{shape_of, colours_of}
-use Rattle.mely_shard.specs.Shard.{ShardState, ColourState, first_lane, givens, colour_at, place, lane_at}
+use Rattle.mely_shard.specs.Shard.{ShardState, ColourState, initial_lane, givens, colour_at, place, lane_at}
 use Rattle.mely_worker.specs.Worker.{WorkerState}
 use Rattle.mely_weave.specs.Dealing.{AreDealt}
 use Rattle.mely_weave.specs.Side.{shard_of}
 use Rattle.mely_weave.specs.Lanes.{lane_in}
 use Rattle.mely_weave.specs.StandsWell.{StandsWell}
 use Rattle.mely_weave.specs.Weave.{WeaveState}
-use Rattle.mely_weave.specs.Making.{IsFirstWeave}
+use Rattle.mely_weave.specs.Making.{IsInitialWeave}
 use Rattle.mely_weave.proofs.Entries.SideLemmas.{get_map}
 use Rattle.mely_weave.proofs.Wholes.SpreadLemmas.{pile_size, dealt_last, dealt_less}
 use Rattle.mely_run.specs.Pieces.{Piece, state_piece, of_lane, of_lanes, of_shard, of_worker, pieces}
@@ -133,7 +133,7 @@ module _ {S P : Type 0} (shards : ℕ) (some : 1 ≤ shards) where
         (onward (IsPermutation-cons (state_piece (record { 0 = 0 + length front }) x) (kept_from 0 front) others rest) (back in_pile)))
 
   -- states that were dealt to the shards stand there on their colours
-  pub dealt_pieces : (n : ℕ) (all : List S) (piles : List (List S)) → length all ≡ n → AreDealt (λ pile. pile) shards all piles → IsPermutation (kept_from 0 all) (spread 0 piles)
+  dealt_pieces : (n : ℕ) (all : List S) (piles : List (List S)) → length all ≡ n → AreDealt (λ pile. pile) shards all piles → IsPermutation (kept_from 0 all) (spread 0 piles)
   dealt_pieces zero [] piles many dealt = same_order [] (spread 0 piles) (sym (all_empty 0 piles (λ k pile there. nothing_at pile (λ i. dealt.each k pile there i))))
   dealt_pieces zero (x ∷ all) piles many dealt = absurd (omega (arith, many))
   dealt_pieces (suc n) all piles many dealt =
@@ -148,7 +148,7 @@ module _ {S P : Type 0} (shards : ℕ) (some : 1 ≤ shards) where
 
 -- ---- a weave at first
 
-module _ {S P F : Type 0} (t : TrailWords S F) (fits : F → Colour → Event → Option P → Type 0) (setup : Setup) (states : List S) (weave : WeaveState S P) (first : IsFirstWeave setup states weave) (well : StandsWell t fits weave) (all : length states ≡ colours_of setup) where
+module _ {S P F : Type 0} (t : TrailWords S F) (fits : F → Colour → Event → Option P → Type 0) (setup : Setup) (states : List S) (weave : WeaveState S P) (first : IsInitialWeave setup states weave) (well : StandsWell t fits weave) (all : length states ≡ colours_of setup) where
   abbrev count : ℕ
   count = (shape_of weave.setup).shards
 
@@ -156,14 +156,14 @@ module _ {S P F : Type 0} (t : TrailWords S F) (fits : F → Colour → Event �
   some = weave.setup.shards_in.0
 
   -- the lane at a place of a shard
-  lane_is : (g : ℕ) (has : ShardState S P) → slice_get weave.shards g ≡ Some has → (i : ℕ) (state : S) → slice_get states (i * count + g) ≡ Some state → slice_get has.lanes i ≡ Some (first_lane state)
+  lane_is : (g : ℕ) (has : ShardState S P) → slice_get weave.shards g ≡ Some has → (i : ℕ) (state : S) → slice_get states (i * count + g) ≡ Some state → slice_get has.lanes i ≡ Some (initial_lane state)
   lane_is g has there i state at =
       let is = well.shard g has there in
       let low : g < count = let within = slice_get_within weave.shards g has there in let many = well.shards in omega (arith, within, many) in
       let found = first.lane (record { 0 = i * count + g }) state at in
       let shard_is : shard_of weave.setup (record { 0 = i * count + g }) ≡ g = mod-mul-add i count g low in
-      let lane : lane_at has (record { 0 = i * count + g }) ≡ Some (first_lane state) =
-      subst (λ (o : Option (ShardState S P)). lane_in o (record { 0 = i * count + g }) ≡ Some (first_lane state)) (ap (slice_get weave.shards) shard_is ∙ there) found in
+      let lane : lane_at has (record { 0 = i * count + g }) ≡ Some (initial_lane state) =
+      subst (λ (o : Option (ShardState S P)). lane_in o (record { 0 = i * count + g }) ≡ Some (initial_lane state)) (ap (slice_get weave.shards) shard_is ∙ there) found in
       let place_is : place has.setup (record { 0 = i * count + g }) ≡ i = ap (λ (s : Setup). (i * count + g) / (shape_of s).shards) is.of_setup ∙ div-mul-add i count g low in
       ap (slice_get has.lanes) (sym place_is) ∙ lane
 
@@ -184,7 +184,7 @@ module _ {S P F : Type 0} (t : TrailWords S F) (fits : F → Colour → Event �
   given_at g has there i = elim (cases_lt (i * count + g) (length states)) [
     | inl low ↦
         let state = there_of states (i * count + g) low in
-        get_map (λ (l : ColourState S P). l.given) has.lanes i (first_lane state.0) (lane_is g has there i state.0 state.1) ∙ sym state.1
+        get_map (λ (l : ColourState S P). l.given) has.lanes i (initial_lane state.0) (lane_is g has there i state.0 state.1) ∙ sym state.1
     | inr high ↦
         let none : length has.lanes ≤ i = elim (cases_lt i (length has.lanes)) [
           | inl less ↦ absurd (let under = below g has there i less in omega (arith, under, high))
@@ -204,17 +204,17 @@ module _ {S P F : Type 0} (t : TrailWords S F) (fits : F → Colour → Event �
       by_shard g pile i (Some has) there at = ap (λ (p : List S). slice_get p i) (sym (same_Some (givens has) pile at)) ∙ given_at g has there i
 
   -- the lanes of a shard have the given states
-  lanes_pieces : (s : Setup) (g i : ℕ) (lanes : List (ColourState S P)) → ((k : ℕ) (lane : ColourState S P) → slice_get lanes k ≡ Some lane → lane ≡ first_lane lane.given) → of_lanes s g i lanes ≡ of_pile {S = S} {P = P} (shape_of s).shards (s.shards_in.0) g i (map (λ lane. lane.given) lanes)
+  lanes_pieces : (s : Setup) (g i : ℕ) (lanes : List (ColourState S P)) → ((k : ℕ) (lane : ColourState S P) → slice_get lanes k ≡ Some lane → lane ≡ initial_lane lane.given) → of_lanes s g i lanes ≡ of_pile {S = S} {P = P} (shape_of s).shards (s.shards_in.0) g i (map (λ lane. lane.given) lanes)
   lanes_pieces s g i [] each = refl
   lanes_pieces s g i (lane ∷ lanes) each =
       (λ j. of_lane (colour_at s g i) (each 0 lane refl j) ++ of_lanes s g (i + 1) lanes)
       ∙ ap (λ (ps : List (Piece S P)). state_piece (colour_at s g i) lane.given ∷ ps) (lanes_pieces s g (i + 1) lanes (λ k. each (suc k)))
 
-  lane_first : (g : ℕ) (has : ShardState S P) → slice_get weave.shards g ≡ Some has → (k : ℕ) (lane : ColourState S P) → slice_get has.lanes k ≡ Some lane → lane ≡ first_lane lane.given
+  lane_first : (g : ℕ) (has : ShardState S P) → slice_get weave.shards g ≡ Some has → (k : ℕ) (lane : ColourState S P) → slice_get has.lanes k ≡ Some lane → lane ≡ initial_lane lane.given
   lane_first g has there k lane at =
       let state = there_of states (k * count + g) (below g has there k (slice_get_within has.lanes k lane at)) in
-      let is : lane ≡ first_lane state.0 = same_Some lane (first_lane state.0) (sym at ∙ lane_is g has there k state.0 state.1) in
-      is ∙ ap first_lane (sym (ap (λ (l : ColourState S P). l.given) is))
+      let is : lane ≡ initial_lane state.0 = same_Some lane (initial_lane state.0) (sym at ∙ lane_is g has there k state.0 state.1) in
+      is ∙ ap initial_lane (sym (ap (λ (l : ColourState S P). l.given) is))
 
   shard_pieces : (g : ℕ) (has : ShardState S P) → slice_get weave.shards g ≡ Some has → of_shard has ≡ of_pile {S = S} {P = P} count some g 0 (givens has)
   shard_pieces g has there =

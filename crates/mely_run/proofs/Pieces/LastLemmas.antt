@@ -40,7 +40,7 @@ free_has_none (at.Turning turn hand puts) free = cc
 
 module _ {S : Type 0} (P : Type 0) (spoilt : S → Bool) where
   -- the state of a lane isn't spoilt, where it is at home
-  abbrev pub IsFine : ColourState S P → Type 0
+  abbrev IsFine : ColourState S P → Type 0
   IsFine lane = (state : S) → lane.state ≡ Some state → spoilt state ≡ false
 
   events_fine : (c : Colour) (events : List (Event × Option P)) → how_spoilt {S = S} {P = P} spoilt (map (λ e. event_piece c e.0 e.1) events) ≡ 0
@@ -59,7 +59,7 @@ module _ {S : Type 0} (P : Type 0) (spoilt : S → Bool) where
       let both = sum_by-append (spoilt_in spoilt) (of_state c lane.state) (map (λ (e : Event × Option P). event_piece c e.0 e.1) lane.events) in
       omega (arith, both, state_fine c lane.state fine, events_fine c lane.events)
 
-  pub lanes_fine : (setup : Setup) (shard i : ℕ) (lanes : List (ColourState S P)) → ((k : ℕ) (lane : ColourState S P) → slice_get lanes k ≡ Some lane → IsFine lane) → how_spoilt {S = S} {P = P} spoilt (of_lanes setup shard i lanes) ≡ 0
+  lanes_fine : (setup : Setup) (shard i : ℕ) (lanes : List (ColourState S P)) → ((k : ℕ) (lane : ColourState S P) → slice_get lanes k ≡ Some lane → IsFine lane) → how_spoilt {S = S} {P = P} spoilt (of_lanes setup shard i lanes) ≡ 0
   lanes_fine setup shard i [] each = refl
   lanes_fine setup shard i (lane ∷ lanes) each =
       let both = sum_by-append (spoilt_in spoilt) (of_lane (colour_at setup shard i) lane) (of_lanes setup shard (i + 1) lanes) in

@@ -6,7 +6,7 @@ use Rattle.mely_event.specs.declared.colour.Colour.{Colour}
 use Rattle.mely_event.specs.declared.event.Event.{Event}
 use Rattle.mely_event.specs.declared.trail.Trail.{Ghosts as TrailWords}
 use Rattle.mely_history.specs.declared.setup.Setup.{Setup}
-use Rattle.mely_shard.specs.Shard.{ShardState, ColourState, first_lane, place}
+use Rattle.mely_shard.specs.Shard.{ShardState, ColourState, initial_lane, place}
 use Rattle.mely_worker.specs.declared.app.App.{Ghosts as AppWords}
 use Rattle.mely_worker.specs.Access.{FitsSetup}
 use Rattle.mely_worker.specs.Conditions.{AppServes}
@@ -14,7 +14,7 @@ use Rattle.mely_weave.specs.Side.{shard_of}
 use Rattle.mely_weave.specs.Lanes.{lane_in}
 use Rattle.mely_weave.specs.StandsWell.{StandsWell}
 use Rattle.mely_weave.specs.Weave.{WeaveState}
-use Rattle.mely_weave.specs.Making.{IsFirstWeave}
+use Rattle.mely_weave.specs.Making.{IsInitialWeave}
 use Rattle.mely_weave.specs.Runs.{KeepsSetup}
 use Rattle.mely_run.specs.WholeRuns.{IsWholeRun}
 use Rattle.mely_history.specs.declared.entry.Entry.{Entry}
@@ -24,7 +24,7 @@ first_there : {A : Type 0} (xs : List A) → 0 < length xs → (x : A) × (slice
 first_there [] some = absurd (omega (arith, some))
 first_there (x ∷ xs) some = (x, refl)
 
-module _ {S P F : Type 0} (t : TrailWords S F) (fits : F → Colour → Event → Option P → Type 0) (setup : Setup) (states : List S) (weave : WeaveState S P) (first : IsFirstWeave setup states weave) (well : StandsWell t fits weave) (some : 0 < length states) where
+module _ {S P F : Type 0} (t : TrailWords S F) (fits : F → Colour → Event → Option P → Type 0) (setup : Setup) (states : List S) (weave : WeaveState S P) (first : IsInitialWeave setup states weave) (well : StandsWell t fits weave) (some : 0 < length states) where
   state_there : slice_get states 0 ≡ Some (first_there states some).0
   state_there = (first_there states some).1
 
@@ -34,9 +34,9 @@ module _ {S P F : Type 0} (t : TrailWords S F) (fits : F → Colour → Event �
   frame_is : t.frame_of (first_there states some).0 ≡ t.frame_of weave.given
   frame_is = by_shard (slice_get weave.shards (shard_of weave.setup nought)) refl (first.lane nought (first_there states some).0 state_there)
     where
-      by_shard : (found : Option (ShardState S P)) → slice_get weave.shards (shard_of weave.setup nought) ≡ found → lane_in found nought ≡ Some (first_lane (first_there states some).0) → t.frame_of (first_there states some).0 ≡ t.frame_of weave.given
-      by_shard None at lane = absurd (none-some (first_lane (first_there states some).0) lane)
-      by_shard (Some has) at lane = (well.shard (shard_of weave.setup nought) has at).framed (place has.setup nought) (first_there states some).0 (get_map (λ (l : ColourState S P). l.given) has.lanes (place has.setup nought) (first_lane (first_there states some).0) lane)
+      by_shard : (found : Option (ShardState S P)) → slice_get weave.shards (shard_of weave.setup nought) ≡ found → lane_in found nought ≡ Some (initial_lane (first_there states some).0) → t.frame_of (first_there states some).0 ≡ t.frame_of weave.given
+      by_shard None at lane = absurd (none-some (initial_lane (first_there states some).0) lane)
+      by_shard (Some has) at lane = (well.shard (shard_of weave.setup nought) has at).framed (place has.setup nought) (first_there states some).0 (get_map (λ (l : ColourState S P). l.given) has.lanes (place has.setup nought) (initial_lane (first_there states some).0) lane)
 
   pub fits_there : (put : Colour × Event × Option P) → ((s : S) → slice_get states 0 ≡ Some s → FitsSetup fits setup (t.frame_of s) put) → FitsSetup fits weave.setup (t.frame_of weave.given) put
   fits_there put fit = subst (λ (s : Setup). FitsSetup fits s (t.frame_of weave.given) put) (sym first.of_setup) (subst (λ (f : F). FitsSetup fits setup f put) frame_is (fit (first_there states some).0 state_there))

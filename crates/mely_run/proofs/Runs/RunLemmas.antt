@@ -50,7 +50,7 @@ empty_is [] h = refl
 empty_is (l ∷ list) h = cc
 
 module _ {S P X : Type 0} (weave : WeaveState S P) (m : Machine X) (is : Corresponds weave m) where
-  pub quiet_is : IsQuiet weave → is_quiet m ≡ true
+  quiet_is : IsQuiet weave → is_quiet m ≡ true
   quiet_is quiet =
       let free : list_all is_free m.workers ≡ true = ap (list_all is_free) is.workers ∙ all_from is_free (map worker_doing weave.workers)
       (λ i d there. let w = get_map_back worker_doing weave.workers i d there in ap is_free (sym w.2) ∙ free_is w.0.phase ∙ quiet.free i w.0 w.1) in
@@ -63,7 +63,7 @@ module _ {S P X : Type 0} (weave : WeaveState S P) (m : Machine X) (is : Corresp
       ap is_empty (listed_is.marks ∙ ap (map (listed_mark listed_is.since)) (quiet.empty core queue.0 queue.1))) in
       ap (λ b. b && list_all is_empty m.lists) free ∙ empty
 
-  pub is_quiet_then : is_quiet m ≡ true → IsQuiet weave
+  is_quiet_then : is_quiet m ≡ true → IsQuiet weave
   is_quiet_then h =
       let both = and_true (list_all is_free m.workers) (list_all is_empty m.lists) h in
       record {
@@ -76,7 +76,7 @@ module _ {S P X : Type 0} (weave : WeaveState S P) (m : Machine X) (is : Corresp
             map_nothing (listed_mark listed_is.since) queue.chain (sym listed_is.marks ∙ empty_is list.0 (all_at is_empty m.lists both.1 core list.0 list.1));
       }
 
-  pub busy_is : (IsQuiet weave → ⊥) → is_quiet m ≡ false
+  busy_is : (IsQuiet weave → ⊥) → is_quiet m ≡ false
   busy_is busy = elim (cases_Bool (is_quiet m)) [ inl t ↦ absurd (busy (is_quiet_then t)) | inr f ↦ f ]
 
 -- ---- an app that is told by a function, in a weave
@@ -89,7 +89,8 @@ module _ {S P F R X : Type 0} (t : TrailWords S F) (fits : F → Colour → Even
     pub ruled : rules_of weave.setup ≡ rules
     pub going : NoneHalted weave
 
-  -- a weave and a machine are one: they correspond, and what the app has in the weave agrees with what it is in the machine
+  -- a weave and a machine are one: they correspond, and what the app has in the weave agrees with
+  -- what it is in the machine
   pub record AreOne (weave : WeaveState S P) (m : Machine X) : Type 0 where
     pub corresponds : Corresponds weave m
     pub agrees : Agrees m.app (pieces weave)
@@ -104,7 +105,7 @@ module _ {S P F R X : Type 0} (t : TrailWords S F) (fits : F → Colour → Even
     pub stands : Stands after n
     pub spoils : how_spoilt spoilt (pieces before) ≤ how_spoilt spoilt (pieces after)
 
-  pub step_on : (weave after : WeaveState S P) (core : ℕ) (made : Made) (m : Machine X) → Stands weave m → StepsWell t fits y app weave core made after → made ≢ names.Memory → GoesOn weave after (step rules act core m)
+  step_on : (weave after : WeaveState S P) (core : ℕ) (made : Made) (m : Machine X) → Stands weave m → StepsWell t fits y app weave core made after → made ≢ names.Memory → GoesOn weave after (step rules act core m)
   step_on weave after core made m is steps no_want =
       let ready = is.ready in
       let s = steps.call.steps in
@@ -135,7 +136,7 @@ module _ {S P F R X : Type 0} (t : TrailWords S F) (fits : F → Colour → Even
         spoils = more;
       }
 
-  pub makes_on : (made : List CoreStep) (weave after : WeaveState S P) (m : Machine X) → Stands weave m → Makes t fits y app made weave after → NoneMetWant made → GoesOn weave after (steps rules act (map (λ s. s.0) made) m)
+  makes_on : (made : List CoreStep) (weave after : WeaveState S P) (m : Machine X) → Stands weave m → Makes t fits y app made weave after → NoneMetWant made → GoesOn weave after (steps rules act (map (λ s. s.0) made) m)
   unfolding Makes steps
   makes_on [] weave after m is makes none = subst (λ (l : WeaveState S P). GoesOn weave l m) (sym makes) (record { stands = is; spoils = omega arith })
   makes_on (one ∷ made) weave after m is makes none =
@@ -150,7 +151,7 @@ module _ {S P F R X : Type 0} (t : TrailWords S F) (fits : F → Colour → Even
   run_on cores weave after m is runs =
       subst (λ (cs : List ℕ). GoesOn weave after (steps rules act cs m)) runs.goes.0 (makes_on runs.steps weave after m is runs.makes runs.goes.1)
 
-  pub round_on : (weave after : WeaveState S P) (m : Machine X) → Stands weave m → NoneHalted after → MakesRound t fits y app rules.shape.cores weave after → GoesOn weave after (round rules act m)
+  round_on : (weave after : WeaveState S P) (m : Machine X) → Stands weave m → NoneHalted after → MakesRound t fits y app rules.shape.cores weave after → GoesOn weave after (round rules act m)
   round_on weave after m is none makes =
       subst (λ (cs : List ℕ). GoesOn weave after (steps rules act cs m)) makes.ascending
       (makes_on makes.steps weave after m is makes.makes (makes_no_want t fits y app makes.steps weave after makes.makes none))

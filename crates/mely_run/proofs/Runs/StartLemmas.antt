@@ -21,21 +21,21 @@ use Rattle.mely_weave.specs.Calls.{AtShard, AtChain, RegisterAs, PushAs, RetellA
 use Rattle.mely_weave.specs.StandsWell.{side_of, StandsWell}
 use Rattle.mely_weave.specs.Weave.{WeaveState}
 use Rattle.mely_weave.specs.Steps.{PostsAt, with_workers}
-use Rattle.mely_weave.specs.Making.{IsFirstWeave}
+use Rattle.mely_weave.specs.Making.{IsInitialWeave}
 use Rattle.mely_weave.proofs.Entries.SideLemmas.{get_set_same}
 use Rattle.mely_machine.specs.Rules.{Rules, rules_of}
 use Rattle.mely_machine.specs.Listing.{Listed, hears}
 use Rattle.mely_machine.specs.Machine.{Free, Machine, list_at, enters}
 use Rattle.mely_machine.specs.MachineStep.{history_for, delivery_by}
-use Rattle.mely_machine.specs.MachineRun.{first_machine, delivers, post}
+use Rattle.mely_machine.specs.MachineRun.{initial_machine, delivers, post}
 use Rattle.mely_run.specs.Corresponds.{worker_doing, IsListed, IsShown, Corresponds}
 use Rattle.mely_run.proofs.Lists.ElementsLemmas.{got, all_one, of_one}
 use Rattle.mely_run.proofs.Lines.ShownLemmas.{history_shown, list_is, shown_later, shown_entry, shown_list}
 use Rattle.mely_run.proofs.Lines.DeliveriesLemmas.{delivery_is, push_listed, report_listed}
 
 -- a weave at first
-pub first_corresponds : {S P F X : Type 0} (t : TrailWords S F) (fits : F → Colour → Event → Option P → Type 0) (setup : Setup) (states : List S) (weave : WeaveState S P) (app : X) → IsFirstWeave setup states weave → StandsWell t fits weave
-    → Corresponds weave (first_machine (rules_of weave.setup) app)
+pub first_corresponds : {S P F X : Type 0} (t : TrailWords S F) (fits : F → Colour → Event → Option P → Type 0) (setup : Setup) (states : List S) (weave : WeaveState S P) (app : X) → IsInitialWeave setup states weave → StandsWell t fits weave
+    → Corresponds weave (initial_machine (rules_of weave.setup) app)
 first_corresponds {S = S} {P = P} t fits setup states weave app first well = record {
   shown = record {
     entered = sym (all_one (λ (h : ShardState S P). h.history) [] weave.shards first.no_entry ∙ ap (λ (n : ℕ). replicate n []) well.shards);

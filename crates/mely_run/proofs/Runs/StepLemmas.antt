@@ -1,4 +1,5 @@
--- A step of a weave is the machine's, where its handler puts what the function says, and what changes of what the app has: one walk over the worker's rule.
+-- A step of a weave is the machine's, where its handler puts what the function says, and what
+-- changes of what the app has: one walk over the worker's rule.
 use Rattle.std.proofs.Common.{◌≡◌, ◌≢◌, ◌<◌, ◌+◌, ℕ, zero, suc, Bool, true, false, List, [], ◌∷◌, Option, None, Some, Result, Ok, Err, refl, sym, ap, subst, ◌∙◌}
 use Rattle.std.specs.Prelude.{slice_get, slice_set, IsPermutation}
 use Rattle.std.proofs.lemmas.List.{map-set}
@@ -63,7 +64,8 @@ module _ {S P F R X : Type 0} (t : TrailWords S F) (fits : F → Colour → Even
   abbrev Change : WorkerState S P → Type 0
   Change u = Changed t fits y app (t.frame_of weave.given) (pieces weave) (left_with u)
 
-  -- the worker and the machine that a step leaves: what changes of what the app has, and, where what was put is what the function says, the machine goes on as the weave does
+  -- the worker and the machine that a step leaves: what changes of what the app has, and, where
+  -- what was put is what the function says, the machine goes on as the weave does
   record Goes (u : WorkerState S P) (n : Machine X) : Type 0 where
     pub change : Change u
     pub going : u.halted ≡ false
@@ -245,7 +247,8 @@ module _ {S P F R X : Type 0} (t : TrailWords S F) (fits : F → Colour → Even
 
   -- ---- the step
 
-  -- what changes of what the app has, and, where what was put is what the function says, the weave and the machine correspond again
+  -- what changes of what the app has, and, where what was put is what the function says, the weave
+  -- and the machine correspond again
   pub record StepGoes (after : WeaveState S P) (n : Machine X) : Type 0 where
     pub change : Changed t fits y app (t.frame_of weave.given) (pieces weave) (pieces after)
     pub going : NoneHalted after

@@ -104,7 +104,7 @@ module _ {R S P F : Type 0} (t : TrailWords S F) (y : AppWords R P S F) (app : R
   from_want (at.Landing mark) line = by_line _ _ _ (λ answer e. cc) line
   from_want (at.Free place) line = free_want w.halted place line
 
-  pub want_halts : Steps (weave_words t) y app a w made b v → v.halted ≡ true
+  want_halts : Steps (weave_words t) y app a w made b v → v.halted ≡ true
   want_halts line = from_want w.phase line
 
 module _ {R S P F : Type 0} (t : TrailWords S F) (fits : F → Colour → Event → Option P → Type 0) (y : AppWords R P S F) (app : R) where
@@ -112,7 +112,7 @@ module _ {R S P F : Type 0} (t : TrailWords S F) (fits : F → Colour → Event 
   becomes_there : (core : ℕ) (made : Made) (a b : WeaveState S P) → (is : StepsAt t y app a core made b) → slice_get b.workers core ≡ Some is.becomes
   becomes_there core made a b is = ap (λ (l : WeaveState S P). slice_get l.workers core) is.leaves ∙ get_set_same a.workers core is.worker is.becomes is.was
 
-  pub halted_after : (core : ℕ) (made : Made) (a b : WeaveState S P) → StepsAt t y app a core made b → made ≡ names.Memory → SomeHalted b
+  halted_after : (core : ℕ) (made : Made) (a b : WeaveState S P) → StepsAt t y app a core made b → made ≡ names.Memory → SomeHalted b
   halted_after core made a b is want = record {
     core = core;
     worker = is.becomes;
@@ -120,7 +120,7 @@ module _ {R S P F : Type 0} (t : TrailWords S F) (fits : F → Colour → Event 
     halted = want_halts t y app (side_of a core) is.side is.worker is.becomes made want is.steps;
   }
 
-  pub halted_still : (core : ℕ) (made : Made) (a b : WeaveState S P) → StepsAt t y app a core made b → SomeHalted a → SomeHalted b
+  halted_still : (core : ℕ) (made : Made) (a b : WeaveState S P) → StepsAt t y app a core made b → SomeHalted a → SomeHalted b
   halted_still core made a b is some = ⊎_elim
       (λ (same : some.core ≡ core).
       let that : some.worker ≡ is.worker = same_Some some.worker is.worker (sym some.there ∙ ap (slice_get a.workers) same ∙ is.was) in
@@ -138,7 +138,7 @@ module _ {R S P F : Type 0} (t : TrailWords S F) (fits : F → Colour → Event 
       })
       (cases_eq some.core core)
 
-  pub makes_halted : (steps : List CoreStep) (a b : WeaveState S P) → Makes t fits y app steps a b → SomeHalted a → SomeHalted b
+  makes_halted : (steps : List CoreStep) (a b : WeaveState S P) → Makes t fits y app steps a b → SomeHalted a → SomeHalted b
   unfolding Makes
   makes_halted [] a b is some = subst (λ (l : WeaveState S P). SomeHalted l) (sym is) some
   makes_halted (step ∷ steps) a b is some = makes_halted steps is.0 b is.2 (halted_still step.0 step.1 a is.0 is.1.call.steps some)

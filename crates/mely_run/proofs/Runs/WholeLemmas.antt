@@ -13,7 +13,7 @@ use Rattle.mely_worker.specs.declared.delivery.Delivery.TheVariants.{Nothing, Pu
 use Rattle.mely_weave.specs.Runs.{spelled_out}
 use Rattle.mely_machine.specs.Rules.{Rules, rules_of}
 use Rattle.mely_machine.specs.Machine.{Acts, Machine}
-use Rattle.mely_machine.specs.MachineRun.{first_machine, delivers, post, steps, rounds, RunsTo}
+use Rattle.mely_machine.specs.MachineRun.{initial_machine, delivers, post, steps, rounds, RunsTo}
 use Rattle.mely_run.specs.Corresponds.{Corresponds}
 use Rattle.mely_run.specs.Pieces.{Piece, event_piece, pieces, IsTold}
 use Rattle.mely_run.specs.Pieces.{kept_from}
@@ -34,7 +34,8 @@ post_keeps : {X : Type 0} (rules : Rules) (c : Colour) (event : Event) (m : Mach
 unfolding post
 post_keeps rules c event m = delivers_keep rules _ _
 
--- what the app has at first and what is posted agree with what it is, so the histories are those of the machine's run
+-- what the app has at first and what is posted agree with what it is, so the histories are
+-- those of the machine's run
 pub told_whole : {S P F R X : Type 0} {t : TrailWords S F} {fits : F → Colour → Event → Option P → Type 0} {y : AppWords R P S F} {app : R} {setup : Setup} {states : List S} {c : Colour} {event : Event} {load : Option P} {schedule : List (ℕ × ℕ)} {histories : List (List Entry)} {left : List S}
     → (frame : F) (act : Acts X) (Agrees : X → List (Piece S P) → Type 0) (spoilt : S → Bool) → IsTold t fits y app frame act Agrees spoilt → (x : X) → (whole : IsWholeRun t fits y app setup states c event load schedule histories left)
     → t.frame_of whole.posted.given ≡ frame → Agrees x (event_piece c event load ∷ kept_from 0 states) → All (λ state. spoilt state ≡ false) left → RunsTo (rules_of setup) act x (c, event) schedule histories
@@ -45,15 +46,15 @@ told_whole {S = S} {P = P} {X = X} {t = t} {fits} {y} {app} {setup} {states} {c}
     IsPermutation-trans (event_piece c event load ∷ kept_from 0 states) (event_piece c event load ∷ pieces whole.begun.first) (pieces whole.posted)
     (IsPermutation-cons (event_piece c event load) (kept_from 0 states) (pieces whole.begun.first) (first_pieces t fits setup states whole.begun.first whole.begun.made whole.begun.well whole.begun.all))
     (post_pieces t fits whole.begun.first whole.posted whole.begun.well c event load whole.begun.reply whole.begun.posts) in
-    let at_post : Machine X = post rules c event (first_machine rules x) in
+    let at_post : Machine X = post rules c event (initial_machine rules x) in
     let after_post : Corresponds whole.posted at_post =
-    subst (λ (r : Rules). Corresponds whole.posted (post r c event (first_machine r x))) ruled
-    (post_corresponds t fits whole.begun.first whole.begun.well (first_machine (rules_of whole.begun.first.setup) x) (first_corresponds t fits setup states whole.begun.first x whole.begun.made whole.begun.well) c event load whole.posted whole.begun.reply whole.begun.posts) in
+    subst (λ (r : Rules). Corresponds whole.posted (post r c event (initial_machine r x))) ruled
+    (post_corresponds t fits whole.begun.first whole.begun.well (initial_machine (rules_of whole.begun.first.setup) x) (first_corresponds t fits setup states whole.begun.first x whole.begun.made whole.begun.well) c event load whole.posted whole.begun.reply whole.begun.posts) in
     let started : Stands t fits y app frame act Agrees spoilt is_told rules whole.posted at_post = record {
       ready = record { well = whole.begun.well_posted; framed = framed; ruled = ap rules_of whole.begun.same.setup ∙ ruled; going = after_post.going };
       one = λ none. record {
         corresponds = after_post;
-        agrees = subst (λ (z : X). Agrees z (pieces whole.posted)) (sym (post_keeps rules c event (first_machine rules x))) (is_told.moved x (event_piece c event load ∷ kept_from 0 states) (pieces whole.posted) order agrees);
+        agrees = subst (λ (z : X). Agrees z (pieces whole.posted)) (sym (post_keeps rules c event (initial_machine rules x))) (is_told.moved x (event_piece c event load ∷ kept_from 0 states) (pieces whole.posted) order agrees);
       };
     } in
     let scheduled = run_on t fits y app frame act Agrees spoilt is_told rules (spelled_out schedule) whole.posted whole.out.ran at_post started whole.out.runs in

@@ -67,9 +67,9 @@ impl Fits<u64> for Purse {
     ghost fits_under = { λ frame colour event load. Unit {0} };
 }
 
-/// One handler, whose event brings coins. Where its argument isn't 0, the purse keeps these and what it had goes on
-/// to another colour, with an argument less. Else all stays in the purse, unless it would be too much for
-/// one: then the event goes round again.
+/// One handler, whose event brings coins. Where its argument isn't 0, the purse keeps these and
+/// what it had goes on to another colour, with an argument less. Else all stays in the purse,
+/// unless it would be too much for one: then the event goes round again.
 #[derive(Drop)]
 pub(super) struct Paying {
     pub(super) colours: u16,

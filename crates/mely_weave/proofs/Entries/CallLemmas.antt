@@ -25,7 +25,7 @@ use Rattle.mely_history.specs.Legal.{IsRunningOn, IsLegal, MayRegister, MayTake,
 use Rattle.mely_history.specs.ColourAccount.{account_of}
 use Rattle.mely_history.proofs.LegalAccountLemmas.{IsOnTurn, running_on_owner, owner_within}
 use Rattle.mely_queue.specs.Turn.{TurnState, EachFits}
-use Rattle.mely_shard.specs.Shard.{ShardState, ColourState, IsOwn, IsConsistent, KeepsFrame, lane_at, place, Registers, RegisteredAs, HasSameContents, Takes, KeepsStates, NoTakeAs, Steals, NoStealAs, TurnStands}
+use Rattle.mely_shard.specs.Shard.{ShardState, ColourState, IsOwn, IsConsistent, KeepsFrame, lane_at, place, Registers, RegisteredAs, KeepsAllButSpare, Takes, KeepsStates, NoTakeAs, Steals, NoStealAs, TurnStands}
 use Rattle.mely_steal.specs.Marks.{mark_of, without}
 use Rattle.mely_steal.specs.StealQueue.{after_entry, pick_of}
 use Rattle.mely_core.specs.CoreQueue.{CoreQueueState}
@@ -39,7 +39,7 @@ use Rattle.mely_weave.proofs.Entries.SideLemmas.{adds_entry, history_becomes, hi
 
 -- each call, from its clauses
 module _ {S P : Type 0} where
-  pub register_does : (c : Colour) (event : Event) (load : Option P) (by : ℕ) (old new : ShardState S P) (result : Result Registered (Unregistered P)) → IfOk result (λ _. Registers old new c event load by) → IfOk result (λ reply. RegisteredAs old.setup old.history new.history c reply) → OnErr result (HasSameContents old new) → RegisterAs c event load by result old new
+  pub register_does : (c : Colour) (event : Event) (load : Option P) (by : ℕ) (old new : ShardState S P) (result : Result Registered (Unregistered P)) → IfOk result (λ _. Registers old new c event load by) → IfOk result (λ reply. RegisteredAs old.setup old.history new.history c reply) → OnErr result (KeepsAllButSpare old new) → RegisterAs c event load by result old new
   register_does c event load by old new (Ok reply) ok told err = (ok, told)
   register_does c event load by old new (Err back) ok told err = err
 
@@ -47,7 +47,7 @@ module _ {S P : Type 0} where
   take_does t c core old new (Ok turn) ok err refusal = ok
   take_does t c core old new (Err why) ok err refusal = (err, refusal)
 
-  pub steal_does : (c : Colour) (to : ℕ) (old new : ShardState S P) (result : Result Stolen NoSteal) → IfOk result (λ stolen. Steals old new c to stolen) → OnErr result (HasSameContents old new) → IfErr result (λ refusal. NoStealAs old.setup old.history c to refusal) → StealAs c to result old new
+  pub steal_does : (c : Colour) (to : ℕ) (old new : ShardState S P) (result : Result Stolen NoSteal) → IfOk result (λ stolen. Steals old new c to stolen) → OnErr result (KeepsAllButSpare old new) → IfErr result (λ refusal. NoStealAs old.setup old.history c to refusal) → StealAs c to result old new
   steal_does c to old new (Ok stolen) ok err refusal = ok
   steal_does c to old new (Err why) ok err refusal = (err, refusal)
 
@@ -156,7 +156,7 @@ names_core setup old new c (Running core) legal told = tt
 
 module _ {S P F : Type 0} (t : TrailWords S F) (fits : F → Colour → Event → Option P → Type 0) (a b : SideState S P) (c : Colour) (stands : PartsOf t fits a) where
   -- the turn that a take gives
-  pub turn_taken : (turn : TurnState S P) (at : AtShard a b c (TakeAs t c a.core (Ok turn))) → c.0 < colours_of a.setup → PartsOf t fits b → TurnStands t fits at.new turn
+  turn_taken : (turn : TurnState S P) (at : AtShard a b c (TakeAs t c a.core (Ok turn))) → c.0 < colours_of a.setup → PartsOf t fits b → TurnStands t fits at.new turn
       → IsTaken t fits (λ (s : SideState S P). s.setup) (λ (s : SideState S P). s.core) (λ (s : SideState S P). t.frame_of s.given) IsOut a b c turn
   turn_taken turn at low after out =
       let took = at.does in

@@ -29,27 +29,27 @@ module _ (setup : Setup) (h h' : Histories) (entry : Entry) (adds : Adds setup h
   c = colour_of entry
 
   -- a colour that becomes ready gets a mark
-  pub ready_keeps : (p : Placed) → p.1.colour.0 ≡ c.0 → (of c).ready ≡ false → (of' c).ready ≡ true → is_told of' p ≡ true → Alike marks' (p ∷ marks) → MarksStand of marks → MarksStand of' marks'
+  ready_keeps : (p : Placed) → p.1.colour.0 ≡ c.0 → (of c).ready ≡ false → (of' c).ready ≡ true → is_told of' p ≡ true → Alike marks' (p ∷ marks) → MarksStand of marks → MarksStand of' marks'
   ready_keeps p of_c was is told alike stands =
       stand_changed of of' c marks marks' [] (p ∷ []) marks (readiness_stays setup h h' entry adds) tt (of_c, tt) (sym (ap bit was)) (sym (ap bit is)) (told, tt) (λ q. refl) alike stands
 
   -- a ready colour that becomes unready gives up its mark
-  pub unready_keeps : (p : Placed) → p.1.colour.0 ≡ c.0 → (of c).ready ≡ true → (of' c).ready ≡ false → Alike marks (p ∷ marks') → MarksStand of marks → MarksStand of' marks'
+  unready_keeps : (p : Placed) → p.1.colour.0 ≡ c.0 → (of c).ready ≡ true → (of' c).ready ≡ false → Alike marks (p ∷ marks') → MarksStand of marks → MarksStand of' marks'
   unready_keeps p of_c was is alike stands =
       stand_changed of of' c marks marks' (p ∷ []) [] marks' (readiness_stays setup h h' entry adds) (of_c, tt) tt (sym (ap bit was)) (sym (ap bit is)) tt alike (λ q. refl) stands
 
   -- a colour that is ready neither before nor after
-  pub quiet_keeps : (of c).ready ≡ false → (of' c).ready ≡ false → Alike marks' marks → MarksStand of marks → MarksStand of' marks'
+  quiet_keeps : (of c).ready ≡ false → (of' c).ready ≡ false → Alike marks' marks → MarksStand of marks → MarksStand of' marks'
   quiet_keeps was is alike stands =
       stand_changed of of' c marks marks' [] [] marks (readiness_stays setup h h' entry adds) tt tt (sym (ap bit was)) (sym (ap bit is)) tt (λ q. refl) alike stands
 
   -- a ready colour that gets another mark in the place of its own
-  pub other_keeps : (p q : Placed) (rest : List Placed) → p.1.colour.0 ≡ c.0 → q.1.colour.0 ≡ c.0 → (of c).ready ≡ true → (of' c).ready ≡ true → is_told of' q ≡ true → Alike marks (p ∷ rest) → Alike marks' (q ∷ rest) → MarksStand of marks → MarksStand of' marks'
+  other_keeps : (p q : Placed) (rest : List Placed) → p.1.colour.0 ≡ c.0 → q.1.colour.0 ≡ c.0 → (of c).ready ≡ true → (of' c).ready ≡ true → is_told of' q ≡ true → Alike marks (p ∷ rest) → Alike marks' (q ∷ rest) → MarksStand of marks → MarksStand of' marks'
   other_keeps p q rest of_p of_q was is told alike alike' stands =
       stand_changed of of' c marks marks' (p ∷ []) (q ∷ []) rest (readiness_stays setup h h' entry adds) (of_p, tt) (of_q, tt) (sym (ap bit was)) (sym (ap bit is)) (told, tt) alike alike' stands
 
   -- a ready colour that is worth more
-  pub grown_keeps : IsGrown (of c) (of' c) → Alike marks marks' → MarksStand of marks → MarksStand of' marks'
+  grown_keeps : IsGrown (of c) (of' c) → Alike marks marks' → MarksStand of marks → MarksStand of' marks'
   grown_keeps grown alike stands =
       stand_alike of' marks marks' alike (stand_grown of of' marks (by_colour setup h h' entry adds (λ d. IsGrown (of d) (of' d)) grown
       (λ d other. subst (IsGrown (of d)) (sym (readiness_stays setup h h' entry adds d other)) (record { ready = refl; owner = refl; begun = refl; worth = omega arith }))) stands)

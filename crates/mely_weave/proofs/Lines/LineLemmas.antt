@@ -80,11 +80,11 @@ module _ {S P F : Type 0} (t : TrailWords S F) (fits : F → Colour → Event �
   told = (well.worker k w here).told
 
   -- the shards after one of them changed
-  abbrev pub with_shard : Colour → ShardState S P → List (ShardState S P)
+  abbrev with_shard : Colour → ShardState S P → List (ShardState S P)
   with_shard c new = slice_set weave.shards (shard_of weave.setup c) new
 
   -- a mark in the worker's hand is sound
-  pub in_hand_sound : (m : Placed) → held_by w ≡ m ∷ [] → IsSoundMark (of weave.shards) m
+  in_hand_sound : (m : Placed) → held_by w ≡ m ∷ [] → IsSoundMark (of weave.shards) m
   in_hand_sound m holds = hand_sound held_by (of weave.shards) weave.chains weave.workers well.marks k w m here holds
 
   -- its colour doesn't run, and something of it waits

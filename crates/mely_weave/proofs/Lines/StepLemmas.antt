@@ -120,7 +120,7 @@ module _ {S P F : Type 0} (t : TrailWords S F) (fits : F → Colour → Event �
       (cases_eq core k)
 
   -- the worker that stepped turns
-  pub turning_now : (v : WorkerState S P) (core : ℕ) (c : Colour) → core ≡ k → colour_run_by v ≡ Some c → IsTurningOn (slice_set weave.workers k v) core c
+  turning_now : (v : WorkerState S P) (core : ℕ) (c : Colour) → core ≡ k → colour_run_by v ≡ Some c → IsTurningOn (slice_set weave.workers k v) core c
   turning_now v core c same turning = record { worker = v; there = ap (slice_get (slice_set weave.workers k v)) same ∙ get_set_same weave.workers k w v here; turning = turning }
 
   -- each colour's history is as it was

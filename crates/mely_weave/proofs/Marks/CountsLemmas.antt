@@ -49,7 +49,7 @@ count_one_chain p core (suc k) at (queue ∷ queues) chain e h =
 
 module _ {W : Type 0} (in_hand : W → List Placed) where
   -- one worker changes
-  pub count_hands : (p : Placed → Bool) (k : ℕ) (ws : List W) (old new : W) → slice_get ws k ≡ Some old → count_by p (flat_map in_hand (slice_set ws k new)) + count_by p (in_hand old) ≡ count_by p (flat_map in_hand ws) + count_by p (in_hand new)
+  count_hands : (p : Placed → Bool) (k : ℕ) (ws : List W) (old new : W) → slice_get ws k ≡ Some old → count_by p (flat_map in_hand (slice_set ws k new)) + count_by p (in_hand old) ≡ count_by p (flat_map in_hand ws) + count_by p (in_hand new)
   count_hands p k [] old new h = cc
   count_hands p zero (w ∷ ws) old new h =
       let same : w ≡ old = cc in

@@ -44,7 +44,7 @@ module _ (of : Colour → Readiness) (core n : ℕ) where
       ∙ ap (λ more. marks_below of core n ++ more) (map_cond (is_ready_on of core (numbered n)) (numbered n))
 
   -- a ready colour of the core comes behind those below it
-  pub marks_ready : is_ready_on of core (numbered n) ≡ true → marks_below of core (n + 1) ≡ marks_below of core n ++ mark_for of (numbered n) ∷ []
+  marks_ready : is_ready_on of core (numbered n) ≡ true → marks_below of core (n + 1) ≡ marks_below of core n ++ mark_for of (numbered n) ∷ []
   marks_ready on = marks_more ∙ ap (λ b. marks_below of core n ++ cond b (mark_for of (numbered n) ∷ []) []) on
 
   -- another colour has no mark there
@@ -88,7 +88,7 @@ chain_told of core (suc n) =
     ])
 
 -- whether the chain of a core has a mark of the colour, of those below a number
-abbrev pub has_mark : (Colour → Readiness) → Colour → ℕ → ℕ → Bool
+abbrev has_mark : (Colour → Readiness) → Colour → ℕ → ℕ → Bool
 has_mark of c n core = is_ready_on of core c && nat_lt c.0 n
 
 pub never : (b : Bool) → (b && false) ≡ false

@@ -118,7 +118,7 @@ module _ {R S P F : Type 0} (t : TrailWords S F) (fits : F → Colour → Event 
   driven_same (suc core) a b is = same_onward a is.0 b (driven_same core a is.0 is.1) (drives_same core is.2.count is.0 b is.2.drives)
 
   -- a worker of another core is as it was
-  pub others_stay : (core k : ℕ) (step : Made) (a b : WeaveState S P) → k ≢ core → StepsWell t fits y app a core step b → slice_get b.workers k ≡ slice_get a.workers k
+  others_stay : (core k : ℕ) (step : Made) (a b : WeaveState S P) → k ≢ core → StepsWell t fits y app a core step b → slice_get b.workers k ≡ slice_get a.workers k
   others_stay core k step a b apart is = ap (λ (l : WeaveState S P). slice_get l.workers k) is.call.steps.leaves ∙ get_set_other a.workers core k is.call.steps.becomes apart
 
   drives_others : (core n k : ℕ) (a b : WeaveState S P) → k ≢ core → Drives t fits y app core n a b → slice_get b.workers k ≡ slice_get a.workers k
@@ -127,7 +127,7 @@ module _ {R S P F : Type 0} (t : TrailWords S F) (fits : F → Colour → Event 
   drives_others core (suc n) k a b apart is = others_stay core k is.3.0 is.0 b apart is.3.1 ∙ drives_others core n k a is.0 apart is.1
 
   -- the workers that were driven are free
-  pub driven_free : (n k : ℕ) (a b : WeaveState S P) → k < n → AreDriven t fits y app n a b → IsFreeAt b k true
+  driven_free : (n k : ℕ) (a b : WeaveState S P) → k < n → AreDriven t fits y app n a b → IsFreeAt b k true
   unfolding AreDriven
   driven_free zero k a b low is = absurd (omega (arith, low))
   driven_free (suc n) k a b low is = ⊎_elim

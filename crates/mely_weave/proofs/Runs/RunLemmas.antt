@@ -240,10 +240,10 @@ module _ {R S P F : Type 0} (t : TrailWords S F) (fits : F → Colour → Event 
   pub run_none : (a : WeaveState S P) → RunsTo t fits y app a [] went.All a
   run_none a = record { steps = []; makes = makes_none a; goes = (refl, none_of_none) }
 
-  pub run_one : (a b : WeaveState S P) (core : ℕ) (step : Made) → step ≢ made.Memory → StepsWell t fits y app a core step b → RunsTo t fits y app a (core ∷ []) went.All b
+  run_one : (a b : WeaveState S P) (core : ℕ) (step : Made) → step ≢ made.Memory → StepsWell t fits y app a core step b → RunsTo t fits y app a (core ∷ []) went.All b
   run_one a b core step ne is = record { steps = (core, step) ∷ []; makes = makes_one a b core step is; goes = (refl, one_without core step ne) }
 
-  pub run_want : (a b : WeaveState S P) (core : ℕ) → StepsWell t fits y app a core made.Memory b → RunsTo t fits y app a (core ∷ []) (went.Memory 1) b
+  run_want : (a b : WeaveState S P) (core : ℕ) → StepsWell t fits y app a core made.Memory b → RunsTo t fits y app a (core ∷ []) (went.Memory 1) b
   run_want a b core is = record {
     steps = (core, made.Memory) ∷ [];
     makes = makes_one a b core made.Memory is;
@@ -254,7 +254,7 @@ module _ {R S P F : Type 0} (t : TrailWords S F) (fits : F → Colour → Event 
   run_same a b cores went is = makes_same is.steps a b is.makes
 
   -- a run and then another
-  pub run_onward : (a b c : WeaveState S P) (cores more : List ℕ) → RunsTo t fits y app a cores went.All b → RunsTo t fits y app b more went.All c → RunsTo t fits y app a (cores ++ more) went.All c
+  run_onward : (a b c : WeaveState S P) (cores more : List ℕ) → RunsTo t fits y app a cores went.All b → RunsTo t fits y app b more went.All c → RunsTo t fits y app a (cores ++ more) went.All c
   run_onward a b c cores more one other = record {
     steps = one.steps ++ other.steps;
     makes = makes_onward one.steps other.steps a b c one.makes other.makes;
@@ -265,7 +265,7 @@ module _ {R S P F : Type 0} (t : TrailWords S F) (fits : F → Colour → Event 
   }
 
   -- a run and then one that stops
-  pub run_stops : (a b c : WeaveState S P) (cores more rest : List ℕ) (count : ℕ) → RunsTo t fits y app a cores went.All b → RunsTo t fits y app b more (went.Memory count) c → RunsTo t fits y app a (cores ++ (more ++ rest)) (went.Memory (length cores + count)) c
+  run_stops : (a b c : WeaveState S P) (cores more rest : List ℕ) (count : ℕ) → RunsTo t fits y app a cores went.All b → RunsTo t fits y app b more (went.Memory count) c → RunsTo t fits y app a (cores ++ (more ++ rest)) (went.Memory (length cores + count)) c
   run_stops a b c cores more rest count one other =
       let stops : StopsAfter more other.steps count = other.goes in
       let long : length one.steps ≡ length cores = sym (length-map one.steps core_of_step) ∙ ap (λ (l : List ℕ). length l) one.goes.0 in

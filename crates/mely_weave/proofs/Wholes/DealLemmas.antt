@@ -30,7 +30,7 @@ within_both xs ys i j same low =
 module _ {X Y : Type 0} (items : Y → List X) (shards : ℕ) (some : 1 ≤ shards) where
   module _ (all : List X) (shard : ℕ) (pile : List X) (low : shard < shards) (dealt : (i : ℕ) → slice_get pile i ≡ slice_get all (i * shards + shard)) where
     -- a pile has what is below some number of colours, where it is the turn of its shard
-    pub pile_length : (n : ℕ) → length all ≡ n → n % shards ≡ shard → length pile ≡ n / shards
+    pile_length : (n : ℕ) → length all ≡ n → n % shards ≡ shard → length pile ≡ n / shards
     pile_length n many turn =
         let last : n / shards * shards + n % shards ≡ n = div-add-mod' n shards in
         let full : n / shards ≤ length pile = elim (cases_lt (length pile) (n / shards)) [

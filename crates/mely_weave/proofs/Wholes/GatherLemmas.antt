@@ -178,7 +178,7 @@ pub record IsHome {S P F : Type 0} (frame : S → F) (lane : ColourState S P) : 
 
 module _ {S P F : Type 0} (t : TrailWords S F) (fits : F → Colour → Event → Option P → Type 0) (has : ShardState S P) (kept : IsConsistent t fits has) where
   -- as it is where the colour doesn't run
-  pub rests_at_home : (c : Colour) (lane : ColourState S P) → IsOwn has c → ¬ IsRunning has.history c → lane_at has c ≡ Some lane → IsHome t.frame_of lane
+  rests_at_home : (c : Colour) (lane : ColourState S P) → IsOwn has c → ¬ IsRunning has.history c → lane_at has c ≡ Some lane → IsHome t.frame_of lane
   rests_at_home c lane own rests at = home lane.state refl (kept.each c lane own at).state where
     home : (o : Option S) → lane.state ≡ o → HomeStands t has.history c lane.given o → IsHome t.frame_of lane
     home None is stands = absurd (rests stands)

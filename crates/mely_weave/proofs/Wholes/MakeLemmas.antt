@@ -12,7 +12,7 @@ use Rattle.mely_history.specs.declared.entry.Entry.{Entry}
 use Rattle.mely_history.specs.Setup.{shape_of, colours_of}
 use Rattle.mely_history.specs.History.{IsRunning}
 use Rattle.mely_history.specs.ColourAccount.{account_of}
-use Rattle.mely_shard.specs.Shard.{ShardState, ColourState, AreFirstStates, IsFirst, first_lane, place}
+use Rattle.mely_shard.specs.Shard.{ShardState, ColourState, AreInitialStates, IsInitialShard, initial_lane, place}
 use Rattle.mely_core.specs.CoreQueue.{CoreQueueState}
 use Rattle.mely_steal.specs.Victims.{victims_of}
 use Rattle.mely_worker.specs.declared.phase.Phase.TheVariants.{Free}
@@ -25,7 +25,7 @@ use Rattle.mely_weave.specs.Weave.{WeaveState}
 use Rattle.mely_weave.specs.Dealing.{AreDealt}
 use Rattle.mely_weave.specs.Gathering.{AreChainedAnew, MayGather, MayGatherShard, MayGatherWorker, marks_below, chain_of}
 use Rattle.mely_weave.specs.Lanes.{lane_in, lane_for}
-use Rattle.mely_weave.specs.Making.{AreFirst, IsFirstWeave, empty_chain, first_rest, first_worker}
+use Rattle.mely_weave.specs.Making.{AreInitial, IsInitialWeave, empty_chain, initial_idle_worker, initial_worker}
 use Rattle.mely_weave.proofs.Wholes.DealLemmas.{within_both}
 use Rattle.mely_weave.proofs.Wholes.GatherLemmas.{get_there}
 use Rattle.mely_weave.proofs.Marks.ReadyMarksLemmas.{numbered, marks_unready}
@@ -34,7 +34,7 @@ use Rattle.mely_weave.proofs.Entries.SideLemmas.{get_map}
 -- a worker at rest is the first one, where it was made with the numbers of the setup
 pub rests_first : {P : Type 0} (setup : Setup) (core : ℕ) (rest : IdleWorkerState P) (batch : ℕ) (victims : List ℕ) (cores group : ℕ)
     → resumed_worker {S = Unit {0}} rest ≡ record { core = core; batch = batch; halted = false; victims = victims; lost = []; phase = Free 0 }
-    → batch ≡ (shape_of setup).batch → victims ≡ victims_of core cores group → cores ≡ (shape_of setup).cores → group ≡ (shape_of setup).group → rest ≡ first_rest setup core
+    → batch ≡ (shape_of setup).batch → victims ≡ victims_of core cores group → cores ≡ (shape_of setup).cores → group ≡ (shape_of setup).group → rest ≡ initial_idle_worker setup core
 rests_first setup core rest batch victims cores group is batch_is order cores_is group_is =
     let whole : rest ≡ record { core = core; batch = batch; halted = false; victims = victims; lost = []; place = 0 } = λ i. record {
       core = (is i).core;
@@ -54,14 +54,14 @@ none_ready of core (suc n) unready =
     subst (λ (m : ℕ). marks_below of core m ≡ []) (add-one n)
     (marks_unready of core n (ap (λ b. b && ((of (numbered n)).owner == core)) (unready (numbered n))) ∙ none_ready of core n unready)
 
-givens_first : {S : Type 0} (P : Type 0) (states : List S) → map (λ (lane : ColourState S P). lane.given) (map (λ state. first_lane {S = S} {P = P} state) states) ≡ states
+givens_first : {S : Type 0} (P : Type 0) (states : List S) → map (λ (lane : ColourState S P). lane.given) (map (λ state. initial_lane {S = S} {P = P} state) states) ≡ states
 givens_first P [] = refl
 givens_first P (state ∷ states) = ap (λ rest. state ∷ rest) (givens_first P states)
 
-module _ {S P F Y : Type 0} (t : TrailWords S F) (fits : F → Colour → Event → Option P → Type 0) (setup : Setup) (states : List S) (first : AreFirst t setup states)
+module _ {S P F Y : Type 0} (t : TrailWords S F) (fits : F → Colour → Event → Option P → Type 0) (setup : Setup) (states : List S) (first : AreInitial t setup states)
     (items : Y → List S) (piles : List Y) (dealt : AreDealt items (shape_of setup).shards states piles) where
   -- each shard is dealt its first states
-  pub first_piles : (shard : ℕ) (pile : Y) → slice_get piles shard ≡ Some pile → AreFirstStates t setup shard (items pile)
+  pub first_piles : (shard : ℕ) (pile : Y) → slice_get piles shard ≡ Some pile → AreInitialStates t setup shard (items pile)
   first_piles shard pile at = record {
     all = λ i low. within_both states (items pile) (i * (shape_of setup).shards + shard) i (sym (dealt.each shard pile at i)) (let all = first.all in omega (arith, low, all));
     only = λ i low. let all = first.all in let there = within_both (items pile) states i (i * (shape_of setup).shards + shard) (dealt.each shard pile at i) low in omega (arith, all, there);
@@ -70,12 +70,12 @@ module _ {S P F Y : Type 0} (t : TrailWords S F) (fits : F → Colour → Event 
     one_frame = λ i j a b at_i at_j. first.one_frame (i * (shape_of setup).shards + shard) (j * (shape_of setup).shards + shard) a b (sym (dealt.each shard pile at i) ∙ at_i) (sym (dealt.each shard pile at j) ∙ at_j);
   }
 
-  module _ (shards : List (ShardState S P)) (many : length shards ≡ (shape_of setup).shards) (are : (shard : ℕ) (pile : Y) (has : ShardState S P) → slice_get piles shard ≡ Some pile → slice_get shards shard ≡ Some has → IsFirst setup shard (items pile) has) where
+  module _ (shards : List (ShardState S P)) (many : length shards ≡ (shape_of setup).shards) (are : (shard : ℕ) (pile : Y) (has : ShardState S P) → slice_get piles shard ≡ Some pile → slice_get shards shard ≡ Some has → IsInitialShard setup shard (items pile) has) where
     -- the states of a shard
     pub record IsDealtTo (shard : ℕ) (has : ShardState S P) : Type 0 where
       pub pile : Y
       pub there : slice_get piles shard ≡ Some pile
-      pub is : IsFirst setup shard (items pile) has
+      pub is : IsInitialShard setup shard (items pile) has
 
     pub dealt_to : (shard : ℕ) (has : ShardState S P) → slice_get shards shard ≡ Some has → IsDealtTo shard has
     dealt_to shard has at =
@@ -97,7 +97,7 @@ module _ {S P F Y : Type 0} (t : TrailWords S F) (fits : F → Colour → Event 
               first.one_frame (i * (shape_of setup).shards + shard) 0 given a_state.0 (sym (dealt.each shard to.pile to.there i) ∙ here) a_state.1;
         }
 
-    first_free : (core : ℕ) (w : WorkerState S P) → w ≡ first_worker setup core → MayGatherWorker fits setup (t.frame_of a_state.0) core w
+    first_free : (core : ℕ) (w : WorkerState S P) → w ≡ initial_worker setup core → MayGatherWorker fits setup (t.frame_of a_state.0) core w
     first_free core w is = record {
       own_core = ap (λ (v : WorkerState S P). v.core) is;
       batch = ap (λ (v : WorkerState S P). v.batch) is;
@@ -108,7 +108,7 @@ module _ {S P F Y : Type 0} (t : TrailWords S F) (fits : F → Colour → Event 
 
     -- so they may be gathered, with empty chains and workers at first
     pub first_may : (chains : List CoreQueueState) (workers : List (WorkerState S P)) → length chains ≡ (shape_of setup).cores → ((core : ℕ) (queue : CoreQueueState) → slice_get chains core ≡ Some queue → queue ≡ empty_chain setup)
-        → length workers ≡ (shape_of setup).cores → ((core : ℕ) (w : WorkerState S P) → slice_get workers core ≡ Some w → w ≡ first_worker setup core) → MayGather t fits setup shards chains workers
+        → length workers ≡ (shape_of setup).cores → ((core : ℕ) (w : WorkerState S P) → slice_get workers core ≡ Some w → w ≡ initial_worker setup core) → MayGather t fits setup shards chains workers
     first_may chains workers many_chains empty many_workers free = record {
       frame = t.frame_of a_state.0;
       shard_count = many;
@@ -127,7 +127,7 @@ module _ {S P F Y : Type 0} (t : TrailWords S F) (fits : F → Colour → Event 
         let at = shard_there c in
         ap (λ (h : List Entry). (readiness_of setup (account_of setup h c)).ready) (ap history_in at.1 ∙ (dealt_to (shard_of setup c) at.0 at.1).is.no_entry)
 
-    first_lanes : (c : Colour) (state : S) → slice_get states c.0 ≡ Some state → lane_for setup shards c ≡ Some (first_lane state)
+    first_lanes : (c : Colour) (state : S) → slice_get states c.0 ≡ Some state → lane_for setup shards c ≡ Some (initial_lane state)
     first_lanes c state is =
         let at = shard_there c in
         let to = dealt_to (shard_of setup c) at.0 at.1 in
@@ -136,10 +136,10 @@ module _ {S P F Y : Type 0} (t : TrailWords S F) (fits : F → Colour → Event 
         ap (λ o. lane_in o c) at.1
         ∙ ap (λ (s : Setup). slice_get at.0.lanes (place s c)) to.is.of_setup
         ∙ ap (λ lanes. slice_get lanes (place setup c)) to.is.lanes
-        ∙ get_map (λ s. first_lane {S = S} {P = P} s) (items to.pile) (place setup c) state here
+        ∙ get_map (λ s. initial_lane {S = S} {P = P} s) (items to.pile) (place setup c) state here
 
     -- and the weave is a first one
-    pub first_weave : (weave : WeaveState S P) → weave.setup ≡ setup → weave.shards ≡ shards → AreChainedAnew weave.setup weave.shards weave.chains → ((core : ℕ) (w : WorkerState S P) → slice_get weave.workers core ≡ Some w → w ≡ first_worker setup core) → IsFirstWeave setup states weave
+    pub first_weave : (weave : WeaveState S P) → weave.setup ≡ setup → weave.shards ≡ shards → AreChainedAnew weave.setup weave.shards weave.chains → ((core : ℕ) (w : WorkerState S P) → slice_get weave.workers core ≡ Some w → w ≡ initial_worker setup core) → IsInitialWeave setup states weave
     first_weave weave of_setup same chained free =
         let anew : AreChainedAnew setup shards weave.chains = subst (λ (s : Setup). AreChainedAnew s shards weave.chains) of_setup (subst (λ (xs : List (ShardState S P)). AreChainedAnew weave.setup xs weave.chains) same chained) in
         record {

@@ -65,8 +65,8 @@ pub(super) struct Pass {
     pub(super) ran: usize,
 }
 
-/// Handler 0 registers nothing. Handler 1 registers handler 0 on colour 0, with the load, and on colour 1, without.
-/// As a gate it notes the first three that pass.
+/// Handler 0 registers nothing. Handler 1 registers handler 0 on colour 0, with the load, and on
+/// colour 1, without. As a gate it notes the first three that pass.
 #[derive(Drop)]
 pub(super) struct Forwarding {
     ran: Cell<usize>,

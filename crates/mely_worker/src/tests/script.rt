@@ -27,7 +27,8 @@ pub(super) enum Call {
     Pick(u16, Option<Mark>),
 }
 
-/// The access of core 0 in a setup with batch 2, which notes whether a call isn't the one that is to be made.
+/// The access of core 0 in a setup with batch 2, which notes whether a call isn't
+/// the one that is to be made.
 #[derive(Drop)]
 pub(super) struct Script {
     pub(super) alloc: Global,

@@ -1,7 +1,7 @@
 //! A connection as a talk, and connections over the links of a world.
 ghost use Rattle.std.specs.Prelude.{◌≡◌, ◌<◌, ◌≤◌, ◌+◌, false};
-ghost use Rattle.sws_link.specs.Links.{IsFresh};
-ghost use Rattle.sws_link.specs.MemWorlds.{IsFreshMemLink, mem_world_tells};
+ghost use Rattle.sws_link.specs.Links.{IsInitialLink};
+ghost use Rattle.sws_link.specs.MemWorlds.{IsInitialMemLink, mem_world_tells};
 
 use super::{ANSWER, CLOSING_ANSWER, GET, GET_AND_CLOSE, owned, three_files};
 use crate::{Conn, End, Talk, serve_one};
@@ -10,14 +10,15 @@ use std::process::Abort;
 use sws_link::{Accepted, Link, LinkItem, MemLink, MemWorld, Memory, SureLink, World};
 use sws_site::Site;
 
-/// So many steps of a talk over a link, through the bound: how it has ended, and how many bytes it took and wrote.
+/// So many steps of a talk over a link, through the bound: how it has ended, and how many
+/// bytes it took and wrote.
 fn talk_over<L: Link + Drop, T: Talk<L> + Drop>(
     alloc: Global,
     hall: T::Hall,
     link: L,
     steps: u8,
 ) -> Result<(Option<End>, u64, u64), Memory>
-    requires fresh { IsFresh (L.tells link) }
+    requires initial { IsInitialLink (L.tells link) }
     requires not_shut { L.is_shut link ≡ false }
 {
     let mut talk = T::make(alloc, hall)?;
@@ -45,7 +46,7 @@ fn a_connection_is_a_talk(rt: HostRuntime) {
 
 /// A link that sends this, if anything, and fails where so many bytes were written.
 fn link_of(rt: &(impl AllocGlobal + Abort), bytes: &[u8], cut: Option<u64>) -> MemLink
-    ensures { IsFreshMemLink result }
+    ensures { IsInitialMemLink result }
 {
     let mut items = Vec::new(rt.alloc());
     if !bytes.is_empty() {
@@ -64,9 +65,9 @@ fn world_of(
     three: MemLink,
     failing: u32,
 ) -> MemWorld
-    requires one { IsFreshMemLink one }
-    requires two { IsFreshMemLink two }
-    requires three { IsFreshMemLink three }
+    requires one { IsInitialMemLink one }
+    requires two { IsInitialMemLink two }
+    requires three { IsInitialMemLink three }
     ensures total { (mem_world_tells result).total ≡ 3 }
     ensures accepted { (mem_world_tells result).accepted ≡ 0 }
 {

@@ -28,7 +28,7 @@ at_total n total true same = refl
 at_total n total false same = grind (arith, nat_tests)
 
 -- what an accept puts, of a world of which so many links had been accepted
-pub record AcceptSums {W L : Type 0} (total accepted : ℕ) (puts : List (Put W L)) : Type 0 where
+record AcceptSums {W L : Type 0} (total accepted : ℕ) (puts : List (Put W L)) : Type 0 where
   pub one : sum_by worlds (carried_by puts) ≡ 1
   pub opens : (i : ℕ) → sum_by (asks_for 3 i) (carried_by puts) + bit (nat_lt i accepted) ≡ sum_by (beyond i) (carried_by puts)
   pub none : (i n : ℕ) → ((n ≡ 1) ⊎ (4 ≤ n)) → sum_by (asks_for n i) (carried_by puts) ≡ 0

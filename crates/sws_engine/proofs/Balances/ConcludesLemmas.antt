@@ -107,13 +107,13 @@ module _ {W L T G H : Type 0} (y : TalkWords T L G H) (total : ℕ) (states : Li
     desk_sum f = omega (arith, sum_is s at (λ p. at_desk f p.role), desk_others f, mine f)
 
     -- the world rests, and nobody waits
-    pub record DeskEnds : Type 0 where
+    record DeskEnds : Type 0 where
       pub held : WorldLoad W
       pub rests_is : desk.resting ≡ Some held
       pub nobody_waits : desk.waiting.items ≡ []
       pub ended : is_unended total held ≡ false
 
-    pub desk_ends : DeskEnds
+    desk_ends : DeskEnds
     desk_ends =
         let one = stands.one_world in
         let there = held_there desk.resting (omega (arith, one, desk_sum (λ d. if_held is_any d.resting))) in
@@ -141,7 +141,7 @@ module _ {W L T G H : Type 0} (y : TalkWords T L G H) (total : ℕ) (states : Li
           let mine_is = ap (at_seat (λ k. bit ((p.colour.0 == i + 2) && f k))) talks ∙ ap (λ b. bit (b && f seat)) own in
           omega (arith, sum_is p here (λ q. at_seat (λ k. bit ((q.colour.0 == i + 2) && f k)) q.role), rest, mine_is)
 
-      pub record SeatEnds (held : WorldLoad W) : Type 0 where
+      record SeatEnds (held : WorldLoad W) : Type 0 where
         pub no_stray : seat.stray ≡ None
         -- a link that was accepted was served to its end, and no other was opened
         pub closed : i < held.accepted → due (y.view_of seat.talk) ≡ None
@@ -173,7 +173,7 @@ module _ {W L T G H : Type 0} (y : TalkWords T L G H) (total : ℕ) (states : Li
           let one_is = lower i desk_ends.held.accepted less in
           omega (arith, opened_is, zero_is, one_is)
 
-      pub seat_ends : SeatEnds desk_ends.held
+      seat_ends : SeatEnds desk_ends.held
       seat_ends = record {
         no_stray = unstrayed seat.stray (let law = stands.no_stray in let me = ap (at_seat (λ k. is_stray k.stray)) talks in omega (arith, law, sum_is p here strays, me));
         closed = λ less. none_due (due (y.view_of seat.talk)) (λ more few. by_number (due_number y seat) more few (not_opening less) not_step not_resumed);

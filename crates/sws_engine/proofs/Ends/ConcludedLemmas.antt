@@ -1,4 +1,5 @@
--- What a conclusion shows of the connections and the world, by what the states keep and what is still under way.
+-- What a conclusion shows of the connections and the world, by what the states keep and
+-- what is still under way.
 use Rattle.std.proofs.Common.{◌≡◌, ◌≢◌, ℕ, zero, suc, ◌+◌, ◌⊎◌, Bool, true, false, true≢false, List, [], ◌∷◌, Option, None, Some, length, map, refl, sym, ◌∙◌, ap, subst, arith, inl, inr}
 use Rattle.std.proofs.lemmas.Option.{same_Some, slice_get_within}
 use Rattle.std.specs.List.{AllByRecursion}
@@ -44,7 +45,7 @@ use Rattle.sws_engine.specs.declared.place.Role.TheVariants.{Talking}
 use Rattle.sws_engine.specs.RunLeaves.{talkers, resting_in, ShowsSeat, RoleTells, StateTells, is_lacking, is_out_of_memory, IsJudged, VerdictIs}
 use Rattle.sws_engine.specs.Handing.{place_link, served_with_load, served_with_loads}
 use Rattle.sws_engine.specs.Conclusion.{is_empty, is_whole, accepted_of, failed_of, ways_of, world_found, IsConcluded}
-use Rattle.sws_engine.proofs.Ends.FreshServedLemmas.{fresh_served}
+use Rattle.sws_engine.proofs.Ends.InitialServedLemmas.{initial_served}
 use Rattle.sws_engine.proofs.Paths.ScriptFollowedLemmas.{followed}
 use Rattle.sws_engine.proofs.Ends.HandedLemmas.{GotLink, ways_stand, world_stands, served_given}
 use Rattle.sws_engine.proofs.Ends.SeatsOfRunLemmas.{SeatsStand, seats_stand}
@@ -136,7 +137,7 @@ left_of {W} {L} {T} {G} {H} x l y hall first i trail place seat before after sho
         seat = seat;
         colour = colour;
         over = (of_hall, of_first, of_trail);
-        link = (got.link, got.fresh, subst (λ (v : TalkView). HasServed l (y.responses hall) (y.outcome hall) got.link got.link v) (sym (link_by None (sym shows.link ∙ got.none))) (fresh_served x l first i got.link (y.responses hall) (y.outcome hall) got.fresh));
+        link = (got.link, got.initial, subst (λ (v : TalkView). HasServed l (y.responses hall) (y.outcome hall) got.link got.link v) (sym (link_by None (sym shows.link ∙ got.none))) (initial_served x l first i got.link (y.responses hall) (y.outcome hall) got.initial));
         end = shows.end;
         closed = shows.closed;
         read = shows.read;

@@ -1,4 +1,5 @@
--- What was handed out of events that fit: links to which nothing was done, and the world of the run.
+-- What was handed out of events that fit: links to which nothing was done,
+-- and the world of the run.
 use Rattle.std.proofs.Common.{◌≡◌, ℕ, zero, suc, ◌⊎◌, List, [], ◌∷◌, ◌++◌, Option, None, Some, refl, sym, ◌∙◌, ap, subst, inl, inr}
 use Rattle.std.proofs.lemmas.Option.{same_Some}
 use Rattle.std.specs.List.{AllByRecursion}
@@ -32,7 +33,7 @@ module _ {W L : Type 0} (x : WorldWords W L) (l : LinkWords L) (first : W) where
   carried_by_task c arg which None fit = tt
   carried_by_task c arg (Some task.Poll) (Some (load.World held)) fit = fit.stands
   carried_by_task c arg (Some task.Accept) (Some (load.World held)) fit = fit.stands
-  carried_by_task c arg (Some task.Open) (Some (load.Link link)) fit = fit.fresh
+  carried_by_task c arg (Some task.Open) (Some (load.Link link)) fit = fit.initial
   carried_by_task c arg which (Some carried) fit = absurd fit
 
   abbrev WayStands : Way → Type 0
@@ -75,7 +76,7 @@ module _ {W L : Type 0} (x : WorldWords W L) (l : LinkWords L) (first : W) where
   pub record GotLink (i : ℕ) (before after : Served L) : Type 0 where
     pub none : before.link ≡ None
     pub link : L
-    pub fresh : LinkStands x l first i link
+    pub initial : LinkStands x l first i link
     pub becomes : after ≡ record before { link = Some link }
 
   pub record IsGiven (i : ℕ) (served : List (Served L)) (after : Served L) : Type 0 where
@@ -84,18 +85,18 @@ module _ {W L : Type 0} (x : WorldWords W L) (l : LinkWords L) (first : W) where
     pub given : (after ≡ before) ⊎ GotLink i before after
 
   give_one : (i : ℕ) (link : L) (s : Served L) (o : Option L) → s.link ≡ o → LinkStands x l first i link → (give_link link s ≡ s) ⊎ GotLink i s (give_link link s)
-  give_one i link s None is fresh = inr (record { none = is; link = link; fresh = fresh; becomes = ap (λ (o : Option L). record s { link = or_else o (Some link) }) is })
-  give_one i link s (Some own) is fresh = inl (ap (λ (o : Option L). record s { link = or_else o (Some link) }) is ∙ sym (ap (λ (o : Option L). record s { link = o }) is))
+  give_one i link s None is initial = inr (record { none = is; link = link; initial = initial; becomes = ap (λ (o : Option L). record s { link = or_else o (Some link) }) is })
+  give_one i link s (Some own) is initial = inl (ap (λ (o : Option L). record s { link = or_else o (Some link) }) is ∙ sym (ap (λ (o : Option L). record s { link = o }) is))
 
   -- `k` is the number of the first of them
   place_given : (k i at : ℕ) (link : L) (served : List (Served L)) (after : Served L) → (at ≡ i → LinkStands x l first k link) → slice_get (place_link link at served) i ≡ Some after → (before : Served L) × (slice_get served i ≡ Some before) × ((after ≡ before) ⊎ GotLink k before after)
-  place_given k i at link [] after fresh is = cc
-  place_given k zero zero link (s ∷ served) after fresh is =
+  place_given k i at link [] after initial is = cc
+  place_given k zero zero link (s ∷ served) after initial is =
       let same : give_link link s ≡ after = same_Some (give_link link s) after is in
-      (s, refl, elim (give_one k link s s.link refl (fresh refl)) [ inl stays ↦ inl (sym same ∙ stays) | inr got ↦ inr (subst (λ (a : Served L). GotLink k s a) same got) ])
-  place_given k (suc i) zero link (s ∷ served) after fresh is = (after, is, inl refl)
-  place_given k zero (suc at) link (s ∷ served) after fresh is = (after, is, inl refl)
-  place_given k (suc i) (suc at) link (s ∷ served) after fresh is = place_given k i at link served after (λ same. fresh (ap suc same)) is
+      (s, refl, elim (give_one k link s s.link refl (initial refl)) [ inl stays ↦ inl (sym same ∙ stays) | inr got ↦ inr (subst (λ (a : Served L). GotLink k s a) same got) ])
+  place_given k (suc i) zero link (s ∷ served) after initial is = (after, is, inl refl)
+  place_given k zero (suc at) link (s ∷ served) after initial is = (after, is, inl refl)
+  place_given k (suc i) (suc at) link (s ∷ served) after initial is = place_given k i at link served after (λ same. initial (ap suc same)) is
 
   load_given : (i at : ℕ) (carried : Option (Load W L)) (served : List (Served L)) (after : Served L) → CarriesStanding x l first at carried → slice_get (served_with_load at carried served) i ≡ Some after → IsGiven i served after
   load_given i at None served after carries is = record { before = after; there = is; given = inl refl }

@@ -47,11 +47,11 @@ lists_push [] queue = append-nil queue.items
 lists_push (first ∷ queues) queue = ap (λ l. first.items ++ l) (lists_push queues queue) ∙ sym (append_assoc first.items (flat_map (λ events. events) (map (λ events. events.items) queues)) queue.items)
 
 module _ {W L : Type 0} where
-  pub served_more : (xs ys : List (Event × Option (Load W L))) (served : List (Served L)) → served_with_loads (xs ++ ys) served ≡ served_with_loads ys (served_with_loads xs served)
+  served_more : (xs ys : List (Event × Option (Load W L))) (served : List (Served L)) → served_with_loads (xs ++ ys) served ≡ served_with_loads ys (served_with_loads xs served)
   served_more [] ys served = refl
   served_more (x ∷ xs) ys served = served_more xs ys (served_with_load x.0.arg x.1 served)
 
-  pub world_more : (xs ys : List (Event × Option (Load W L))) (world : Option (WorldLoad W)) → world_with_loads (xs ++ ys) world ≡ world_with_loads ys (world_with_loads xs world)
+  world_more : (xs ys : List (Event × Option (Load W L))) (world : Option (WorldLoad W)) → world_with_loads (xs ++ ys) world ≡ world_with_loads ys (world_with_loads xs world)
   world_more [] ys world = refl
   world_more (x ∷ xs) ys world = world_more xs ys (world_with_load x.1 world)
 

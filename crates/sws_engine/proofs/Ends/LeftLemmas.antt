@@ -22,11 +22,11 @@ get_either (x ∷ xs) ys (suc i) = elim (get_either xs ys i) [
 ]
 
 module _ {W L T G H : Type 0} (y : TalkWords T L G H) where
-  pub show_none : ShowAll {W = W} y [] []
+  show_none : ShowAll {W = W} y [] []
   show_none = record { many = refl; each = λ i talker s at there. cc }
 
   -- connections behind connections
-  pub show_more : (all more : List (Talker H W T)) (served added : List (Served L)) → ShowAll y all served → ShowAll y more added → ShowAll y (all ++ more) (served ++ added)
+  show_more : (all more : List (Talker H W T)) (served added : List (Served L)) → ShowAll y all served → ShowAll y more added → ShowAll y (all ++ more) (served ++ added)
   show_more all more served added shows show =
       let many = shows.many in
       record {
@@ -47,7 +47,7 @@ module _ {W L T G H : Type 0} (y : TalkWords T L G H) where
         ];
       }
 
-  pub talkers_more : (xs ys : List (PlaceState H W T)) → talkers (xs ++ ys) ≡ talkers xs ++ talkers ys
+  talkers_more : (xs ys : List (PlaceState H W T)) → talkers (xs ++ ys) ≡ talkers xs ++ talkers ys
   talkers_more [] ys = refl
   talkers_more (x ∷ xs) ys = ap (λ (l : List (Talker H W T)). talker_by x x.role ++ l) (talkers_more xs ys) ∙ sym (append_assoc (talker_by x x.role) (talkers xs) (talkers ys))
 
@@ -55,7 +55,7 @@ module _ {W L T G H : Type 0} (y : TalkWords T L G H) where
   pub talkers_head : (x : PlaceState H W T) (xs all : List (PlaceState H W T)) → all ≡ x ∷ xs → length (talkers all) ≡ length (talkers (x ∷ [])) + length (talkers xs)
   talkers_head x xs all is = ap (λ (l : List (PlaceState H W T)). length (talkers l)) is ∙ ap length (talkers_more (x ∷ []) xs) ∙ length-append (talkers (x ∷ [])) (talkers xs)
 
-  pub resting_more : (before : Option (WorldLoad W)) (xs ys : List (PlaceState H W T)) → resting_in before (xs ++ ys) ≡ resting_in (resting_in before xs) ys
+  resting_more : (before : Option (WorldLoad W)) (xs ys : List (PlaceState H W T)) → resting_in before (xs ++ ys) ≡ resting_in (resting_in before xs) ys
   resting_more before [] ys = refl
   resting_more before (x ∷ xs) ys = resting_more (or_else (resting_by x.role) before) xs ys
 

@@ -71,7 +71,7 @@ module _ {W L T G H : Type 0} (y : TalkWords T L G H) (talker : Talker H W T) (s
   nothing = none_pending (y.view_of talker.seat.talk).waiting (y.view_of talker.seat.talk).pending closed
 
   no_link : s.link ≡ None → ⊥
-  no_link none = let fresh : (y.view_of talker.seat.talk).pending ≡ next.Open = shows.linked.0 none in let both : next.Nothing ≡ next.Open = sym nothing ∙ fresh in cc
+  no_link none = let initial : (y.view_of talker.seat.talk).pending ≡ next.Open = shows.linked.0 none in let both : next.Nothing ≡ next.Open = sym nothing ∙ initial in cc
 
   lacks_nothing : is_lacking s ≡ false
   lacks_nothing =

@@ -1,4 +1,5 @@
--- Of the states by colour, the third one is the first that talks, and only the first can have the world.
+-- Of the states by colour, the third one is the first that talks, and only the
+-- first can have the world.
 use Rattle.std.proofs.Common.{◌≡◌, ℕ, zero, suc, ◌+◌, ◌≤◌, List, [], ◌∷◌, ◌++◌, Option, None, Some, length, refl, sym, ◌∙◌, ap, subst, arith}
 use Rattle.std.proofs.lemmas.Option.{same_Some}
 use Rattle.std.specs.Prelude.{slice_get}

@@ -68,7 +68,7 @@ module _ {W L T G H : Type 0} (x : WorldWords W L) (l : LinkWords L) (y : TalkWo
     talks = λ two. (seat, is);
   }
 
-  pub kept_placed : (i : ℕ) (place : PlaceState H W T) → place.colour.0 ≡ i → IsConsistent x l y place → IsPlacedAs i place
+  kept_placed : (i : ℕ) (place : PlaceState H W T) → place.colour.0 ≡ i → IsConsistent x l y place → IsPlacedAs i place
   kept_placed i place colour kept = role_placed i place place.role refl colour kept
 
 module _ {W L T G H : Type 0} (x : WorldWords W L) (l : LinkWords L) (y : TalkWords T L G H) (t : TrailWords (PlaceState H W T) (Frame H W)) (setup : Setup) (first : W) (how : Drained) (weave : WeaveState (PlaceState H W T) (Load W L))

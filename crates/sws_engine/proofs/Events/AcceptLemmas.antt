@@ -7,12 +7,12 @@ use Rattle.mely_event.specs.declared.colour.Colour.{Colour}
 use Rattle.mely_worker.specs.Access.{FitsIn}
 use Rattle.sws_link.proofs.CountLemmas.{Rose-later, Rose-earlier, IsLater-trans}
 use Rattle.sws_link.specs.Counts.{Rose, IsLater}
-use Rattle.sws_link.specs.Links.{LinkTells, IsFresh}
+use Rattle.sws_link.specs.Links.{LinkContents, IsInitialLink}
 use Rattle.sws_link.specs.declared.Link.{Ghosts as LinkWords}
 use Rattle.sws_link.specs.declared.world.World.{Ghosts as WorldWords}
 use Rattle.sws_link.specs.declared.Accepted.{Accepted}
 use Rattle.sws_link.specs.declared.Accepted.TheVariants as accepted
-use Rattle.sws_link.specs.Worlds.{WorldTells, Coming, TakesNext, GivesLink, Accepts}
+use Rattle.sws_link.specs.Worlds.{WorldContents, Coming, TakesNext, GivesLink, Accepts}
 use Rattle.sws_engine.specs.declared.load.WorldLoad.{WorldLoad}
 use Rattle.sws_engine.specs.Loads.{WorldStands, LinkStands, IsComing, AcceptFits, Fit}
 use Rattle.sws_engine.specs.Handling.{Put, poll_put, poll_after, accept_puts, RunsAccept}
@@ -24,9 +24,9 @@ drop_next (x ∷ xs) zero a rest is = (let same : xs ≡ rest = cc in same, let 
 drop_next (x ∷ xs) (suc n) a rest is = drop_next xs n a rest is
 
 -- the next link is the one of its number
-pub next_coming : (coming : Option (List Coming)) (n : ℕ) (told : Option LinkTells) (now : Option (List Coming)) → TakesNext (option_map (λ c. drop n c) coming) told now → IsFresh told → (now ≡ option_map (λ c. drop (n + 1) c) coming) × IsComing coming n told
-next_coming None n told now is fresh = (is, fresh)
-next_coming (Some coming) n told now is fresh =
+pub next_coming : (coming : Option (List Coming)) (n : ℕ) (told : Option LinkContents) (now : Option (List Coming)) → TakesNext (option_map (λ c. drop n c) coming) told now → IsInitialLink told → (now ≡ option_map (λ c. drop (n + 1) c) coming) × IsComing coming n told
+next_coming None n told now is initial = (is, initial)
+next_coming (Some coming) n told now is initial =
     let d = drop_next coming n is.0 is.1 is.2 in
     let e : n + 1 ≡ suc n = omega arith in
     (is.3 ∙ ap (λ (c : List Coming). Some c) (sym (ap (λ k. drop k coming) e ∙ d.0)), (is.0, d.1, is.4))
@@ -45,12 +45,12 @@ module _ {W L : Type 0} (x : WorldWords W L) (l : LinkWords L) (first : W) (held
   same_stands now same later =
       let s = fit.stands in
       record {
-        total = ap (λ (w : WorldTells). w.total) same ∙ s.total;
-        port = ap (λ (w : WorldTells). w.port) same ∙ s.port;
-        scripted = ap (λ (w : WorldTells). w.scripted) same ∙ s.scripted;
-        accepted = ap (λ (w : WorldTells). w.accepted) same ∙ s.accepted;
+        total = ap (λ (w : WorldContents). w.total) same ∙ s.total;
+        port = ap (λ (w : WorldContents). w.port) same ∙ s.port;
+        scripted = ap (λ (w : WorldContents). w.scripted) same ∙ s.scripted;
+        accepted = ap (λ (w : WorldContents). w.accepted) same ∙ s.accepted;
         within = s.within;
-        coming = ap (λ (w : WorldTells). w.coming) same ∙ s.coming;
+        coming = ap (λ (w : WorldContents). w.coming) same ∙ s.coming;
         faults = IsLater-trans (x.faults first) (x.faults held.world) (x.faults now) s.faults later;
         failed = λ yes_is. Rose-later (x.faults first) (x.faults held.world) (x.faults now) (s.failed yes_is) later;
         sure = s.sure;
@@ -60,13 +60,13 @@ module _ {W L : Type 0} (x : WorldWords W L) (l : LinkWords L) (first : W) (held
   next_stands now link gives later =
       let s = fit.stands in
       let more = fit.more in
-      let comes = next_coming (x.tells first).coming held.accepted (l.tells link) (x.tells now).coming (subst (λ (o : Option (List Coming)). TakesNext o (l.tells link) (x.tells now).coming) s.coming gives.next) gives.fresh in
+      let comes = next_coming (x.tells first).coming held.accepted (l.tells link) (x.tells now).coming (subst (λ (o : Option (List Coming)). TakesNext o (l.tells link) (x.tells now).coming) s.coming gives.next) gives.initial in
       let n = gives.counted in (
         record {
-          total = ap (λ (w : WorldTells). w.total) n ∙ s.total;
-          port = ap (λ (w : WorldTells). w.port) n ∙ s.port;
-          scripted = ap (λ (w : WorldTells). w.scripted) n ∙ s.scripted;
-          accepted = ap (λ (w : WorldTells). w.accepted) n ∙ ap (λ k. k + 1) s.accepted;
+          total = ap (λ (w : WorldContents). w.total) n ∙ s.total;
+          port = ap (λ (w : WorldContents). w.port) n ∙ s.port;
+          scripted = ap (λ (w : WorldContents). w.scripted) n ∙ s.scripted;
+          accepted = ap (λ (w : WorldContents). w.accepted) n ∙ ap (λ k. k + 1) s.accepted;
           within = omega (arith, more);
           coming = comes.0;
           faults = IsLater-trans (x.faults first) (x.faults held.world) (x.faults now) s.faults later;
@@ -96,7 +96,7 @@ module _ {W L : Type 0} (x : WorldWords W L) (l : LinkWords L) (first : W) (held
       let few = after_few (held.accepted + 1 == total) in (
         (
           poll_fits now (held.accepted + 1) (poll_after (held.accepted + 1 == total)) (omega (arith, few)) (after_more (held.accepted + 1 == total) refl) (λ two. absurd (omega (arith, two, few))) (λ s. few) both.0,
-          (record { colour = omega (arith, more); handler = omega arith; load = record { step = record { colour = refl; conn = more }; fresh = both.1 } }, tt),
+          (record { colour = omega (arith, more); handler = omega arith; load = record { step = record { colour = refl; conn = more }; initial = both.1 } }, tt),
         ),
         omega arith,
       )

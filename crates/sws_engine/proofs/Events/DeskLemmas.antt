@@ -14,7 +14,7 @@ use Rattle.sws_link.specs.declared.Link.{Ghosts as LinkWords}
 use Rattle.sws_link.specs.declared.world.World.{Ghosts as WorldWords}
 use Rattle.sws_link.specs.declared.Polled.{Polled}
 use Rattle.sws_link.specs.declared.Polled.TheVariants as polled
-use Rattle.sws_link.specs.Worlds.{WorldTells, Polls, first_ready}
+use Rattle.sws_link.specs.Worlds.{WorldContents, Polls, first_ready}
 use Rattle.sws_conn.specs.Path.{resume}
 use Rattle.sws_engine.specs.declared.load.WorldLoad.{WorldLoad}
 use Rattle.sws_engine.specs.declared.place.Desk.{Desk}
@@ -50,7 +50,7 @@ module _ {W L : Type 0} (x : WorldWords W L) (l : LinkWords L) (first : W) where
 
   -- ---- the world after it was asked
 
-  pub record AskedWorld (world now : W) (failed failed_now : Bool) : Type 0 where
+  record AskedWorld (world now : W) (failed failed_now : Bool) : Type 0 where
     pub tells : x.tells now ≡ x.tells world
     pub later : IsLater (x.faults world) (x.faults now)
     pub failing : failed_now ≡ true → (failed ≡ true) ⊎ Rose (x.faults world) (x.faults now)
@@ -80,12 +80,12 @@ module _ {W L : Type 0} (x : WorldWords W L) (l : LinkWords L) (first : W) where
   goes_stands held now arg c failed_now fit asked =
       let s = fit.stands in
       record {
-        total = ap (λ (w : WorldTells). w.total) asked.tells ∙ s.total;
-        port = ap (λ (w : WorldTells). w.port) asked.tells ∙ s.port;
-        scripted = ap (λ (w : WorldTells). w.scripted) asked.tells ∙ s.scripted;
-        accepted = ap (λ (w : WorldTells). w.accepted) asked.tells ∙ s.accepted;
+        total = ap (λ (w : WorldContents). w.total) asked.tells ∙ s.total;
+        port = ap (λ (w : WorldContents). w.port) asked.tells ∙ s.port;
+        scripted = ap (λ (w : WorldContents). w.scripted) asked.tells ∙ s.scripted;
+        accepted = ap (λ (w : WorldContents). w.accepted) asked.tells ∙ s.accepted;
         within = s.within;
-        coming = ap (λ (w : WorldTells). w.coming) asked.tells ∙ s.coming;
+        coming = ap (λ (w : WorldContents). w.coming) asked.tells ∙ s.coming;
         faults = IsLater-trans (x.faults first) (x.faults held.world) (x.faults now) s.faults asked.later;
         failed = λ yes_is. elim (asked.failing yes_is) [
           | inl before ↦ elim (either_true held.failed (arg == 2) before) [

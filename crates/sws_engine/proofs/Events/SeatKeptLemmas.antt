@@ -39,19 +39,19 @@ module _ {W L T G H : Type 0} (x : WorldWords W L) (l : LinkWords L) (y : TalkWo
   abbrev total : ℕ
   total = (x.tells first).total
 
-  fresh_due : (talk : T) (step : Handler) → y.view_of talk ≡ unopened_view → due (y.view_of talk) ≡ Some step → (step ≡ open_link → ⊥) → ⊥
-  fresh_due talk step fresh at apart = apart (sym (same_Some open_link step (sym (ap (λ (v : TalkView). due v) fresh) ∙ at)))
+  initial_due : (talk : T) (step : Handler) → y.view_of talk ≡ unopened_view → due (y.view_of talk) ≡ Some step → (step ≡ open_link → ⊥) → ⊥
+  initial_due talk step initial at apart = apart (sym (same_Some open_link step (sym (ap (λ (v : TalkView). due v) initial) ∙ at)))
 
   -- one more step of the run
   ran_more : (ran : List Handler) (step : Handler) (before after : T) (carried : Option (Load W L)) → RanBy x l y hall first i ran before → due (y.view_of before) ≡ Some step
       → Stepped y before (Some step) carried after → ((link : L) → step ≡ open_link → carried ≡ Some (load.Link link) → LinkStands x l first i link) → ((h : Handler) (hs : List Handler) → ran ≡ h ∷ hs → step ≡ open_link → ⊥) → RanBy x l y hall first i (ran ++ step ∷ []) after
   ran_more [] open_link before after carried is at does fits no_twice = (does.0, fits does.0 refl does.1, does.2)
-  ran_more [] read_piece before after carried is at does fits no_twice = absurd (fresh_due before read_piece is.1 at (λ e. cc))
-  ran_more [] parse before after carried is at does fits no_twice = absurd (fresh_due before parse is.1 at (λ e. cc))
-  ran_more [] look before after carried is at does fits no_twice = absurd (fresh_due before look is.1 at (λ e. cc))
-  ran_more [] write_part before after carried is at does fits no_twice = absurd (fresh_due before write_part is.1 at (λ e. cc))
-  ran_more [] resume before after carried is at does fits no_twice = absurd (fresh_due before resume is.1 at (λ e. cc))
-  ran_more [] close before after carried is at does fits no_twice = absurd (fresh_due before close is.1 at (λ e. cc))
+  ran_more [] read_piece before after carried is at does fits no_twice = absurd (initial_due before read_piece is.1 at (λ e. cc))
+  ran_more [] parse before after carried is at does fits no_twice = absurd (initial_due before parse is.1 at (λ e. cc))
+  ran_more [] look before after carried is at does fits no_twice = absurd (initial_due before look is.1 at (λ e. cc))
+  ran_more [] write_part before after carried is at does fits no_twice = absurd (initial_due before write_part is.1 at (λ e. cc))
+  ran_more [] resume before after carried is at does fits no_twice = absurd (initial_due before resume is.1 at (λ e. cc))
+  ran_more [] close before after carried is at does fits no_twice = absurd (initial_due before close is.1 at (λ e. cc))
   ran_more (h ∷ hs) open_link before after carried is at does fits no_twice = absurd (no_twice h hs refl refl)
   ran_more (h ∷ hs) read_piece before after carried is at does fits no_twice = (is.0, is.1, does is.0 (h ∷ hs) is.2)
   ran_more (h ∷ hs) parse before after carried is at does fits no_twice = (is.0, is.1, does is.0 (h ∷ hs) is.2)

@@ -61,7 +61,7 @@ module _ {W L : Type 0} (x : WorldWords W L) (l : LinkWords L) (first : W) where
 
   -- ---- colour 1
 
-  pub accept_after : (c : Colour) (event : Event) (carried : Option (Load W L)) (puts : List (Put W L)) → c.0 ≡ 1 → Fit x l first c event carried → RunsAccepting x l total (task_of event.handler) carried puts → PutsFit puts
+  accept_after : (c : Colour) (event : Event) (carried : Option (Load W L)) (puts : List (Put W L)) → c.0 ≡ 1 → Fit x l first c event carried → RunsAccepting x l total (task_of event.handler) carried puts → PutsFit puts
   accept_after c event carried puts one fit does =
       let accept = accept_fit x l first c event.arg (task_of event.handler) carried one fit in
       let does1 = subst (λ (t : Option Task). RunsAccepting x l total t carried puts) accept.is does in
@@ -72,7 +72,7 @@ module _ {W L : Type 0} (x : WorldWords W L) (l : LinkWords L) (first : W) where
 
   open_link_fits : (c : Colour) (arg : ℕ) (which : Option Task) (link : L) → TaskFits x l first c arg which (Some (load.Link link)) → LinkStands x l first arg link
   open_link_fits c arg None link fit = absurd fit
-  open_link_fits c arg (Some task.Open) link fit = fit.fresh
+  open_link_fits c arg (Some task.Open) link fit = fit.initial
   open_link_fits c arg (Some task.Poll) link fit = absurd fit
   open_link_fits c arg (Some task.Wait) link fit = absurd fit
   open_link_fits c arg (Some task.Accept) link fit = absurd fit

@@ -13,7 +13,7 @@ use Rattle.mely_history.specs.Setup.{colours_of}
 use Rattle.mely_weave.specs.StandsWell.{StandsWell}
 use Rattle.mely_weave.specs.Weave.{WeaveState}
 use Rattle.mely_weave.specs.Steps.{PostsAt}
-use Rattle.mely_weave.specs.Making.{IsFirstWeave}
+use Rattle.mely_weave.specs.Making.{IsInitialWeave}
 use Rattle.mely_weave.specs.Runs.{KeepsSetup, RunsTo, spelled_out}
 use Rattle.mely_weave.specs.Drains.{Drains}
 use Rattle.mely_weave.specs.declared.running.Went.TheVariants as went
@@ -40,14 +40,14 @@ use Rattle.sws_engine.specs.declared.place.Role.TheVariants.{Polling, Accepting,
 use Rattle.sws_engine.specs.Place.{PlaceState}
 use Rattle.sws_engine.specs.PlaceFields.{IsAlike}
 use Rattle.sws_engine.specs.Loads.{Fit}
-use Rattle.sws_engine.specs.Fresh.{FreshRole, AreFirstPlaces as AreFresh, first_poll, first_load}
+use Rattle.sws_engine.specs.Initial.{IsInitialRole, AreInitialPlacesOver, first_poll, initial_load}
 use Rattle.sws_engine.specs.Handling.{Runs}
 use Rattle.sws_engine.specs.PathPlaces as path
 use Rattle.sws_engine.specs.PathStates.{TellsPaths, HasRest, HasRole, HasPlace, HasLoad, IsPlacedAt, is_spoilt, worlds_of_state, worlds_of_load, ArePuts}
 use Rattle.sws_engine.specs.Server.{Server, first_event}
 use Rattle.sws_engine.specs.ServerRun.{server_rules, IsRunOfPaths}
 use Rattle.sws_engine.specs.Agrees.{AreOpened, PlaceStands}
-use Rattle.sws_engine.specs.Placed.{IsPlaced, first_place, AreFirstPlaces}
+use Rattle.sws_engine.specs.Placed.{IsPlaced, initial_place, AreInitialPlacesBy}
 use Rattle.sws_engine.specs.ServedRun.{HasRunOut}
 use Rattle.sws_engine.proofs.Paths.PathServerLemmas.{place_runs, stays_spoilt, state_counts, load_counts, alike_has, alike_spoilt, first_world}
 use Rattle.sws_engine.proofs.Model.FirstLemmas.{server_run}
@@ -67,26 +67,26 @@ first_is zero = refl
 first_is (suc n) = ap poll_told (sym (ne_eqb (suc n) 0 (λ e. omega (arith, e))))
 
 module _ {W L T G H : Type 0} (x : WorldWords W L) (l : LinkWords L) (y : TalkWords T L G H) (hall : H) (first : W) (paths : List (List Handler)) where
-  -- a fresh role has what there is at first
-  fresh_role : (i : ℕ) (role : Role W T) → FreshRole y first i role → ((seat : Seat T) → role ≡ Talking seat → y.hall_of seat.talk ≡ hall) → HasRole x l y hall paths role (first_place i)
-  fresh_role zero (Polling desk) fresh own = record {
-    waiting = sym fresh.1;
-    last = sym fresh.2;
-    resting = subst (λ (r : Option (WorldLoad W)). HasRest x l y hall paths r None) (sym fresh.3) tt;
+  -- an initial role has what there is at first
+  initial_role : (i : ℕ) (role : Role W T) → IsInitialRole y first i role → ((seat : Seat T) → role ≡ Talking seat → y.hall_of seat.talk ≡ hall) → HasRole x l y hall paths role (initial_place i)
+  initial_role zero (Polling desk) initial own = record {
+    waiting = sym initial.1;
+    last = sym initial.2;
+    resting = subst (λ (r : Option (WorldLoad W)). HasRest x l y hall paths r None) (sym initial.3) tt;
   }
-  fresh_role zero Accepting fresh own = absurd (omega (arith, fresh))
-  fresh_role zero (Talking seat) fresh own = let low = fresh.0 in absurd (omega (arith, low))
-  fresh_role (suc zero) (Polling desk) fresh own = let nought = fresh.0 in absurd (omega (arith, nought))
-  fresh_role (suc zero) Accepting fresh own = tt
-  fresh_role (suc zero) (Talking seat) fresh own = let low = fresh.0 in absurd (omega (arith, low))
-  fresh_role (suc (suc n)) (Polling desk) fresh own = let nought = fresh.0 in absurd (omega (arith, nought))
-  fresh_role (suc (suc n)) Accepting fresh own = absurd (omega (arith, fresh))
-  fresh_role (suc (suc n)) (Talking seat) fresh own = (own seat refl, fresh.1)
+  initial_role zero Accepting initial own = absurd (omega (arith, initial))
+  initial_role zero (Talking seat) initial own = let low = initial.0 in absurd (omega (arith, low))
+  initial_role (suc zero) (Polling desk) initial own = let nought = initial.0 in absurd (omega (arith, nought))
+  initial_role (suc zero) Accepting initial own = tt
+  initial_role (suc zero) (Talking seat) initial own = let low = initial.0 in absurd (omega (arith, low))
+  initial_role (suc (suc n)) (Polling desk) initial own = let nought = initial.0 in absurd (omega (arith, nought))
+  initial_role (suc (suc n)) Accepting initial own = absurd (omega (arith, initial))
+  initial_role (suc (suc n)) (Talking seat) initial own = (own seat refl, initial.1)
 
-  fresh_places : (count : ℕ) (states : List (PlaceState H W T)) → AreFresh y first hall count states → AreFirstPlaces (HasPlace x l y hall paths) 0 states
-  fresh_places count states fresh i state there =
-      let is = fresh.each i state there in
-      subst (λ (n : ℕ). HasPlace x l y hall paths state (first_place n)) (let e : i ≡ 0 + i = omega arith in e) (fresh_role i state.role is.fresh.role is.own_hall)
+  initial_places : (count : ℕ) (states : List (PlaceState H W T)) → AreInitialPlacesOver y first hall count states → AreInitialPlacesBy (HasPlace x l y hall paths) 0 states
+  initial_places count states initial i state there =
+      let is = initial.each i state there in
+      subst (λ (n : ℕ). HasPlace x l y hall paths state (initial_place n)) (let e : i ≡ 0 + i = omega arith in e) (initial_role i state.role is.initial.role is.own_hall)
 
   module _ {R : Type 0} (t : TrailWords (PlaceState H W T) (Frame H W)) (fits : Frame H W → Colour → Event → Option (Load W L) → Type 0) (a : AppWords R (Load W L) (PlaceState H W T) (Frame H W)) (total_of : R → ℕ)
       (alike_is : (p q : PlaceState H W T) → t.alike p q → IsAlike p q) (coloured : (s : PlaceState H W T) → t.colour_of s ≡ s.colour) (framed : (s : PlaceState H W T) → t.frame_of s ≡ record { hall = s.hall; first = s.first })
@@ -125,28 +125,28 @@ module _ {W L T G H : Type 0} (x : WorldWords W L) (l : LinkWords L) (y : TalkWo
         → (shape : Shape) → rules_of setup ≡ server_rules shape → IsRunOfPaths shape paths schedule histories
     engine_run setup schedule end histories left path_law due_law has told states_left tells opened fine shape ruled =
         let posts : first_event (length paths) ≡ (record { 0 = 0 }, first_poll (x.tells first).total) = first_is (length paths) ∙ ap (λ (n : ℕ). (record { 0 = 0 }, first_poll n)) (sym tells.many) in
-        let whole : IsWholeRun t fits a has.app setup has.states (first_event (length paths)).0 (first_event (length paths)).1 (Some (load.World (first_load first))) schedule histories left =
+        let whole : IsWholeRun t fits a has.app setup has.states (first_event (length paths)).0 (first_event (length paths)).1 (Some (load.World (initial_load first))) schedule histories left =
         record {
           posted = has.posted;
           end = end;
-          begun = subst (λ (e : Colour × Event). IsBegun t fits setup has.states e.0 e.1 (Some (load.World (first_load first))) has.posted) (sym posts) has.begun;
+          begun = subst (λ (e : Colour × Event). IsBegun t fits setup has.states e.0 e.1 (Some (load.World (initial_load first))) has.posted) (sym posts) has.begun;
           out = has.out;
           told = told;
           states_left = states_left;
         } in
-        let many = has.fresh.many in
+        let many = has.initial.many in
         let one = there_of has.states 0 (omega (arith, many)) in
-        let fresh = has.fresh.each 0 one.0 one.1 in
+        let initial = has.initial.each 0 one.0 one.1 in
         let same_frame : t.frame_of whole.posted.given ≡ frame =
-        framed_there whole one.0 one.1 ∙ framed one.0 ∙ (λ i. record { hall = fresh.hall_is i; first = fresh.fresh.world i }) in
+        framed_there whole one.0 one.1 ∙ framed one.0 ∙ (λ i. record { hall = initial.hall_is i; first = initial.initial.world i }) in
         server_run frame (HasPlace x l y hall paths) (HasLoad x l y hall paths) worlds_of_state worlds_of_load (is_spoilt y) paths opened (engine_placed has.app (has.total ∙ tells.many) tells path_law due_law)
-        (fresh_places ((x.tells first).total + 2) has.states has.fresh) (first_world x l y hall paths first) whole same_frame fine shape ruled
+        (initial_places ((x.tells first).total + 2) has.states has.initial) (first_world x l y hall paths first) whole same_frame fine shape ruled
 
 -- ---- what the calls of a run leave
 
 -- a post of an event that is the one that is told
 pub begun_at : {S P F : Type 0} (t : TrailWords S F) (fits : F → Colour → Event → Option P → Type 0) (setup : Setup) (states : List S) (c : Colour) (event posted_event : Event) (load : Option P) (first posted : WeaveState S P) (reply : Registered)
-    → posted_event ≡ event → length states ≡ colours_of setup → IsFirstWeave setup states first → StandsWell t fits first → PostsAt t first c posted_event load (Ok reply) posted → KeepsSetup first posted → StandsWell t fits posted
+    → posted_event ≡ event → length states ≡ colours_of setup → IsInitialWeave setup states first → StandsWell t fits first → PostsAt t first c posted_event load (Ok reply) posted → KeepsSetup first posted → StandsWell t fits posted
     → IsBegun t fits setup states c event load posted
 begun_at t fits setup states c event posted_event load first posted reply same_event all made well posts same well_posted = record {
   first = first;
@@ -169,17 +169,17 @@ run_out_at t fits y app posted ran end schedule ended runs drains well empty = r
   well = well;
 }
 
--- the same from the fresh states on, over as many links as the world tells
+-- the same from the initial states on, over as many links as the world tells
 pub has_run_out : {W L T G H R : Type 0} (x : WorldWords W L) (y : TalkWords T L G H) (t : TrailWords (PlaceState H W T) (Frame H W)) (fits : Frame H W → Colour → Event → Option (Load W L) → Type 0) (a : AppWords R (Load W L) (PlaceState H W T) (Frame H W)) (total_of : R → ℕ)
     (setup : Setup) (first : W) (hall : H) (schedule : List (ℕ × ℕ)) (app : R) (n : ℕ) (states : List (PlaceState H W T)) (posted end : WeaveState (PlaceState H W T) (Load W L))
-    → n ≡ (x.tells first).total → total_of app ≡ n → AreFresh y first hall (n + 2) states → IsBegun t fits setup states (record { 0 = 0 }) (first_poll n) (Some (load.World (first_load first))) posted → IsRunOut t fits a app posted schedule end
+    → n ≡ (x.tells first).total → total_of app ≡ n → AreInitialPlacesOver y first hall (n + 2) states → IsBegun t fits setup states (record { 0 = 0 }) (first_poll n) (Some (load.World (initial_load first))) posted → IsRunOut t fits a app posted schedule end
     → HasRunOut x y t fits a total_of setup first hall schedule end
-has_run_out x y t fits a total_of setup first hall schedule app n states posted end is total fresh begun out = record {
+has_run_out x y t fits a total_of setup first hall schedule app n states posted end is total initial begun out = record {
   app = app;
   total = total ∙ is;
   states = states;
-  fresh = subst (λ (k : ℕ). AreFresh y first hall (k + 2) states) is fresh;
+  initial = subst (λ (k : ℕ). AreInitialPlacesOver y first hall (k + 2) states) is initial;
   posted = posted;
-  begun = subst (λ (k : ℕ). IsBegun t fits setup states (record { 0 = 0 }) (first_poll k) (Some (load.World (first_load first))) posted) is begun;
+  begun = subst (λ (k : ℕ). IsBegun t fits setup states (record { 0 = 0 }) (first_poll k) (Some (load.World (initial_load first))) posted) is begun;
   out = out;
 }

@@ -19,7 +19,8 @@ use Rattle.sws_engine.specs.Agrees.{HasNoOpening, AreOpened, WorldStands, RestSt
 abbrev pub bare : Put → Colour × Event
 bare p = (p.0, p.1)
 
--- a handler on a colour that has this, with this load, leaves and puts what the function says, and changes nothing that another colour has
+-- a handler on a colour that has this, with this load, leaves and puts what the function says, and
+-- changes nothing that another colour has
 pub record Handled (whole : List (List Handler)) (s : Server) (c : Colour) (before : ℕ) (load : Option Load) (ran : Ran) (acted : Acted Server) : Type 0 where
   pub puts : map bare ran.puts ≡ acted.puts
   pub place : PlaceStands whole acted.becomes c ran.place

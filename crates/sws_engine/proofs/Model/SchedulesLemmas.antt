@@ -5,13 +5,13 @@ use Rattle.sws_conn.specs.Path.{Handler, open_link, read_piece, parse, close}
 use Rattle.mely_machine.specs.Rules.{Rules}
 use Rattle.mely_machine.specs.Machine.{Acts, Machine}
 use Rattle.mely_machine.specs.MachineStep.{step}
-use Rattle.mely_machine.specs.MachineRun.{first_machine, post, steps, rounds, is_quiet, spelled_out}
-use Rattle.sws_engine.specs.Server.{first_server, serve}
+use Rattle.mely_machine.specs.MachineRun.{initial_machine, post, steps, rounds, is_quiet, spelled_out}
+use Rattle.sws_engine.specs.Server.{initial_server, serve}
 use Rattle.sws_engine.specs.ServerRun.{server_rules, IsRunOfPaths}
 use Rattle.sws_engine.specs.ServerRows.{col, event, two_cores, worked_histories, polled_histories}
 
 -- before each of the first rounds something is left to do
-abbrev pub busy_below : {X : Type 0} → Rules → Acts X → ℕ → Machine X → Bool
+abbrev busy_below : {X : Type 0} → Rules → Acts X → ℕ → Machine X → Bool
 busy_below rules act zero m = true
 busy_below rules act (suc n) m = not (is_quiet (rounds rules act n m)) && busy_below rules act n m
 
@@ -32,14 +32,15 @@ busy_at rules act (suc k) m h n low =
 abbrev pub silent : List Handler
 silent = open_link ∷ read_piece ∷ parse ∷ close ∷ []
 
--- the worked schedule: core 1 steals the connection of class 2, though another colour of class 1 stands before it
+-- the worked schedule: core 1 steals the connection of class 2, though another colour of
+-- class 1 stands before it
 pub worked : IsRunOfPaths two_cores (silent ∷ []) ((0, 6) ∷ (1, 12) ∷ []) worked_histories
 unfolding post steps step rounds serve
 worked = record {
-  end = rounds (server_rules two_cores) serve 22 (steps (server_rules two_cores) serve (spelled_out ((0, 6) ∷ (1, 12) ∷ [])) (post (server_rules two_cores) (col 0) (event 0 0) (first_machine (server_rules two_cores) (first_server (silent ∷ [])))));
+  end = rounds (server_rules two_cores) serve 22 (steps (server_rules two_cores) serve (spelled_out ((0, 6) ∷ (1, 12) ∷ [])) (post (server_rules two_cores) (col 0) (event 0 0) (initial_machine (server_rules two_cores) (initial_server (silent ∷ [])))));
   drains = record {
     count = 22;
-    busy = busy_at (server_rules two_cores) serve 22 (steps (server_rules two_cores) serve (spelled_out ((0, 6) ∷ (1, 12) ∷ [])) (post (server_rules two_cores) (col 0) (event 0 0) (first_machine (server_rules two_cores) (first_server (silent ∷ []))))) refl;
+    busy = busy_at (server_rules two_cores) serve 22 (steps (server_rules two_cores) serve (spelled_out ((0, 6) ∷ (1, 12) ∷ [])) (post (server_rules two_cores) (col 0) (event 0 0) (initial_machine (server_rules two_cores) (initial_server (silent ∷ []))))) refl;
     last = refl;
     quiet = refl;
   };
@@ -50,10 +51,10 @@ worked = record {
 pub polled : IsRunOfPaths two_cores [] ((1, 2) ∷ []) polled_histories
 unfolding post steps step rounds serve
 polled = record {
-  end = rounds (server_rules two_cores) serve 4 (steps (server_rules two_cores) serve (spelled_out ((1, 2) ∷ [])) (post (server_rules two_cores) (col 0) (event 0 1) (first_machine (server_rules two_cores) (first_server []))));
+  end = rounds (server_rules two_cores) serve 4 (steps (server_rules two_cores) serve (spelled_out ((1, 2) ∷ [])) (post (server_rules two_cores) (col 0) (event 0 1) (initial_machine (server_rules two_cores) (initial_server []))));
   drains = record {
     count = 4;
-    busy = busy_at (server_rules two_cores) serve 4 (steps (server_rules two_cores) serve (spelled_out ((1, 2) ∷ [])) (post (server_rules two_cores) (col 0) (event 0 1) (first_machine (server_rules two_cores) (first_server [])))) refl;
+    busy = busy_at (server_rules two_cores) serve 4 (steps (server_rules two_cores) serve (spelled_out ((1, 2) ∷ [])) (post (server_rules two_cores) (col 0) (event 0 1) (initial_machine (server_rules two_cores) (initial_server [])))) refl;
     last = refl;
     quiet = refl;
   };

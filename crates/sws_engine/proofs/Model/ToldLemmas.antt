@@ -162,7 +162,7 @@ module _ {S P : Type 0} (IsPlace : S → Place → Type 0) (IsLoad : P → Load 
       handled : Handled whole s c (worlds_of_place place) l ran acted
       handled = handle_is whole opened s agrees.many c place event.handler event.arg l place_stands load_stands (omega (arith, few place is_place l is_load))
 
-      pub puts_told : without_loads puts ≡ acted.puts
+      puts_told : without_loads puts ≡ acted.puts
       puts_told = bares puts ran.puts puts_are ∙ handled.puts
 
       states_parts : (d : ℕ) → sum_by (states d) (state_piece c state ∷ event_piece c event load ∷ rest) ≡ cond {A = ℕ} (eqb c.0 d) 1 0 + sum_by (states d) rest
@@ -196,7 +196,7 @@ module _ {S P : Type 0} (IsPlace : S → Place → Type 0) (IsLoad : P → Load 
           (λ piece a b. (a, b)) (all_zero (states c.0) rest none_there) left_few)
           each.1.1
 
-      pub agrees_after : Agrees IsPlace IsLoad holds carries whole acted.becomes (state_piece c after ∷ (map of_put puts ++ rest))
+      agrees_after : Agrees IsPlace IsLoad holds carries whole acted.becomes (state_piece c after ∷ (map of_put puts ++ rest))
       agrees_after = record {
         many = handled.many ∙ agrees.many;
         each = All-from_recursion (PieceStands IsPlace IsLoad holds carries whole acted.becomes) (state_piece c after ∷ (map of_put puts ++ rest)) (

@@ -9,8 +9,8 @@ use Rattle.sws_link.specs.declared.world.World.{Ghosts as WorldWords}
 use Rattle.sws_link.specs.declared.Polled.{Polled}
 use Rattle.sws_link.specs.declared.Accepted.{Accepted}
 use Rattle.sws_link.specs.declared.Accepted.TheVariants as accepted
-use Rattle.sws_link.specs.Links.{LinkTells}
-use Rattle.sws_link.specs.Worlds.{Coming, fresh_tells, TakesNext, Accepts, IsLink}
+use Rattle.sws_link.specs.Links.{LinkContents}
+use Rattle.sws_link.specs.Worlds.{Coming, initial_contents, TakesNext, Accepts, IsLink}
 use Rattle.sws_conn.specs.declared.talk.Talk.{Ghosts as TalkWords}
 use Rattle.sws_conn.specs.Path.{Handler, open_link, resume}
 use Rattle.sws_conn.specs.Talks.{path_to_come}
@@ -196,8 +196,8 @@ module _ {W L T G H : Type 0} (x : WorldWords W L) (l : LinkWords L) (y : TalkWo
 
   -- ---- an accept
 
-  told_way : (told : Option LinkTells) (link : Coming) (way : List Handler) → told ≡ Some (fresh_tells link) → option_map (y.path hall) link.answers ≡ Some way → path_to_come (y.path hall) told ≡ Some way
-  told_way told link way is same = ap (λ (o : Option LinkTells). path_to_come (y.path hall) o) is ∙ same
+  told_way : (told : Option LinkContents) (link : Coming) (way : List Handler) → told ≡ Some (initial_contents link) → option_map (y.path hall) link.answers ≡ Some way → path_to_come (y.path hall) told ≡ Some way
+  told_way told link way is same = ap (λ (o : Option LinkContents). path_to_come (y.path hall) o) is ∙ same
 
   open_at : (n : ℕ) → (path.talk n open_link).0 ≡ record { 0 = n + 2 }
   open_at n = let e : 2 + n ≡ n + 2 = omega arith in ap (λ (k : ℕ). let c : Colour = record { 0 = k } in c) e
@@ -207,7 +207,7 @@ module _ {W L T G H : Type 0} (x : WorldWords W L) (l : LinkWords L) (y : TalkWo
       → Puts (accept_puts total held now answer) (path.accepts total held.accepted (way ∷ drop (held.accepted + 1) paths)).puts
   accept_answer total held now (accepted.Link link) way at come is given =
       let gives = is.gives in
-      let comes = next_coming (x.tells first).coming held.accepted (l.tells link) (x.tells now).coming (subst (λ (o : Option (List Coming)). TakesNext o (l.tells link) (x.tells now).coming) come gives.next) gives.fresh in
+      let comes = next_coming (x.tells first).coming held.accepted (l.tells link) (x.tells now).coming (subst (λ (o : Option (List Coming)). TakesNext o (l.tells link) (x.tells now).coming) come gives.next) gives.initial in
       let own = subst (λ (o : Option (List Coming)). IsComing o held.accepted (l.tells link)) tells.told comes.1 in
       ((refl, refl, record { accepted = refl; coming = refl }), ((sym (open_at held.accepted), refl, told_way (l.tells link) own.0 way own.2 (tells.each held.accepted own.0 way own.1 at)), tt))
   accept_answer total held now accepted.NotYet way at come is given = absurd given

@@ -1,4 +1,5 @@
--- On a scripted world every handler makes of what its colour has, and of its load, what the paths say.
+-- On a scripted world every handler makes of what its colour has, and of its
+-- load, what the paths say.
 use Rattle.std.proofs.Common.{◌∙◌, ◌≡◌, ◌≤◌, ◌+◌, ◌⊎◌, ℕ, Bool, true, false, true≢false, List, Option, None, Some, arith, refl, sym, ap, subst, inl, inr}
 use Rattle.mely_event.specs.declared.colour.Colour.{Colour}
 use Rattle.mely_event.specs.declared.event.Event.{Event}
@@ -37,7 +38,7 @@ module _ {W L T G H : Type 0} (x : WorldWords W L) (l : LinkWords L) (y : TalkWo
   Loads carried p = HasLoad x l y hall paths carried p
 
   -- what a handler leaves of a role, and what it puts: want of memory, or what the paths say
-  abbrev pub RoleRan : Role W T → List (Put W L) → path.Ran → Type 0
+  abbrev RoleRan : Role W T → List (Put W L) → path.Ran → Type 0
   RoleRan role puts ran = (is_spoilt_role y role ≡ true) ⊎ (HasRole x l y hall paths role ran.place × ArePuts Loads puts ran.puts)
 
   no_rest : (resting : Option (WorldLoad W)) (rests : Option path.World) → HasRest x l y hall paths resting rests → path.worlds_of_rest rests ≡ 0 → resting ≡ None

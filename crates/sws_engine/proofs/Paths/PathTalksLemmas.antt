@@ -1,4 +1,5 @@
--- A connection's event makes of the connection what its path says, unless its link meets want of memory.
+-- A connection's event makes of the connection what its path says, unless its
+-- link meets want of memory.
 use Rattle.std.proofs.Common.{◌≡◌, ◌≢◌, ◌+◌, ◌⊎◌, ℕ, Bool, true, false, true≢false, List, [], ◌∷◌, ◌++◌, Option, None, Some, map, arith, refl, sym, ap, subst, ◌∙◌, inl, inr, eq-eqb, append_assoc}
 use Rattle.std.specs.Prelude.{◌==◌, ◌&&◌, if◌then◌else◌}
 use Rattle.std.proofs.lemmas.Bool.{ne_eqb}
@@ -164,15 +165,15 @@ module _ {W L T G H : Type 0} (x : WorldWords W L) (l : LinkWords L) (y : TalkWo
 
     -- an event that isn't the opening changes nothing
     pub waiting_runs : y.view_of seat.talk ≡ unopened_view → (event.handler ≡ 3 → ⊥) → RunsSeat y (is_due i (due (y.view_of seat.talk)) event) i seat event carried after puts → TalkRan after.talk puts (path.stays (path.talking None))
-    waiting_runs fresh other does =
-        let isnt : is_due i (due (y.view_of seat.talk)) event ≡ false = ap (λ (v : TalkView). is_due i (due v) event) fresh ∙ ap (λ b. b && (event.arg == i)) (ne_eqb event.handler 3 other) in
-        stays None (hall_is, fresh) (subst (λ (b : Bool). RunsSeat y b i seat event carried after puts) isnt does)
+    waiting_runs initial other does =
+        let isnt : is_due i (due (y.view_of seat.talk)) event ≡ false = ap (λ (v : TalkView). is_due i (due v) event) initial ∙ ap (λ b. b && (event.arg == i)) (ne_eqb event.handler 3 other) in
+        stays None (hall_is, initial) (subst (λ (b : Bool). RunsSeat y b i seat event carried after puts) isnt does)
 
     -- the opening takes the first event off the path of the link
     pub opening_runs : y.view_of seat.talk ≡ unopened_view → event.handler ≡ 3 → (link : L) → carried ≡ Some (load.Link link) → (way : List Handler) → path_to_come (y.path hall) (l.tells link) ≡ Some way
         → RunsSeat y (is_due i (due (y.view_of seat.talk)) event) i seat event carried after puts → TalkRan after.talk puts (path.takes_off i event.handler None way)
-    opening_runs fresh three link carries way told does =
-        let due_is : due (y.view_of seat.talk) ≡ Some open_link = ap (λ (v : TalkView). due v) fresh in
+    opening_runs initial three link carries way told does =
+        let due_is : due (y.view_of seat.talk) ≡ Some open_link = ap (λ (v : TalkView). due v) initial in
         let is : is_due i (due (y.view_of seat.talk)) event ≡ true = ap (λ (d : Option Handler). is_due i d event) due_is ∙ (ap (λ b. b && (event.arg == i)) (eq-eqb event.handler 3 three) ∙ eq-eqb event.arg i own) in
         let did = subst (λ (b : Bool). RunsSeat y b i seat event carried after puts) is does in
         let step = subst (λ (d : Option Handler). Stepped y seat.talk d carried after.talk) due_is did.0 in

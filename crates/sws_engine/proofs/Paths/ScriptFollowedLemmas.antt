@@ -1,10 +1,11 @@
--- A connection that was served to its close, over a link that told its answers to come, ran the path and came to the outcome of its script.
+-- A connection that was served to its close, over a link that told its answers to come, ran the
+-- path and came to the outcome of its script.
 use Rattle.std.proofs.Common.{◌≡◌, ℕ, ◌++◌, List, [], ◌∷◌, false, Option, None, Some, map, refl, sym, ◌∙◌, ap, subst, append-nil}
 use Rattle.std.proofs.lemmas.Option.{same_Some}
 use Rattle.std.specs.Prelude.{slice_get, option_map}
 use Rattle.sws_link.specs.declared.Link.{Ghosts as LinkWords}
 use Rattle.sws_link.specs.declared.world.World.{Ghosts as WorldWords}
-use Rattle.sws_link.specs.Links.{LinkTells}
+use Rattle.sws_link.specs.Links.{LinkContents}
 use Rattle.sws_link.specs.Scripts.{Script}
 use Rattle.sws_link.specs.Worlds.{Coming}
 use Rattle.sws_steps.specs.declared.End.{End}
@@ -53,7 +54,7 @@ module _ {W L T G H : Type 0} (x : WorldWords W L) (l : LinkWords L) (y : TalkWo
       ap answers_to_come is.2 ∙ ap (λ (c : Coming). c.answers) same ∙ answers
 
   opened : view ≡ unopened_view → ⊥
-  opened fresh = let both : None ≡ Some open_link = sym closed ∙ ap due fresh in cc
+  opened initial = let both : None ≡ Some open_link = sym closed ∙ ap due initial in cc
 
   -- all of the path was run
   all_run : (ran : List Handler) → OnPath x l y place seat ran → y.path place.hall script ≡ ran
@@ -79,7 +80,7 @@ module _ {W L T G H : Type 0} (x : WorldWords W L) (l : LinkWords L) (y : TalkWo
       let told : option_map (y.outcome place.hall) (answers_to_come (l.tells begun)) ≡ Some (y.outcome place.hall script) = ap (λ (a : Option Script). option_map (y.outcome place.hall) a) (tells_at begun served.1) in
       let come0 : ComesTo (option_map (y.outcome place.hall) (answers_to_come (l.tells begun))) (l.tells now) e = served.2.outcome_is e (sym shows.end ∙ is) in
       let come : ComesTo (Some (y.outcome place.hall script)) (l.tells now) e = subst (λ (o : Option Outcome). ComesTo o (l.tells now) e) told come0 in
-      let all = unless (Some e) ((tells : LinkTells) × (l.tells now ≡ Some tells) × (tells.written ≡ (y.outcome place.hall script).bytes) × (e ≡ (y.outcome place.hall script).end)) (ap is_out_of_memory (sym is) ∙ enough) come in
+      let all = unless (Some e) ((tells : LinkContents) × (l.tells now ≡ Some tells) × (tells.written ≡ (y.outcome place.hall script).bytes) × (e ≡ (y.outcome place.hall script).end)) (ap is_out_of_memory (sym is) ∙ enough) come in
       record {
         path = trail_is;
         link = now;

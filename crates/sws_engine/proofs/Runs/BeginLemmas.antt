@@ -1,4 +1,4 @@
--- A run begins: the weave of the fresh states, and its first event.
+-- A run begins: the weave of the initial states, and its first event.
 use Rattle.std.proofs.Common.{◌≡◌, ℕ, ◌+◌, ◌≤◌, Bool, true, false, true≢false, if◌then◌else◌, Option, None, Some, Ok, List, [], ◌∷◌, length, drop, refl, sym, ◌∙◌, ap, subst, arith, inl, inr}
 use Rattle.std.proofs.lemmas.Bool.Decides.{eqb_tells}
 use Rattle.std.specs.Prelude.{slice_get, ◌==◌, option_map}
@@ -11,7 +11,7 @@ use Rattle.mely_history.specs.Setup.{colours_of, handlers_of}
 use Rattle.mely_history.specs.declared.registered.Registered.{Registered}
 use Rattle.mely_worker.specs.Access.{FitsIn}
 use Rattle.mely_weave.specs.Drains.{AllFree}
-use Rattle.mely_weave.specs.Making.{AreFirst}
+use Rattle.mely_weave.specs.Making.{AreInitial}
 use Rattle.mely_weave.specs.Weave.{WeaveState}
 use Rattle.mely_weave.proofs.Wholes.GatherLemmas.{get_there}
 use Rattle.mely_tally.specs.Tallies.{states_of, under_way}
@@ -26,11 +26,11 @@ use Rattle.sws_engine.specs.declared.load.Load.TheVariants as load
 use Rattle.sws_engine.specs.declared.place.Frame.{Frame}
 use Rattle.sws_engine.specs.Place.{PlaceState}
 use Rattle.sws_engine.specs.Loads.{WorldStands, PollFits, Fit}
-use Rattle.sws_engine.specs.Fresh.{AreFirstPlaces, first_poll, first_load}
+use Rattle.sws_engine.specs.Initial.{AreInitialPlacesOver, first_poll, initial_load}
 use Rattle.sws_engine.specs.RunFact.{RunFact}
 use Rattle.sws_engine.specs.RunStands.{RunStands}
 use Rattle.sws_engine.proofs.Runs.SameStandsLemmas.{same_stands}
-use Rattle.sws_engine.proofs.Runs.StartLemmas.{places_fresh, starts}
+use Rattle.sws_engine.proofs.Runs.StartLemmas.{places_initial, starts}
 
 framed_as : {W T H : Type 0} (t : TrailWords (PlaceState H W T) (Frame H W)) (world : W) (hall : H) (s : PlaceState H W T) → t.frame_of s ≡ record { hall = s.hall; first = s.first } → s.hall ≡ hall → s.first ≡ world → t.frame_of s ≡ record { hall = hall; first = world }
 framed_as {W} {T} {H} t world hall s is same first = is ∙ ap (λ (h : H). let f : Frame H W = record { hall = h; first = s.first } in f) same ∙ ap (λ (w : W). let f : Frame H W = record { hall = hall; first = w } in f) first
@@ -40,16 +40,16 @@ same_coming None = refl
 same_coming (Some coming) = refl
 
 -- the states are those of a weave at first
-pub are_first : {W L T G H : Type 0} (y : TalkWords T L G H) (world : W) (hall : H) (total : ℕ) (states : List (PlaceState H W T)) (t : TrailWords (PlaceState H W T) (Frame H W)) (setup : Setup) → AreFirstPlaces y world hall (total + 2) states → colours_of setup ≡ total + 2
-    → ((s : PlaceState H W T) → t.colour_of s ≡ s.colour) → ((s : PlaceState H W T) → t.trail_of s ≡ s.trail) → ((s : PlaceState H W T) → t.frame_of s ≡ record { hall = s.hall; first = s.first }) → AreFirst t setup states
+pub are_first : {W L T G H : Type 0} (y : TalkWords T L G H) (world : W) (hall : H) (total : ℕ) (states : List (PlaceState H W T)) (t : TrailWords (PlaceState H W T) (Frame H W)) (setup : Setup) → AreInitialPlacesOver y world hall (total + 2) states → colours_of setup ≡ total + 2
+    → ((s : PlaceState H W T) → t.colour_of s ≡ s.colour) → ((s : PlaceState H W T) → t.trail_of s ≡ s.trail) → ((s : PlaceState H W T) → t.frame_of s ≡ record { hall = s.hall; first = s.first }) → AreInitial t setup states
 are_first {W} {L} {T} {G} {H} y world hall total states t setup are many colour_is trail_is frame_is = record {
   all = are.many ∙ sym many;
-  coloured = λ i s at. colour_is s ∙ ap (λ (n : ℕ). let c : Colour = record { 0 = n } in c) (are.each i s at).fresh.colour;
+  coloured = λ i s at. colour_is s ∙ ap (λ (n : ℕ). let c : Colour = record { 0 = n } in c) (are.each i s at).initial.colour;
   untouched = λ i s at. trail_is s ∙ (are.each i s at).untouched;
-  one_frame = λ i j a b at there. framed_as t world hall a (frame_is a) (are.each i a at).hall_is (are.each i a at).fresh.world ∙ sym (framed_as t world hall b (frame_is b) (are.each j b there).hall_is (are.each j b there).fresh.world);
+  one_frame = λ i j a b at there. framed_as t world hall a (frame_is a) (are.each i a at).hall_is (are.each i a at).initial.world ∙ sym (framed_as t world hall b (frame_is b) (are.each j b there).hall_is (are.each j b there).initial.world);
 }
 
-first_stands : {W L : Type 0} (x : WorldWords W L) (l : LinkWords L) (world : W) → (x.tells world).accepted ≡ 0 → WorldStands x l world (first_load world)
+first_stands : {W L : Type 0} (x : WorldWords W L) (l : LinkWords L) (world : W) → (x.tells world).accepted ≡ 0 → WorldStands x l world (initial_load world)
 first_stands x l world none = record {
   total = refl;
   port = refl;
@@ -62,7 +62,7 @@ first_stands x l world none = record {
   sure = λ s. refl;
 }
 
-fits_at : {W L : Type 0} (x : WorldWords W L) (l : LinkWords L) (world : W) (total : ℕ) (b : Bool) → (total == 0) ≡ b → (x.tells world).total ≡ total → (x.tells world).accepted ≡ 0 → PollFits x l world (record { 0 = 0 }) (if b then 1 else 0) (first_load world)
+fits_at : {W L : Type 0} (x : WorldWords W L) (l : LinkWords L) (world : W) (total : ℕ) (b : Bool) → (total == 0) ≡ b → (x.tells world).total ≡ total → (x.tells world).accepted ≡ 0 → PollFits x l world (record { 0 = 0 }) (if b then 1 else 0) (initial_load world)
 fits_at x l world total true is many none = record { colour = refl; known = omega arith; stands = first_stands x l world none; more = λ no_is. cc; failing = λ no_is. cc; sure = λ s. omega arith }
 fits_at x l world total false is many none = record {
   colour = refl;
@@ -74,20 +74,20 @@ fits_at x l world total false is many none = record {
 }
 
 -- the first poll fits
-first_fits : {W L : Type 0} (x : WorldWords W L) (l : LinkWords L) (first world : W) (total : ℕ) → first ≡ world → (x.tells world).total ≡ total → (x.tells world).accepted ≡ 0 → Fit x l first (record { 0 = 0 }) (first_poll total) (Some (load.World (first_load world)))
-first_fits {W} {L} x l first world total same many none = subst (λ (w : W). Fit x l w (record { 0 = 0 }) (first_poll total) (Some (load.World (first_load world)))) (sym same) (fits_at x l world total (total == 0) refl many none)
+first_fits : {W L : Type 0} (x : WorldWords W L) (l : LinkWords L) (first world : W) (total : ℕ) → first ≡ world → (x.tells world).total ≡ total → (x.tells world).accepted ≡ 0 → Fit x l first (record { 0 = 0 }) (first_poll total) (Some (load.World (initial_load world)))
+first_fits {W} {L} x l first world total same many none = subst (λ (w : W). Fit x l w (record { 0 = 0 }) (first_poll total) (Some (load.World (initial_load world)))) (sym same) (fits_at x l world total (total == 0) refl many none)
 
--- the state that is kept of a first weave is of the world
+-- the state that is kept of an initial weave is of the world
 pub first_given : {W L T G H : Type 0} (y : TalkWords T L G H) (t : TrailWords (PlaceState H W T) (Frame H W)) (world : W) (hall : H) (total : ℕ) (states : List (PlaceState H W T)) (weave : WeaveState (PlaceState H W T) (Load W L))
-    → BeginsAs t states weave → AreFirstPlaces y world hall (total + 2) states → ((s : PlaceState H W T) → t.frame_of s ≡ record { hall = s.hall; first = s.first }) → weave.given.first ≡ world
+    → BeginsAs t states weave → AreInitialPlacesOver y world hall (total + 2) states → ((s : PlaceState H W T) → t.frame_of s ≡ record { hall = s.hall; first = s.first }) → weave.given.first ≡ world
 first_given {W} {L} {T} {G} {H} y t world hall total states weave begins are frame_is =
     let zero_place = get_there states 0 (let k = are.many in omega (arith, k)) in
     let framed = begins.framed 0 zero_place.0 zero_place.1 in
-    ap (λ (f : Frame H W). f.first) (sym (frame_is weave.given)) ∙ ap (λ (f : Frame H W). f.first) (sym framed) ∙ ap (λ (f : Frame H W). f.first) (frame_is zero_place.0) ∙ (are.each 0 zero_place.0 zero_place.1).fresh.world
+    ap (λ (f : Frame H W). f.first) (sym (frame_is weave.given)) ∙ ap (λ (f : Frame H W). f.first) (sym framed) ∙ ap (λ (f : Frame H W). f.first) (frame_is zero_place.0) ∙ (are.each 0 zero_place.0 zero_place.1).initial.world
 
 -- and of the hall
 pub first_hall : {W L T G H : Type 0} (y : TalkWords T L G H) (t : TrailWords (PlaceState H W T) (Frame H W)) (world : W) (hall : H) (total : ℕ) (states : List (PlaceState H W T)) (weave after : WeaveState (PlaceState H W T) (Load W L))
-    → BeginsAs t states weave → after.given ≡ weave.given → AreFirstPlaces y world hall (total + 2) states → ((s : PlaceState H W T) → t.frame_of s ≡ record { hall = s.hall; first = s.first }) → after.given.hall ≡ hall
+    → BeginsAs t states weave → after.given ≡ weave.given → AreInitialPlacesOver y world hall (total + 2) states → ((s : PlaceState H W T) → t.frame_of s ≡ record { hall = s.hall; first = s.first }) → after.given.hall ≡ hall
 first_hall {W} {L} {T} {G} {H} y t world hall total states weave after begins given are frame_is =
     let zero_place = get_there states 0 (let k = are.many in omega (arith, k)) in
     let framed = begins.framed 0 zero_place.0 zero_place.1 in
@@ -95,16 +95,16 @@ first_hall {W} {L} {T} {G} {H} y t world hall total states weave after begins gi
 
 -- a run stands once its first event is posted
 pub start_fact : {W L T G H : Type 0} (x : WorldWords W L) (y : TalkWords T L G H) (t : TrailWords (PlaceState H W T) (Frame H W)) (world : W) (hall : H) (total : ℕ) (states : List (PlaceState H W T)) (weave after : WeaveState (PlaceState H W T) (Load W L)) (event : Event) (reply : Registered)
-    → event ≡ first_poll total → BeginsAs t states weave → PostTells event (Some (load.World (first_load world))) (Ok reply) weave after → after.given ≡ weave.given
-    → AreFirstPlaces y world hall (total + 2) states → (x.tells world).total ≡ total → ((s : PlaceState H W T) → t.frame_of s ≡ record { hall = s.hall; first = s.first }) → RunFact x y world after
+    → event ≡ first_poll total → BeginsAs t states weave → PostTells event (Some (load.World (initial_load world))) (Ok reply) weave after → after.given ≡ weave.given
+    → AreInitialPlacesOver y world hall (total + 2) states → (x.tells world).total ≡ total → ((s : PlaceState H W T) → t.frame_of s ≡ record { hall = s.hall; first = s.first }) → RunFact x y world after
 start_fact {W} {L} {T} {G} {H} x y t world hall total states weave after event reply event_is begins post given are same frame_is =
-    let stands = starts y world total states (places_fresh y world hall total states are) world in
-    let moved = same_stands y total states (states_of after) ((first_poll total, Some (load.World (first_load world))) ∷ []) (under_way after)
+    let stands = starts y world total states (places_initial y world hall total states are) world in
+    let moved = same_stands y total states (states_of after) ((first_poll total, Some (load.World (initial_load world))) ∷ []) (under_way after)
     (λ f blind. post.states f ∙ begins.made.states f)
     (λ g.
     let gains = post.ways g in
     let none = begins.made.ways g in
-    let first = ap (λ (e : Event). g (e, Some (load.World (first_load world)))) event_is in
+    let first = ap (λ (e : Event). g (e, Some (load.World (initial_load world)))) event_is in
     omega (arith, gains, none, first))
     stands in
     record {
@@ -114,11 +114,11 @@ start_fact {W} {L} {T} {G} {H} x y t world hall total states weave after event r
 
 -- the first event may be posted
 pub first_fits_in : {W L : Type 0} (x : WorldWords W L) (l : LinkWords L) (first world : W) (total : ℕ) (setup of_weave : Setup) (event : Event) → first ≡ world → of_weave ≡ setup → colours_of setup ≡ total + 2 → 10 ≤ length (rows_of (handlers_of setup)) → (x.tells world).total ≡ total → (x.tells world).accepted ≡ 0 → event ≡ first_poll total
-    → FitsIn (colours_of of_weave) (length (rows_of (handlers_of of_weave))) (Fit x l first) (record { 0 = 0 }, event, Some (load.World (first_load world)))
+    → FitsIn (colours_of of_weave) (length (rows_of (handlers_of of_weave))) (Fit x l first) (record { 0 = 0 }, event, Some (load.World (initial_load world)))
 first_fits_in {W} {L} x l first world total setup of_weave event same is many rows total_is none event_is = record {
   colour = (let k = ap (λ (s : Setup). colours_of s) is in omega (arith, k, many));
   handler = (let k = ap (λ (s : Setup). length (rows_of (handlers_of s))) is in let e = ap (λ (v : Event). v.handler) event_is in omega (arith, k, rows, e));
-  load = subst (λ (v : Event). Fit x l first (record { 0 = 0 }) v (Some (load.World (first_load world)))) (sym event_is) (first_fits x l first world total same total_is none);
+  load = subst (λ (v : Event). Fit x l first (record { 0 = 0 }) v (Some (load.World (initial_load world)))) (sym event_is) (first_fits x l first world total same total_is none);
 }
 
 -- a post leaves all workers free

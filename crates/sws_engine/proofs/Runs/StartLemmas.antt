@@ -1,4 +1,4 @@
--- A run stands of the fresh states with the first event under way.
+-- A run stands of the initial states with the first event under way.
 use Rattle.std.proofs.Common.{◌≡◌, ℕ, zero, suc, ◌+◌, ◌≤◌, ◌<◌, ◌⊎◌, Bool, true, false, true≢false, if◌then◌else◌, Option, None, Some, List, [], ◌∷◌, ◌++◌, length, refl, sym, ◌∙◌, ap, subst, arith, inl, inr, eq-eqb}
 use Rattle.std.proofs.lemmas.Bool.{ne_eqb}
 use Rattle.std.proofs.lemmas.List.{length-append}
@@ -17,7 +17,7 @@ use Rattle.sws_engine.specs.declared.place.Role.{Role}
 use Rattle.sws_engine.specs.declared.place.Role.TheVariants.{Polling, Accepting, Talking}
 use Rattle.sws_engine.specs.Place.{PlaceState}
 use Rattle.sws_engine.specs.Handling.{is_some}
-use Rattle.sws_engine.specs.Fresh.{FreshRole, IsFreshPlace, AreFresh, IsFirstPlace, AreFirstPlaces, first_poll, first_load}
+use Rattle.sws_engine.specs.Initial.{IsInitialRole, IsInitialPlace, AreInitialPlaces, IsInitialPlaceOver, AreInitialPlacesOver, first_poll, initial_load}
 use Rattle.sws_engine.specs.RunStands.{Way, if_held, is_any, is_beyond, is_unended, is_late, at_desk, at_seat, misplaced_at, first_number, due_number, is_stray, asks_for, misplaced_count, desks, seats, strays, is_at, is_opened, RunStands}
 use Rattle.sws_engine.specs.Counting.{bit, times}
 
@@ -32,63 +32,63 @@ zero_beyond : (i : ℕ) → bit (nat_lt i 0) ≡ 0
 zero_beyond i = grind (arith, nat_tests)
 
 module _ {W L T G H : Type 0} (y : TalkWords T L G H) (first : W) where
-  -- what each number is of a fresh state
-  fresh_misplaced : (c k : ℕ) (role : Role W T) → c ≡ k → FreshRole y first k role → misplaced_at c role ≡ 0
-  fresh_misplaced c k (Polling desk) is fresh = ap (λ b. bit (not b)) (eq-eqb c 0 (is ∙ fresh.0))
-  fresh_misplaced c k Accepting is fresh = ap (λ b. bit (not b)) (eq-eqb c 1 (is ∙ fresh))
-  fresh_misplaced c k (Talking seat) is fresh = let more = fresh.0 in grind (arith, nat_tests, is, more)
+  -- what each number is of an initial state
+  initial_misplaced : (c k : ℕ) (role : Role W T) → c ≡ k → IsInitialRole y first k role → misplaced_at c role ≡ 0
+  initial_misplaced c k (Polling desk) is initial = ap (λ b. bit (not b)) (eq-eqb c 0 (is ∙ initial.0))
+  initial_misplaced c k Accepting is initial = ap (λ b. bit (not b)) (eq-eqb c 1 (is ∙ initial))
+  initial_misplaced c k (Talking seat) is initial = let more = initial.0 in grind (arith, nat_tests, is, more)
 
-  fresh_desk : (k : ℕ) (role : Role W T) (f : Desk W → ℕ) → FreshRole y first k role → ((desk : Desk W) → desk.waiting.items ≡ [] → desk.last ≡ false → desk.resting ≡ None → f desk ≡ 0) → at_desk f role ≡ 0
-  fresh_desk k (Polling desk) f fresh none = none desk fresh.1 fresh.2 fresh.3
-  fresh_desk k Accepting f fresh none = refl
-  fresh_desk k (Talking seat) f fresh none = refl
+  initial_desk : (k : ℕ) (role : Role W T) (f : Desk W → ℕ) → IsInitialRole y first k role → ((desk : Desk W) → desk.waiting.items ≡ [] → desk.last ≡ false → desk.resting ≡ None → f desk ≡ 0) → at_desk f role ≡ 0
+  initial_desk k (Polling desk) f initial none = none desk initial.1 initial.2 initial.3
+  initial_desk k Accepting f initial none = refl
+  initial_desk k (Talking seat) f initial none = refl
 
-  fresh_seat : (k : ℕ) (role : Role W T) (f : Seat T → ℕ) → FreshRole y first k role → ((seat : Seat T) → y.view_of seat.talk ≡ unopened_view → seat.stray ≡ None → f seat ≡ 0) → at_seat f role ≡ 0
-  fresh_seat k (Polling desk) f fresh none = refl
-  fresh_seat k Accepting f fresh none = refl
-  fresh_seat k (Talking seat) f fresh none = none seat fresh.1 fresh.2
+  initial_seat : (k : ℕ) (role : Role W T) (f : Seat T → ℕ) → IsInitialRole y first k role → ((seat : Seat T) → y.view_of seat.talk ≡ unopened_view → seat.stray ≡ None → f seat ≡ 0) → at_seat f role ≡ 0
+  initial_seat k (Polling desk) f initial none = refl
+  initial_seat k Accepting f initial none = refl
+  initial_seat k (Talking seat) f initial none = none seat initial.1 initial.2
 
-  fresh_desks : (k : ℕ) (role : Role W T) → FreshRole y first k role → (k ≡ 0 → at_desk {W = W} {T = T} (λ d. 1) role ≡ 1) × ((k ≡ 0 → ⊥) → at_desk {W = W} {T = T} (λ d. 1) role ≡ 0)
-  fresh_desks k (Polling desk) fresh = (λ is. refl, λ apart. absurd (apart fresh.0))
-  fresh_desks k Accepting fresh = (λ is. absurd (omega (arith, is, fresh)), λ apart. refl)
-  fresh_desks k (Talking seat) fresh = (λ is. (let more = fresh.0 in absurd (omega (arith, is, more))), λ apart. refl)
+  initial_desks : (k : ℕ) (role : Role W T) → IsInitialRole y first k role → (k ≡ 0 → at_desk {W = W} {T = T} (λ d. 1) role ≡ 1) × ((k ≡ 0 → ⊥) → at_desk {W = W} {T = T} (λ d. 1) role ≡ 0)
+  initial_desks k (Polling desk) initial = (λ is. refl, λ apart. absurd (apart initial.0))
+  initial_desks k Accepting initial = (λ is. absurd (omega (arith, is, initial)), λ apart. refl)
+  initial_desks k (Talking seat) initial = (λ is. (let more = initial.0 in absurd (omega (arith, is, more))), λ apart. refl)
 
-  fresh_seats : (i k c : ℕ) (role : Role W T) → c ≡ k → FreshRole y first k role → (k ≡ i + 2 → at_seat {W = W} {T = T} (λ s. bit (c == i + 2)) role ≡ 1) × ((k ≡ i + 2 → ⊥) → at_seat {W = W} {T = T} (λ s. bit (c == i + 2)) role ≡ 0)
-  fresh_seats i k c (Polling desk) same fresh = (λ is. (let low = fresh.0 in absurd (omega (arith, is, low))), λ apart. refl)
-  fresh_seats i k c Accepting same fresh = (λ is. absurd (omega (arith, is, fresh)), λ apart. refl)
-  fresh_seats i k c (Talking seat) same fresh = (λ is. ap bit (eq-eqb c (i + 2) (same ∙ is)), λ apart. ap bit (ne_eqb c (i + 2) (λ e. apart (sym same ∙ e))))
+  initial_seats : (i k c : ℕ) (role : Role W T) → c ≡ k → IsInitialRole y first k role → (k ≡ i + 2 → at_seat {W = W} {T = T} (λ s. bit (c == i + 2)) role ≡ 1) × ((k ≡ i + 2 → ⊥) → at_seat {W = W} {T = T} (λ s. bit (c == i + 2)) role ≡ 0)
+  initial_seats i k c (Polling desk) same initial = (λ is. (let low = initial.0 in absurd (omega (arith, is, low))), λ apart. refl)
+  initial_seats i k c Accepting same initial = (λ is. absurd (omega (arith, is, initial)), λ apart. refl)
+  initial_seats i k c (Talking seat) same initial = (λ is. ap bit (eq-eqb c (i + 2) (same ∙ is)), λ apart. ap bit (ne_eqb c (i + 2) (λ e. apart (sym same ∙ e))))
 
   due_three : (seat : Seat T) → y.view_of seat.talk ≡ unopened_view → due_number y seat ≡ 3
-  due_three seat fresh = ap (λ (v : TalkView). first_number (due v)) fresh
+  due_three seat initial = ap (λ (v : TalkView). first_number (due v)) initial
 
-  module _ (total : ℕ) (states : List (PlaceState H W T)) (fresh : AreFresh y first total states) where
-    none : (f : PlaceState H W T → ℕ) → ((k : ℕ) (s : PlaceState H W T) → IsFreshPlace y first k s → f s ≡ 0) → sum_by f states ≡ 0
-    none f each = sum_nowhere f states (λ k s at. each k s (fresh.each k s at))
+  module _ (total : ℕ) (states : List (PlaceState H W T)) (initial : AreInitialPlaces y first total states) where
+    none : (f : PlaceState H W T → ℕ) → ((k : ℕ) (s : PlaceState H W T) → IsInitialPlace y first k s → f s ≡ 0) → sum_by f states ≡ 0
+    none f each = sum_nowhere f states (λ k s at. each k s (initial.each k s at))
 
-    one : (f : PlaceState H W T → ℕ) (k : ℕ) → k < total + 2 → ((j : ℕ) (s : PlaceState H W T) → IsFreshPlace y first j s → (j ≡ k → f s ≡ 1) × ((j ≡ k → ⊥) → f s ≡ 0)) → sum_by f states ≡ 1
+    one : (f : PlaceState H W T → ℕ) (k : ℕ) → k < total + 2 → ((j : ℕ) (s : PlaceState H W T) → IsInitialPlace y first j s → (j ≡ k → f s ≡ 1) × ((j ≡ k → ⊥) → f s ≡ 0)) → sum_by f states ≡ 1
     one f k low each =
-        let many = fresh.many in
+        let many = initial.many in
         let s = get_there states k (omega (arith, low, many)) in
-        sum_at_one f states k s.0 s.1 (λ j p apart at. (each j p (fresh.each j p at)).1 apart) ∙ (each k s.0 (fresh.each k s.0 s.1)).0 refl
+        sum_at_one f states k s.0 s.1 (λ j p apart at. (each j p (initial.each j p at)).1 apart) ∙ (each k s.0 (initial.each k s.0 s.1)).0 refl
 
     none_at_desk : (f : Desk W → ℕ) → ((desk : Desk W) → desk.waiting.items ≡ [] → desk.last ≡ false → desk.resting ≡ None → f desk ≡ 0) → sum_by (λ (s : PlaceState H W T). at_desk f s.role) states ≡ 0
-    none_at_desk f each = none (λ s. at_desk f s.role) (λ k s is_fresh. fresh_desk k s.role f is_fresh.role each)
+    none_at_desk f each = none (λ s. at_desk f s.role) (λ k s is_initial. initial_desk k s.role f is_initial.role each)
 
     none_at : (i n : ℕ) → (n ≡ 3 → ⊥) → sum_by (is_at y i n) states ≡ 0
-    none_at i n apart = none (is_at y i n) (λ k s is_fresh. fresh_seat k s.role (λ seat. bit ((s.colour.0 == i + 2) && (due_number y seat == n))) is_fresh.role (λ seat unopened stray. bit_right (s.colour.0 == i + 2) (due_number y seat == n) (ne_eqb (due_number y seat) n (λ same. apart (sym same ∙ due_three seat unopened)))))
+    none_at i n apart = none (is_at y i n) (λ k s is_initial. initial_seat k s.role (λ seat. bit ((s.colour.0 == i + 2) && (due_number y seat == n))) is_initial.role (λ seat unopened stray. bit_right (s.colour.0 == i + 2) (due_number y seat == n) (ne_eqb (due_number y seat) n (λ same. apart (sym same ∙ due_three seat unopened)))))
 
     none_opened : (i : ℕ) → sum_by (is_opened y i) states ≡ 0
-    none_opened i = none (is_opened y i) (λ k s is_fresh. fresh_seat k s.role (λ seat. bit ((s.colour.0 == i + 2) && not (due_number y seat == 3))) is_fresh.role (λ seat unopened stray. bit_right (s.colour.0 == i + 2) (not (due_number y seat == 3)) (ap not (eq-eqb (due_number y seat) 3 (due_three seat unopened)))))
+    none_opened i = none (is_opened y i) (λ k s is_initial. initial_seat k s.role (λ seat. bit ((s.colour.0 == i + 2) && not (due_number y seat == 3))) is_initial.role (λ seat unopened stray. bit_right (s.colour.0 == i + 2) (not (due_number y seat == 3)) (ap not (eq-eqb (due_number y seat) 3 (due_three seat unopened)))))
 
     -- with the first event alone under way
     module _ (world : W) where
       abbrev e0 : Way W L
-      e0 = (first_poll total, Some (load.World (first_load world)))
+      e0 = (first_poll total, Some (load.World (initial_load world)))
 
       no_ask : (n i : ℕ) → (n ≡ 0 → ⊥) → asks_for n i e0 ≡ 0
       no_ask n i apart = ap (λ b. bit (b && ((first_poll total).arg == i))) (ne_eqb 0 n (λ same. apart (sym same)))
 
-      late_when : (b : Bool) → (total == 0) ≡ b → bit (is_late (record { handler = 0; arg = if b then 1 else 0 }) && is_unended total (first_load world)) ≡ 0
+      late_when : (b : Bool) → (total == 0) ≡ b → bit (is_late (record { handler = 0; arg = if b then 1 else 0 }) && is_unended total (initial_load world)) ≡ 0
       late_when true zero_is = elim (eqb_tells total 0) [ inl same ↦ ap (λ n. bit (nat_lt 0 n)) same.1 | inr apart ↦ absurd (true≢false (sym zero_is ∙ apart.0)) ]
       late_when false zero_is = refl
 
@@ -98,14 +98,14 @@ module _ {W L T G H : Type 0} (y : TalkWords T L G H) (first : W) where
 
       pub starts : RunStands {W = W} y total states (e0 ∷ [])
       starts = record {
-        placed = none misplaced_count (λ k s is_fresh. fresh_misplaced s.colour.0 k s.role is_fresh.colour is_fresh.role);
-        one_desk = one desks 0 (omega arith) (λ k s is_fresh. fresh_desks k s.role is_fresh.role);
-        one_seat = λ i low. one (seats i) (i + 2) (omega (arith, low)) (λ k s is_fresh. fresh_seats i k s.colour.0 s.role is_fresh.colour is_fresh.role);
+        placed = none misplaced_count (λ k s is_initial. initial_misplaced s.colour.0 k s.role is_initial.colour is_initial.role);
+        one_desk = one desks 0 (omega arith) (λ k s is_initial. initial_desks k s.role is_initial.role);
+        one_seat = λ i low. one (seats i) (i + 2) (omega (arith, low)) (λ k s is_initial. initial_seats i k s.colour.0 s.role is_initial.colour is_initial.role);
         one_world = omega (arith, none_at_desk (λ d. if_held is_any d.resting) (λ d a b c. held_not is_any d.resting c));
         opens = λ i low. omega (arith, no_ask 3 i (λ same. omega (arith, same)), none_opened i, none_at_desk (λ d. if_held (is_beyond i) d.resting) (λ d a b c. held_not (is_beyond i) d.resting c), zero_beyond i);
         steps = λ i n low more less. omega (arith, no_ask n i (λ same. omega (arith, same, more)), none_at i n (λ same. omega (arith, same, more)));
         waits = λ i low. omega (arith, no_ask 9 i (λ same. omega (arith, same)), no_ask 1 i (λ same. omega (arith, same)), none_at i 9 (λ same. omega (arith, same)), none_at_desk (λ d. times i d.waiting.items) (λ d a b c. ap (times i) a));
-        no_stray = none strays (λ k s is_fresh. fresh_seat k s.role (λ seat. is_stray seat.stray) is_fresh.role (λ seat unopened stray. ap is_stray stray));
+        no_stray = none strays (λ k s is_initial. initial_seat k s.role (λ seat. is_stray seat.stray) is_initial.role (λ seat unopened stray. ap is_stray stray));
         ended = omega (arith, late_when (total == 0) refl, none_at_desk (λ d. if_held (is_unended total) d.resting) (λ d a b c. held_not (is_unended total) d.resting c));
         late = omega (arith, few_when (total == 0), none_at_desk (λ d. bit d.last) (λ d a b c. ap bit b));
         not_in_vain = none_at_desk (λ d. if_held (λ held. is_some d.waiting.items) d.resting) (λ d a b c. held_not (λ held. is_some d.waiting.items) d.resting c);
@@ -118,15 +118,15 @@ get_push [] s (suc i) p at = cc
 get_push (x ∷ xs) s zero p at = inl at
 get_push (x ∷ xs) s (suc i) p at = elim (get_push xs s i p at) [ inl there ↦ inl there | inr last ↦ inr (ap (λ n. suc n) last.0, last.1) ]
 
-pub places_more : {W L T G H : Type 0} (y : TalkWords T L G H) (first : W) (hall : H) (n : ℕ) (xs now : List (PlaceState H W T)) (s : PlaceState H W T) → AreFirstPlaces y first hall n xs → IsFirstPlace y first hall n s → now ≡ xs ++ s ∷ [] → AreFirstPlaces y first hall (n + 1) now
+pub places_more : {W L T G H : Type 0} (y : TalkWords T L G H) (first : W) (hall : H) (n : ℕ) (xs now : List (PlaceState H W T)) (s : PlaceState H W T) → AreInitialPlacesOver y first hall n xs → IsInitialPlaceOver y first hall n s → now ≡ xs ++ s ∷ [] → AreInitialPlacesOver y first hall (n + 1) now
 places_more {W} {L} {T} {G} {H} y first hall n xs now s are is same = record {
   many = ap length same ∙ length-append xs (s ∷ []) ∙ ap (λ k. k + 1) are.many;
   each = λ i p at. elim (get_push xs s i p (ap (λ (l : List (PlaceState H W T)). slice_get l i) (sym same) ∙ at)) [
     | inl there ↦ are.each i p there
-    | inr last ↦ (let j : n ≡ i = sym (last.0 ∙ are.many) in subst (λ (k : ℕ). IsFirstPlace y first hall k p) j (subst (λ (q : PlaceState H W T). IsFirstPlace y first hall n q) (sym last.1) is))
+    | inr last ↦ (let j : n ≡ i = sym (last.0 ∙ are.many) in subst (λ (k : ℕ). IsInitialPlaceOver y first hall k p) j (subst (λ (q : PlaceState H W T). IsInitialPlaceOver y first hall n q) (sym last.1) is))
   ];
 }
 
--- so they are fresh, and a weave may be made of them
-pub places_fresh : {W L T G H : Type 0} (y : TalkWords T L G H) (first : W) (hall : H) (total : ℕ) (xs : List (PlaceState H W T)) → AreFirstPlaces y first hall (total + 2) xs → AreFresh y first total xs
-places_fresh y first hall total xs are = record { many = are.many; each = λ i s at. (are.each i s at).fresh }
+-- so they are initial, and a weave may be made of them
+pub places_initial : {W L T G H : Type 0} (y : TalkWords T L G H) (first : W) (hall : H) (total : ℕ) (xs : List (PlaceState H W T)) → AreInitialPlacesOver y first hall (total + 2) xs → AreInitialPlaces y first total xs
+places_initial y first hall total xs are = record { many = are.many; each = λ i s at. (are.each i s at).initial }

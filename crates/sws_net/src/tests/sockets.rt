@@ -52,8 +52,19 @@ fn next_link(world: &mut TcpWorld<'_>) -> Option<TcpLink>
     None
 }
 
-/// Reads, and once more where the first answer is that nothing has come: after a read that came up short the next one doesn't
-/// ask the machine.
+/// Polls the waiting links until something is said of them.
+fn poll_some(world: &mut TcpWorld<'_>, waiting: &[u16]) -> Polled {
+    for _ in 0..TRIES {
+        let polled = world.poll(waiting);
+        if polled != Polled::Quiet {
+            return polled;
+        }
+    }
+    Polled::Quiet
+}
+
+/// Reads, and once more where the first answer is that nothing has come: after a read that came up
+/// short the next one doesn't ask the machine.
 fn read_some(link: &mut TcpLink, room: &mut [u8; 8]) -> LinkRead
     requires { is_some link.old.socket ≡ true }
     ensures { is_some link.new.socket ≡ true }
@@ -115,8 +126,8 @@ fn the_last_answer_is_not_lost(rt: HostRuntime) -> Result<(), Fail> {
     Ok(())
 }
 
-/// Nobody is ready where nothing came, a link that is silent for a second counts as ready, and the one of
-/// several that has something is named.
+/// Nobody is ready where nothing came, a link that is silent for a second counts as ready, and the
+/// one of several that has something is named.
 #[test]
 fn the_world_names_who_is_ready(rt: HostRuntime) -> Result<(), Fail> {
     let mut world = TcpWorld::new(&rt);
@@ -133,7 +144,8 @@ fn the_world_names_who_is_ready(rt: HostRuntime) -> Result<(), Fail> {
         panic!(rt; "no second link");
     };
     let mut room = [0; 8];
-    // Each link is looked at once: a socket that was just registered shows that it can be written to.
+    // Each link is looked at once: a socket that was just registered shows
+    // that it can be written to.
     for _ in 0..TRIES {
         if world.poll(&[0, 1]) == Polled::Quiet {
             break;
@@ -142,31 +154,17 @@ fn the_world_names_who_is_ready(rt: HostRuntime) -> Result<(), Fail> {
     assert_eq!(rt; silent.read(&mut room), LinkRead::NotReady);
     assert_eq!(rt; lively.read(&mut room), LinkRead::NotReady);
     (&second).write_all(b"now")?;
-    let mut named = Polled::Quiet;
-    for _ in 0..TRIES {
-        named = world.poll(&[0, 1]);
-        if named != Polled::Quiet {
-            break;
-        }
-    }
-    assert_eq!(rt; named, Polled::Ready(1));
+    assert_eq!(rt; poll_some(&mut world, &[0, 1]), Polled::Ready(1));
     assert_eq!(rt; lively.read(&mut room), LinkRead::Took(3));
     lively.shut();
-    named = Polled::Quiet;
-    for _ in 0..TRIES {
-        named = world.poll(&[0]);
-        if named != Polled::Quiet {
-            break;
-        }
-    }
-    assert_eq!(rt; named, Polled::Ready(0));
+    assert_eq!(rt; poll_some(&mut world, &[0]), Polled::Ready(0));
     silent.shut();
     drop(first);
     drop(second);
     Ok(())
 }
 
-/// A port that is taken isn't opened, and a world that wasn't opened gives no link.
+/// A port that is taken isn't opened, and a world that wasn't opened has no link to give.
 #[test]
 fn a_port_is_opened_once(rt: HostRuntime) -> Result<(), Fail> {
     let mut world = TcpWorld::new(&rt);

@@ -1,4 +1,5 @@
--- The answer to the request at the front of the buffer comes first, whatever comes behind that request.
+-- The answer to the request at the front of the buffer comes first, whatever
+-- comes behind that request.
 use Rattle.std.specs.Prelude.{◌==◌}
 use Rattle.std.proofs.Common.{◌≡◌, ℕ, ◌+◌, ◌-◌, ◌<◌, Bool, true, false, List, [], ◌∷◌, ◌++◌, take, refl, sym, ap, ◌∙◌, arith, ne_eqb}
 use Rattle.std.proofs.lemmas.Bool.{eqb-true, eq-eqb}

@@ -6,7 +6,7 @@ use Rattle.sws_link.specs.declared.LinkRead.{LinkRead}
 use Rattle.sws_link.specs.declared.LinkRead.TheVariants as read
 use Rattle.sws_link.specs.declared.LinkWrite.{LinkWrite}
 use Rattle.sws_link.specs.declared.LinkWrite.TheVariants as write
-use Rattle.sws_link.specs.Links.{LinkTells, LinkTakes, read_fault, write_fault, reading, writing}
+use Rattle.sws_link.specs.Links.{LinkContents, LinkTakes, read_fault, write_fault, reading, writing}
 use Rattle.sws_parts.specs.Parts.{after_sending}
 use Rattle.sws_steps.specs.Protocol.{Protocol, IsOrderly, Cut, Whole, TooLong, NotYet, request, too_long}
 use Rattle.sws_steps.specs.declared.End.{End}
@@ -20,7 +20,7 @@ use Rattle.sws_steps.specs.Serving.{IsAnswered, KeepsBy}
 use Rattle.sws_steps.proofs.Inputs.ServedLemmas.{answered-read}
 
 -- a read that fails changes nothing that is told
-failed_told : {Hall Answer : Type 0} (p : Protocol Hall Answer) (hall : Hall) (before now : Option LinkTells) (room : ℕ) (into : List ℕ) → LinkTakes before now room read.Failed into
+failed_told : {Hall Answer : Type 0} (p : Protocol Hall Answer) (hall : Hall) (before now : Option LinkContents) (room : ℕ) (into : List ℕ) → LinkTakes before now room read.Failed into
     → IsAnswered p hall before → IsAnswered p hall now
 failed_told p hall None now room into takes told = subst (IsAnswered p hall) (sym takes) tt
 failed_told p hall (Some before) now room into takes told = subst (IsAnswered p hall) (sym takes.is)
@@ -109,7 +109,7 @@ module _ {Hall Answer L : Type 0} (p : Protocol Hall Answer) (orderly : IsOrderl
       answered : (link : L) → IsToRead p c → IsToldBy x c (Some link) sound.taken sound.sent → IsAnswered p hall (x.tells link)
       answered link ready told = by_tells (x.tells link) told
         where
-          by_tells : (tells : Option LinkTells) → IsTold c tells sound.taken sound.sent → IsAnswered p hall tells
+          by_tells : (tells : Option LinkContents) → IsTold c tells sound.taken sound.sent → IsAnswered p hall tells
           by_tells None told = tt
           by_tells (Some tells) told =
               answered-read p orderly c tells sound.taken sound.sent sound.progress told ready ∙ ap (λ s. p.responses_of s tells.taken) same

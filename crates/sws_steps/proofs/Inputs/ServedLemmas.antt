@@ -7,7 +7,7 @@ use Rattle.std.proofs.lemmas.List.Concat.{flat_map-append}
 use Rattle.sws_link.specs.declared.Link.{Ghosts as LinkWords}
 use Rattle.sws_link.specs.Contents.{IsPrefix}
 use Rattle.sws_link.specs.Counts.{Rose}
-use Rattle.sws_link.specs.Links.{LinkTells, input_of}
+use Rattle.sws_link.specs.Links.{LinkContents, input_of}
 use Rattle.sws_parts.specs.Parts.{unsent_bytes}
 use Rattle.sws_steps.specs.Protocol.{Protocol, IsOrderly, NotYet, later_unless, text_of, texts_of, is_closed}
 use Rattle.sws_steps.specs.declared.End.{End}
@@ -22,7 +22,8 @@ use Rattle.sws_steps.proofs.Inputs.PartLemmas.{nothing-rest, front-first}
 use Rattle.sws_steps.proofs.Inputs.SinceLemmas.{SameInput, Since, SinceLink}
 
 module _ {Hall Answer : Type 0} (p : Protocol Hall Answer) (orderly : IsOrderly p) where
-  -- the answers to what was taken, followed by whatever may come, are those that were given, and more
+  -- the answers to what was taken, followed by whatever may come, are those
+  -- that were given, and more
   responses-given : (c : ConnCoreState Hall) (taken sent more : List ℕ) (k : Progress p c taken sent) (bytes : List ℕ) → take p.input_limit bytes ≡ k.consumed ++ more
       → p.responses_of c.hall bytes ≡ texts_of p k.given ++ texts_of p (later_unless c.closes (p.answers (p.answer_limit - c.answered) c.hall more))
   responses-given c taken sent more k bytes is =
@@ -35,7 +36,7 @@ module _ {Hall Answer : Type 0} (p : Protocol Hall Answer) (orderly : IsOrderly 
   taken-few c taken sent k = let few = k.read_few in let is = k.read_is in omega arith
 
   -- what was written begins the responses to the heads that were answered
-  pub consumed-first : (c : ConnCoreState Hall) (tells : LinkTells) (taken sent : List ℕ) (k : Progress p c taken sent) → IsTold c (Some tells) taken sent
+  pub consumed-first : (c : ConnCoreState Hall) (tells : LinkContents) (taken sent : List ℕ) (k : Progress p c taken sent) → IsTold c (Some tells) taken sent
       → IsPrefix tells.written (p.responses_of c.hall k.consumed)
   consumed-first c tells taken sent k (taken_is, writes, left) =
       let rest = front-first c.parts in
@@ -55,7 +56,7 @@ module _ {Hall Answer : Type 0} (p : Protocol Hall Answer) (orderly : IsOrderly 
       )
 
   -- what was written begins the responses to what was taken
-  pub written-first : (c : ConnCoreState Hall) (tells : LinkTells) (taken sent : List ℕ) → Progress p c taken sent → IsTold c (Some tells) taken sent
+  pub written-first : (c : ConnCoreState Hall) (tells : LinkContents) (taken sent : List ℕ) → Progress p c taken sent → IsTold c (Some tells) taken sent
       → IsPrefix tells.written (p.responses_of c.hall tells.taken)
   written-first c tells taken sent k (taken_is, writes, left) =
       let later = texts_of p (later_unless c.closes (p.answers (p.answer_limit - c.answered) c.hall c.buffer)) in
@@ -74,7 +75,7 @@ module _ {Hall Answer : Type 0} (p : Protocol Hall Answer) (orderly : IsOrderly 
       )
 
   -- where all is done, what was written is the responses to the whole input
-  pub written-whole : (c : ConnCoreState Hall) (tells : LinkTells) (taken sent : List ℕ) → Progress p c taken sent → IsTold c (Some tells) taken sent
+  pub written-whole : (c : ConnCoreState Hall) (tells : LinkContents) (taken sent : List ℕ) → Progress p c taken sent → IsTold c (Some tells) taken sent
       → c.end ≡ Some ending.Done → IsDone p c → tells.written ≡ p.responses_of c.hall (input_of tells)
   written-whole c tells taken sent k (taken_is, writes, left) end done = by_last done.last
     where
@@ -121,7 +122,7 @@ module _ {Hall Answer : Type 0} (p : Protocol Hall Answer) (orderly : IsOrderly 
       by_last (inr (goes_on, not_yet, all)) = by_input goes_on not_yet all
 
   -- and why nothing more comes
-  nothing-more : (c : ConnCoreState Hall) (tells : LinkTells) (taken sent : List ℕ) → Progress p c taken sent → IsTold c (Some tells) taken sent → IsDone p c
+  nothing-more : (c : ConnCoreState Hall) (tells : LinkContents) (taken sent : List ℕ) → Progress p c taken sent → IsTold c (Some tells) taken sent → IsDone p c
       → IsLast p c.hall tells
   nothing-more c tells taken sent k (taken_is, writes, left) done = by_last done.last
     where
@@ -145,7 +146,7 @@ module _ {Hall Answer : Type 0} (p : Protocol Hall Answer) (orderly : IsOrderly 
       by_last (inr (goes_on, not_yet, full)) = by_input c.input_ended refl full
 
   -- where a read is to be made, all that was taken is answered
-  pub answered-read : (c : ConnCoreState Hall) (tells : LinkTells) (taken sent : List ℕ) → Progress p c taken sent → IsTold c (Some tells) taken sent → IsToRead p c
+  pub answered-read : (c : ConnCoreState Hall) (tells : LinkContents) (taken sent : List ℕ) → Progress p c taken sent → IsTold c (Some tells) taken sent → IsToRead p c
       → tells.written ≡ p.responses_of c.hall tells.taken
   answered-read c tells taken sent k (taken_is, writes, left) ready =
       let all : take p.input_limit tells.taken ≡ k.consumed ++ c.buffer =
@@ -164,7 +165,7 @@ module _ {Hall Answer : Type 0} (p : Protocol Hall Answer) (orderly : IsOrderly 
     unfolding SameInput
     serves hall first now c end same end_is ended sound since = by_tells (x.tells first) (x.tells now) since.input sound.told
       where
-        by_tells : (before after : Option LinkTells) → SameInput before after → IsTold c after sound.taken sound.sent → Serves p hall before after end
+        by_tells : (before after : Option LinkContents) → SameInput before after → IsTold c after sound.taken sound.sent → Serves p hall before after end
         by_tells None after input told = input
         by_tells (Some before) after (tells, is, input) told =
             let says : IsTold c (Some tells) sound.taken sound.sent = subst (λ o. IsTold c o sound.taken sound.sent) is told in (
@@ -204,7 +205,7 @@ module _ {Hall Answer : Type 0} (p : Protocol Hall Answer) (orderly : IsOrderly 
     pub begins_responses : (k : ConnState Hall L) → IsSound p x k → BeginsResponses p k.standing.hall (told_by_link x k.link)
     begins_responses k sound = by_link k.link sound.told
       where
-        by_tells : (tells : Option LinkTells) → IsTold k.standing tells sound.taken sound.sent → BeginsResponses p k.standing.hall tells
+        by_tells : (tells : Option LinkContents) → IsTold k.standing tells sound.taken sound.sent → BeginsResponses p k.standing.hall tells
         by_tells None told = tt
         by_tells (Some tells) told = written-first k.standing tells sound.taken sound.sent sound.progress told
 

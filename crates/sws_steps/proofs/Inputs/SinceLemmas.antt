@@ -7,7 +7,7 @@ use Rattle.sws_link.specs.declared.LinkRead.TheVariants as read
 use Rattle.sws_link.specs.declared.LinkWrite.{LinkWrite}
 use Rattle.sws_link.specs.declared.LinkWrite.TheVariants as write
 use Rattle.sws_link.specs.Counts.{Count, Rose, IsLater}
-use Rattle.sws_link.specs.Links.{LinkTells, LinkTakes, LinkPuts, Reads, Writes, input_of, given_by}
+use Rattle.sws_link.specs.Links.{LinkContents, LinkTakes, LinkPuts, Reads, Writes, input_of, given_by}
 use Rattle.sws_link.proofs.CountLemmas.{IsLater-same, IsLater-trans, Rose-later, Rose-earlier}
 use Rattle.sws_parts.specs.Parts.{front_of, after_sending}
 use Rattle.sws_steps.specs.Protocol.{Protocol, Cut, Whole, TooLong, NotYet, request, too_long}
@@ -21,23 +21,23 @@ use Rattle.sws_steps.specs.Serving.{RoseBy}
 
 -- ---- the input
 
-unfoldable pub SameInput : Option LinkTells → Option LinkTells → Type 0
+unfoldable pub SameInput : Option LinkContents → Option LinkContents → Type 0
 SameInput None now = now ≡ None
-SameInput (Some before) now = (after : LinkTells) × (now ≡ Some after) × (input_of after ≡ input_of before)
+SameInput (Some before) now = (after : LinkContents) × (now ≡ Some after) × (input_of after ≡ input_of before)
 
-pub same_input : (tells : Option LinkTells) → SameInput tells tells
+pub same_input : (tells : Option LinkContents) → SameInput tells tells
 unfolding SameInput
 same_input None = refl
 same_input (Some tells) = (tells, refl, refl)
 
-input-then : (a b c : Option LinkTells) → SameInput a b → SameInput b c → SameInput a c
+input-then : (a b c : Option LinkContents) → SameInput a b → SameInput b c → SameInput a c
 unfolding SameInput
 input-then None b c first second = subst (λ b. SameInput b c) first second
 input-then (Some a) b c (told, is, same) second =
     let next : SameInput (Some told) c = subst (λ b. SameInput b c) is second in
     (next.0, next.1, next.2 ∙ same)
 
-takes_input : (before now : Option LinkTells) (room : ℕ) (answer : LinkRead) (into : List ℕ) → LinkTakes before now room answer into → SameInput before now
+takes_input : (before now : Option LinkContents) (room : ℕ) (answer : LinkRead) (into : List ℕ) → LinkTakes before now room answer into → SameInput before now
 unfolding SameInput
 takes_input None now room answer into takes = takes
 takes_input (Some before) now room answer into takes = (
@@ -47,7 +47,7 @@ takes_input (Some before) now room answer into takes = (
       ∙ ap (λ l. before.taken ++ l) (sym takes.left),
 )
 
-puts_input : (before now : Option LinkTells) (answer : LinkWrite) (piece : List ℕ) → LinkPuts before now answer piece → SameInput before now
+puts_input : (before now : Option LinkContents) (answer : LinkWrite) (piece : List ℕ) → LinkPuts before now answer piece → SameInput before now
 unfolding SameInput
 puts_input None now answer piece puts = puts
 puts_input (Some before) now answer piece puts =

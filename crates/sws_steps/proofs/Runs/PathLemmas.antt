@@ -1,4 +1,5 @@
--- Paths: from each standing that a connection can have there is one, and only one; and it goes on with each step.
+-- Paths: from each standing that a connection can have there is one, and only one; and
+-- it goes on with each step.
 use Rattle.std.specs.Prelude.{◌⊎◌, if◌then◌else◌, take, drop, IsSome, is_some}
 use Rattle.std.proofs.Common.{inl, inr, ◌≡◌, ◌≢◌, ℕ, zero, suc, ◌+◌, ◌<◌, ◌≤◌, Bool, true, false, nat_le, List, [], ◌∷◌, ◌++◌, length, Option, Some, None, refl, sym, ap, ◌∙◌, subst, arith, append_assoc, lit<}
 use Rattle.sws_link.specs.declared.Link.{Ghosts as LinkWords}
@@ -6,7 +7,7 @@ use Rattle.sws_link.specs.declared.LinkRead.{LinkRead}
 use Rattle.sws_link.specs.declared.LinkRead.TheVariants as read
 use Rattle.sws_link.specs.declared.LinkWrite.{LinkWrite}
 use Rattle.sws_link.specs.declared.LinkWrite.TheVariants as write
-use Rattle.sws_link.specs.Links.{LinkTells, LinkTakes, LinkPuts, ReadsAs, WritesAs, IsReadWithin, IsWriteWithin}
+use Rattle.sws_link.specs.Links.{LinkContents, LinkTakes, LinkPuts, ReadsAs, WritesAs, IsReadWithin, IsWriteWithin}
 use Rattle.sws_link.specs.Scripts.{Script, Item, piece, wait, fault, read_of, write_of, write_by, within, within_step}
 use Rattle.sws_parts.specs.Parts.{front_of, after_sending}
 use Rattle.sws_steps.specs.Protocol.{Protocol, IsOrderly, Cut, Whole, TooLong, NotYet, request, too_long}
@@ -56,14 +57,14 @@ is_nothing next.Wait = inr (λ e. cc)
 is_nothing next.Close = inr (λ e. cc)
 is_nothing next.Nothing = inl refl
 
-untold-read : (before now : Option LinkTells) (room : ℕ) (answer : LinkRead) (into : List ℕ) → LinkTakes before now room answer into
+untold-read : (before now : Option LinkContents) (room : ℕ) (answer : LinkRead) (into : List ℕ) → LinkTakes before now room answer into
     → answers_to_come before ≡ None → answers_to_come now ≡ None
 untold-read None now room answer into e none = ap answers_to_come e
 untold-read (Some before) now room answer into takes none =
     let to_come : takes.after.to_come ≡ None = subst (λ o. ReadsAs o room answer into takes.after.to_come) none takes.to_come in
     ap answers_to_come takes.is ∙ to_come
 
-untold-written : (before now : Option LinkTells) (answer : LinkWrite) (bytes : List ℕ) → LinkPuts before now answer bytes
+untold-written : (before now : Option LinkContents) (answer : LinkWrite) (bytes : List ℕ) → LinkPuts before now answer bytes
     → answers_to_come before ≡ None → answers_to_come now ≡ None
 untold-written None now answer bytes e none = ap answers_to_come e
 untold-written (Some before) now answer bytes puts none =
@@ -203,7 +204,7 @@ module _ {Hall Answer : Type 0} (p : Protocol Hall Answer) (orderly : IsOrderly 
   ended_at c ready e = subst (λ stage. IsReadyTo p stage c) e ready
 
   -- after the close there is none
-  pub events-none : (count : ℕ) (c : Scripted Hall) → c.standing.pending ≡ next.Nothing → IsEnded p c.standing → events p count c ≡ []
+  events-none : (count : ℕ) (c : Scripted Hall) → c.standing.pending ≡ next.Nothing → IsEnded p c.standing → events p count c ≡ []
   unfolding events
   events-none zero c pending ended = refl
   events-none (suc count) c pending ended =
@@ -221,7 +222,7 @@ module _ {Hall Answer : Type 0} (p : Protocol Hall Answer) (orderly : IsOrderly 
       let whole : IsPathFrom p c (event ∷ later) = (e, path) in
       subst (λ front. IsPathFrom p c (front ++ later)) (sym e) whole
 
-  pub events-path : (count : ℕ) (c : Scripted Hall) → p.IsHall c.standing.hall → Ready p c.standing → steps_left p c.standing ≤ count → IsPathFrom p c (events p count c)
+  events-path : (count : ℕ) (c : Scripted Hall) → p.IsHall c.standing.hall → Ready p c.standing → steps_left p c.standing ≤ count → IsPathFrom p c (events p count c)
   unfolding IsPathFrom events
   events-path zero c limits ready few = by_nothing (is_nothing c.standing.pending)
     where
@@ -341,7 +342,7 @@ module _ {Hall Answer : Type 0} (p : Protocol Hall Answer) (orderly : IsOrderly 
 
   -- ---- the rest of the path
 
-  pub rest-path : (c : ConnCoreState Hall) (script : Script) → p.IsHall c.hall → Ready p c → IsPathFrom p (record { standing = c; script = script }) (rest_of_path p c script)
+  rest-path : (c : ConnCoreState Hall) (script : Script) → p.IsHall c.hall → Ready p c → IsPathFrom p (record { standing = c; script = script }) (rest_of_path p c script)
   rest-path c script limits ready = events-path (steps_left p c) (record { standing = c; script = script }) limits ready (omega arith)
 
   -- a step takes its event off the rest of the path
@@ -443,10 +444,10 @@ module _ {Hall Answer : Type 0} (p : Protocol Hall Answer) (orderly : IsOrderly 
         d : ConnCoreState Hall
         d = after.standing
 
-        Takes : Option Script → Option LinkTells → Type 0
+        Takes : Option Script → Option LinkContents → Type 0
         Takes script now = TakesOff (event_of c) (rest_by p c script) (rest_by p d (answers_to_come now))
 
-        by_script : (script : Option Script) (now : Option LinkTells) → FollowsBy p script c d now → (script ≡ None → answers_to_come now ≡ None)
+        by_script : (script : Option Script) (now : Option LinkContents) → FollowsBy p script c d now → (script ≡ None → answers_to_come now ≡ None)
             → UnlessMemory d.end (Takes script now)
         by_script None now follows untold = unless d.end (Takes None now) (ap (rest_by p d) (untold refl))
         by_script (Some script) now follows untold =
@@ -461,7 +462,7 @@ module _ {Hall Answer : Type 0} (p : Protocol Hall Answer) (orderly : IsOrderly 
                       ∙ ap (λ s. event_of c ++ rest_of_path p s later.script) (sym follows.standing),
                 )
 
-        by_told : (told now : Option LinkTells) → FollowsTold p told c d now → (answers_to_come told ≡ None → answers_to_come now ≡ None)
+        by_told : (told now : Option LinkContents) → FollowsTold p told c d now → (answers_to_come told ≡ None → answers_to_come now ≡ None)
             → UnlessMemory d.end (Takes (answers_to_come told) now)
         by_told None now follows untold = unless d.end (Takes None now) (ap (rest_by p d) (untold refl))
         by_told (Some tells) now follows untold = by_script tells.to_come now follows untold

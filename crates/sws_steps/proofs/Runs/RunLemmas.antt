@@ -2,7 +2,7 @@
 use Rattle.std.specs.Prelude.{IsSome, is_some, if◌then◌else◌}
 use Rattle.std.proofs.Common.{◌≡◌, ◌≢◌, ◌-◌, Bool, true, false, List, [], ◌∷◌, ◌++◌, Option, Some, None, refl, sym, ap, ◌∙◌, subst, arith, append_assoc, append-nil}
 use Rattle.sws_link.specs.declared.Link.{Ghosts as LinkWords}
-use Rattle.sws_link.specs.Links.{LinkTells, IsFresh}
+use Rattle.sws_link.specs.Links.{LinkContents, IsInitialLink}
 use Rattle.sws_link.specs.Scripts.{Script}
 use Rattle.sws_parts.specs.Parts.{front_of}
 use Rattle.sws_steps.specs.Protocol.{Protocol, IsOrderly}
@@ -129,8 +129,8 @@ module _ {Hall Answer : Type 0} (p : Protocol Hall Answer) (orderly : IsOrderly 
     module _ (hall : Hall) (first : L) where
       -- ---- the opened connection
 
-      opened-sound : p.IsHall hall → IsFresh (x.tells first) → x.is_shut first ≡ false → IsSound p x (conn_at_open hall first)
-      opened-sound limits fresh not_shut = record {
+      opened-sound : p.IsHall hall → IsInitialLink (x.tells first) → x.is_shut first ≡ false → IsSound p x (conn_at_open hall first)
+      opened-sound limits initial not_shut = record {
         taken = [];
         sent = [];
         ready = opened-ready p orderly hall;
@@ -150,26 +150,26 @@ module _ {Hall Answer : Type 0} (p : Protocol Hall Answer) (orderly : IsOrderly 
           given_few = omega arith;
           texts_few = omega arith;
         };
-        told = by_tells (x.tells first) fresh;
+        told = by_tells (x.tells first) initial;
       }
         where
-          by_tells : (tells : Option LinkTells) → IsFresh tells → IsTold (going_to (core_before_open hall) next.Read) tells [] []
-          by_tells None fresh = tt
-          by_tells (Some tells) fresh = (
-            fresh.0,
-            record { front = []; is = fresh.1; prefix = (front_of (core_before_open hall).parts, refl); none = λ u. refl },
+          by_tells : (tells : Option LinkContents) → IsInitialLink tells → IsTold (going_to (core_before_open hall) next.Read) tells [] []
+          by_tells None initial = tt
+          by_tells (Some tells) initial = (
+            initial.0,
+            record { front = []; is = initial.1; prefix = (front_of (core_before_open hall).parts, refl); none = λ u. refl },
             λ ended. absurd (let no : false ≡ true = ended in cc),
           )
 
       -- a connection that got its link is one that was just opened
       pub opens-sound : (before : ConnState Hall L) → before.standing.hall ≡ hall → IsSound p x before → false ≡ is_some before.link
-          → IsFresh (x.tells first) → x.is_shut first ≡ false
+          → IsInitialLink (x.tells first) → x.is_shut first ≡ false
           → IsSound p x (record { standing = going_to before.standing next.Read; link = Some first })
-      opens-sound before same sound none fresh not_shut =
+      opens-sound before same sound none initial not_shut =
           let limits : p.IsHall hall = subst p.IsHall same sound.progress.limits in
           let is : before.standing ≡ core_before_open hall =
           not_opened p orderly before.standing before.link sound.ready sound.linked none ∙ ap core_before_open same in
-          subst (λ (c : ConnCoreState Hall). IsSound p x (record { standing = going_to c next.Read; link = Some first })) (sym is) (opened-sound limits fresh not_shut)
+          subst (λ (c : ConnCoreState Hall). IsSound p x (record { standing = going_to c next.Read; link = Some first })) (sym is) (opened-sound limits initial not_shut)
 
       opened-off : RunsOff (known_path p hall (x.tells first)) (open_link ∷ []) (conn_at_open hall first)
       opened-off = by_script (answers_to_come (x.tells first))
@@ -183,21 +183,21 @@ module _ {Hall Answer : Type 0} (p : Protocol Hall Answer) (orderly : IsOrderly 
       pub run-sound : (trail : List Handler) (conn : ConnState Hall L) → HasRun p x hall first trail conn → IsSound p x conn
       run-sound trail conn run =
           runs-keep (IsSound p x) (λ before after steps sound. step_sound p orderly x before.standing after.standing before.link after.link sound steps)
-          trail (conn_at_open hall first) conn run.runs (opened-sound run.limits run.fresh run.not_shut)
+          trail (conn_at_open hall first) conn run.runs (opened-sound run.limits run.initial run.not_shut)
 
       pub run-path : (trail : List Handler) (conn : ConnState Hall L) → HasRun p x hall first trail conn
           → UnlessMemory conn.standing.end (TakesOff (open_link ∷ trail) (known_path p hall (x.tells first)) (known_rest p x conn))
       run-path trail conn run =
-          off-run (known_path p hall (x.tells first)) trail (open_link ∷ []) (conn_at_open hall first) conn run.runs (opened-sound run.limits run.fresh run.not_shut) opened-off
+          off-run (known_path p hall (x.tells first)) trail (open_link ∷ []) (conn_at_open hall first) conn run.runs (opened-sound run.limits run.initial run.not_shut) opened-off
 
-      pub run-start : p.IsHall hall → IsFresh (x.tells first) → x.is_shut first ≡ false → HasRun p x hall first [] (conn_at_open hall first)
+      pub run-start : p.IsHall hall → IsInitialLink (x.tells first) → x.is_shut first ≡ false → HasRun p x hall first [] (conn_at_open hall first)
       unfolding RunsBy
-      run-start limits fresh not_shut = record { limits = limits; fresh = fresh; not_shut = not_shut; runs = refl }
+      run-start limits initial not_shut = record { limits = limits; initial = initial; not_shut = not_shut; runs = refl }
 
       pub run-on : (trail : List Handler) (event : Handler) (before after : ConnState Hall L) → HasRun p x hall first trail before
           → event_of before.standing ≡ event ∷ [] → Steps p x before after → HasRun p x hall first (trail ++ event ∷ []) after
       run-on trail event before after run e steps =
-          record { limits = run.limits; fresh = run.fresh; not_shut = run.not_shut; runs = runs-more trail event (conn_at_open hall first) before after run.runs e steps }
+          record { limits = run.limits; initial = run.initial; not_shut = run.not_shut; runs = runs-more trail event (conn_at_open hall first) before after run.runs e steps }
 
       -- ---- at the end
 
@@ -213,7 +213,7 @@ module _ {Hall Answer : Type 0} (p : Protocol Hall Answer) (orderly : IsOrderly 
 
       pub run-kept : (trail : List Handler) (conn : ConnState Hall L) → HasRun p x hall first trail conn → Kept p x hall first conn
       run-kept trail conn run = runs-keep (Kept p x hall first) keeps trail (conn_at_open hall first) conn run.runs (record {
-        sound = opened-sound run.limits run.fresh run.not_shut;
+        sound = opened-sound run.limits run.initial run.not_shut;
         linked = refl;
         heads = λ o h. h;
         since = since-opened x first (going_to (core_before_open hall) next.Read) refl refl;
@@ -228,7 +228,7 @@ module _ {Hall Answer : Type 0} (p : Protocol Hall Answer) (orderly : IsOrderly 
           let facts = served p orderly x hall first now conn end kept.hall_is pending end_is link_is kept.sound kept.since in
           record {
             serves = facts.0;
-            outcome = ends_as p orderly hall (x.tells first) (x.tells now) conn.standing end run.fresh end_is
+            outcome = ends_as p orderly hall (x.tells first) (x.tells now) conn.standing end run.initial end_is
                 (λ o h. subst (λ l. HeadsForLink p x l conn.standing o) link_is (kept.heads o h));
             path = subst (λ e. UnlessMemory e (IsWhole (open_link ∷ trail) (known_path p hall (x.tells first)))) end_is
                 (unless-map conn.standing.end
@@ -248,7 +248,7 @@ module _ {Hall Answer : Type 0} (p : Protocol Hall Answer) (orderly : IsOrderly 
               sym (split ∙ ap (λ l. (open_link ∷ trail) ++ l) none ∙ append-nil (open_link ∷ trail))
 
       -- the same of a run that has ended
-      pub ended-ends : (now : L) (end : End) (ended : HasEnded p x hall first now end) → EndsRun p x hall first ended.trail now end
+      ended-ends : (now : L) (end : End) (ended : HasEnded p x hall first now end) → EndsRun p x hall first ended.trail now end
       ended-ends now end ended = run-ends ended.trail ended.conn now end ended.run ended.closed ended.link_is ended.end_is
 
       -- one step more, while the connection isn't closed

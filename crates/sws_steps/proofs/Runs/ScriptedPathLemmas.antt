@@ -5,7 +5,7 @@ use Rattle.sws_link.specs.declared.LinkRead.{LinkRead}
 use Rattle.sws_link.specs.declared.LinkRead.TheVariants as read
 use Rattle.sws_link.specs.declared.LinkWrite.{LinkWrite}
 use Rattle.sws_link.specs.declared.LinkWrite.TheVariants as write
-use Rattle.sws_link.specs.Links.{LinkTells, LinkTakes, LinkPuts, TakesTold, PutsTold, ReadsAs, WritesAs, given_by}
+use Rattle.sws_link.specs.Links.{LinkContents, LinkTakes, LinkPuts, TakesTold, PutsTold, ReadsAs, WritesAs, given_by}
 use Rattle.sws_link.specs.Scripts.{Script, read_of, write_of}
 use Rattle.sws_parts.specs.Parts.{front_of}
 use Rattle.sws_steps.specs.Protocol.{Protocol}
@@ -37,7 +37,7 @@ module _ {Hall Answer : Type 0} (p : Protocol Hall Answer) where
   same_read c read.Failed into bytes e = refl
 
   module _ {L : Type 0} (x : LinkWords L) where
-    read_follows : (c d : ConnCoreState Hall) (link now : L) (tells : LinkTells) (script : Script) → x.tells link ≡ Some tells → tells.to_come ≡ Some script
+    read_follows : (c d : ConnCoreState Hall) (link now : L) (tells : LinkContents) (script : Script) → x.tells link ≡ Some tells → tells.to_come ≡ Some script
         → ReadsOnce p x c d link now → Follows (scripted_at p next.Read (record { standing = c; script = script })) d (x.tells now)
     read_follows c d link now tells script told to_come once =
         let takes : TakesTold tells (x.tells now) (room_of p c) once.answer once.into =
@@ -52,7 +52,7 @@ module _ {Hall Answer : Type 0} (p : Protocol Hall Answer) where
           standing = once.becomes ∙ same_read c once.answer once.into said.bytes reads.1 ∙ ap (λ a. after_read c a said.bytes) reads.0;
         }
 
-    write_follows : (c d : ConnCoreState Hall) (link now : L) (tells : LinkTells) (script : Script) → x.tells link ≡ Some tells → tells.to_come ≡ Some script
+    write_follows : (c d : ConnCoreState Hall) (link now : L) (tells : LinkContents) (script : Script) → x.tells link ≡ Some tells → tells.to_come ≡ Some script
         → (once : WritesOnce x c d link now) → (once.answer ≡ write.Memory → ⊥) → Follows (scripted_at p next.Write (record { standing = c; script = script })) d (x.tells now)
     write_follows c d link now tells script told to_come once memory =
         let puts : PutsTold tells (x.tells now) once.answer (front_of c.parts) =
@@ -77,7 +77,7 @@ module _ {Hall Answer : Type 0} (p : Protocol Hall Answer) where
     -- ---- whatever is pending
 
     -- a step without a call, over what the link tells
-    still_follows : (c d : ConnCoreState Hall) (before now : Option LinkTells) → now ≡ before
+    still_follows : (c d : ConnCoreState Hall) (before now : Option LinkContents) → now ≡ before
         → ((script : Script) → scripted_step p (record { standing = c; script = script }) ≡ record { standing = d; script = script })
         → FollowsTold p before c d now
     still_follows c d None now e same = tt
@@ -95,7 +95,7 @@ module _ {Hall Answer : Type 0} (p : Protocol Hall Answer) where
     read_told : (c d : ConnCoreState Hall) (link now : L) → c.pending ≡ next.Read → ReadsOnce p x c d link now → FollowsTold p (x.tells link) c d (x.tells now)
     read_told c d link now pending once = by_tells (x.tells link) refl
       where
-        by_tells : (tells : Option LinkTells) → x.tells link ≡ tells → FollowsTold p tells c d (x.tells now)
+        by_tells : (tells : Option LinkContents) → x.tells link ≡ tells → FollowsTold p tells c d (x.tells now)
         by_tells None e = tt
         by_tells (Some tells) e = by_script tells.to_come refl
           where
@@ -108,7 +108,7 @@ module _ {Hall Answer : Type 0} (p : Protocol Hall Answer) where
     write_told : (c d : ConnCoreState Hall) (link now : L) → c.pending ≡ next.Write → WritesOnce x c d link now → FollowsTold p (x.tells link) c d (x.tells now)
     write_told c d link now pending once = by_tells (x.tells link) refl
       where
-        by_tells : (tells : Option LinkTells) → x.tells link ≡ tells → FollowsTold p tells c d (x.tells now)
+        by_tells : (tells : Option LinkContents) → x.tells link ≡ tells → FollowsTold p tells c d (x.tells now)
         by_tells None e = tt
         by_tells (Some tells) e = by_script tells.to_come refl
           where

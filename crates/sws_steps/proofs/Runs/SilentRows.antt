@@ -1,4 +1,5 @@
--- Worked rows of a protocol that says nothing: each byte is a request, whose answer has no bytes and closes.
+-- Worked rows of a protocol that says nothing: each byte is a request, whose answer
+-- has no bytes and closes.
 use Rattle.std.proofs.Common.{◌≡◌, ℕ, zero, suc, ◌<◌, true, false, List, [], ◌∷◌, ◌++◌, take, None, refl, ap, arith, lit<}
 use Rattle.sws_link.specs.Scripts.{Script, piece}
 use Rattle.sws_steps.specs.declared.End.TheVariants as ending
@@ -9,7 +10,7 @@ use Rattle.sws_steps.specs.Path.{open_link, read_piece, parse, look, close, IsPa
 use Rattle.sws_steps.proofs.Runs.PathLemmas.{path-unique, path_of-path}
 
 -- a hall and an answer of which nothing need be known
-pub data Silence : Type 0 where
+data Silence : Type 0 where
   silence : Silence
 
 abbrev first_byte : List ℕ → Cut

@@ -4,7 +4,7 @@ use Rattle.std.proofs.Common.{inl, inr, ◌⊎◌, ◌≡◌, ℕ, Bool, true, f
 use Rattle.sws_link.specs.declared.Link.{Ghosts as LinkWords}
 use Rattle.sws_link.specs.Contents.{IsPrefix}
 use Rattle.sws_link.specs.Exchanges.{written_in}
-use Rattle.sws_link.specs.Links.{LinkTells, input_of, IsFresh}
+use Rattle.sws_link.specs.Links.{LinkContents, input_of, IsInitialLink}
 use Rattle.sws_link.proofs.ExchangeLemmas.{exchanges-written, exchanges-says}
 use Rattle.sws_link.specs.Scripts.{Script}
 use Rattle.sws_steps.specs.Protocol.{Protocol, IsOrderly}
@@ -127,14 +127,14 @@ module _ {Hall Answer : Type 0} (p : Protocol Hall Answer) (orderly : IsOrderly 
     -- ---- what the link was served
 
     serves-link : (hall : Hall) (first now : L) (c : ConnCoreState Hall) → c.hall ≡ hall → IsSound p x (record { standing = c; link = Some now }) → Since x first c now
-        → IsFresh (x.tells first) → Exchanged x first c now → ServesTold (p.responses_of hall) (x.tells first) (x.tells now) (talk_view c)
+        → IsInitialLink (x.tells first) → Exchanged x first c now → ServesTold (p.responses_of hall) (x.tells first) (x.tells now) (talk_view c)
     unfolding SameInput
-    serves-link hall first now c same sound since fresh exchanged = by_tells (x.tells first) (x.tells now) refl refl fresh since.input sound.told
+    serves-link hall first now c same sound since initial exchanged = by_tells (x.tells first) (x.tells now) refl refl initial since.input sound.told
       where
-        by_tells : (before after : Option LinkTells) → x.tells first ≡ before → x.tells now ≡ after → IsFresh before → SameInput before after
+        by_tells : (before after : Option LinkContents) → x.tells first ≡ before → x.tells now ≡ after → IsInitialLink before → SameInput before after
             → IsTold c after sound.taken sound.sent → ServesTold (p.responses_of hall) before after (talk_view c)
-        by_tells None after before_is after_is fresh input told = input
-        by_tells (Some before) after before_is after_is fresh (tells, is, input) told =
+        by_tells None after before_is after_is initial input told = input
+        by_tells (Some before) after before_is after_is initial (tells, is, input) told =
             let says : IsTold c (Some tells) sound.taken sound.sent = subst (λ o. IsTold c o sound.taken sound.sent) is told in (
               tells,
               is,
@@ -162,7 +162,7 @@ module _ {Hall Answer : Type 0} (p : Protocol Hall Answer) (orderly : IsOrderly 
             said : (first_says : Bool) → first_says ≡ before.says_all → IsTrue tells.says_all → written_in exchanged.calls ≡ length tells.written
             said true e all =
                 let counted = exchanges-written x.tells x.is_shut x.faults x.waits exchanged.calls first now exchanged.leads before before_is (sym e) tells (after_is ∙ is) in
-                let none : length before.written ≡ 0 = ap length fresh.1 in
+                let none : length before.written ≡ 0 = ap length initial.1 in
                 (let same : written_in exchanged.calls ≡ length tells.written = omega (arith, counted, none) in same)
             said false e all =
                 let kept = exchanges-says x.tells x.is_shut x.faults x.waits exchanged.calls first now exchanged.leads before before_is tells (after_is ∙ is) in
@@ -171,7 +171,7 @@ module _ {Hall Answer : Type 0} (p : Protocol Hall Answer) (orderly : IsOrderly 
             sent-all : (front : List ℕ) → tells.written ≡ sound.sent ++ front → front ≡ [] → sound.sent ≡ tells.written
             sent-all front is none = sym (is ∙ ap (λ f. sound.sent ++ f) none ∙ append-nil sound.sent)
 
-    comes-to : (hall : Hall) (before now : Option LinkTells) (end : End) → EndsAs p hall before now end
+    comes-to : (hall : Hall) (before now : Option LinkContents) (end : End) → EndsAs p hall before now end
         → ComesTo (option_map (outcome_of p hall) (answers_to_come before)) now end
     comes-to hall None now end ends = tt
     comes-to hall (Some before) now end ends = by_script before.to_come ends
@@ -198,7 +198,7 @@ module _ {Hall Answer : Type 0} (p : Protocol Hall Answer) (orderly : IsOrderly 
             let sound : IsSound p x (record { standing = c; link = Some now }) =
             subst (λ l. IsSound p x (record { standing = c; link = l })) (sym is) kept.sound in
             record {
-              told = serves-link hall first now c kept.hall_is sound since run.fresh exchanged;
+              told = serves-link hall first now c kept.hall_is sound since run.initial exchanged;
               shut = sound.shut;
               faults = since.faults;
               waits = since.waits;
@@ -206,7 +206,7 @@ module _ {Hall Answer : Type 0} (p : Protocol Hall Answer) (orderly : IsOrderly 
               idle = λ idle. subst (λ n. RoseBy n (x.waits first) (x.waits now)) ((ended-at c ending.Idle sound.ready idle).idle idle) since.waited;
               exchange = record { calls = exchanged.calls; leads = exchanged.leads; read = exchanged.read; written = exchanged.written };
               outcome_is = λ end e.
-                  comes-to hall (x.tells first) (x.tells now) end (ends_as p orderly hall (x.tells first) (x.tells now) c end run.fresh (end-known c.pending c.end end e)
+                  comes-to hall (x.tells first) (x.tells now) end (ends_as p orderly hall (x.tells first) (x.tells now) c end run.initial (end-known c.pending c.end end e)
                   (λ o h. subst (λ l. HeadsForLink p x l c o) (sym is) (kept.heads o h)));
             }
 
@@ -216,7 +216,7 @@ module _ {Hall Answer : Type 0} (p : Protocol Hall Answer) (orderly : IsOrderly 
 
     -- ---- the path
 
-    path-same : (hall : Hall) (tells : Option LinkTells) → known_path p hall tells ≡ path_to_come (path_of p hall) tells
+    path-same : (hall : Hall) (tells : Option LinkContents) → known_path p hall tells ≡ path_to_come (path_of p hall) tells
     path-same hall tells = by_script (answers_to_come tells)
       where
         by_script : (script : Option Script) → path_by p hall script ≡ option_map (path_of p hall) script

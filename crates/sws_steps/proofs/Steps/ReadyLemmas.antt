@@ -109,7 +109,7 @@ module _ {Hall Answer : Type 0} (p : Protocol Hall Answer) (orderly : IsOrderly 
   -- ---- a read
 
   -- the link was not ready for the last time
-  pub idle-ready : (c : ConnCoreState Hall) → true ≡ nat_le wait_limit (c.waits + 1) → c.waits < wait_limit → Ready p (still_waiting c true)
+  idle-ready : (c : ConnCoreState Hall) → true ≡ nat_le wait_limit (c.waits + 1) → c.waits < wait_limit → Ready p (still_waiting c true)
   idle-ready c e patient = record {
     ended = λ f. cc;
     done = λ f. cc;
@@ -117,7 +117,7 @@ module _ {Hall Answer : Type 0} (p : Protocol Hall Answer) (orderly : IsOrderly 
   }
 
   -- the link failed, or found no memory
-  pub failed-ready : (c : ConnCoreState Hall) (end : End) → end ≢ ending.Done → end ≢ ending.Idle → Ready p (ending_as c end)
+  failed-ready : (c : ConnCoreState Hall) (end : End) → end ≢ ending.Done → end ≢ ending.Idle → Ready p (ending_as c end)
   failed-ready c end not_done not_idle = record { ended = λ f. cc; done = λ f. absurd (not_done cc); idle = λ f. absurd (not_idle cc) }
 
   pub read_waits-ready : (c : ConnCoreState Hall) → c.pending ≡ next.Read → IsToRead p c → (all : Bool) → all ≡ nat_le wait_limit (c.waits + 1) → Ready p (still_waiting c all)

@@ -6,7 +6,7 @@ use Rattle.sws_link.specs.declared.LinkRead.{LinkRead}
 use Rattle.sws_link.specs.declared.LinkRead.TheVariants as read
 use Rattle.sws_link.specs.declared.LinkWrite.{LinkWrite}
 use Rattle.sws_link.specs.declared.LinkWrite.TheVariants as write
-use Rattle.sws_link.specs.Links.{IsFresh, LinkTells, LinkTakes, LinkPuts, given_by, ReadsAs, WritesAs, IsExact, IsWriteWithin, written_by}
+use Rattle.sws_link.specs.Links.{IsInitialLink, LinkContents, LinkTakes, LinkPuts, given_by, ReadsAs, WritesAs, IsExact, IsWriteWithin, written_by}
 use Rattle.sws_link.specs.Scripts.{Script, Item, read_of, write_of, write_by, write_count, within, within_step, left_of_limit}
 use Rattle.sws_parts.specs.Parts.{front_of, unsent_bytes, after_sending}
 use Rattle.sws_steps.specs.Protocol.{Protocol, IsOrderly, Cut, Whole, TooLong, NotYet, Asked, request, too_long, later_unless, texts_of, answers_from, is_closed}
@@ -380,7 +380,7 @@ module _ {Hall Answer : Type 0} (p : Protocol Hall Answer) (orderly : IsOrderly 
   -- ---- each step
 
   -- a step that makes no call of the link
-  heads_moved : (c d : ConnCoreState Hall) (tells : Option LinkTells) (o : Outcome) → c.end ≡ None
+  heads_moved : (c d : ConnCoreState Hall) (tells : Option LinkContents) (o : Outcome) → c.end ≡ None
       → ((script : Script) → rest_outcome p d script ≡ rest_outcome p c script) → HeadsFor p tells c o → HeadsFor p tells d o
   heads_moved c d None o none same heads = absurd heads
   heads_moved c d (Some tells) o none same heads = by_script tells.to_come heads
@@ -391,7 +391,7 @@ module _ {Hall Answer : Type 0} (p : Protocol Hall Answer) (orderly : IsOrderly 
           unless d.end (with_written tells.written (rest_outcome p d script) ≡ o)
           (ap (with_written tells.written) (same script) ∙ subst (λ e. UnlessMemory e (with_written tells.written (rest_outcome p c script) ≡ o)) none heads)
 
-  heads_read : (c : ConnCoreState Hall) (before now : Option LinkTells) (o : Outcome) (room : ℕ) (answer : LinkRead) (into : List ℕ) → c.pending ≡ next.Read → IsToRead p c
+  heads_read : (c : ConnCoreState Hall) (before now : Option LinkContents) (o : Outcome) (room : ℕ) (answer : LinkRead) (into : List ℕ) → c.pending ≡ next.Read → IsToRead p c
       → room ≡ room_of p c → length into ≡ room → LinkTakes before now room answer into → HeadsFor p before c o → HeadsFor p now (after_read c answer into) o
   heads_read c None now o room answer into pending ready is_room size e heads = absurd heads
   heads_read c (Some before) now o room answer into pending ready is_room size takes heads =
@@ -415,7 +415,7 @@ module _ {Hall Answer : Type 0} (p : Protocol Hall Answer) (orderly : IsOrderly 
           (rest_outcome-read c script answer into said.items pending ready gives (size ∙ is_room) (record script { items = said.items }) refl)
           ∙ subst (λ e. UnlessMemory e (with_written before.written (rest_outcome p c script) ≡ o)) ready.between.no_end heads))
 
-  heads_write : (c : ConnCoreState Hall) (before now : Option LinkTells) (o : Outcome) (answer : LinkWrite) → c.pending ≡ next.Write → IsToWrite p c
+  heads_write : (c : ConnCoreState Hall) (before now : Option LinkContents) (o : Outcome) (answer : LinkWrite) → c.pending ≡ next.Write → IsToWrite p c
       → IsWriteWithin answer (length (front_of c.parts)) → LinkPuts before now answer (front_of c.parts) → HeadsFor p before c o → HeadsFor p now (after_write c answer) o
   heads_write c None now o answer pending ready fits e heads = absurd heads
   heads_write c (Some before) now o answer pending ready fits puts heads =
@@ -452,7 +452,7 @@ module _ {Hall Answer : Type 0} (p : Protocol Hall Answer) (orderly : IsOrderly 
           by_answer write.Memory fits is = subst (λ s. HeadsByScript p s (before.written ++ []) (ending_as c ending.Memory) o) (sym is) tt
 
   -- the close changes nothing
-  heads_closed : (c : ConnCoreState Hall) (tells : Option LinkTells) (o : Outcome) → c.end ≢ None → HeadsFor p tells c o → HeadsFor p tells (going_to c next.Nothing) o
+  heads_closed : (c : ConnCoreState Hall) (tells : Option LinkContents) (o : Outcome) → c.end ≢ None → HeadsFor p tells c o → HeadsFor p tells (going_to c next.Nothing) o
   heads_closed c None o ended heads = absurd heads
   heads_closed c (Some tells) o ended heads = by_script tells.to_come heads
     where
@@ -514,7 +514,7 @@ module _ {Hall Answer : Type 0} (p : Protocol Hall Answer) (orderly : IsOrderly 
   -- ---- the start and the end
 
   -- a connection that was opened comes to the outcome
-  pub rest_outcome-opened : (hall : Hall) (script : Script) → rest_outcome p (going_to (core_before_open hall) next.Read) script ≡ outcome_of p hall script
+  rest_outcome-opened : (hall : Hall) (script : Script) → rest_outcome p (going_to (core_before_open hall) next.Read) script ≡ outcome_of p hall script
   rest_outcome-opened hall script =
       let input = limit_input p.input_limit (input_from 0 script.items) in
       let given : p.answers_to hall input.bytes ≡ p.answers p.answer_limit hall input.bytes =
@@ -525,7 +525,7 @@ module _ {Hall Answer : Type 0} (p : Protocol Hall Answer) (orderly : IsOrderly 
       ∙ ap (λ given. cut_off script.cut (texts_of p given) (end_of (is_closed p given) input.stop)) (sym given)
 
   -- what it comes to is what it has come to, once it has ended
-  pub heads_end : (hall : Hall) (script : Script) (c : ConnCoreState Hall) (now : Option LinkTells) (end : End) → c.end ≡ Some end
+  heads_end : (hall : Hall) (script : Script) (c : ConnCoreState Hall) (now : Option LinkContents) (end : End) → c.end ≡ Some end
       → HeadsFor p now c (outcome_of p hall script) → EndsByScript p hall (Some script) now end
   heads_end hall script c None end is heads = absurd heads
   heads_end hall script c (Some tells) end is heads = by_script tells.to_come heads
@@ -540,7 +540,7 @@ module _ {Hall Answer : Type 0} (p : Protocol Hall Answer) (orderly : IsOrderly 
       by_script None heads = absurd heads
       by_script (Some rest) heads = by_end end
           (with_written tells.written (rest_outcome p c rest) ≡ outcome_of p hall script)
-          ((told : LinkTells) × (Some tells ≡ Some told) × (told.written ≡ (outcome_of p hall script).bytes) × (end ≡ (outcome_of p hall script).end))
+          ((told : LinkContents) × (Some tells ≡ Some told) × (told.written ≡ (outcome_of p hall script).bytes) × (end ≡ (outcome_of p hall script).end))
           (λ e. (
             tells,
             refl,
@@ -550,18 +550,18 @@ module _ {Hall Answer : Type 0} (p : Protocol Hall Answer) (orderly : IsOrderly 
           (subst (λ e. UnlessMemory e (with_written tells.written (rest_outcome p c rest) ≡ outcome_of p hall script)) is heads)
 
   -- a link that tells its answers to come, and of which nothing was written
-  pub heads_start : (hall : Hall) (tells : LinkTells) (script : Script) → tells.to_come ≡ Some script → tells.written ≡ []
+  heads_start : (hall : Hall) (tells : LinkContents) (script : Script) → tells.to_come ≡ Some script → tells.written ≡ []
       → HeadsFor p (Some tells) (going_to (core_before_open hall) next.Read) (outcome_of p hall script)
   heads_start hall tells script to_come none =
       subst (λ s. HeadsByScript p s tells.written (going_to (core_before_open hall) next.Read) (outcome_of p hall script)) (sym to_come)
       (ap (λ w. with_written w (rest_outcome p (going_to (core_before_open hall) next.Read) script)) none ∙ rest_outcome-opened hall script)
 
   -- a connection that comes to the outcome from the start comes to it at the end
-  pub ends_as : (hall : Hall) (first now : Option LinkTells) (c : ConnCoreState Hall) (end : End) → IsFresh first → c.end ≡ Some end
+  pub ends_as : (hall : Hall) (first now : Option LinkContents) (c : ConnCoreState Hall) (end : End) → IsInitialLink first → c.end ≡ Some end
       → ((o : Outcome) → HeadsFor p first (going_to (core_before_open hall) next.Read) o → HeadsFor p now c o) → EndsAs p hall first now end
-  ends_as hall None now c end fresh is heads = tt
-  ends_as hall (Some tells) now c end fresh is heads = by_script tells.to_come refl
+  ends_as hall None now c end initial is heads = tt
+  ends_as hall (Some tells) now c end initial is heads = by_script tells.to_come refl
     where
       by_script : (to_come : Option Script) → to_come ≡ tells.to_come → EndsByScript p hall to_come now end
       by_script None e = tt
-      by_script (Some script) e = heads_end hall script c now end is (heads (outcome_of p hall script) (heads_start hall tells script (sym e) fresh.1))
+      by_script (Some script) e = heads_end hall script c now end is (heads (outcome_of p hall script) (heads_start hall tells script (sym e) initial.1))

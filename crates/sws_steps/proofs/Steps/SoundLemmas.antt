@@ -8,7 +8,7 @@ use Rattle.sws_link.specs.declared.LinkRead.TheVariants as read
 use Rattle.sws_link.specs.declared.LinkWrite.{LinkWrite}
 use Rattle.sws_link.specs.declared.LinkWrite.TheVariants as write
 use Rattle.sws_link.specs.Contents.{IsPrefix}
-use Rattle.sws_link.specs.Links.{LinkTells, LinkTakes, LinkPuts, Reads, Writes, given_by, IsWritten}
+use Rattle.sws_link.specs.Links.{LinkContents, LinkTakes, LinkPuts, Reads, Writes, given_by, IsWritten}
 use Rattle.sws_parts.specs.Parts.{front_of, unsent_bytes, after_sending}
 use Rattle.sws_steps.specs.Protocol.{Protocol, IsOrderly, Cut, Whole, TooLong, NotYet, Asked, request, too_long, later_unless, text_of, texts_of, answers_from, is_closed}
 use Rattle.sws_steps.specs.ConnCore.{is_sent, ConnCoreState}
@@ -29,7 +29,8 @@ IsSoundAt p x c link = IsSound p x (record { standing = c; link = link })
 module _ {Hall Answer : Type 0} (p : Protocol Hall Answer) (orderly : IsOrderly p) where
   -- ---- the progress
 
-  -- it doesn't depend on the step that is pending, the end, the waits, nor on whether the input has ended
+  -- it doesn't depend on the step that is pending, the end, the waits, nor on
+  -- whether the input has ended
   progress_goes_on : (c : ConnCoreState Hall) (taken sent : List ℕ) (pending : Next) (end : Option End) (waits : ℕ) (input_ended : Bool)
       → Progress p c taken sent → Progress p (record c { pending = pending; end = end; waits = waits; input_ended = input_ended }) taken sent
   progress_goes_on c taken sent pending end waits input_ended k = record {
@@ -98,7 +99,8 @@ module _ {Hall Answer : Type 0} (p : Protocol Hall Answer) (orderly : IsOrderly 
       by_first true later = refl
       by_first false later = later
 
-  -- one more request was answered: the bytes of it left the buffer, and it is answered first, whatever comes behind it
+  -- one more request was answered: the bytes of it left the buffer, and it is answered first,
+  -- whatever comes behind it
   progress_answered : (c : ConnCoreState Hall) (taken sent head rest : List ℕ) (answer : Answer) → IsBetween p c → c.buffer ≡ head ++ rest
       → ((more : List ℕ) → p.answers (p.answer_limit - c.answered) c.hall (head ++ more)
       ≡ answers_from p answer (p.answers (p.answer_limit - (c.answered + 1)) c.hall more))
@@ -129,7 +131,7 @@ module _ {Hall Answer : Type 0} (p : Protocol Hall Answer) (orderly : IsOrderly 
 
   -- ---- what the link tells
 
-  told_read : (c : ConnCoreState Hall) (before now : Option LinkTells) (room : ℕ) (answer : LinkRead) (into taken sent : List ℕ)
+  told_read : (c : ConnCoreState Hall) (before now : Option LinkContents) (room : ℕ) (answer : LinkRead) (into taken sent : List ℕ)
       → c.input_ended ≡ false → LinkTakes before now room answer into → IsTold c before taken sent → IsTold c now (taken ++ given_by answer into) sent
   told_read c None now room answer into taken sent goes_on e told = subst (λ o. IsTold c o (taken ++ given_by answer into) sent) (sym e) tt
   told_read c (Some before) now room answer into taken sent goes_on takes told = subst (λ o. IsTold c o (taken ++ given_by answer into) sent) (sym takes.is) (
@@ -139,7 +141,7 @@ module _ {Hall Answer : Type 0} (p : Protocol Hall Answer) (orderly : IsOrderly 
   )
 
   -- the input has ended
-  told_ended : (c : ConnCoreState Hall) (before now : Option LinkTells) (room : ℕ) (into taken sent : List ℕ) (pending : Next)
+  told_ended : (c : ConnCoreState Hall) (before now : Option LinkContents) (room : ℕ) (into taken sent : List ℕ) (pending : Next)
       → LinkTakes before now room read.End into → IsTold c before taken sent
       → IsTold (record c { input_ended = true; waits = 0; pending = pending }) now taken sent
   told_ended c None now room into taken sent pending e told =
@@ -152,7 +154,7 @@ module _ {Hall Answer : Type 0} (p : Protocol Hall Answer) (orderly : IsOrderly 
       )
 
   -- only the parts and the end count
-  told_goes_on : (c d : ConnCoreState Hall) (tells : Option LinkTells) (taken sent : List ℕ) → d.parts ≡ c.parts → d.input_ended ≡ c.input_ended → (IsUncut d.end → IsUncut c.end)
+  told_goes_on : (c d : ConnCoreState Hall) (tells : Option LinkContents) (taken sent : List ℕ) → d.parts ≡ c.parts → d.input_ended ≡ c.input_ended → (IsUncut d.end → IsUncut c.end)
       → IsTold c tells taken sent → IsTold d tells taken sent
   told_goes_on c d None taken sent parts same uncut told = tt
   told_goes_on c d (Some tells) taken sent parts same uncut told = (
@@ -167,11 +169,11 @@ module _ {Hall Answer : Type 0} (p : Protocol Hall Answer) (orderly : IsOrderly 
   )
 
   -- before a write fails, what was written is what was sent
-  told_sent : (c : ConnCoreState Hall) (tells : LinkTells) (taken sent : List ℕ) → c.end ≡ None → IsTold c (Some tells) taken sent → tells.written ≡ sent
+  told_sent : (c : ConnCoreState Hall) (tells : LinkContents) (taken sent : List ℕ) → c.end ≡ None → IsTold c (Some tells) taken sent → tells.written ≡ sent
   told_sent c tells taken sent none told =
       told.1.is ∙ ap (λ f. sent ++ f) (told.1.none (subst IsUncut (sym none) tt)) ∙ append-nil sent
 
-  told_wrote : (c d : ConnCoreState Hall) (before now : Option LinkTells) (count : ℕ) (taken sent : List ℕ) → d.input_ended ≡ c.input_ended → c.end ≡ None
+  told_wrote : (c d : ConnCoreState Hall) (before now : Option LinkContents) (count : ℕ) (taken sent : List ℕ) → d.input_ended ≡ c.input_ended → c.end ≡ None
       → LinkPuts before now (write.Wrote count) (front_of c.parts) → IsTold c before taken sent
       → IsTold d now taken (sent ++ take count (front_of c.parts))
   told_wrote c d None now count taken sent same none e told = subst (λ o. IsTold d o taken (sent ++ take count (front_of c.parts))) (sym e) tt
@@ -189,7 +191,7 @@ module _ {Hall Answer : Type 0} (p : Protocol Hall Answer) (orderly : IsOrderly 
       )
 
   -- nothing was written
-  told_unwritten : (c d : ConnCoreState Hall) (before now : Option LinkTells) (taken sent : List ℕ) → d.input_ended ≡ c.input_ended → c.end ≡ None
+  told_unwritten : (c d : ConnCoreState Hall) (before now : Option LinkContents) (taken sent : List ℕ) → d.input_ended ≡ c.input_ended → c.end ≡ None
       → LinkPuts before now write.NotReady (front_of c.parts) → IsTold c before taken sent → IsTold d now taken sent
   told_unwritten c d None now taken sent same none e told = subst (λ o. IsTold d o taken sent) (sym e) tt
   told_unwritten c d (Some before) now taken sent same none puts told =
@@ -205,7 +207,7 @@ module _ {Hall Answer : Type 0} (p : Protocol Hall Answer) (orderly : IsOrderly 
       )
 
   -- a write failed
-  told_cut : (c d : ConnCoreState Hall) (before now : Option LinkTells) (answer : LinkWrite) (taken sent : List ℕ) → d.input_ended ≡ c.input_ended → c.end ≡ None
+  told_cut : (c d : ConnCoreState Hall) (before now : Option LinkContents) (answer : LinkWrite) (taken sent : List ℕ) → d.input_ended ≡ c.input_ended → c.end ≡ None
       → (IsUncut d.end → ⊥) → d.parts ≡ c.parts
       → ((front piece : List ℕ) → IsWritten answer piece front → IsPrefix front piece)
       → LinkPuts before now answer (front_of c.parts) → IsTold c before taken sent → IsTold d now taken sent
@@ -248,7 +250,7 @@ module _ {Hall Answer : Type 0} (p : Protocol Hall Answer) (orderly : IsOrderly 
         by_link None told = told
         by_link (Some l) told = told_goes_on c (record c { pending = pending; end = end }) (x.tells l) s.taken s.sent refl refl uncut told
 
-    pub parse_sound : (c : ConnCoreState Hall) (link : Option L) → IsSoundAt p x c link → c.pending ≡ next.Parse → IsBetween p c → IsSome link → IsSoundAt p x (after_parse p c (p.cut c.buffer)) link
+    parse_sound : (c : ConnCoreState Hall) (link : Option L) → IsSoundAt p x c link → c.pending ≡ next.Parse → IsBetween p c → IsSome link → IsSoundAt p x (after_parse p c (p.cut c.buffer)) link
     parse_sound c link s pending between some = by_cut (p.cut c.buffer) refl
       where
         not_over : false ≡ is_over c.pending
@@ -289,7 +291,7 @@ module _ {Hall Answer : Type 0} (p : Protocol Hall Answer) (orderly : IsOrderly 
           told = by_link link s.told;
         }
           where
-            by_tells : (tells : Option LinkTells) → IsTold c tells s.taken s.sent
+            by_tells : (tells : Option LinkContents) → IsTold c tells s.taken s.sent
                 → IsTold (record (with_answer p c (p.answer c.hall asked (is_last p c)) rest) { pending = pending; end = end }) tells s.taken s.sent
             by_tells None told = tt
             by_tells (Some tells) told = (
@@ -331,7 +333,7 @@ module _ {Hall Answer : Type 0} (p : Protocol Hall Answer) (orderly : IsOrderly 
             (orderly.short c.hall too_long (is_last p c) s.progress.limits) s.progress)
         by_cut NotYet e = absurd (look.whole (sym e))
 
-    pub read_sound : (c d : ConnCoreState Hall) (link now : L) → IsSoundAt p x c (Some link) → c.pending ≡ next.Read → IsToRead p c → ReadsOnce p x c d link now → IsSoundAt p x d (Some now)
+    read_sound : (c d : ConnCoreState Hall) (link now : L) → IsSoundAt p x c (Some link) → c.pending ≡ next.Read → IsToRead p c → ReadsOnce p x c d link now → IsSoundAt p x d (Some now)
     read_sound c d link now s pending to_read once = subst (λ d. IsSoundAt p x d (Some now)) (sym once.becomes) (by_answer once.answer once.called)
       where
         between : IsBetween p c
@@ -403,7 +405,7 @@ module _ {Hall Answer : Type 0} (p : Protocol Hall Answer) (orderly : IsOrderly 
           told = told_same (ending_as c ending.Fault) refl refl (told_by read.Failed called);
         }
 
-    pub write_sound : (c d : ConnCoreState Hall) (link now : L) → IsSoundAt p x c (Some link) → c.pending ≡ next.Write → IsToWrite p c → WritesOnce x c d link now → IsSoundAt p x d (Some now)
+    write_sound : (c d : ConnCoreState Hall) (link now : L) → IsSoundAt p x c (Some link) → c.pending ≡ next.Write → IsToWrite p c → WritesOnce x c d link now → IsSoundAt p x d (Some now)
     write_sound c d link now s pending to_write once = subst (λ d. IsSoundAt p x d (Some now)) (sym once.becomes) (by_answer once.answer once.called)
       where
         not_shut : x.is_shut now ≡ false
@@ -479,7 +481,7 @@ module _ {Hall Answer : Type 0} (p : Protocol Hall Answer) (orderly : IsOrderly 
               called.puts s.told;
         }
 
-    pub close_sound : (c d : ConnCoreState Hall) (link now : L) → IsSoundAt p x c (Some link) → IsEnded p c → ShutsOnce x c d link now → IsSoundAt p x d (Some now)
+    close_sound : (c d : ConnCoreState Hall) (link now : L) → IsSoundAt p x c (Some link) → IsEnded p c → ShutsOnce x c d link now → IsSoundAt p x d (Some now)
     close_sound c d link now s ended once = subst (λ d. IsSoundAt p x d (Some now)) (sym once.becomes) (record {
       taken = s.taken;
       sent = s.sent;

@@ -1,4 +1,5 @@
--- From the rows at the end of the walk to the faults of a whole parse, and from the words to their kinds.
+-- From the rows at the end of the walk to the faults of a whole parse, and from
+-- the words to their kinds.
 use Rattle.std.proofs.Common.{◌≡◌, ◌∙◌, ◌⊎◌, ◌==◌, ◌&&◌, ℕ, suc, Bool, true, false, List, [], ◌∷◌, Some, refl, sym, inl, inr, true≢false, nat_le, le-leb, arith, length, not}
 use Rattle.std.specs.Prelude.{fold, if◌then◌else◌}
 use Rattle.std.specs.Str.{bytes_eq}

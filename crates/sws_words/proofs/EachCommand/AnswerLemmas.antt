@@ -17,7 +17,7 @@ use Rattle.sws_words.proofs.FoundLemmas.{command_reads, each_named, none_named, 
 use Rattle.sws_words.proofs.CommandRowsLemmas.{HasRule, option_is, option_adds, one_place_is, rows_found, option_found, word_found, one_place_alike, bundle_orders_nothing}
 
 -- the command as `clap` builds it
-abbrev pub answer_shape : Shape
+abbrev answer_shape : Shape
 answer_shape = (built answer_app).top
 
 one_place : (p : ℕ) (a : Rule) → arg_by_index answer_shape.rules p ≡ Some a → IsPlace answer_shape.rules a

@@ -18,7 +18,7 @@ use Rattle.sws_words.proofs.FoundLemmas.{checked_by, command_reads, each_named, 
 use Rattle.sws_words.proofs.CommandRowsLemmas.{HasRule, option_is, option_adds, never_twice, rows_found, option_found, shape_at, shape_found, bundle_orders_nothing}
 
 -- the command as `clap` builds it
-abbrev pub check_shape : Shape
+abbrev check_shape : Shape
 check_shape = (built check_app).top
 
 one_place : (p : ℕ) (a : Rule) → arg_by_index check_shape.rules p ≡ Some a → IsPlace check_shape.rules a

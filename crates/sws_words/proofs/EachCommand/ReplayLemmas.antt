@@ -22,7 +22,7 @@ use Rattle.sws_words.proofs.SameLemmas.{ap₅}
 use Rattle.sws_words.proofs.CommandRowsLemmas.{HasRule, option_is, option_adds, one_place_is, rows_found, option_found, shape_at, shape_found, checked_at, word_found, one_place_alike, bundle_orders_nothing}
 
 -- the command as `clap` builds it
-abbrev pub replay_shape : Shape
+abbrev replay_shape : Shape
 replay_shape = (built replay_app).top
 
 one_place : (p : ℕ) (a : Rule) → arg_by_index replay_shape.rules p ≡ Some a → IsPlace replay_shape.rules a

@@ -19,7 +19,7 @@ use Rattle.sws_words.proofs.SameLemmas.{ap₅}
 use Rattle.sws_words.proofs.CommandRowsLemmas.{HasRule, option_is, option_adds, one_place_is, rows_found, option_found, shape_at, shape_found, word_found, one_place_alike, bundle_orders_nothing}
 
 -- the command as `clap` builds it
-abbrev pub serve_shape : Shape
+abbrev serve_shape : Shape
 serve_shape = (built serve_app).top
 
 one_place : (p : ℕ) (a : Rule) → arg_by_index serve_shape.rules p ≡ Some a → IsPlace serve_shape.rules a

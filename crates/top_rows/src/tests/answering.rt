@@ -239,7 +239,8 @@ fn what_was_read_is_answered_before_a_fault(rt: HostRuntime) -> Result<(), Fail>
     Ok(())
 }
 
-/// A request is answered out of a folder that fails at a call: nothing is written; and out of one that does not fail.
+/// A request is answered out of a folder that fails at a call: nothing is written; and out
+/// of one that does not fail.
 #[test]
 fn a_folder_that_fails_at_any_call_gives_no_answer(rt: HostRuntime) -> Result<(), Fail> {
     let alloc = rt.alloc();
@@ -265,7 +266,8 @@ fn a_folder_that_fails_at_any_call_gives_no_answer(rt: HostRuntime) -> Result<()
     Ok(())
 }
 
-/// A request is answered into a sink that fails at a call: a front is written; and into one that does not fail.
+/// A request is answered into a sink that fails at a call: a front is written; and
+/// into one that does not fail.
 #[test]
 fn a_sink_that_fails_at_any_call_has_a_front_of_the_answer(rt: HostRuntime) -> Result<(), Fail> {
     let alloc = rt.alloc();

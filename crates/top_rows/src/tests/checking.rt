@@ -118,7 +118,8 @@ fn a_check_tells_faults_of_the_outside(rt: HostRuntime) -> Result<(), Fail> {
     Ok(())
 }
 
-/// The letters of the bench's file of this number: 64 more than those of the file before it, from a later letter on.
+/// The letters of the bench's file of this number: 64 more than those of the file before
+/// it, from a later letter on.
 fn letters(alloc: Global, number: u8) -> Result<Vec<u8>, AllocError> {
     let first = u16::from(number);
     let mut bytes = Vec::new(alloc);
@@ -168,7 +169,8 @@ fn say_on_bench<T: AllocGlobal + Threads + Wait + Sync>(
     })
 }
 
-/// What a run on eight threads prints behind its transcript is the journal of a legal and drained run.
+/// What a run on eight threads prints behind its transcript is the journal of
+/// a legal and drained run.
 #[test]
 fn the_journal_of_a_bench_is_accepted(rt: HostRuntime) -> Result<(), Fail> {
     let script = bench_text(rt.alloc()).unwrap_or(Vec::new(rt.alloc()));

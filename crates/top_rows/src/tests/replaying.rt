@@ -16,7 +16,7 @@ const STOLEN: &str = "sws-schedule 1\nstep 0 6\nstep 1 12\nend\nsws-script 1\nco
 const STOLEN_SHOWN: &str =
     "conn 0 done 0\nshard 0 22\nreg 0 0 0 2\ntake 0 0 1\nreg 1 2 0 0\nfin 0 0 1\ntake 1 1 1\nreg 0 0 1 1\nreg 2 3 0 1\nfin 1 1 1\nsteal 2 0 1\ntake 0 0 1\ntake 2 1 1\nfin 0 0 1\nreg 2 4 0 1\nfin 2 1 1\ntake 2 1 1\nreg 2 5 0 1\nfin 2 1 1\ntake 2 1 1\nreg 2 8 0 1\nfin 2 1 1\ntake 2 1 1\nfin 2 1 1\n";
 
-/// What the replay of that script writes with two shards.
+/// What the replay of that schedule and script writes with two shards.
 const STOLEN_APART: &str =
     "conn 0 done 0\nshard 0 19\nreg 0 0 0 2\ntake 0 0 1\nfin 0 0 1\nreg 0 0 1 1\nreg 2 3 0 1\nsteal 2 0 1\ntake 0 0 1\ntake 2 1 1\nfin 0 0 1\nreg 2 4 0 1\nfin 2 1 1\ntake 2 1 1\nreg 2 5 0 1\nfin 2 1 1\ntake 2 1 1\nreg 2 8 0 1\nfin 2 1 1\ntake 2 1 1\nfin 2 1 1\nshard 1 3\nreg 1 2 0 0\ntake 1 1 1\nfin 1 1 1\n";
 
@@ -36,7 +36,7 @@ fn a_transcript_is_the_same_for_every_shape(rt: HostRuntime) -> Result<(), Fail>
 }
 
 #[test]
-fn a_schedule_has_one_text(rt: HostRuntime) -> Result<(), Fail> {
+fn worked_schedules_write_their_texts(rt: HostRuntime) -> Result<(), Fail> {
     let short = "sws-schedule 1\nstep 1 2\nend\nsws-script 1\n";
     let rows = [
         (
@@ -92,7 +92,9 @@ fn a_script_out_of_the_grammar_is_refused_at_its_line(rt: HostRuntime) -> Result
 }
 
 #[test]
-fn a_script_that_is_too_long_is_refused_where_it_is(rt: HostRuntime) -> Result<(), Fail> {
+fn a_line_outside_the_grammar_is_refused_in_a_script_beyond_the_limit(
+    rt: HostRuntime,
+) -> Result<(), Fail> {
     let mut input = bytes_of(rt.alloc(), "sws-script 1\n")?;
     input.resize(16_777_217, b'a')?;
     let said = say(&rt, "replay S", input)?;

@@ -1,6 +1,6 @@
 //! The command `serve`.
 ghost use Rattle.std.specs.Prelude.{IfOk};
-ghost use Rattle.sws_link.specs.MemWorlds.{IsFreshMemLink};
+ghost use Rattle.sws_link.specs.MemWorlds.{IsInitialMemLink};
 
 use super::meeting::{Meeting, Room};
 use super::{INDEX, INDEX_SENT, bytes_of, small_site, words_of};
@@ -15,14 +15,15 @@ use sws_top::{Outcome, sws};
 
 /// A link whose client asks for the index.
 fn asking(alloc: Global) -> Result<MemLink, AllocError>
-    ensures { IfOk result IsFreshMemLink }
+    ensures { IfOk result IsInitialMemLink }
 {
     let mut items = Vec::new(alloc);
     items.push(LinkItem::Bytes(bytes_of(alloc, INDEX)?))?;
     Ok(MemLink::new(alloc, items, None, None, Vec::new(alloc)))
 }
 
-/// Serves two clients who ask for the index, in a world that fails at this call, where it is one of its calls.
+/// Serves two clients who ask for the index, in a world that fails at this call,
+/// where it is one of its calls.
 fn serve_two<T: AllocGlobal + Threads + Wait + Sync>(
     rt: &T,
     failing: u32,

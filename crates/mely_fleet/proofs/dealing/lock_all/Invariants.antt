@@ -1,9 +1,9 @@
 use Rattle.std.proofs.Common.{◌≡◌, ◌<◌, ◌++◌, [], ℕ, Some, length, get_or}
 use Rattle.std.specs.Prelude.{slice_get}
 use Rattle.std.specs.Vec.Iter.{into_iter_items, into_iter_len}
-use Rattle.mely_lock.specs.Words.{first_value}
+use Rattle.mely_lock.specs.Words.{initial_value}
 use Rattle.mely_fleet.specs.Rows.{HavePasses}
-use Rattle.mely_fleet.specs.Dealing.{IsFirstRow}
+use Rattle.mely_fleet.specs.Dealing.{IsInitialRow}
 use Rattle.mely_fleet.proofs.dealing.lock_all.Given as goal
 
 abbrev pub invariant-rows : goal.invariant-rows
@@ -18,7 +18,7 @@ invariant-locks g l = record {
   left : into_iter_len l.value-iterator ≡ length (into_iter_items l.value-iterator);
   many : length l.rows.items ≡ l.passes;
   locks : length l.locks.items ≡ length l.yielded;
-  rows : (n : ℕ) (d : _) → n < length l.rows.items → IsFirstRow g.V.Kept.frame_of l.locks.items n (get_or l.rows.items n d).items;
-  frames : (k : ℕ) (lock : _) (value : _) → slice_get l.locks.items k ≡ Some lock → slice_get l.yielded k ≡ Some value → g.V.Kept.frame_of (first_value lock) ≡ g.V.Kept.frame_of value;
+  rows : (n : ℕ) (d : _) → n < length l.rows.items → IsInitialRow g.V.Kept.frame_of l.locks.items n (get_or l.rows.items n d).items;
+  frames : (k : ℕ) (lock : _) (value : _) → slice_get l.locks.items k ≡ Some lock → slice_get l.yielded k ≡ Some value → g.V.Kept.frame_of (initial_value lock) ≡ g.V.Kept.frame_of value;
   dealt : HavePasses l.passes l.locks.items;
 }

@@ -1,5 +1,5 @@
 use Rattle.std.proofs.Common.{◌≡◌, ◌∙◌, sym, ap}
-use Rattle.mely_lock.specs.Words.{first_value, front}
+use Rattle.mely_lock.specs.Words.{initial_value, front}
 use Rattle.mely_fleet.specs.Frames.{shard_frame}
 use Rattle.mely_fleet.specs.Calls.{TakesAt}
 use Rattle.mely_fleet.proofs.KeepLemmas.{call_seen, adds_seen, takes_own}
@@ -13,5 +13,5 @@ leave-requires-clause-history g c =
 pub returns-clause-seen : goal.returns-clause-seen
 returns-clause-seen g c =
     let mid : front c.enter-held.new.pass ≡ c.value.result.now.has.history = c.enter-held.ensures.seen ∙ ap (λ v. v.has.history) (sym c.value.ensures.value) in
-    call_seen (λ of n. TakesAt g.S.Trail g.S.Fits.fits_under of.setup of.states n c.args.colour c.take-answer.result) (shard_frame g.S.Trail.frame_of c.value.result.now) (shard_frame g.S.Trail.frame_of (first_value c.args.lock.now)) c.number-core.result c.args.pass.now.number (front c.args.pass.now) (front c.enter-held.new.pass) (front c.leave.new.pass) _ _
+    call_seen (λ of n. TakesAt g.S.Trail g.S.Fits.fits_under of.setup of.states n c.args.colour c.take-answer.result) (shard_frame g.S.Trail.frame_of c.value.result.now) (shard_frame g.S.Trail.frame_of (initial_value c.args.lock.now)) c.number-core.result c.args.pass.now.number (front c.args.pass.now) (front c.enter-held.new.pass) (front c.leave.new.pass) _ _
     (ap (shard_frame g.S.Trail.frame_of) c.value.ensures.value ∙ c.enter-held.ensures.held.1) (c.number-core.ensures ∙ c.enter-held.ensures.pass.2) c.enter-held.ensures.point mid c.leave.ensures.seen c.take-answer.ensures.does c.take-answer.ensures.legal

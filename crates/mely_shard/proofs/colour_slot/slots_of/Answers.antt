@@ -2,8 +2,8 @@ use Rattle.std.proofs.Common.{◌≡◌, ◌+◌, ◌∷◌, ◌++◌, [], lengt
 use Rattle.std.specs.Vec.Iter.{into_iter_items}
 use Rattle.std.proofs.lemmas.List.{nil_from_length}
 use Rattle.mely_history.specs.Setup.{shape_of}
-use Rattle.mely_shard.specs.Invariant.{IsFirstSlot, AreFirstSlots}
-use Rattle.mely_shard.proofs.FirstSlotLemmas.{first_more}
+use Rattle.mely_shard.specs.Invariant.{IsInitialSlot, AreInitialSlots}
+use Rattle.mely_shard.proofs.InitialSlotLemmas.{initial_more}
 use Rattle.mely_shard.proofs.colour_slot.slots_of.Goals as goal
 
 pub loop-state-preserved : goal.loop-state-preserved
@@ -20,14 +20,14 @@ loop-state-preserved g c =
     let many = at.invariant.many in
     let room = at.invariant.room in
     let pushed = c.push_reserved.ensures.items in
-    let pushed_many : length c.push_reserved.new.self.items ≡ length at.slots.items + 1 = ap length pushed ∙ length-append at.slots.items (c.first_slot.result ∷ []) in
+    let pushed_many : length c.push_reserved.new.self.items ≡ length at.slots.items + 1 = ap length pushed ∙ length-append at.slots.items (c.initial_slot.result ∷ []) in
     record {
       split = append_assoc at.yielded (state ∷ []) _ ∙ rw (← steps) at.invariant.split;
       left = omega arith;
       many = omega arith;
       room = let kept = c.push_reserved.ensures.capacity in let len = c.push_reserved.ensures.len in omega (arith, kept, len, room, short);
       colour = rw longer (omega (arith, colour, step));
-      first = rw pushed (first_more c.args.setup.now c.args.shard at.yielded at.slots.items state c.first_slot.result many at.invariant.first (subst (λ k. IsFirstSlot c.args.setup.now k state c.first_slot.result) colour c.first_slot.ensures));
+      first = rw pushed (initial_more c.args.setup.now c.args.shard at.yielded at.slots.items state c.initial_slot.result many at.invariant.first (subst (λ k. IsInitialSlot c.args.setup.now k state c.initial_slot.result) colour c.initial_slot.ensures));
     }
 
 pub returns-clause-first : goal.returns-clause-first
@@ -36,4 +36,4 @@ returns-clause-first g c =
     let none = c.in-None.ensures.steps in
     let empty : into_iter_items at.state-iterator ≡ [] = nil_from_length _ (sym at.invariant.left ∙ none.0) in
     let all : at.yielded ≡ c.args.states.items = sym (append-nil at.yielded) ∙ rw empty at at.invariant.split in
-    subst (λ states. AreFirstSlots c.args.setup.now c.args.shard states at.slots.items) all at.invariant.first
+    subst (λ states. AreInitialSlots c.args.setup.now c.args.shard states at.slots.items) all at.invariant.first

@@ -1,13 +1,21 @@
-use Rattle.std.proofs.Common.{◌≡◌, ◌+◌, ◌++◌, ◌∷◌, [], arith, refl, sym, ap, ◌∙◌, inl, inr}
+use Rattle.std.proofs.Common.{◌≡◌, ◌≢◌, ◌<◌, ◌+◌, ◌++◌, ◌∷◌, [], ℕ, length, arith, refl, sym, ap, ◌∙◌, inl, inr}
 use Rattle.mely_steal.specs.Links.{list_at, places_of, IsStrung, MovesOnly}
 use Rattle.mely_steal.proofs.TableLemmas.{length-strung, last-strung, strung-push, spares-frame}
 use Rattle.mely_steal.proofs.table.push_back.Goals as goal
+use Rattle.mely_steal.proofs.table.push_back.Goals.{Start, Else-ends-eq0}
+
+-- a place that is in a list isn't the one that is added
+other : (c : Start) (y : ℕ) → 0 < list_at c.args.links.now y → c.args.place ≢ y
+other c y pos i = let none : list_at c.args.links.now y ≡ 0 = ap (list_at c.args.links.now) (sym i) ∙ c.requires.free in absurd (omega (arith, none, pos))
+
+-- the last place of a list that isn't empty
+its_last : (c : Else-ends-eq0) → (c.args.ends.now.last < length c.args.links.now) × (list_at c.args.links.now c.args.ends.now.last ≡ c.args.list)
+its_last c =
+    let e = c.args.ends.now in
+    last-strung c.args.list c.args.links.now e.first e.last e.len c.if-ends-eq0.false c.requires.strung
 
 pub set_after-requires : goal.set_after-requires
-set_after-requires c =
-    let e = c.args.ends.now in
-    let within = (last-strung c.args.list c.args.links.now e.first e.last e.len c.if-ends-eq0.false c.requires.strung).0 in
-    rw c.set_link-else-ends-eq0.ensures.moves.long within
+set_after-requires c = rw c.set_link-else-ends-eq0.ensures.moves.long (its_last (goal.at.set_after-requires c).Else-ends-eq0).0
 
 pub overflow_add-ends : goal.overflow_add-ends
 overflow_add-ends c =
@@ -17,13 +25,10 @@ overflow_add-ends c =
 
 pub returns-then-ends-eq0-clause-spares : goal.returns-then-ends-eq0-clause-spares
 returns-then-ends-eq0-clause-spares c =
-    let L = c.args.links.now in
-    let free : list_at L c.args.place ≡ 0 = c.requires.free in
+    let s = (goal.at.returns-then-ends-eq0-clause-spares c).Start in
     let set = c.set_link.ensures in
-    spares-frame c.args.list c.args.place c.args.list L c.set_link.new.links (inr refl) (inl free) set.moves
-    (λ y lt pos ne.
-    let away : c.args.place ≡ y → ⊥ = λ i. let none : list_at L y ≡ 0 = ap (list_at L) (sym i) ∙ free in absurd (omega arith) in
-    (set.afters y away, set.befores y away))
+    spares-frame c.args.list c.args.place c.args.list c.args.links.now c.set_link.new.links (inr refl) (inl c.requires.free) set.moves
+    (λ y lt pos ne. (set.afters y (other s y pos), set.befores y (other s y pos)))
 
 -- the place is in the list, and no other place changes lists
 moved : (c : goal.After-ends-else-ends-eq0-1) → MovesOnly c.args.place c.args.list c.args.links.now c.set_after.new.links
@@ -49,14 +54,11 @@ returns-else-ends-eq0-clause-strung c = (pushed c).1
 
 pub returns-else-ends-eq0-clause-spares : goal.returns-else-ends-eq0-clause-spares
 returns-else-ends-eq0-clause-spares c =
+    let at = goal.at.returns-else-ends-eq0-clause-spares c in
     let L = c.args.links.now in
-    let e = c.args.ends.now in
-    let free : list_at L c.args.place ≡ 0 = c.requires.free in
     let all = c.set_link-else-ends-eq0.ensures in
     let one = c.set_after.ensures in
-    let last = (last-strung c.args.list L e.first e.last e.len c.if-ends-eq0.false c.requires.strung).1 in
-    spares-frame c.args.list c.args.place c.args.list L c.set_after.new.links (inr refl) (inl free)
+    spares-frame c.args.list c.args.place c.args.list L c.set_after.new.links (inr refl) (inl c.requires.free)
     (moved c)
     (λ y lt pos ne.
-    let away : c.args.place ≡ y → ⊥ = λ i. let none : list_at L y ≡ 0 = ap (list_at L) (sym i) ∙ free in absurd (omega arith) in
-    (one.others y (λ i. ne (ap (list_at L) (sym i) ∙ last)) ∙ all.afters y away, one.befores y ∙ all.befores y away))
+    (one.others y (λ i. ne (ap (list_at L) (sym i) ∙ (its_last at.Else-ends-eq0).1)) ∙ all.afters y (other at.Start y pos), one.befores y ∙ all.befores y (other at.Start y pos)))

@@ -2,7 +2,7 @@ use Rattle.std.proofs.Common.{◌≡◌, ◌+◌, ◌++◌, ◌∷◌, [], lengt
 use Rattle.std.proofs.lemmas.List.{nil_from_length}
 use Rattle.std.specs.Prelude.{slice_get}
 use Rattle.std.specs.Vec.Iter.{into_iter_items}
-use Rattle.mely_shard.specs.Shard.{IsFirst}
+use Rattle.mely_shard.specs.Shard.{IsInitialShard}
 use Rattle.mely_weave.proofs.Wholes.DealLemmas.{both_push}
 use Rattle.mely_weave.proofs.making.shards_of.Goals as goal
 
@@ -24,7 +24,7 @@ loop-states-preserved g c =
       number = omega (arith, number, longer);
       room = let room = at.room in let kept = c.push_reserved.ensures.capacity in let len = c.push_reserved.ensures.len in omega (arith, room, kept, len, short);
       many = ap length pushed ∙ length-append c.loop-states.shards.items (c.in_ok-new.field-0 ∷ []) ∙ omega (arith, many, longer);
-      first = rw pushed (both_push (λ shard pile has. IsFirst c.args.setup.now shard pile.items has) c.loop-states.yielded c.loop-states.shards.items states c.in_ok-new.field-0 c.loop-states.number (sym number) (many ∙ sym number) at.first c.in_ok-new.ensures.made);
+      first = rw pushed (both_push (λ shard pile has. IsInitialShard c.args.setup.now shard pile.items has) c.loop-states.yielded c.loop-states.shards.items states c.in_ok-new.field-0 c.loop-states.number (sym number) (many ∙ sym number) at.first c.in_ok-new.ensures.made);
     }
 
 pub returns-clause-first : goal.returns-clause-first

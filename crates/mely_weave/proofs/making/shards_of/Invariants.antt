@@ -1,7 +1,7 @@
 use Rattle.std.proofs.Common.{◌≡◌, ◌≤◌, ◌+◌, ◌++◌, ℕ, Some, length, vec_len, vec_capacity}
 use Rattle.std.specs.Prelude.{slice_get}
 use Rattle.std.specs.Vec.Iter.{into_iter_items, into_iter_len}
-use Rattle.mely_shard.specs.Shard.{ShardState, IsFirst}
+use Rattle.mely_shard.specs.Shard.{ShardState, IsInitialShard}
 use Rattle.mely_weave.proofs.making.shards_of.Given as goal
 
 abbrev pub invariant-loop-states : goal.invariant-loop-states
@@ -11,5 +11,5 @@ invariant-loop-states g l = record {
   number : l.number ≡ length l.yielded;
   room : vec_len l.shards + length (into_iter_items l.states-iterator) ≤ vec_capacity l.shards;
   many : length l.shards.items ≡ length l.yielded;
-  first : (shard : ℕ) (pile : _) (has : ShardState g.row.S.Denot g.row.P.Denot) → slice_get l.yielded shard ≡ Some pile → slice_get l.shards.items shard ≡ Some has → IsFirst l.setup shard pile.items has;
+  first : (shard : ℕ) (pile : _) (has : ShardState g.row.S.Denot g.row.P.Denot) → slice_get l.yielded shard ≡ Some pile → slice_get l.shards.items shard ≡ Some has → IsInitialShard l.setup shard pile.items has;
 }

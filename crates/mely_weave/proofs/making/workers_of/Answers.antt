@@ -3,7 +3,7 @@ use Rattle.std.proofs.lemmas.Option.{none-some}
 use Rattle.std.specs.Prelude.{slice_get}
 use Rattle.std.specs.Vec.Iter.{into_iter_items}
 use Rattle.mely_worker.specs.IdleWorker.{IdleWorkerState, resumed_worker}
-use Rattle.mely_weave.specs.Making.{first_worker}
+use Rattle.mely_weave.specs.Making.{initial_worker}
 use Rattle.mely_weave.proofs.Wholes.DealLemmas.{each_push, seam_at}
 use Rattle.mely_weave.proofs.making.workers_of.Goals as goal
 
@@ -39,12 +39,12 @@ loop-worker-preserved g c =
     append_assoc c.loop-worker.yielded (worker ∷ []) _ ∙ ap (λ rest. c.loop-worker.yielded ++ rest) (sym steps) in
     let here : slice_get (c.loop-worker.yielded ++ into_iter_items c.loop-worker.worker-iterator) (length c.loop-worker.yielded) ≡ Some worker =
     ap (λ rest. slice_get (c.loop-worker.yielded ++ rest) (length c.loop-worker.yielded)) steps ∙ seam_at c.loop-worker.yielded worker (into_iter_items c.next.new.self) in
-    let first : c.wake.result ≡ first_worker c.args.setup.now (length c.loop-worker.yielded) = c.wake.ensures ∙ ap (λ (r : IdleWorkerState g.row.P.Denot). resumed_worker r) (at.rests (length c.loop-worker.yielded) worker here) in
+    let first : c.wake.result ≡ initial_worker c.args.setup.now (length c.loop-worker.yielded) = c.wake.ensures ∙ ap (λ (r : IdleWorkerState g.row.P.Denot). resumed_worker r) (at.rests (length c.loop-worker.yielded) worker here) in
     record {
       count = ap length same ∙ at.count;
       rests = λ core rest is. at.rests core rest (ap (λ xs. slice_get xs core) (sym same) ∙ is);
       left = omega (arith, left, short, gone);
       room = let room = at.room in let kept = c.push_reserved.ensures.capacity in let len = c.push_reserved.ensures.len in omega (arith, room, kept, len, short);
       many = ap length pushed ∙ length-append c.loop-worker.workers.items (c.wake.result ∷ []) ∙ omega (arith, many, longer);
-      first = rw pushed (each_push (λ core w. w ≡ first_worker c.args.setup.now core) c.loop-worker.workers.items c.wake.result (length c.loop-worker.yielded) many at.first first);
+      first = rw pushed (each_push (λ core w. w ≡ initial_worker c.args.setup.now core) c.loop-worker.workers.items c.wake.result (length c.loop-worker.yielded) many at.first first);
     }

@@ -8,7 +8,7 @@ new-requires g c = are_first g.T.Talk c.args.world c.requires.first.0 c.args.tot
 
 pub post-requires : goal.post-requires
 post-requires g c =
-    let begins = c.a_first_weave_has_what_it_was_given.ensures _ _ c.in-Ok.weave (are_first g.T.Talk c.args.world c.requires.first.0 c.args.total _ _ _ c.requires.first.1 c.requires.colours (λ s. refl) (λ s. refl) (λ s. refl)) c.in-Ok.ensures.first c.stands_well.ensures.keeps in
+    let begins = c.an_initial_weave_has_what_it_was_given.ensures _ _ c.in-Ok.weave (are_first g.T.Talk c.args.world c.requires.first.0 c.args.total _ _ _ c.requires.first.1 c.requires.colours (λ s. refl) (λ s. refl) (λ s. refl)) c.in-Ok.ensures.first c.stands_well.ensures.keeps in
     record {
       fits = first_fits_in g.W.World g.W.Link.Link c.in-Ok.weave.given.first c.args.world c.args.total _ _ _
           (first_given g.T.Talk _ c.args.world c.requires.first.0 c.args.total _ c.in-Ok.weave begins c.requires.first.1 (λ s. refl))
@@ -17,18 +17,18 @@ post-requires g c =
 
 pub into_parts-parts-requires : goal.into_parts-parts-requires
 into_parts-parts-requires g c =
-    let begins = c.a_first_weave_has_what_it_was_given.ensures _ _ c.in-Ok.weave (are_first g.T.Talk c.args.world c.requires.first.0 c.args.total _ _ _ c.requires.first.1 c.requires.colours (λ s. refl) (λ s. refl) (λ s. refl)) c.in-Ok.ensures.first c.stands_well.ensures.keeps in
+    let begins = c.an_initial_weave_has_what_it_was_given.ensures _ _ c.in-Ok.weave (are_first g.T.Talk c.args.world c.requires.first.0 c.args.total _ _ _ c.requires.first.1 c.requires.colours (λ s. refl) (λ s. refl) (λ s. refl)) c.in-Ok.ensures.first c.stands_well.ensures.keeps in
     free_after c.in-Ok.weave c.post.new.self begins.free (ap (λ l. l.workers) c.in-Err.ensures.call.posts.leaves)
 
 pub returns-in-Ok-post-clause-stands : goal.returns-in-Ok-post-clause-stands
 returns-in-Ok-post-clause-stands g c =
-    let begins = c.a_first_weave_has_what_it_was_given.ensures _ _ c.in-Ok.weave (are_first g.T.Talk c.args.world c.requires.first.0 c.args.total _ _ _ c.requires.first.1 c.requires.colours (λ s. refl) (λ s. refl) (λ s. refl)) c.in-Ok.ensures.first c.stands_well.ensures.keeps in
+    let begins = c.an_initial_weave_has_what_it_was_given.ensures _ _ c.in-Ok.weave (are_first g.T.Talk c.args.world c.requires.first.0 c.args.total _ _ _ c.requires.first.1 c.requires.colours (λ s. refl) (λ s. refl) (λ s. refl)) c.in-Ok.ensures.first c.stands_well.ensures.keeps in
     start_fact g.W.World g.T.Talk _ c.args.world c.requires.first.0 c.args.total _ c.in-Ok.weave c.post.new.self _ c.in-Ok-post._answer c.first_event.ensures begins
     (c.a_post_brings_its_event.ensures _ _ _ _ c.in-Ok.weave c.post.new.self c.in-Ok-post.ensures.call) c.in-Ok-post.ensures.same.given c.requires.first.1 c.requires.total (λ s. refl)
 
 pub returns-in-Ok-post-clause-of_hall : goal.returns-in-Ok-post-clause-of_hall
 returns-in-Ok-post-clause-of_hall g c hall are =
-    let begins = c.a_first_weave_has_what_it_was_given.ensures _ _ c.in-Ok.weave (are_first g.T.Talk c.args.world c.requires.first.0 c.args.total _ _ _ c.requires.first.1 c.requires.colours (λ s. refl) (λ s. refl) (λ s. refl)) c.in-Ok.ensures.first c.stands_well.ensures.keeps in
+    let begins = c.an_initial_weave_has_what_it_was_given.ensures _ _ c.in-Ok.weave (are_first g.T.Talk c.args.world c.requires.first.0 c.args.total _ _ _ c.requires.first.1 c.requires.colours (λ s. refl) (λ s. refl) (λ s. refl)) c.in-Ok.ensures.first c.stands_well.ensures.keeps in
     first_hall g.T.Talk _ c.args.world hall c.args.total _ c.in-Ok.weave c.post.new.self begins c.in-Ok-post.ensures.same.given are (λ s. refl)
 
 pub returns-in-Ok-post-clause-begun : goal.returns-in-Ok-post-clause-begun

@@ -9,27 +9,27 @@ run_lent-requires-clause-first g c = λ _ _. are_first g.T.Talk c.args.world c.r
 
 pub run_lent-requires-clause-fits : goal.run_lent-requires-clause-fits
 run_lent-requires-clause-fits g c = λ _ _ state at.
-    let fresh = (c.requires.set.first.1.each 0 state at).fresh in
-    first_fits_in g.W.World g.W.Link.Link state.first c.args.world c.args.total c.args.setup.now c.args.setup.now c.first_event.result fresh.world refl c.requires.set.colours c.requires.set.handlers c.requires.set.total c.requires.set.none c.first_event.ensures
+    let initial = (c.requires.set.first.1.each 0 state at).initial in
+    first_fits_in g.W.World g.W.Link.Link state.first c.args.world c.args.total c.args.setup.now c.args.setup.now c.first_event.result initial.world refl c.requires.set.colours c.requires.set.handlers c.requires.set.total c.requires.set.none c.first_event.ensures
 
 pub run_lent-requires-clause-served : goal.run_lent-requires-clause-served
 run_lent-requires-clause-served g c = λ _ _ state at.
     let colours = c.requires.set.colours in
     let app = c.new-app.ensures in
     let few = c.requires.few in
-    let fresh = (c.requires.set.first.1.each 0 state at).fresh in
+    let initial = (c.requires.set.first.1.each 0 state at).initial in
     record {
       colours = omega (arith, colours, app);
       handlers = c.requires.set.handlers;
-      serves = (ap (λ w. (g.W.World.tells w).total) fresh.world ∙ c.requires.set.total ∙ sym app, omega (arith, few, app));
+      serves = (ap (λ w. (g.W.World.tells w).total) initial.world ∙ c.requires.set.total ∙ sym app, omega (arith, few, app));
     }
 
 pub returns-in-Ok-clause-of_world : goal.returns-in-Ok-clause-of_world
 returns-in-Ok-clause-of_world g c =
     let many = c.requires.set.first.1.many in
     let state = get_there c.args.states.now.items 0 (omega (arith, many)) in
-    let fresh = (c.requires.set.first.1.each 0 state.0 state.1).fresh in
-    ap (λ (f : Frame _ _). f.first) (c.in-Ok.ensures.framed state.0 state.1) ∙ fresh.world
+    let initial = (c.requires.set.first.1.each 0 state.0 state.1).initial in
+    ap (λ (f : Frame _ _). f.first) (c.in-Ok.ensures.framed state.0 state.1) ∙ initial.world
 
 pub returns-in-Ok-clause-of_hall : goal.returns-in-Ok-clause-of_hall
 returns-in-Ok-clause-of_hall g c = λ hall first.

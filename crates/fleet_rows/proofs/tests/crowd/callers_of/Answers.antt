@@ -3,7 +3,7 @@ use Rattle.std.specs.Prelude.{slice_get}
 use Rattle.std.specs.Vec.Iter.{into_iter_items}
 use Rattle.mely_history.specs.Setup.{shape_of}
 use Rattle.mely_weave.proofs.Wholes.DealLemmas.{each_push}
-use Rattle.mely_weave.specs.Making.{first_rest}
+use Rattle.mely_weave.specs.Making.{initial_idle_worker}
 use Rattle.mely_fleet.proofs.OpeningLemmas.{at_seam}
 use Rattle.fleet_rows.specs.Callers.{IsCaller}
 use Rattle.fleet_rows.proofs.RowLemmas.{first_caller, tally_words}
@@ -25,7 +25,7 @@ passes-preserved c =
     let of_setup = c.requires.are.of_setup in
     let caller = first_caller tally_words (λ f c e l. Unit {0}) fleet n own worker (c.requires.are.each n own place)
     (λ low. c.in_ok-worker.ensures (subst (λ s. c.number.result < (shape_of s).cores) of_setup (subst (λ k. k < (shape_of fleet.setup).cores) (sym numbered) low))
-    ∙ ap (λ s. Some (first_rest s c.number.result)) (sym of_setup) ∙ ap (λ k. Some (first_rest fleet.setup k)) numbered) in
+    ∙ ap (λ s. Some (initial_idle_worker s c.number.result)) (sym of_setup) ∙ ap (λ k. Some (initial_idle_worker fleet.setup k)) numbered) in
     record {
       split = append_assoc c.passes.yielded (own ∷ []) _ ∙ rw (← steps) at.split;
       many = ap length pushed ∙ length-append c.passes.callers.items _ ∙ omega (arith, many, longer);

@@ -12,4 +12,4 @@ returns-clause-runs g c =
     subst (λ (s : WaitingState). HasRunOver g.L.Link c.args.link (open_link ∷ []) (record s { pending = next.Read }) c.args.link)
     (sym (not-opened g.L.Link (record { standing = state_of c.self.inside.waiting; link = c.self.inside.link }) c.self.invariant
     (no-link c.self.inside.link c.if-is_some.ensures)))
-    (opened-run g.L.Link c.args.link c.requires.fresh c.requires.not_shut)
+    (opened-run g.L.Link c.args.link c.requires.initial c.requires.not_shut)

@@ -9,10 +9,10 @@ pub returns-then-contains : goal.returns-then-contains
 returns-then-contains c =
     let q = c.self.inside in
     let Has : CoreQueueState → Type 0 = λ v. Some c.mark.result ≡ mark_of c.args.colour v.chain in
-    subst Has c.self.view_is (ap (λ (m : Mark). Some m) c.mark.ensures.value ∙ sym (mark_of-in q.worthy.told c.args.colour q.chain.list (sym c.if-contains.ensures.value)))
+    subst Has c.self.view_is (ap (λ (m : Mark). Some m) c.mark.ensures.value ∙ sym (mark_of-in q.worthy.marks c.args.colour q.chain.list (sym c.if-contains.ensures.value)))
 
 pub returns-else-contains : goal.returns-else-contains
 returns-else-contains c =
     let q = c.self.inside in
     let Has : CoreQueueState → Type 0 = λ v. None ≡ mark_of c.args.colour v.chain in
-    subst Has c.self.view_is (sym (mark_of-out q.worthy.told c.args.colour q.chain.list (sym c.if-contains.ensures.value)))
+    subst Has c.self.view_is (sym (mark_of-out q.worthy.marks c.args.colour q.chain.list (sym c.if-contains.ensures.value)))

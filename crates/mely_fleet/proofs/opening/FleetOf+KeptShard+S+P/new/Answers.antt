@@ -9,7 +9,7 @@ use Rattle.mely_fleet.specs.declared.kept_chain.ChainFrame.{ChainFrame}
 use Rattle.mely_fleet.specs.Frames.{HaveFrame, shard_frame, chain_frame, numbers_of}
 use Rattle.mely_fleet.specs.Rows.{ArePassesOf, AreFramed}
 use Rattle.mely_fleet.specs.Fleets.{frame_for}
-use Rattle.mely_fleet.specs.Dealing.{IsFirstRow}
+use Rattle.mely_fleet.specs.Dealing.{IsInitialRow}
 use Rattle.mely_fleet.proofs.OpeningLemmas.{shard_framed, shard_is_first, shards_framed, first_frame, chains_framed, kept_empty, chains_untouched, all_here, all_unseen}
 use Rattle.mely_fleet.proofs.opening.FleetOf+KeptShard+S+P.new.Goals as goal
 
@@ -71,8 +71,8 @@ returns g c =
           let row = get_there locks.shard_rows.items n (omega (arith, low, number_is)) in
           let chain_row = get_there chains.chain_rows.items n (omega (arith, low, number_is, rows_are, chain_rows_are)) in
           let number = all.ensures.numbers n passes at in
-          let first = subst (λ v. IsFirstRow (shard_frame g.S.Trail.frame_of) locks.shards.items n v.items) (get_or_from_slice_get locks.shard_rows.items n row.0 row.0 row.1 ∙ sym (all.ensures.shards n row.0 passes row.1 at)) (locks.ensures.rows n row.0 (omega (arith, low, number_is, rows_are))) in
-          let first_chain = subst (λ v. IsFirstRow chain_frame chains.chains.items n v.items) (get_or_from_slice_get chains.chain_rows.items n chain_row.0 chain_row.0 chain_row.1 ∙ sym (all.ensures.chains n chain_row.0 passes chain_row.1 at)) (chains.ensures.rows n chain_row.0 (omega (arith, low, number_is, rows_are))) in
+          let first = subst (λ v. IsInitialRow (shard_frame g.S.Trail.frame_of) locks.shards.items n v.items) (get_or_from_slice_get locks.shard_rows.items n row.0 row.0 row.1 ∙ sym (all.ensures.shards n row.0 passes row.1 at)) (locks.ensures.rows n row.0 (omega (arith, low, number_is, rows_are))) in
+          let first_chain = subst (λ v. IsInitialRow chain_frame chains.chains.items n v.items) (get_or_from_slice_get chains.chain_rows.items n chain_row.0 chain_row.0 chain_row.1 ∙ sym (all.ensures.chains n chain_row.0 passes chain_row.1 at)) (chains.ensures.rows n chain_row.0 (omega (arith, low, number_is, rows_are))) in
           record {
             are = record {
               of_shards = subst (λ m. ArePassesOf (shard_frame g.S.Trail.frame_of) locks.shards.items m passes.shards.items) (sym number) first.are;

@@ -1,9 +1,9 @@
 use Rattle.std.proofs.Common.{◌≡◌, ◌∙◌, Some, ap, sym, subst, arith}
 use Rattle.std.proofs.lemmas.Option.{slice_get_within}
 use Rattle.mely_weave.proofs.Wholes.GatherLemmas.{get_there}
-use Rattle.mely_weave.specs.Making.{first_rest}
+use Rattle.mely_weave.specs.Making.{initial_idle_worker}
 use Rattle.mely_fleet.specs.Frames.{shard_frame}
-use Rattle.mely_fleet.specs.Opening.{AreFirstPasses}
+use Rattle.mely_fleet.specs.Opening.{AreInitialPasses}
 use Rattle.mely_fleet.proofs.SeatLemmas.{first_seat}
 use Rattle.mely_fleet.proofs.seat.FleetOf+KeptShard+S+P.seats.Goals as goal
 
@@ -18,6 +18,6 @@ returns-clause-each g c = λ n seat at.
     let own = get_there c.args.passes.items n (omega (arith, low, many)) in
     let rest = get_there c.in_ok-rested.rested.items n (omega (arith, low, many, cores, rested_many)) in
     let passes_is : seat.passes ≡ own.0 = made.ensures.passes n own.0 seat own.1 at in
-    let worker_is : seat.worker ≡ Some (first_rest fleet.setup n) = made.ensures.workers n rest.0 seat rest.1 at ∙ ap (λ r. Some r) (c.in_ok-rested.ensures.first n rest.0 rest.1) in
+    let worker_is : seat.worker ≡ Some (initial_idle_worker fleet.setup n) = made.ensures.workers n rest.0 seat rest.1 at ∙ ap (λ r. Some r) (c.in_ok-rested.ensures.first n rest.0 rest.1) in
     first_seat g.S.Trail g.S.Fits.fits_under fleet n seat.passes seat.worker (omega (arith, low, many, cores))
-    (subst (AreFirstPasses (shard_frame g.S.Trail.frame_of) fleet n) (sym passes_is) (c.requires.first n own.0 own.1)) worker_is
+    (subst (AreInitialPasses (shard_frame g.S.Trail.frame_of) fleet n) (sym passes_is) (c.requires.first n own.0 own.1)) worker_is

@@ -1,6 +1,6 @@
 use Rattle.std.proofs.Common.{sym, ap, ◌∙◌, refl, length, subst}
 use Rattle.mely_lock.specs.Seen.{OthersSince}
-use Rattle.mely_lock.specs.Words.{first_value, front}
+use Rattle.mely_lock.specs.Words.{initial_value, front}
 use Rattle.mely_lock.proofs.CallsLemmas.{CameIn, as_waiting, come_in}
 use Rattle.mely_lock.proofs.ticketed.Ticketed.enter.Goals as goal
 use Rattle.mely_lock.proofs.ticketed.Ticketed.enter.Goals.{After-go_in-value}
@@ -9,7 +9,7 @@ pub go_in-value-requires-clause-outside : goal.go_in-value-requires-clause-outsi
 go_in-value-requires-clause-outside g c = let p = c.args.pass.now in let h = c.requires in let t = as_waiting p.place.me p.single h.1.0 h.1.1 in (t.0, t.1, sym t.2 ∙ p.numbered)
 
 -- what is known of the seat once the pass is inside
-came : (g : _) (c : After-go_in-value g) → CameIn g.V.Kept.history_of g.V.Kept.pass_of g.V.Kept.frame_of c.args.pass.now.place.me c.args.pass.now.number (g.V.Kept.frame_of (first_value c.args.self.now)) c.go_in-value.result c.go_in-value.new.place.me
+came : (g : _) (c : After-go_in-value g) → CameIn g.V.Kept.history_of g.V.Kept.pass_of g.V.Kept.frame_of c.args.pass.now.place.me c.args.pass.now.number (g.V.Kept.frame_of (initial_value c.args.self.now)) c.go_in-value.result c.go_in-value.new.place.me
 came g c =
     let p = c.args.pass.now in
     let h = c.requires in

@@ -1,12 +1,12 @@
 use Rattle.std.proofs.Common.{refl, arith}
-use Rattle.mely_shard.proofs.FirstSlotLemmas.{kept_first, lanes_first}
+use Rattle.mely_shard.proofs.InitialSlotLemmas.{kept_initial, lanes_initial}
 use Rattle.mely_shard.proofs.ExposeLemmas.{kept_contents}
 use Rattle.mely_shard.proofs.shard.Shard.new.Goals as goal
 
 pub invariant_of-result : goal.invariant_of-result
 invariant_of-result g c =
     let slots = c.in_ok-slots.slots.items in
-    let kept = kept_first g.S.Trail g.S.Fits.fits_under c.args.setup.now c.args.shard c.args.states.items slots c.requires.numbered c.requires.first c.in_ok-slots.ensures.many c.in_ok-slots.ensures.first in
+    let kept = kept_initial g.S.Trail g.S.Fits.fits_under c.args.setup.now c.args.shard c.args.states.items slots c.requires.numbered c.requires.first c.in_ok-slots.ensures.many c.in_ok-slots.ensures.first in
     let many = c.in_ok-slots.slots.ok.0 in
     let states = c.in_ok-states.ensures in
     let queues = c.in_ok-queues.ensures in
@@ -19,7 +19,7 @@ returns-clause-made g c = record {
   of_setup = refl;
   of_shard = refl;
   no_entry = c.new.ensures.items;
-  lanes = lanes_first g.S.Trail g.S.Fits.fits_under c.args.setup.now c.args.shard c.args.states.items c.in_ok-slots.slots.items c.requires.numbered c.requires.first c.in_ok-slots.ensures.many c.in_ok-slots.ensures.first;
+  lanes = lanes_initial g.S.Trail g.S.Fits.fits_under c.args.setup.now c.args.shard c.args.states.items c.in_ok-slots.slots.items c.requires.numbered c.requires.first c.in_ok-slots.ensures.many c.in_ok-slots.ensures.first;
 }
 
 pub returns-clause-kept : goal.returns-clause-kept

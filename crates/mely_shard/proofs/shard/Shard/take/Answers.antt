@@ -8,7 +8,7 @@ use Rattle.mely_history.specs.Legal.{MayTake}
 use Rattle.mely_history.specs.declared.entry.Entry.TheVariants.{Take}
 use Rattle.mely_queue.specs.ColourQueue.{after_take}
 use Rattle.mely_queue.specs.Turn.{EachFits}
-use Rattle.mely_shard.specs.Invariant.{SlotStands, IsKeptShard, lane_of, most_of}
+use Rattle.mely_shard.specs.Invariant.{SlotStands, IsConsistentShard, lane_of, most_of}
 use Rattle.mely_shard.proofs.RegisterLemmas.{kept_with_room, slot_there, lane_there}
 use Rattle.mely_shard.proofs.TakeLemmas.{RoomierLaws, Refuses, slot_refuses, ready_home, kept_taken, kept_alike, each_alike, taken_turn, all_by_recursion-take, lanes_as_they_are}
 use Rattle.mely_shard.proofs.SlotLemmas.{has_room_set}
@@ -58,7 +58,7 @@ record Pushed (g : _) (c : After-push_reserved g) : Type 0 where
   pub after : c.take.new.self ≡ record c.index_mut-slot.result.now { queue = after_take c.index_mut-slot.result.now.queue c.count-count.result; home = None; core = c.args.core; count = c.count-count.result }
   pub history : c.push_reserved.new.self.items ≡ c.self.inside.history.items ++ Take c.args.colour c.args.core c.count-count.result ∷ []
   pub allowed : MayTake c.self.inside.setup c.self.inside.history.items c.args.colour c.args.core c.count-count.result
-  pub kept : IsKeptShard g.S.Trail g.S.Fits.fits_under c.self.inside.setup c.self.inside.shard (c.self.inside.history.items ++ Take c.args.colour c.args.core c.count-count.result ∷ []) (set c.self.inside.slots.items (c.args.colour.0 / (shape_of c.self.inside.setup).shards) c.take.new.self) (c.self.inside.running + 1) (most_of (vec_capacity c.push_reserved.new.self))
+  pub kept : IsConsistentShard g.S.Trail g.S.Fits.fits_under c.self.inside.setup c.self.inside.shard (c.self.inside.history.items ++ Take c.args.colour c.args.core c.count-count.result ∷ []) (set c.self.inside.slots.items (c.args.colour.0 / (shape_of c.self.inside.setup).shards) c.take.new.self) (c.self.inside.running + 1) (most_of (vec_capacity c.push_reserved.new.self))
 
 pushed : (g : _) (c : After-push_reserved g) → c.args.colour.0 < colours_of c.self.inside.setup → c.args.colour.0 % (shape_of c.self.inside.setup).shards ≡ c.self.inside.shard
     → c.index_mut-slot.result.now ≡ get_or c.self.inside.slots.items (c.args.colour.0 / (shape_of c.self.inside.setup).shards) c.index_mut-slot.result.now

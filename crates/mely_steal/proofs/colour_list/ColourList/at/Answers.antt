@@ -8,6 +8,11 @@ use Rattle.mely_steal.specs.ColourList.{ColourListState}
 use Rattle.mely_steal.proofs.LinkLemmas.{walked, walked-more, walked-at, length-followed}
 use Rattle.mely_steal.proofs.TableLemmas.{walked-below}
 use Rattle.mely_steal.proofs.colour_list.ColourList.at.Goals as goal
+use Rattle.mely_steal.proofs.colour_list.ColourList.at.Goals.{At-places}
+
+-- a colour that was walked to is in the table
+walked_within : (c : At-places) → c.places.counter < c.self.inside.ends.len → c.places.colour < length c.self.inside.links.items
+walked_within c lt = rw c.places.invariant (walked-below c.self.invariant.strung c.places.counter lt)
 
 pub returns-then-place-self-clause-value : goal.returns-then-place-self-clause-value
 returns-then-place-self-clause-value c =
@@ -20,19 +25,16 @@ returns-then-place-self-clause-value c =
 
 pub index-requires : goal.index-requires
 index-requires c =
-    let lt : c.places.counter < c.self.inside.ends.len = (let one = c.places-test.true in let two = c.if-place-self.false in omega arith) in
-    let within : c.places.colour < length c.self.inside.links.items = rw c.places.invariant (walked-below c.self.invariant.strung c.places.counter lt) in
+    let within = walked_within (goal.at.index-requires c).At-places (omega (arith, c.places-test.true, c.if-place-self.false)) in
     let long : vec_len c.self.inside.links ≡ length c.self.inside.links.items = grind (arith, common_steps) in
-    omega arith
+    omega (arith, within, long)
 
 pub places-preserved : goal.places-preserved
 places-preserved c =
     let L = c.self.inside.links.items in
-    let first = c.self.inside.ends.first in
-    let lt : c.places.counter < c.self.inside.ends.len = (let one = c.places-test.true in let two = c.if-place-self.false in omega arith) in
-    let within : c.places.colour < length c.self.inside.links.items = rw c.places.invariant (walked-below c.self.invariant.strung c.places.counter lt) in
-    let read : c.index.result.now ≡ get_or L c.places.colour blank_link = get_or_read L c.places.colour c.index.result.now within c.index.ensures blank_link in
-    rw add-one (ap (λ (l : Link). l.after) read ∙ (ap (after_at L) c.places.invariant ∙ walked-more (after_at L) c.places.counter first))
+    let below = walked_within (goal.at.places-preserved c).At-places (omega (arith, c.places-test.true, c.if-place-self.false)) in
+    let read : c.index.result.now ≡ get_or L c.places.colour blank_link = get_or_read L c.places.colour c.index.result.now below c.index.ensures blank_link in
+    rw add-one (ap (λ (l : Link). l.after) read ∙ (ap (after_at L) c.places.invariant ∙ walked-more (after_at L) c.places.counter c.self.inside.ends.first))
 
 pub returns-clause-value : goal.returns-clause-value
 returns-clause-value c =
@@ -45,9 +47,7 @@ returns-clause-value c =
 
 pub returns-clause-within : goal.returns-clause-within
 returns-clause-within c =
-    let lt : c.places.counter < c.self.inside.ends.len = (let one = c.places.auto.counter-end in let two = c.if-place-self.false in omega arith) in
-    let within : c.places.colour < length c.self.inside.links.items = rw c.places.invariant (walked-below c.self.invariant.strung c.places.counter lt) in
-    let long = c.self.invariant.long in
+    let walked_to = walked_within (goal.at.returns-clause-within c).At-places (omega (arith, c.places.auto.counter-end, c.if-place-self.false)) in
     let Within : ColourListState → Type 0 = λ v. c.places.colour < v.colours in
-    let fits : c.places.colour < c.self.inside.colours = omega arith in
+    let fits : c.places.colour < c.self.inside.colours = omega (arith, walked_to, c.self.invariant.long) in
     subst Within c.self.view_is fits

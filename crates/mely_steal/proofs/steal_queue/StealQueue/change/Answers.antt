@@ -9,6 +9,6 @@ pub returns-clause-pinned : goal.returns-clause-pinned
 returns-clause-pinned c lt =
     let t = c.self.inside.table in
     let Pinned : StealQueueState → Type 0 = λ v. c.args.mark.colour.0 < v.pinned in
-    let stays = changed-pinned t.cost t.pinned c.args.mark (marks_of t.told t.entries) c.self.invariant.worthy.loose (subst Pinned (sym c.self.view_is) lt) in
+    let stays = changed-pinned t.cost t.pinned c.args.mark (marks_of t.marks t.entries) c.self.invariant.worthy.loose (subst Pinned (sym c.self.view_is) lt) in
     let like : List Mark → StealQueueState = λ xs. record { marks = xs; colours = t.colours; cost = t.cost; pinned = t.pinned } in
     c.change.ensures.worthy ∙ (ap like stays ∙ c.self.view_is)

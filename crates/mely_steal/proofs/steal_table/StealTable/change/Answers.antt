@@ -7,7 +7,7 @@ use Rattle.mely_steal.proofs.steal_table.StealTable.change.Goals as goal
 
 -- what stands once the mark is written
 settled : (c : goal.After-move_to) → (marks_of c.set.new.self c.move_to.new.classes.entries ≡ after_mark_change c.self.inside.cost c.self.inside.pinned c.args.mark (marks_of c.self.inside.marks c.self.inside.classes.entries))
-    × AreStealable (record { told = c.set.new.self; entries = c.move_to.new.classes.entries; colours = c.self.inside.colours; cost = c.self.inside.cost; pinned = c.self.inside.pinned })
+    × AreStealable (record { marks = c.set.new.self; entries = c.move_to.new.classes.entries; colours = c.self.inside.colours; cost = c.self.inside.cost; pinned = c.self.inside.pinned })
 settled c =
     let t = c.self.inside in
     let m = c.args.mark in
@@ -16,7 +16,7 @@ settled c =
     let is : c.move_to.new.classes.entries ≡ moved_to (stealing_class t.cost t.pinned m) m.colour.0 t.classes.entries =
     ap (λ (r : ClassesState). r.entries) c.move_to.ensures ∙ ap (λ k. moved_to k m.colour.0 t.classes.entries) c.stealing_class-class.ensures in
     let Done : List Ranked → Type 0 = λ g. (marks_of c.set.new.self g ≡ after_mark_change t.cost t.pinned m (marks_of t.marks t.classes.entries))
-    × AreStealable (record { told = c.set.new.self; entries = g; colours = t.colours; cost = t.cost; pinned = t.pinned }) in
+    × AreStealable (record { marks = c.set.new.self; entries = g; colours = t.colours; cost = t.cost; pinned = t.pinned }) in
     subst Done (sym is) done
 
 pub invariant_of-self : goal.invariant_of-self
@@ -25,8 +25,8 @@ invariant_of-self c = ((settled c).1, c.set.ensures.long ∙ c.self.invariant.1,
 pub returns-clause-worthy : goal.returns-clause-worthy
 returns-clause-worthy c =
     let t = c.self.inside in
-    let Entered : StealTableState → Type 0 = λ v. worthy_of (record { told = c.set.new.self; entries = c.move_to.new.classes.entries; colours = t.colours; cost = t.cost; pinned = t.pinned })
-    ≡ record { marks = after_mark_change v.cost v.pinned c.args.mark (marks_of v.told v.entries); colours = v.colours; cost = v.cost; pinned = v.pinned } in
+    let Entered : StealTableState → Type 0 = λ v. worthy_of (record { marks = c.set.new.self; entries = c.move_to.new.classes.entries; colours = t.colours; cost = t.cost; pinned = t.pinned })
+    ≡ record { marks = after_mark_change v.cost v.pinned c.args.mark (marks_of v.marks v.entries); colours = v.colours; cost = v.cost; pinned = v.pinned } in
     subst Entered c.self.view_is (λ i. record { marks = (settled c).0 i; colours = t.colours; cost = t.cost; pinned = t.pinned })
 
 pub returns-clause-stealable : goal.returns-clause-stealable

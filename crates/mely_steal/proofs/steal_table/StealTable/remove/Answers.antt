@@ -17,8 +17,8 @@ returns-clause-worthy c =
     let g = c.remove.new.self.entries in
     let is : g ≡ entries_without c.args.colour.0 t.classes.entries = ap (λ (r : ClassesState). r.entries) c.remove.ensures in
     let marks : marks_of t.marks g ≡ without c.args.colour (marks_of t.marks t.classes.entries) = ap (marks_of t.marks) is ∙ sym (without-entries t.marks c.args.colour t.classes.entries) in
-    let Left : StealTableState → Type 0 = λ v. worthy_of (record { told = t.marks; entries = g; colours = t.colours; cost = t.cost; pinned = t.pinned })
-    ≡ record { marks = without c.args.colour (marks_of v.told v.entries); colours = v.colours; cost = v.cost; pinned = v.pinned } in
+    let Left : StealTableState → Type 0 = λ v. worthy_of (record { marks = t.marks; entries = g; colours = t.colours; cost = t.cost; pinned = t.pinned })
+    ≡ record { marks = without c.args.colour (marks_of v.marks v.entries); colours = v.colours; cost = v.cost; pinned = v.pinned } in
     subst Left c.self.view_is (λ i. record { marks = marks i; colours = t.colours; cost = t.cost; pinned = t.pinned })
 
 pub returns-clause-stealable : goal.returns-clause-stealable

@@ -23,17 +23,17 @@ returns-clause-path g c =
 pub invariant_of-self : goal.invariant_of-self
 invariant_of-self g c =
     opens-sound http http-orderly g.L.Link (state_of c.deref_mut.result.now).hall c.args.link
-    (record { standing = state_of c.deref_mut.result.now; link = c.self.inside.link }) refl (sound-lent c.deref_mut.result.now c.self.inside.core.value c.self.inside.link c.deref_mut.ensures.value g.L.Link c.self.invariant) c.if-is_some.ensures c.requires.fresh c.requires.not_shut
+    (record { standing = state_of c.deref_mut.result.now; link = c.self.inside.link }) refl (sound-lent c.deref_mut.result.now c.self.inside.core.value c.self.inside.link c.deref_mut.ensures.value g.L.Link c.self.invariant) c.if-is_some.ensures c.requires.initial c.requires.not_shut
 
 pub returns-clause-sound : goal.returns-clause-sound
 returns-clause-sound g c =
     opens-sound http http-orderly g.L.Link (state_of c.deref_mut.result.now).hall c.args.link
-    (record { standing = state_of c.deref_mut.result.now; link = c.self.inside.link }) refl (sound-lent c.deref_mut.result.now c.self.inside.core.value c.self.inside.link c.deref_mut.ensures.value g.L.Link c.self.invariant) c.if-is_some.ensures c.requires.fresh c.requires.not_shut
+    (record { standing = state_of c.deref_mut.result.now; link = c.self.inside.link }) refl (sound-lent c.deref_mut.result.now c.self.inside.core.value c.self.inside.link c.deref_mut.ensures.value g.L.Link c.self.invariant) c.if-is_some.ensures c.requires.initial c.requires.not_shut
 
 pub returns-clause-run : goal.returns-clause-run
 returns-clause-run g c =
     let before = state_of c.deref_mut.result.now in
-    let fresh = not_opened http http-orderly before c.self.inside.link (sound-lent c.deref_mut.result.now c.self.inside.core.value c.self.inside.link c.deref_mut.ensures.value g.L.Link c.self.invariant).ready (sound-lent c.deref_mut.result.now c.self.inside.core.value c.self.inside.link c.deref_mut.ensures.value g.L.Link c.self.invariant).linked c.if-is_some.ensures in
+    let initial = not_opened http http-orderly before c.self.inside.link (sound-lent c.deref_mut.result.now c.self.inside.core.value c.self.inside.link c.deref_mut.ensures.value g.L.Link c.self.invariant).ready (sound-lent c.deref_mut.result.now c.self.inside.core.value c.self.inside.link c.deref_mut.ensures.value g.L.Link c.self.invariant).linked c.if-is_some.ensures in
     subst (λ (k : ConnState g.row.L.Denot). HasRun g.L.Link k.standing.hall c.args.link [] (record { standing = going_to before next.Read; link = Some c.args.link })) (view-lent c.deref_mut.result.now c.self.inside.core.value c.self.inside.link c.deref_mut.ensures.value c.args.self.now c.self.view_is)
-    (subst (λ (s : ConnCoreState). HasRun g.L.Link before.hall c.args.link [] (record { standing = going_to s next.Read; link = Some c.args.link })) (sym fresh)
-    (run-start http http-orderly g.L.Link before.hall c.args.link (sound-lent c.deref_mut.result.now c.self.inside.core.value c.self.inside.link c.deref_mut.ensures.value g.L.Link c.self.invariant).progress.limits c.requires.fresh c.requires.not_shut))
+    (subst (λ (s : ConnCoreState). HasRun g.L.Link before.hall c.args.link [] (record { standing = going_to s next.Read; link = Some c.args.link })) (sym initial)
+    (run-start http http-orderly g.L.Link before.hall c.args.link (sound-lent c.deref_mut.result.now c.self.inside.core.value c.self.inside.link c.deref_mut.ensures.value g.L.Link c.self.invariant).progress.limits c.requires.initial c.requires.not_shut))

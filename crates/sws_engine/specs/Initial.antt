@@ -1,4 +1,4 @@
--- The states at first, and the event that begins a run.
+-- The initial states, and the event that begins a run.
 use Rattle.std.specs.Prelude.{◌≡◌, ℕ, ◌+◌, ◌≤◌, ◌==◌, false, if◌then◌else◌, List, [], length, Some, None, slice_get}
 use Rattle.mely_event.specs.declared.event.Event.{Event}
 use Rattle.sws_conn.specs.declared.talk.Talk.{Ghosts as TalkWords}
@@ -11,42 +11,43 @@ use Rattle.sws_engine.specs.Place.{PlaceState}
 
 module _ {W L T G H : Type 0} (y : TalkWords T L G H) (first : W) where
   -- nobody waits at colour 0, and no connection has its link
-  abbrev pub FreshRole : ℕ → Role W T → Type 0
-  FreshRole c (Polling desk) = (c ≡ 0) × (desk.waiting.items ≡ []) × (desk.last ≡ false)
+  abbrev pub IsInitialRole : ℕ → Role W T → Type 0
+  IsInitialRole c (Polling desk) = (c ≡ 0) × (desk.waiting.items ≡ []) × (desk.last ≡ false)
       × (desk.resting ≡ None)
-  FreshRole c Accepting = c ≡ 1
-  FreshRole c (Talking seat) = (2 ≤ c) × (y.view_of seat.talk ≡ unopened_view) × (seat.stray ≡ None)
+  IsInitialRole c Accepting = c ≡ 1
+  IsInitialRole c (Talking seat) = (2 ≤ c) × (y.view_of seat.talk ≡ unopened_view)
+      × (seat.stray ≡ None)
 
-  -- a state of colour c, over the first world, with the fresh role of that colour
-  pub record IsFreshPlace (c : ℕ) (s : PlaceState H W T) : Type 0 where
+  -- a state of colour c, over the first world, with the initial role of that colour
+  pub record IsInitialPlace (c : ℕ) (s : PlaceState H W T) : Type 0 where
     pub colour : s.colour.0 ≡ c
     pub world : s.first ≡ first
-    pub role : FreshRole c s.role
+    pub role : IsInitialRole c s.role
 
   -- a state for colours 0 and 1, and one for each connection
-  pub record AreFresh (total : ℕ) (states : List (PlaceState H W T)) : Type 0 where
+  pub record AreInitialPlaces (total : ℕ) (states : List (PlaceState H W T)) : Type 0 where
     pub many : length states ≡ total + 2
-    pub each : (i : ℕ) (s : PlaceState H W T) → slice_get states i ≡ Some s → IsFreshPlace i s
+    pub each : (i : ℕ) (s : PlaceState H W T) → slice_get states i ≡ Some s → IsInitialPlace i s
 
 -- the first poll: 1 where no link is to come
 abbrev pub first_poll : ℕ → Event
 first_poll total = record { handler = 0; arg = if total == 0 then 1 else 0 }
 
--- the world at first
-abbrev pub first_load : {W : Type 0} → W → WorldLoad W
-first_load world = record { world = world; accepted = 0; failed = false }
+-- the initial load: the world, of which no link was accepted
+abbrev pub initial_load : {W : Type 0} → W → WorldLoad W
+initial_load world = record { world = world; accepted = 0; failed = false }
 
--- a fresh state as it is made, over the hall
-pub record IsFirstPlace {W L T G H : Type 0} (y : TalkWords T L G H) (first : W) (hall : H) (c : ℕ)
-    (s : PlaceState H W T) : Type 0 where
-  pub fresh : IsFreshPlace y first c s
+-- an initial state as it is made, over the hall
+pub record IsInitialPlaceOver {W L T G H : Type 0} (y : TalkWords T L G H) (first : W) (hall : H)
+    (c : ℕ) (s : PlaceState H W T) : Type 0 where
+  pub initial : IsInitialPlace y first c s
   pub untouched : s.trail ≡ []
   pub hall_is : s.hall ≡ hall
   pub own_hall : (seat : Seat T) → s.role ≡ Talking seat → y.hall_of seat.talk ≡ hall
 
 -- so many of them, in ascending order
-pub record AreFirstPlaces {W L T G H : Type 0} (y : TalkWords T L G H) (first : W) (hall : H)
+pub record AreInitialPlacesOver {W L T G H : Type 0} (y : TalkWords T L G H) (first : W) (hall : H)
     (count : ℕ) (states : List (PlaceState H W T)) : Type 0 where
   pub many : length states ≡ count
   pub each : (i : ℕ) (s : PlaceState H W T) → slice_get states i ≡ Some s
-      → IsFirstPlace y first hall i s
+      → IsInitialPlaceOver y first hall i s

@@ -1,4 +1,4 @@
--- First states, one after another.
+-- Initial states, one after another.
 use Rattle.std.proofs.Common.{◌≡◌, ℕ, ◌+◌, ◌<◌, ◌≤◌, List, [], ◌∷◌, ◌++◌, Some, length, get_or, refl, sym, ◌∙◌, ap, subst, arith, ⊎_elim, length-append}
 use Rattle.std.proofs.Math.ListN.{get_or-append}
 use Rattle.std.proofs.Math.Seq.{get_or-append_seam}
@@ -6,16 +6,16 @@ use Rattle.std.proofs.lemmas.Bool.{cases_lt}
 use Rattle.std.proofs.lemmas.Option.{slice_get_within, slice_get-get_or, get_or_from_slice_get}
 use Rattle.mely_event.specs.declared.colour.Colour.{Colour}
 use Rattle.mely_event.specs.declared.event.Event.{Event}
-use Rattle.mely_weave.specs.Making.{AreBlank}
+use Rattle.mely_weave.specs.Making.{AreInitialBelow}
 
 module _ {S : Type 0} (colour_of : S → Colour) (trail_of : S → List Event) where
   -- no state at first
-  pub blank_none : AreBlank colour_of trail_of 0 []
-  blank_none = record { many = refl; each = λ i state is. cc }
+  pub initial_none : AreInitialBelow colour_of trail_of 0 []
+  initial_none = record { many = refl; each = λ i state is. cc }
 
   -- one state more
-  pub blank_more : (count : ℕ) (states : List S) (state : S) → AreBlank colour_of trail_of count states → colour_of state ≡ record { 0 = count } → trail_of state ≡ [] → AreBlank colour_of trail_of (count + 1) (states ++ state ∷ [])
-  blank_more count states state are coloured untouched = record {
+  pub initial_more : (count : ℕ) (states : List S) (state : S) → AreInitialBelow colour_of trail_of count states → colour_of state ≡ record { 0 = count } → trail_of state ≡ [] → AreInitialBelow colour_of trail_of (count + 1) (states ++ state ∷ [])
+  initial_more count states state are coloured untouched = record {
     many = length-append states (state ∷ []) ∙ ap (λ n. n + 1) are.many;
     each = λ i other is. ⊎_elim
         (λ (low : i < length states). are.each i other (slice_get-get_or states i other low ∙ ap (λ s. Some s) (sym (get_or-append states (state ∷ []) other i low) ∙ get_or_from_slice_get (states ++ state ∷ []) i other other is)))

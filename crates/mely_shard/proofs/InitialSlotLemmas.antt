@@ -1,4 +1,4 @@
--- The slots of a shard at first.
+-- The initial slots of a shard.
 use Rattle.std.proofs.Common.{◌≡◌, ℕ, zero, suc, ◌+◌, ◌/◌, ◌<◌, ◌≤◌, ◌⊎◌, List, [], ◌∷◌, ◌++◌, Option, Some, Bool, false, cond, length, map, get_or, refl, sym, ◌∙◌, ap, subst, arith, inl, inr, ⊎_elim}
 use Rattle.std.specs.Prelude.{is_none}
 use Rattle.std.specs.List.{slice_get, count_by, sum_by}
@@ -12,9 +12,9 @@ use Rattle.mely_history.specs.declared.setup.Setup.{Setup}
 use Rattle.mely_history.specs.ColourAccount.{account_of}
 use Rattle.mely_queue.specs.Turn.{EachFits}
 use Rattle.mely_shard.specs.declared.colour_slot.ColourSlot.{ColourSlot}
-use Rattle.mely_shard.specs.Shard.{ColourState, colour_at, first_lane, AreFirstStates}
+use Rattle.mely_shard.specs.Shard.{ColourState, colour_at, initial_lane, AreInitialStates}
 use Rattle.mely_shard.specs.declared.room.TheConstants.{MAX_ENTRIES}
-use Rattle.mely_shard.specs.Invariant.{IsFirstSlot, AreFirstSlots, IsKeptShard, SlotStands, StateStands, is_away, lane_of}
+use Rattle.mely_shard.specs.Invariant.{IsInitialSlot, AreInitialSlots, IsConsistentShard, SlotStands, StateStands, is_away, lane_of}
 use Rattle.mely_shard.proofs.RegisterLemmas.{colour_at-place}
 
 -- what stands in a list with one more at its end stood there, or is the last
@@ -28,8 +28,8 @@ slice_get-push (z ∷ xs) x y (suc i) is = ⊎_elim
     (slice_get-push xs x y i is)
 
 -- one more slot of one more state
-pub first_more : {S P : Type 0} (setup : Setup) (shard : ℕ) (states : List S) (slots : List (ColourSlot S P)) (state : S) (slot : ColourSlot S P) → length slots ≡ length states → AreFirstSlots setup shard states slots → IsFirstSlot setup (colour_at setup shard (length states)).0 state slot → AreFirstSlots setup shard (states ++ state ∷ []) (slots ++ slot ∷ [])
-first_more setup shard states slots state slot many old new i s b s_is b_is = ⊎_elim
+pub initial_more : {S P : Type 0} (setup : Setup) (shard : ℕ) (states : List S) (slots : List (ColourSlot S P)) (state : S) (slot : ColourSlot S P) → length slots ≡ length states → AreInitialSlots setup shard states slots → IsInitialSlot setup (colour_at setup shard (length states)).0 state slot → AreInitialSlots setup shard (states ++ state ∷ []) (slots ++ slot ∷ [])
+initial_more setup shard states slots state slot many old new i s b s_is b_is = ⊎_elim
     (λ (s_old : slice_get states i ≡ Some s). ⊎_elim
     (λ (b_old : slice_get slots i ≡ Some b). old i s b s_old b_old)
     (λ (b_new : (i ≡ length slots) × (slot ≡ b)). let low = slice_get_within states i s s_old in let at = b_new.0 in absurd (omega (arith, low, at, many)))
@@ -37,8 +37,8 @@ first_more setup shard states slots state slot many old new i s b s_is b_is = �
     (λ (s_new : (i ≡ length states) × (state ≡ s)). ⊎_elim
     (λ (b_old : slice_get slots i ≡ Some b). let low = slice_get_within slots i b b_old in let at = s_new.0 in absurd (omega (arith, low, at, many)))
     (λ (b_new : (i ≡ length slots) × (slot ≡ b)).
-    subst (λ k. IsFirstSlot setup (colour_at setup shard k).0 s b) (sym s_new.0)
-    (subst (λ t. IsFirstSlot setup (colour_at setup shard (length states)).0 t b) s_new.1 (subst (λ k. IsFirstSlot setup (colour_at setup shard (length states)).0 state k) b_new.1 new)))
+    subst (λ k. IsInitialSlot setup (colour_at setup shard k).0 s b) (sym s_new.0)
+    (subst (λ t. IsInitialSlot setup (colour_at setup shard (length states)).0 t b) s_new.1 (subst (λ k. IsInitialSlot setup (colour_at setup shard (length states)).0 state k) b_new.1 new)))
     (slice_get-push slots slot b i b_is))
     (slice_get-push states state s i s_is)
 
@@ -61,9 +61,9 @@ none_away (slot ∷ slots) home =
     let split : sum_by (λ b. one (is_away b)) (slot ∷ slots) ≡ one (is_away slot) + sum_by (λ b. one (is_away b)) slots = sum_by-cons (λ b. one (is_away b)) slot slots in
     omega (arith, first, rest, split)
 
-module _ {S P F : Type 0} (t : TrailWords S F) (fits : F → Colour → Event → Option P → Type 0) (setup : Setup) (shard : ℕ) (states : List S) (slots : List (ColourSlot S P)) (numbered : shard < (shape_of setup).shards) (given : AreFirstStates t setup shard states) (many : length slots ≡ length states) (first : AreFirstSlots setup shard states slots) where
+module _ {S P F : Type 0} (t : TrailWords S F) (fits : F → Colour → Event → Option P → Type 0) (setup : Setup) (shard : ℕ) (states : List S) (slots : List (ColourSlot S P)) (numbered : shard < (shape_of setup).shards) (given : AreInitialStates t setup shard states) (many : length slots ≡ length states) (first : AreInitialSlots setup shard states slots) where
   -- the first slot of a place
-  first_at : (i : ℕ) (slot : ColourSlot S P) → slice_get slots i ≡ Some slot → (state : S) × (slice_get states i ≡ Some state) × IsFirstSlot setup (colour_at setup shard i).0 state slot
+  first_at : (i : ℕ) (slot : ColourSlot S P) → slice_get slots i ≡ Some slot → (state : S) × (slice_get states i ≡ Some state) × IsInitialSlot setup (colour_at setup shard i).0 state slot
   first_at i slot is = ⊎_elim
       (λ there. (there.0, there.2, first i there.0 slot there.2 is))
       (λ past. let low = slice_get_within slots i slot is in let beyond = past.0 in absurd (omega (arith, low, beyond, many)))
@@ -88,8 +88,8 @@ module _ {S P F : Type 0} (t : TrailWords S F) (fits : F → Colour → Event �
       }
 
   -- the fields keep what they are to keep
-  pub kept_first : (capacity : ℕ) → capacity ≤ MAX_ENTRIES → IsKeptShard t fits setup shard [] slots 0 capacity
-  kept_first capacity limited = record {
+  pub kept_initial : (capacity : ℕ) → capacity ≤ MAX_ENTRIES → IsConsistentShard t fits setup shard [] slots 0 capacity
+  kept_initial capacity limited = record {
     legal = λ at entry is. cc;
     numbered = numbered;
     whole = λ c lt of. let all = given.all (c / (shape_of setup).shards) (subst (λ k. k < colours_of setup) (sym (ap (λ k. k.0) (colour_at-place setup shard (record { 0 = c }) of))) lt) in omega (arith, all, many);
@@ -106,9 +106,9 @@ module _ {S P F : Type 0} (t : TrailWords S F) (fits : F → Colour → Event �
   }
 
   -- the lanes are those of the states
-  pub lanes_first : map lane_of slots ≡ map first_lane states
-  lanes_first = maps_alike lane_of first_lane slots states many (λ i slot state slot_at state_at.
+  pub lanes_initial : map lane_of slots ≡ map initial_lane states
+  lanes_initial = maps_alike lane_of initial_lane slots states many (λ i slot state slot_at state_at.
       let is = first i state slot state_at slot_at in
-      lanes_equal (lane_of slot) (first_lane state) is.home is.given (ap (λ q. q.events) is.queue)) where
+      lanes_equal (lane_of slot) (initial_lane state) is.home is.given (ap (λ q. q.events) is.queue)) where
         lanes_equal : (a b : ColourState S P) → a.state ≡ b.state → a.given ≡ b.given → a.events ≡ b.events → a ≡ b
         lanes_equal a b s g e = ap (λ x. record a { state = x }) s ∙ ap (λ x. record { state = b.state; given = x; events = a.events }) g ∙ ap (λ x. record { state = b.state; given = b.given; events = x }) e
