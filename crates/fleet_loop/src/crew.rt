@@ -76,9 +76,27 @@ fn post_all<R: Wait>(
     true
 }
 
+/// What a run comes to.
+#[derive(Clone, Copy)]
+pub struct Ran {
+    /// How many handlers ran.
+    pub events: u64,
+
+    /// Whether each worker answered that all is quiet; else events may be left.
+    pub is_quiet: bool,
+}
+
+/// What the workers of a run count: the handlers that they ran, and how many of them answered that
+/// all is quiet.
+#[derive(Drop)]
+struct Counts {
+    ran: AtomicU64,
+    quiet: AtomicU64,
+}
+
 /// The work of one core, in its thread, with an app of its own: a count that the workers shared
-/// would be a line of memory that each event takes from another core. How it ended, and `ran` has
-/// the handlers that it ran besides; nothing for want of memory.
+/// would be a line of memory that each event takes from another core. How it ended, which `counts`
+/// has besides; nothing for want of memory.
 fn work_one<R: Wait>(
     rt: &R,
     alloc: Global,
@@ -86,7 +104,7 @@ fn work_one<R: Wait>(
     setup: &Setup,
     passes: &mut Passes<Tally, u8>,
     order: &Order,
-    ran: &AtomicU64,
+    counts: &Counts,
 ) -> Option<Worked>
     requires { MayWorkHere (shard_frame ⟦<Tally as Trail>⟧.frame_of) order.now.colours setup.now
         fleet.now passes.old }
@@ -108,7 +126,12 @@ fn work_one<R: Wait>(
         ran: AtomicU64::new(0),
     };
     let worked = fleet.work(rt, &mut worker, passes, &app, &OpenGate);
-    ran.fetch_add(app.ran.load(Ordering::SeqCst), Ordering::SeqCst);
+    counts
+        .ran
+        .fetch_add(app.ran.load(Ordering::SeqCst), Ordering::SeqCst);
+    if worked == Worked::Quiet {
+        counts.quiet.fetch_add(1, Ordering::SeqCst);
+    }
     let lost = worker.into_lost();
     drop(lost);
     Some(worked)
@@ -122,7 +145,7 @@ fn work_all<R: Threads + Wait + Sync>(
     setup: &Setup,
     seats: &mut [Passes<Tally, u8>],
     order: &Order,
-    ran: &AtomicU64,
+    counts: &Counts,
 )
     requires shaped { IsLoop order.now.colours setup.now }
     requires of_setup { fleet.now.setup ≡ setup.now }
@@ -140,25 +163,31 @@ fn work_all<R: Threads + Wait + Sync>(
             requires { MayWorkHere (shard_frame (λ s. tt)) order.now.colours
                 setup.now fleet.now own.now }
         {
-            drop(work_one(rt, alloc, fleet, setup, own, order, ran));
+            drop(work_one(rt, alloc, fleet, setup, own, order, counts));
         },
     );
 }
 
-/// Runs an event on each of so many colours, passed on so often, and answers how many handlers ran.
+/// Runs an event on each of so many colours, passed on so often, and answers what came of it.
 /// Nothing for want of memory, or where a number is out of its range.
-pub fn run<R: Threads + Wait + Sync>(rt: &R, alloc: Global, order: &Order) -> Option<u64> {
+pub fn run<R: Threads + Wait + Sync>(rt: &R, alloc: Global, order: &Order) -> Option<Ran> {
     let setup = setup_of(order)?;
     let states = initial_states(alloc, order.colours).ok()?;
     let Ok((fleet, mut passes)) = Fleet::new(alloc, &setup, states, 1) else {
         return None;
     };
     let mut outside = passes.pop()?;
-    let ran = AtomicU64::new(0);
+    let counts = Counts {
+        ran: AtomicU64::new(0),
+        quiet: AtomicU64::new(0),
+    };
     let is_posted = post_all(rt, &fleet, &mut outside, order.colours, order.passes);
-    work_all(rt, alloc, &fleet, &setup, &mut passes, order, &ran);
+    work_all(rt, alloc, &fleet, &setup, &mut passes, order, &counts);
     if !is_posted {
         return None;
     }
-    Some(ran.load(Ordering::SeqCst))
+    Some(Ran {
+        events: counts.ran.load(Ordering::SeqCst),
+        is_quiet: counts.quiet.load(Ordering::SeqCst) == u64::from(order.workers),
+    })
 }

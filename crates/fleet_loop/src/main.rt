@@ -5,8 +5,9 @@
 //! rounds, draws a colour and registers an event there, until an event was passed on so often; with
 //! the word `stay` it registers it on its own colour, as a handler of a connection does. The
 //! workers take up to BATCH events of a colour at a time, and end once all were run. It prints how
-//! many handlers ran, which are as many in whatever order. It makes the calls of a fleet itself,
-//! which `run_app` makes for an app, and is what a fleet is measured by.
+//! many handlers ran, which are as many in whatever order. Where the workers gave up before all were
+//! run, as where the machine refuses a thread, it says so, and its status is 1. It makes the calls of
+//! a fleet itself, which `run_app` makes for an app, and is what a fleet is measured by.
 #![tactic(auto)]
 
 mod crew;
@@ -39,9 +40,14 @@ fn main(rt: HostRuntime) -> io::Result<ExitCode> {
         return Ok(ExitCode::from(2));
     };
     match crew::run(&rt, rt.alloc(), &order) {
-        Some(events) => {
+        Some(ran) => {
+            let events = ran.events;
             println!(rt; "{events} events ran")?;
-            Ok(ExitCode::SUCCESS)
+            if ran.is_quiet {
+                return Ok(ExitCode::SUCCESS);
+            }
+            eprintln!(rt; "fleet_loop: the workers gave up")?;
+            Ok(ExitCode::from(1))
         }
         None => {
             eprintln!(rt; "fleet_loop: no memory, or a number out of its range")?;

@@ -8,6 +8,7 @@ ghost use Rattle.fleet_rows.specs.Callers.{AreCallers, IsRow};
 mod calls;
 mod crowd;
 mod grudging;
+mod stress;
 mod wanting;
 
 use counting_app::{Tally, initial_states};

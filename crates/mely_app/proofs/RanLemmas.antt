@@ -1,7 +1,8 @@
 -- Where a weave's histories are drained, its parts show that every event was run.
 use Rattle.std.proofs.Common.{◌≡◌, ℕ, List, [], ◌++◌, length, map, take, drop, sym, ◌∙◌, ap, subst}
 use Rattle.std.proofs.lemmas.List.{length-map, append-nil, take-append-drop}
-use Rattle.std.specs.Prelude.{Option}
+use Rattle.std.proofs.lemmas.Option.{slice_get-map}
+use Rattle.std.specs.Prelude.{Option, Some, slice_get, option_map}
 use Rattle.mely_event.specs.declared.colour.Colour.{Colour}
 use Rattle.mely_event.specs.declared.event.Event.{Event}
 use Rattle.mely_event.specs.declared.trail.Trail.{Ghosts as TrailWords}
@@ -16,6 +17,7 @@ use Rattle.mely_weave.specs.Side.{shard_of}
 use Rattle.mely_weave.specs.Weave.{WeaveState}
 use Rattle.mely_tally.specs.Tallies.{Carried}
 use Rattle.mely_tally.specs.Tells.{IsTakenApart}
+use Rattle.mely_fleet.specs.Crew.{IsRegistered, IsRegisteredIn}
 use Rattle.mely_app.specs.RanAll.{RanAll}
 
 -- where nothing is left behind a front, that is the whole
@@ -26,11 +28,20 @@ front_whole n xs none = sym (append-nil (take n xs)) ∙ ap (λ l. take n xs ++ 
 all_ran : (history : List Entry) (c : Colour) → IsDrainedOf history c → ran_of history c ≡ registered_of history c
 all_ran history c drained = ap (λ n. take n (registered_of history c)) (sym drained.at_rest) ∙ front_whole (begun_of history c) (registered_of history c) drained.none_queued
 
-pub ran_all : {S P F : Type 0} (t : TrailWords S F) (setup : Setup) (weave : WeaveState S P) (histories : List (List Entry)) (states : List S) (queued : List (List (Carried P))) (lost : List (Colour × Event × Option P))
+pub ran_all : {S P F : Type 0} (t : TrailWords S F) (setup : Setup) (colour : Colour) (event : Event) (weave : WeaveState S P) (histories : List (List Entry)) (states : List S) (queued : List (List (Carried P))) (lost : List (Colour × Event × Option P))
     → weave.setup ≡ setup → length weave.shards ≡ (shape_of weave.setup).shards → histories ≡ map (λ (has : ShardState S P). has.history) weave.shards
-    → HistoriesAreDrained weave → IsTakenApart t weave histories states queued lost → RanAll t setup histories states
-ran_all {S} {P} t setup weave histories states queued lost of_setup shards are drained apart =
-    let whole : RanAll t weave.setup histories states = record {
+    → IsRegistered colour event weave → HistoriesAreDrained weave → IsTakenApart t weave histories states queued lost → RanAll t setup colour event histories states
+ran_all {S} {P} t setup colour event weave histories states queued lost of_setup shards are registered drained apart =
+    let whole : RanAll t weave.setup colour event histories states = record {
+      begun = λ history there.
+          let shard = shard_of weave.setup colour in
+          let at : slice_get histories shard ≡ Some registered.has.history =
+          ap (λ hs. slice_get hs shard) are
+          ∙ slice_get-map (λ (has : ShardState S P). has.history) weave.shards shard
+          ∙ ap (option_map (λ (has : ShardState S P). has.history)) registered.there in
+          let both : Some history ≡ Some registered.has.history = sym there ∙ at in
+          let same : history ≡ registered.has.history = cc in
+          subst (λ h. IsRegisteredIn weave.setup colour event h) (sym same) registered.registered;
       legal = apart.legal;
       shards = ap length are ∙ length-map weave.shards (λ (has : ShardState S P). has.history) ∙ shards;
       drained = apart.drained drained;
@@ -40,4 +51,4 @@ ran_all {S} {P} t setup weave histories states queued lost of_setup shards are d
           let shard = shard_of weave.setup c in
           apart.trailed c state history at there ∙ all_ran history c (apart.drained drained shard history there c);
     } in
-    subst (λ (k : Setup). RanAll t k histories states) of_setup whole
+    subst (λ (k : Setup). RanAll t k colour event histories states) of_setup whole

@@ -16,7 +16,7 @@
 //! on the state of its colour, once, in the order in which its colour's events were registered,
 //! however the threads ran. So whatever the type of a state keeps over its trail, as that a count
 //! is the trail's length, is so of all that was registered. Not promised is that the run ends (an
-//! app may register for ever), nor which events were registered: a handler's puts are, but no
+//! app may register for ever), nor which events were registered: what a handler puts is, but no
 //! contract of a running fleet says so.
 #![tactic(auto)]
 

@@ -48,7 +48,7 @@ pub fn run_app<
 ) -> Result<Ended<S>, Memory>
     requires served { AppServes A.App setup.now S.initial_frame app.now }
     requires fits { FitsSetup S.fits_under setup.now S.initial_frame (colour, event, load) }
-    ensures { IfOk result (λ ended. RanAll S.Trail setup.now
+    ensures { IfOk result (λ ended. RanAll S.Trail setup.now colour event
         (map (λ history. history.items) ended.histories.items) ended.states.items) }
 {
     let states = initial_states::<S, P>(alloc, setup)?;

@@ -1,9 +1,9 @@
 mod ListLemmas
 mod WatchLemmas
 mod HearingLemmas
-mod ReadingLemmas
+pub mod ReadingLemmas
 mod WalkLemmas
-mod LineLemmas
+pub mod LineLemmas
 mod StepLemmas
 mod JudgeLemmas
 mod BeginLemmas

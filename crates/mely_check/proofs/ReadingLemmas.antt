@@ -10,7 +10,7 @@ use Rattle.std.proofs.lemmas.Str.Parse.{digit_from_value}
 use Rattle.std.proofs.lemmas.List.{take-append-drop}
 use Rattle.std.proofs.Math.Seq.{take-append_seam}
 use lib.Pointwise.{pointwise}
-use Rattle.sws_report.specs.Numbers.{space_number}
+use Rattle.sws_text.specs.Numbers.{space_number}
 use Rattle.mely_event.specs.declared.colour.Colour.{Colour}
 use Rattle.mely_event.specs.declared.event.Event.{Event}
 use Rattle.mely_history.specs.declared.entry.Entry.TheVariants.{Reg}

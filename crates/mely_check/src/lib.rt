@@ -6,6 +6,8 @@
 //! was left running or waiting. It holds one line at a time, and of each colour its owner, its
 //! take and its queued weights.
 //!
+//! [`read_line`] says what one line of a journal says, for whoever goes on with an accepted one.
+//!
 //! ```text
 //! let report = check_journal(alloc, &setup, &mut source)?;
 //! ```
@@ -19,10 +21,9 @@ mod place;
 mod reader;
 mod reading;
 mod report;
-#[cfg(test)]
-mod tests;
 mod watch;
 
 pub use checking::check_journal;
 pub use fault::CheckFault;
+pub use reading::{Line, read_line};
 pub use report::{CoreReport, Report};

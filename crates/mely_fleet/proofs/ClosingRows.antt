@@ -1,8 +1,9 @@
 -- Locks and their columns of passes, by place.
-use Rattle.std.proofs.Common.{◌≡◌, ℕ, zero, suc, ◌+◌, ◌<◌, List, [], ◌∷◌, ◌++◌, Some, length, get_or, drop, refl, sym, ◌∙◌, ap, subst, arith}
+use Rattle.std.proofs.Common.{◌≡◌, ℕ, zero, suc, ◌+◌, ◌<◌, List, [], ◌∷◌, ◌++◌, Some, length, map, get_or, drop, refl, sym, ◌∙◌, ap, subst, arith, append-nil}
 use Rattle.std.specs.Prelude.{slice_get}
 use Rattle.mely_weave.proofs.Wholes.DealLemmas.{both_push}
 use Rattle.mely_weave.proofs.Wholes.GatherLemmas.{get_there}
+use Rattle.std.proofs.lemmas.List.{nil_from_length}
 use Rattle.std.proofs.lemmas.Option.{slice_get-get_or}
 use Rattle.mely_fleet.specs.Closed.{IsColumn, AreFilled}
 
@@ -17,6 +18,17 @@ head_of_rest (y ∷ ys) (suc n) x rest is = head_of_rest ys n x rest is
 pub at_seam : {A : Type 0} (xs : List A) (x : A) (ys : List A) → slice_get (xs ++ x ∷ ys) (length xs) ≡ Some x
 at_seam [] x ys = refl
 at_seam (y ∷ xs) x ys = at_seam xs x ys
+
+-- once nothing is left, all were yielded
+pub all_yielded : {A : Type 0} (yielded rest all : List A) (left : ℕ) → yielded ++ rest ≡ all → left ≡ length rest → left ≡ 0 → yielded ≡ all
+all_yielded yielded rest all left split is none = sym (append-nil yielded) ∙ ap (λ xs. yielded ++ xs) (sym (nil_from_length rest (sym is ∙ none))) ∙ split
+
+-- what some elements give, before anything else, each gives at its place
+pub map_front : {A B : Type 0} (f : A → B) (xs : List A) (rest : List B) (n : ℕ) (x : A) (y : B) → slice_get xs n ≡ Some x → slice_get (map f xs ++ rest) n ≡ Some y → f x ≡ y
+map_front f [] rest zero x y at there = cc
+map_front f [] rest (suc n) x y at there = cc
+map_front f (z ∷ xs) rest zero x y at there = let same : z ≡ x = cc in let is : f z ≡ y = cc in ap f (sym same) ∙ is
+map_front f (z ∷ xs) rest (suc n) x y at there = map_front f xs rest n x y at there
 
 -- one element more
 pub one_longer : {A : Type 0} (xs : List A) (x : A) → length (xs ++ x ∷ []) ≡ suc (length xs)

@@ -44,3 +44,10 @@ gathered_frame {S} {P} t fits weave setup frame stands may =
 pub the_only : {A : Type 0} (a b : A) (i : ℕ) → slice_get (a ∷ []) i ≡ Some b → a ≡ b
 the_only a b zero at = cc
 the_only a b (suc i) at = cc
+
+-- what stands in a list stands there once one more is behind it
+pub still_there : {A : Type 0} (xs : List A) (y : A) (n : ℕ) (x : A) → slice_get xs n ≡ Some x → slice_get (xs ++ y ∷ []) n ≡ Some x
+still_there [] y zero x at = cc
+still_there [] y (suc n) x at = cc
+still_there (z ∷ xs) y zero x at = at
+still_there (z ∷ xs) y (suc n) x at = still_there xs y n x at

@@ -3,6 +3,8 @@ mod Rows
 pub mod SideLemmas
 mod WorkLemmas
 mod WorkedLemmas
+mod MakesLemmas
+mod LossLemmas
 pub mod OpeningLemmas
 mod ClosingRows
 mod ClosingLemmas
@@ -10,3 +12,4 @@ mod GatherClosedLemmas
 pub mod SeatLemmas
 mod CallLemmas
 mod CrewLemmas
+mod BegunLemmas

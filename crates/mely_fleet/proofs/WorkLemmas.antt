@@ -339,7 +339,7 @@ side_words t fits view keeps = record {
 }
 
 module _ {B R S P F : Type 0} (t : TrailWords S F) (fits : F → Colour → Event → Option P → Type 0) (view : B → Standpoint F) (keeps : B → B → Type 0) (y : AppWords R P S F) (app : R) (s u : B) (w v : WorkerState S P) (step : Made) (steps : Steps (side_words t fits view keeps) y app s w step u v) where
-  standpoint_steps : Steps (words t fits) y app (view s) w step (view u) v
+  pub standpoint_steps : Steps (words t fits) y app (view s) w step (view u) v
   standpoint_steps = steps_under (side_words t fits view keeps) (words t fits) y view app s w step u v (record {
     registers = λ c event load answer h. h;
     takes = λ c answer h. h;

@@ -13,3 +13,4 @@ pub mod Closing
 pub mod Closed
 pub mod Seats
 pub mod ClosesHome
+pub mod Crew

@@ -1,5 +1,5 @@
 -- A fleet as the worker of a core sees it at work.
-use Rattle.std.specs.Prelude.{◌≡◌, ◌<◌, ◌++◌, ℕ, List, Option, Some}
+use Rattle.std.specs.Prelude.{◌≡◌, ◌<◌, ◌++◌, ℕ, List, [], ◌∷◌, Option, Some}
 use Rattle.mely_event.specs.declared.colour.Colour.{Colour}
 use Rattle.mely_event.specs.declared.event.Event.{Event}
 use Rattle.mely_event.specs.declared.trail.Trail.{Ghosts as TrailWords}
@@ -8,8 +8,13 @@ use Rattle.mely_history.specs.declared.entry.Entry.{Entry}
 use Rattle.mely_history.specs.declared.entry.Entry.TheVariants.{Take}
 use Rattle.mely_history.specs.Setup.{shape_of}
 use Rattle.mely_history.specs.Legal.{IsDrained}
+use Rattle.mely_history.specs.Entries.{pass_of}
 use Rattle.mely_history.specs.Owing.{last_change, IsOwed}
+use Rattle.mely_lock.specs.Seen.{OthersSince}
 use Rattle.mely_worker.specs.declared.access.Access.{Ghosts as AccessWords}
+use Rattle.mely_worker.specs.declared.app.App.{Ghosts as AppWords}
+use Rattle.mely_worker.specs.declared.made.Made.{Made}
+use Rattle.mely_worker.specs.Step.{Steps}
 use Rattle.mely_worker.specs.Worker.{WorkerState}
 use Rattle.mely_weave.specs.Hands.{colour_run_by}
 use Rattle.mely_weave.specs.Side.{shard_of}
@@ -103,6 +108,24 @@ pub record WorksOn {S P F : Type 0} (a : Standpoint F) (w : WorkerState S P) (b 
   pub more : SeesMore a b
   pub finished : HasFinished a w → HasFinished b v
 
+-- a caller looked at shards: of each it has seen what others did there since, and of chains nothing
+pub record HasLooked {F : Type 0} (a b : Standpoint F) : Type 0 where
+  pub setup : b.setup ≡ a.setup
+  pub number : b.number ≡ a.number
+  pub frame : b.frame ≡ a.frame
+  pub chains : b.chains ≡ a.chains
+  pub others : (k : ℕ) → OthersSince pass_of a.number (front_in a.fronts k) (front_in b.fronts k)
+
+module _ {R S P F : Type 0} (t : TrailWords S F) (fits : F → Colour → Event → Option P → Type 0)
+    (y : AppWords R P S F) (app : R) where
+  -- the worker made these steps, one after another, each by its rule on what the caller had seen by
+  -- then; before each, and after the last one, the caller may have looked at shards
+  abbrev pub MakesSteps : List Made → Standpoint F → WorkerState S P → Standpoint F
+      → WorkerState S P → Type 0
+  MakesSteps [] a w b v = HasLooked a b × (v ≡ w)
+  MakesSteps (step ∷ later) a w b v = (c d : Standpoint F) × (u : WorkerState S P)
+      × HasLooked a c × Steps (words t fits) y app c w step d u × MakesSteps later d u b v
+
 -- the worker may make a step with these passes
 abbrev pub MayWork : {S P F : Type 0} {g : _} → TrailWords S F
     → (F → Colour → Event → Option P → Type 0) → FleetOf (KeptShardState S P) Entry (ShardFrame F)
@@ -117,3 +140,13 @@ abbrev pub Works : {S P F : Type 0} {g : _} → (S → F)
     → PassesOf (KeptShardState S P) Entry (ShardFrame F) g → WorkerState S P → Type 0
 Works frame_of fleet before w after v = WorksOn (standpoint (shard_frame frame_of) fleet before) w
     (standpoint (shard_frame frame_of) fleet after) v
+
+-- the worker made steps with these passes, and nothing else was done with it
+abbrev pub MakesOn : {R S P F : Type 0} {g : _} → TrailWords S F
+    → (F → Colour → Event → Option P → Type 0) → AppWords R P S F → R
+    → FleetOf (KeptShardState S P) Entry (ShardFrame F)
+    → PassesOf (KeptShardState S P) Entry (ShardFrame F) g → WorkerState S P
+    → PassesOf (KeptShardState S P) Entry (ShardFrame F) g → WorkerState S P → Type 0
+MakesOn t fits y app fleet before w after v = (steps : List Made) × MakesSteps t fits y app steps
+    (standpoint (shard_frame t.frame_of) fleet before) w
+    (standpoint (shard_frame t.frame_of) fleet after) v

@@ -1,5 +1,5 @@
 -- What a stretch of a worker's work needs and leaves.
-use Rattle.std.specs.Prelude.{◌≡◌, Option}
+use Rattle.std.specs.Prelude.{◌≡◌, ◌++◌, List, Option, true}
 use Rattle.mely_event.specs.declared.colour.Colour.{Colour}
 use Rattle.mely_event.specs.declared.event.Event.{Event}
 use Rattle.mely_event.specs.declared.trail.Trail.{Ghosts as TrailWords}
@@ -22,6 +22,11 @@ pub record MayWorkOn {S P F : Type 0} {g : _} (t : TrailWords S F)
     (w : WorkerState S P) : Type 0 where
   pub passes : ArePasses (shard_frame t.frame_of) fleet own
   pub may : MayWork t fits fleet own w
+
+-- what a worker has lost it doesn't find again, and a halted one stays halted
+pub record KeepsLosses {S P : Type 0} (before after : WorkerState S P) : Type 0 where
+  pub lost : (more : List (Colour × Event × Option P)) × (after.lost ≡ before.lost ++ more)
+  pub halted : before.halted ≡ true → after.halted ≡ true
 
 -- what a stretch of work leaves of the passes and the worker: they may work on, the number is the
 -- same, the worker has its core, batch and victims still, more was seen, and each take has its

@@ -19,6 +19,9 @@ const PATIENCE: u32 = 2_000_000;
 
 const LOOKS_A_YIELD: u32 = 2_000;
 
+/// A crew's word is how many workers began, times this, and how many of them are still at work.
+const BEGUN: u64 = 1 << 32;
+
 /// What one worker writes, and whoever wakes it.
 #[derive(Drop)]
 struct Bed {
@@ -29,9 +32,11 @@ struct Bed {
     /// Whether the worker sleeps or is about to, and nobody has come to wake it.
     asleep: AtomicBool,
 
-    /// How often it was woken.
+    /// How often it was woken. Whoever holds the lock may change `waits`: whether the worker waits
+    /// to be woken, and is counted as one that does.
     rings: Mutex<u64>,
     rung: Condvar,
+    waits: AtomicBool,
 
     /// Keeps what two workers count on different cache lines.
     apart: [u64; 16],
@@ -40,8 +45,10 @@ struct Bed {
 /// What a worker remembers of its hunts.
 #[derive(Drop)]
 pub(crate) struct Watch {
-    /// How many looks at chains in a row found nothing.
+    /// How many looks at chains in a row found nothing, and whether the last of them was at the
+    /// worker's own chain.
     misses: u32,
+    is_home: bool,
 
     /// Where it said that it is about to sleep: how often it had been woken before.
     rings: Option<u64>,
@@ -57,15 +64,24 @@ impl Watch {
     pub(crate) fn new() -> Watch {
         Watch {
             misses: 0,
+            is_home: false,
             rings: None,
             vain: 0,
             unyielded: 0,
         }
     }
 
-    /// Whether a whole hunt, by so many cores, has just found nothing.
-    pub(crate) fn is_hunted(&self, cores: u16) -> bool {
-        cores > 0 && self.misses > 0 && self.misses.is_multiple_of(u32::from(cores))
+    /// Whether a whole hunt has just found nothing. It ends at the worker's own chain: between two
+    /// in a row it looked there and at each victim's chain, however many victims it has.
+    pub(crate) fn is_hunted(&self) -> bool {
+        self.is_home && self.misses > 1
+    }
+
+    /// A look found nothing; whether it was at the worker's own chain.
+    fn miss(&mut self, is_home: bool) {
+        self.misses = self.misses.wrapping_add(1);
+        self.is_home = is_home;
+        hint::spin_loop();
     }
 }
 
@@ -79,11 +95,21 @@ impl Watch {
 pub(crate) struct Bell {
     stopped: AtomicBool,
 
-    /// How often a worker began to work.
-    begun: AtomicU64,
+    /// How many workers began, from when nobody was at work, and how many of them still are.
+    crew: AtomicU64,
 
-    /// How many workers sleep or are about to, and nobody has come to wake them.
+    /// Whether one of them gave up.
+    has_given_up: AtomicBool,
+
+    /// At least as many as workers sleep or are about to, and nobody has come to wake them.
     sleepers: AtomicU64,
+
+    /// How many workers wait to be woken, and nobody has.
+    waiting: AtomicU64,
+
+    /// How often a caller that isn't counted as at work began to tell news, and how often it ended.
+    begun_news: AtomicU64,
+    ended_news: AtomicU64,
 
     /// One for each core, and one that all other callers share.
     beds: Vec<Bed>,
@@ -100,13 +126,18 @@ impl Bell {
                 asleep: AtomicBool::new(false),
                 rings: Mutex::new(0),
                 rung: Condvar::new(),
+                waits: AtomicBool::new(false),
                 apart: [0; 16],
             })?;
         }
         Ok(Bell {
             stopped: AtomicBool::new(false),
-            begun: AtomicU64::new(0),
+            crew: AtomicU64::new(0),
+            has_given_up: AtomicBool::new(false),
             sleepers: AtomicU64::new(0),
+            waiting: AtomicU64::new(0),
+            begun_news: AtomicU64::new(0),
+            ended_news: AtomicU64::new(0),
             beds,
         })
     }
@@ -160,24 +191,27 @@ impl Bell {
 
     /// Counts a worker that begins, before its first step.
     pub(crate) fn begin(&self) {
-        self.begun.fetch_add(1, Ordering::SeqCst);
+        self.crew.fetch_add(BEGUN + 1, Ordering::SeqCst);
     }
 
-    /// How many cores there are: each has a bed, and the other callers share one more.
-    fn cores(&self) -> u32 {
-        u32::try_from(self.beds.len().saturating_sub(1)).unwrap_or(u32::MAX)
-    }
-
-    /// Whether so many workers began as there are cores.
+    /// Whether so many workers began as there are cores: each of these has a bed, and the other
+    /// callers share one more.
     fn is_manned(&self) -> bool {
-        self.begun.load(Ordering::SeqCst) >= u64::from(self.cores())
+        let cores = self.beds.len().saturating_sub(1);
+        self.crew.load(Ordering::SeqCst) / BEGUN >= cores as u64
     }
 
-    /// A whole hunt, which looks at each chain once, found nothing where not all workers have
-    /// begun. Whether its worker gives up.
+    /// How many workers are at work.
+    fn at_work(&self) -> u64 {
+        self.crew.load(Ordering::SeqCst) % BEGUN
+    }
+
+    /// A whole hunt found nothing where not all workers have begun. Whether its worker gives up.
     fn hunts_in_vain(&self, watch: &mut Watch) -> bool {
-        watch.vain = watch.vain.saturating_add(self.cores());
-        watch.unyielded = watch.unyielded.saturating_add(self.cores());
+        let looks = watch.misses.saturating_sub(LOOKS);
+        watch.misses = LOOKS;
+        watch.vain = watch.vain.saturating_add(looks);
+        watch.unyielded = watch.unyielded.saturating_add(looks);
         if watch.unyielded >= LOOKS_A_YIELD {
             watch.unyielded = 0;
             thread::yield_now();
@@ -185,7 +219,17 @@ impl Bell {
         watch.vain >= PATIENCE
     }
 
-    /// Whether a worker met want of memory, or gave up.
+    /// A caller that isn't counted as at work is about to register an event, or to wake others.
+    pub(crate) fn begin_news(&self) {
+        self.begun_news.fetch_add(1, Ordering::SeqCst);
+    }
+
+    /// It has woken whoever is to know of that.
+    pub(crate) fn end_news(&self) {
+        self.ended_news.fetch_add(1, Ordering::SeqCst);
+    }
+
+    /// Whether a worker met want of memory.
     pub(crate) fn is_stopped(&self) -> bool {
         self.stopped.load(Ordering::SeqCst)
     }
@@ -196,10 +240,29 @@ impl Bell {
         self.leave(rt, number, watch);
     }
 
-    /// A worker leaves, and wakes the others.
+    /// A worker gives up and leaves, and the others do as soon as they find nothing.
+    pub(crate) fn give_up<R: Wait>(&self, rt: &R, number: u16, watch: &mut Watch) {
+        self.has_given_up.store(true, Ordering::SeqCst);
+        self.leave(rt, number, watch);
+    }
+
+    /// A worker leaves, and wakes the others. With the last one the crew is gone: whoever begins
+    /// after it is the first of another.
     pub(crate) fn leave<R: Wait>(&self, rt: &R, number: u16, watch: &mut Watch) {
         self.rise(number, watch);
+        self.begin_news();
+        let crew = self.crew.fetch_sub(1, Ordering::SeqCst).wrapping_sub(1);
+        if crew % BEGUN == 0 {
+            let is_gone = self
+                .crew
+                .compare_exchange(crew, 0, Ordering::SeqCst, Ordering::SeqCst)
+                .is_ok();
+            if is_gone {
+                self.has_given_up.store(false, Ordering::SeqCst);
+            }
+        }
         self.ring_all(rt);
+        self.end_news();
     }
 
     /// A mark came into the chain of this core, or is worth more there, if that is so: the core's
@@ -224,6 +287,9 @@ impl Bell {
         }
         self.sleepers.fetch_sub(1, Ordering::SeqCst);
         let mut rings = bed.rings.lock(rt);
+        if bed.waits.swap(false, Ordering::SeqCst) {
+            self.waiting.fetch_sub(1, Ordering::SeqCst);
+        }
         *rings = rings.wrapping_add(1);
         bed.rung.notify_one();
         true
@@ -248,10 +314,8 @@ impl Bell {
     /// A worker made this step.
     pub(crate) fn note(&self, number: u16, watch: &mut Watch, made: Made) {
         match made {
-            Made::NoneHere | Made::NoneThere { victim: _ } => {
-                watch.misses = watch.misses.wrapping_add(1);
-                hint::spin_loop();
-            }
+            Made::NoneHere => watch.miss(true),
+            Made::NoneThere { victim: _ } => watch.miss(false),
             _ => {
                 watch.misses = 0;
                 watch.vain = 0;
@@ -272,10 +336,25 @@ impl Bell {
         }
     }
 
-    /// A worker found nothing in a whole hunt. It goes on for a while. Then it says that it is
-    /// about to sleep, and hunts once more: whatever comes into its chain from then on wakes it.
-    /// Where it finds nothing again it sleeps; but where not all workers have begun, one that never
-    /// will can leave it asleep for good, so it hunts on. Whether it gives up.
+    /// Counts a worker as one that waits, whose lock is held, where so many are at work; but not the
+    /// last one. Whether it was counted.
+    fn is_counted(&self, bed: &Bed, at_work: u64) -> bool {
+        bed.waits.store(true, Ordering::SeqCst);
+        let others = self.waiting.fetch_add(1, Ordering::SeqCst);
+        if others.wrapping_add(1) < at_work {
+            return true;
+        }
+        bed.waits.store(false, Ordering::SeqCst);
+        self.waiting.fetch_sub(1, Ordering::SeqCst);
+        false
+    }
+
+    /// A worker found nothing in a whole hunt, while something is ready or runs. It goes on for a
+    /// while. Then it says that it is about to sleep, and hunts once more: whatever comes into its
+    /// chain from then on wakes it. Where it finds nothing again it sleeps; but where not all workers
+    /// have begun, one that never will can leave it asleep for good, so it hunts on. Nor does it
+    /// sleep where all others at work do: unless somebody tells news, none can come any more. Whether
+    /// it gives up.
     pub(crate) fn rest<R: Wait>(&self, rt: &R, number: u16, watch: &mut Watch) -> bool {
         if watch.misses < LOOKS {
             return false;
@@ -286,17 +365,26 @@ impl Bell {
         match watch.rings {
             None => {
                 watch.rings = Some(*bed.rings.lock(rt));
-                bed.asleep.store(true, Ordering::SeqCst);
+                // Whoever takes the flag takes 1 away, which has to be there by then.
                 self.sleepers.fetch_add(1, Ordering::SeqCst);
+                bed.asleep.store(true, Ordering::SeqCst);
+                watch.misses = LOOKS;
             }
+            Some(_) if self.has_given_up.load(Ordering::SeqCst) => return true,
             Some(_) if !self.is_manned() => return self.hunts_in_vain(watch),
             Some(seen) => {
-                let rings = bed
-                    .rung
-                    .wait_while(rt, bed.rings.lock(rt), |rings| *rings == seen);
+                let at_work = self.at_work();
+                let news = self.ended_news.load(Ordering::SeqCst);
+                let rings = bed.rings.lock(rt);
+                if *rings == seen && !self.is_counted(bed, at_work) {
+                    drop(rings);
+                    return self.begun_news.load(Ordering::SeqCst) == news;
+                }
+                let rings = bed.rung.wait_while(rt, rings, |rings| *rings == seen);
                 drop(rings);
                 self.rise(number, watch);
                 watch.misses = 0;
+                watch.vain = 0;
             }
         }
         false

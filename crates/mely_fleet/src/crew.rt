@@ -10,6 +10,7 @@ ghost use Rattle.mely_worker.specs.Conditions.{AppServes};
 ghost use Rattle.mely_fleet.specs.Fleets.{frame_in};
 ghost use Rattle.mely_fleet.specs.Frames.{shard_frame};
 ghost use Rattle.mely_fleet.specs.Seats.{IsSeatOf, IsOutsider};
+ghost use Rattle.mely_fleet.specs.Crew.{IsRegistered};
 
 use crate::fleet::{Fleet, FleetOf};
 use crate::kept_shard::KeptShard;
@@ -160,6 +161,7 @@ pub fn run_crew<
     ensures of_setup { IfOk result (λ ran. ran.0.setup ≡ setup.now) }
     ensures framed { IfOk result (λ ran. (state : _) → slice_get states.items 0 ≡ Some state
         → S.frame_of ran.0.given ≡ S.frame_of state) }
+    ensures begun { IfOk result (λ ran. IsRegistered begin.0 begin.1 ran.0) }
     ensures stands { IfOk result (λ ran. StandsWell S.Trail S.fits_under ran.0) }
     ensures free { IfOk result (λ ran. AllFree ran.0) }
     ensures drained { IfOk result (λ ran. ran.1 ≡ Drained.Empty → HistoriesAreDrained ran.0) }

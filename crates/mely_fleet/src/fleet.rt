@@ -65,7 +65,9 @@ impl<S: Fits<P>, P> FleetOf<KeptShard<S, P>> {
         self.setup.shard_of(colour)
     }
 
-    /// Registers an event behind the others of its colour.
+    /// Registers an event behind the others of its colour. No chain is told: where that makes the
+    /// colour ready no worker runs it, and [`work`](FleetOf::work) ends by giving up. A caller may
+    /// take it, or close the fleet, which chains it. [`post`](FleetOf::post) delivers too.
     ///
     /// # Errors
     ///
@@ -126,7 +128,8 @@ impl<S: Fits<P>, P> FleetOf<KeptShard<S, P>> {
 
     /// Takes the state of a turn home, all of whose events were run. Of the entries of
     /// these passes on its colour the last one that is no registration is the take of this
-    /// turn. It takes no memory.
+    /// turn. It takes no memory. Where more is queued no chain is told, as after
+    /// [`register`](FleetOf::register).
     pub fn finish<R: Wait>(&self, rt: &R, passes: &mut Passes<S, P>, turn: Turn<S, P>) -> After
     where
         S: Drop,
@@ -149,7 +152,8 @@ impl<S: Fits<P>, P> FleetOf<KeptShard<S, P>> {
         answer
     }
 
-    /// Moves a colour with all that is queued to the core of these passes.
+    /// Moves a colour with all that is queued to the core of these passes. No chain is told, as after
+    /// [`register`](FleetOf::register).
     ///
     /// # Errors
     ///
@@ -203,6 +207,36 @@ impl<S: Fits<P>, P> FleetOf<KeptShard<S, P>> {
     ///
     /// There was no memory: event and load are handed back, and nothing was delivered.
     pub fn post<R: Wait>(
+        &self,
+        rt: &R,
+        passes: &mut Passes<S, P>,
+        colour: Colour,
+        event: Event,
+        load: Option<P>,
+    ) -> Result<Registered, Unregistered<P>>
+        requires passes { ArePasses (shard_frame S.frame_of) self.now passes.old }
+        requires fits { let frame = frame_in (shard_frame S.frame_of) self.now in
+            FitsSetup S.fits_under self.now.setup frame (colour, event, load) }
+        ensures passes { ArePasses (shard_frame S.frame_of) self.now passes.new }
+        ensures same { passes.new.number ≡ passes.old.number }
+        ensures undelivered { OnErr result (passes.new.chains ≡ passes.old.chains) }
+        ensures delivered { let before = passes.old in let after = passes.new in
+            IfOk result (λ reply. DeliversOn self.now (delivery_after colour reply) before after) }
+        ensures sees { SeesOn self.now (shard_of self.now.setup colour) passes.old passes.new
+            (λ setup n. RegistersAt setup n colour event load result) }
+    {
+        self.bell.begin_news();
+        let answer = self.register_and_deliver(rt, passes, colour, event, load);
+        self.bell.end_news();
+        answer
+    }
+
+    /// Registers an event, and delivers the mark or the report.
+    ///
+    /// # Errors
+    ///
+    /// There was no memory: event and load are handed back, and nothing was delivered.
+    fn register_and_deliver<R: Wait>(
         &self,
         rt: &R,
         passes: &mut Passes<S, P>,

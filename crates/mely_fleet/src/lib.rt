@@ -21,7 +21,8 @@
 //!
 //! Where a mark lies in a running fleet isn't promised, nor that `work` returns, that two threads
 //! run at once, or any order between shards. The weave that [`close`](FleetOf::close) gives stands
-//! well again. How workers that find nothing to do wait is argued in `BELL.md` beside this crate.
+//! well again. That no worker is left asleep while there is work for it is argued in `BELL.md`
+//! beside this crate, model-checked and stress-tested, not proved.
 #![tactic(auto)]
 
 mod bell;

@@ -4,8 +4,9 @@ ghost use Rattle.mely_worker.specs.Conditions.{AppServes};
 ghost use Rattle.mely_worker.specs.Phase.{is_free};
 ghost use Rattle.mely_fleet.specs.Frames.{shard_frame};
 ghost use Rattle.mely_fleet.specs.Fleets.{ArePasses, frame_in};
-ghost use Rattle.mely_fleet.specs.Work.{standpoint, SeesMore, SeesAllDrained, HasFinishedBut};
-ghost use Rattle.mely_fleet.specs.Working.{MayWorkOn, HasWorked};
+ghost use Rattle.mely_worker.specs.Step.{Steps};
+ghost use Rattle.mely_fleet.specs.Work.{standpoint, words, HasLooked, MakesOn, SeesMore, SeesAllDrained, HasFinishedBut};
+ghost use Rattle.mely_fleet.specs.Working.{MayWorkOn, HasWorked, KeepsLosses};
 
 use crate::bell::Watch;
 use crate::fleet::FleetOf;
@@ -22,8 +23,10 @@ pub enum Worked {
     /// Nothing runs and nothing is queued, by what the worker's passes have seen of each shard.
     Quiet,
 
-    /// Some worker met want of memory, or waited in vain for one that never began, as the machine
-    /// refused it a thread.
+    /// Some worker met want of memory, or gave up: something was ready that no worker at work could
+    /// take. So it is where the machine refuses a thread, where an event is posted from outside for
+    /// a core whose worker has just left, and where a colour was made ready and its mark pushed by
+    /// nobody. What is queued then stays queued, until all work again or the fleet is closed.
     Memory,
 }
 
@@ -31,9 +34,10 @@ impl<S: Fits<P> + Drop, P: Drop> FleetOf<KeptShard<S, P>> {
     /// Lets the worker of the core of these passes work until nothing is left to do.
     ///
     /// It makes one step after another, and waits while it finds nothing. Where a worker is halted
-    /// all come to an end: each ends its turn and puts back the mark in its hand. So they do where
-    /// one finds nothing to do for a while, a tenth of a second or more, and another hasn't begun:
-    /// let all begin at once. That it returns isn't promised.
+    /// all come to an end: each ends its turn and puts back the mark in its hand. Where all that are
+    /// at work find nothing, and something is ready all the same, they give up. So they do where one
+    /// finds nothing to do for a while, a tenth of a second or more, and another hasn't begun: let
+    /// all begin at once. That it returns isn't promised.
     pub fn work<R: Wait, A: App<State = S, Load = P>, G: Gate>(
         &self,
         rt: &R,
@@ -45,8 +49,11 @@ impl<S: Fits<P> + Drop, P: Drop> FleetOf<KeptShard<S, P>> {
         requires may { MayWorkOn S.Trail S.fits_under self.now passes.old worker.old }
         requires served { let frame = frame_in (shard_frame S.frame_of) self.now in
             AppServes A.App self.now.setup frame app.now }
+        ensures makes { MakesOn S.Trail S.fits_under A.App app.now self.now
+            passes.old worker.old passes.new worker.new }
         ensures worked { HasWorked S.Trail S.fits_under self.now
             passes.old worker.old passes.new worker.new }
+        ensures losses { KeepsLosses worker.old worker.new }
         ensures free { IsTrue (is_free worker.new.phase) }
         ensures quiet { let seen = standpoint (shard_frame S.frame_of) self.now passes.new in
             result ≡ Worked.Quiet → SeesAllDrained seen }
@@ -74,6 +81,8 @@ impl<S: Fits<P> + Drop, P: Drop> FleetOf<KeptShard<S, P>> {
         watch: &mut Watch,
     ) -> Option<Worked>
         requires may { MayWorkOn S.Trail S.fits_under self.now passes.old worker.now }
+        ensures looked { let at = standpoint (shard_frame S.frame_of) self.now in
+            HasLooked (at passes.old) (at passes.new) }
         ensures worked { HasWorked S.Trail S.fits_under self.now
             passes.old worker.now passes.new worker.now }
         ensures free { IfSome result (λ _. IsTrue (is_free worker.now.phase)) }
@@ -87,7 +96,7 @@ impl<S: Fits<P> + Drop, P: Drop> FleetOf<KeptShard<S, P>> {
             self.bell.stop(rt, passes.number, watch);
             return Some(Worked::Memory);
         }
-        if !watch.is_hunted(self.setup.cores()) {
+        if !watch.is_hunted() {
             return None;
         }
         if self.bell.is_idle() {
@@ -98,7 +107,7 @@ impl<S: Fits<P> + Drop, P: Drop> FleetOf<KeptShard<S, P>> {
             return None;
         }
         if self.bell.rest(rt, passes.number, watch) {
-            self.bell.stop(rt, passes.number, watch);
+            self.bell.give_up(rt, passes.number, watch);
             return Some(Worked::Memory);
         }
         None
@@ -116,7 +125,10 @@ impl<S: Fits<P> + Drop, P: Drop> FleetOf<KeptShard<S, P>> {
         requires may { MayWorkOn S.Trail S.fits_under self.now passes.old worker.old }
         requires served { let frame = frame_in (shard_frame S.frame_of) self.now in
             AppServes A.App self.now.setup frame app.now }
-        ensures { HasWorked S.Trail S.fits_under self.now
+        ensures steps { let at = standpoint (shard_frame S.frame_of) self.now in
+            Steps (words S.Trail S.fits_under) A.App app.now (at passes.old) worker.old
+            result (at passes.new) worker.new }
+        ensures worked { HasWorked S.Trail S.fits_under self.now
             passes.old worker.old passes.new worker.new }
     {
         let mut side = Side {
@@ -132,6 +144,8 @@ impl<S: Fits<P> + Drop, P: Drop> FleetOf<KeptShard<S, P>> {
         requires { ArePasses (shard_frame S.frame_of) self.now passes.old }
         ensures passes { ArePasses (shard_frame S.frame_of) self.now passes.new }
         ensures number { passes.new.number ≡ passes.old.number }
+        ensures looked { let at = standpoint (shard_frame S.frame_of) self.now in
+            HasLooked (at passes.old) (at passes.new) }
         ensures more { let at = standpoint (shard_frame S.frame_of) self.now in
             SeesMore (at passes.old) (at passes.new) }
         ensures finished { let at = standpoint (shard_frame S.frame_of) self.now in

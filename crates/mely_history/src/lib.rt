@@ -36,8 +36,6 @@ mod setup;
 mod setup_fault;
 mod shape;
 mod stolen;
-#[cfg(test)]
-mod tests;
 
 pub use after::After;
 pub use entry::Entry;

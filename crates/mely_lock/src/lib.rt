@@ -23,7 +23,7 @@
 //!
 //! The word that says who is inside is the ticket of a ticket lock without its queue: who comes
 //! first is not said, nor that anybody does. The lock, its passes and what is held may cross
-//! threads where the value may. It stands on `atomic_table`, whose rule this crate gives:
+//! threads where the value may. It depends on `atomic_table`, whose rule this crate gives:
 //! `specs/Rule.antt` has it in five parts, and `specs/Steps.antt` the kinds of step.
 //!
 //! # Sleeping
@@ -53,8 +53,6 @@ mod pass;
 mod passing;
 mod seat_knowledge;
 mod steps;
-#[cfg(test)]
-mod tests;
 mod ticketed;
 
 pub use claim::Claim;

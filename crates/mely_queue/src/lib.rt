@@ -24,8 +24,6 @@
 #![tactic(auto)]
 
 mod colour_queue;
-#[cfg(test)]
-mod tests;
 mod turn;
 
 pub use colour_queue::ColourQueue;

@@ -1,4 +1,4 @@
-//! A run of a weave is the run of the machine, for an app that is told by a function.
+//! A run of a weave is the run of the machine, for an app that is specified by a pure function.
 //!
 //! `mely_machine` defines which histories a run writes, where the app is a function. A weave has
 //! queues, owners, classes and states in its place, and its app is code. This crate ties the two:

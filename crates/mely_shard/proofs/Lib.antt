@@ -3,7 +3,6 @@ mod InitialSlotLemmas
 mod EndLemmas
 pub mod DrainedLemmas
 pub mod TurnLemmas
-mod ExampleLemmas
 mod RegisterLemmas
 mod FinishLemmas
 mod TakeLemmas

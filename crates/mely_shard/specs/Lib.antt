@@ -1,4 +1,3 @@
 pub mod Shard
 pub mod Invariant
 pub mod Replies
-pub mod Examples

@@ -27,8 +27,6 @@
 mod colour_slot;
 mod room;
 mod shard;
-#[cfg(test)]
-mod tests;
 
 pub use room::MAX_ENTRIES;
 pub use shard::Shard;

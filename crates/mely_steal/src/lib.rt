@@ -16,13 +16,13 @@
 //! crate says nothing of queues of events, of locks or of threads.
 //!
 //! Lists are by links in tables with a place a colour, so a call touches a fixed number of
-//! places; no clause tells that. Nor does one tell the numbers of entering, by which contracts
+//! places; no clause says so. Nor does one give the numbers of entering, by which contracts
 //! see the classes as one list: that the counter begins anew where no colour is in a class
 //! can't be seen from outside.
 //!
-//! Only [`victims`] and the calls `new` may answer that there was no memory. Nothing ties that
-//! answer to a cause, so a body that always gives it meets the contract too; tests show that there
-//! is memory where there is enough.
+//! Only [`victims`] and the calls `new` may run out of memory. That is the only error whose cause
+//! isn't specified, so a body that always answers it meets the contract too; tests show that it
+//! isn't answered with ample memory.
 //!
 //! ```text
 //! let mut queue = StealQueue::new(alloc, 4, 20, 0)?;
@@ -45,8 +45,6 @@ mod numbering;
 mod steal_queue;
 mod steal_table;
 mod table;
-#[cfg(test)]
-mod tests;
 
 pub use class::class_of;
 pub use colour_list::ColourList;

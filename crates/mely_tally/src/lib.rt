@@ -20,8 +20,6 @@
 #![tactic(auto)]
 
 mod laws;
-#[cfg(test)]
-mod tests;
 
 pub use laws::{
     a_drained_weave_has_only_what_was_refused, a_post_brings_its_event,

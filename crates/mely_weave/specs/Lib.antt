@@ -19,4 +19,3 @@ pub mod Dealing
 pub mod Making
 pub mod Spreading
 pub mod WeaveStands
-pub mod Examples

@@ -39,8 +39,6 @@ mod parts;
 mod room;
 mod running;
 mod side;
-#[cfg(test)]
-mod tests;
 mod weave;
 
 pub use draining::Drained;

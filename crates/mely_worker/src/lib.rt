@@ -13,7 +13,7 @@
 //! A program brings its handlers as an [`App`]. What the worker calls of shards and chains is an
 //! [`Access`], which says in contracts what each call does; a [`Gate`] is told before each handler.
 //! What follows a registration is a [`Delivery`], which a worker keeps in its hand until its next
-//! step, and whoever posts from outside makes at once. A worker that met want of memory is halted:
+//! step, and whoever posts from outside makes at once. A worker that runs out of memory is halted:
 //! it ends its turn, puts back its mark, and keeps what could not be registered.
 //!
 //! ```text
@@ -36,8 +36,6 @@ mod made;
 mod outs;
 mod phase;
 mod rule;
-#[cfg(test)]
-mod tests;
 mod turning;
 mod worker;
 mod worker_fields;

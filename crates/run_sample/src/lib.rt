@@ -1,6 +1,6 @@
 //! A run of a small app, whose contract is the machine's run: how an app's author uses `mely_run`.
 //!
-//! `sending.rt` has the app and what tells it, `specs/Sending.antt` the function;
+//! `sending.rt` has the app and what specifies it, `specs/Sending.antt` the function;
 //! [`run`] is all that is left.
 #![tactic(auto)]
 

@@ -108,16 +108,25 @@ take-append n [] more = (take n more, (elim n as (λ n. take n more ≡ take n [
 take-append zero (b ∷ bytes) more = ([], refl)
 take-append (suc n) (b ∷ bytes) more = let rest = take-append n bytes more in (rest.0, ap (λ r. b ∷ r) rest.1)
 
--- the responses to more bytes begin with those to the first ones
-pub responses_of-append : (site : SiteState) (bytes more : List ℕ) → Begins (responses_of site bytes) (responses_of site (bytes ++ more))
-unfolding responses_of answers_to
-responses_of-append site bytes more =
+-- the answers to all bytes of a connection begin with those to the first ones
+pub answers_to-append : (site : SiteState) (bytes more : List ℕ) → Begins (answers_to site bytes) (answers_to site (bytes ++ more))
+unfolding answers_to
+answers_to-append site bytes more =
     let counted = take-append input_limit bytes more in
     let begins = answers-append answer_limit site (take input_limit bytes) counted.0 in
     record {
+      later = begins.later;
+      is = ap (λ b. answers answer_limit site b) counted.1 ∙ begins.is;
+    }
+
+-- the responses to more bytes begin with those to the first ones
+pub responses_of-append : (site : SiteState) (bytes more : List ℕ) → Begins (responses_of site bytes) (responses_of site (bytes ++ more))
+unfolding responses_of
+responses_of-append site bytes more =
+    let begins = answers_to-append site bytes more in
+    record {
       later = texts_of begins.later;
-      is = ap (λ b. texts_of (answers answer_limit site b)) counted.1 ∙ ap texts_of begins.is
-          ∙ flat_map-append text_of (answers answer_limit site (take input_limit bytes)) begins.later;
+      is = ap texts_of begins.is ∙ flat_map-append text_of (answers_to site bytes) begins.later;
     }
 
 -- ---- nothing is answered where there is nothing

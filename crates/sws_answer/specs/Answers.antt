@@ -22,12 +22,14 @@ use Rattle.sws_answer.specs.declared.ranges.Selection.{Selection}
 use Rattle.sws_answer.specs.declared.ranges.Selection.TheVariants.{Whole, Part, Unsatisfied}
 use Rattle.sws_answer.specs.Ranges.{selection_for}
 
--- what is sent, with its status code, and whether the connection ends with it
+-- what is sent, with its status code, and whether the connection ends with it; and the target of
+-- what was asked
 pub record Answer : Type 0 where
   pub code : ℕ
   pub closes : Bool
   pub head : List ℕ
   pub body : List ℕ
+  pub target : List ℕ
 
 -- all that is sent
 abbrev pub text_of : Answer → List ℕ
@@ -87,7 +89,8 @@ abbrev pub range_of : Option File → Selection → Option ContentRange
 range_of None selection = None
 range_of (Some file) selection = selected_range selection (length file.1)
 
--- for HEAD the content is left out, and all lines stay (RFC 9110, section 9.3.2)
+-- for HEAD the content is left out, and all lines stay (RFC 9110, section 9.3.2); the target isn't
+-- known here
 unfoldable pub response : Option HttpDate → Status → Option File → Selection → Bool → Bool → Answer
 response date status file selection closes is_head =
     let content = content_of status file selection in
@@ -103,6 +106,7 @@ response date status file selection closes is_head =
         len = length content.bytes;
       });
       body = if is_head then [] else content.bytes;
+      target = [];
     }
 
 -- ---- the answer to what was asked
@@ -119,11 +123,22 @@ request_answer site asked last =
     let closes = (row_of status).closes || is_closing asked || last in
     response site.date status file (selection_for asked file) closes (is_head_request asked)
 
--- the answer to what was asked; of what is no request no method is known, so its body is sent
+-- the response to what was asked; of what is no request no method is known, so its body is sent
+abbrev pub response_to : SiteState → Asked → Bool → Answer
+response_to site (request asked) last = request_answer site asked last
+response_to site not_request last = response site.date BadRequest None Whole true false
+response_to site too_long last = response site.date HeaderFieldsTooLarge None Whole true false
+
+-- the target that was asked for, as the request line has it (RFC 9112, section 3.2), or `-` where
+-- there is no request
+abbrev pub target_of : Asked → List ℕ
+target_of (request asked) = asked.target
+target_of not_request = codes "-"
+target_of too_long = codes "-"
+
+-- the answer to what was asked: the response to it, with its target
 abbrev pub answer_of : SiteState → Asked → Bool → Answer
-answer_of site (request asked) last = request_answer site asked last
-answer_of site not_request last = response site.date BadRequest None Whole true false
-answer_of site too_long last = response site.date HeaderFieldsTooLarge None Whole true false
+answer_of site asked last = record (response_to site asked last) { target = target_of asked }
 
 -- no answer out of a site within its limits has more bytes: 2^33
 abbrev pub text_limit : ℕ

@@ -2,6 +2,7 @@
 ghost use Rattle.std.specs.Prelude.{◌≡◌};
 ghost use Rattle.sws_answer.specs.Asked.{asked_by};
 ghost use Rattle.sws_answer.specs.AnswerValues.{asked_value};
+ghost use Rattle.sws_answer.specs.Answers.{target_of};
 
 use sws_request::{RequestView, view};
 
@@ -23,5 +24,16 @@ pub fn ask(head: &[u8]) -> Asked<'_>
     match view(head) {
         Ok(request) => Asked::Request(request),
         Err(_) => Asked::NotARequest,
+    }
+}
+
+/// The target that was asked for, byte for byte as the request line has it (RFC 9112, section 3.2),
+/// or the one byte `-` where there is no request.
+pub fn target<'b>(asked: &Asked<'b>) -> &'b [u8]
+    ensures { result.now ≡ target_of (asked_value asked.now) }
+{
+    match asked {
+        Asked::Request(request) => request.target(),
+        Asked::NotARequest | Asked::TooLong => b"-",
     }
 }

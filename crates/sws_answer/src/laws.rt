@@ -4,7 +4,14 @@ ghost use Rattle.sws_site.specs.Limits.{IsWithinLimits};
 ghost use Rattle.sws_site.specs.Site.{SiteState};
 ghost use Rattle.sws_answer.specs.Asked.{Asked, too_long};
 ghost use Rattle.sws_answer.specs.Answers.{answer_of, text_of, text_limit};
-ghost use Rattle.sws_answer.specs.Responses.{responses_of, Begins};
+ghost use Rattle.sws_answer.specs.Responses.{answers_to, responses_of, Begins};
+
+/// The answers to more bytes begin with those to the first ones, each with its code, its length and
+/// its target, so what a log of them said stands.
+pub fn answers_only_grow()
+    ensures { (site : SiteState) (bytes more : List ℕ)
+        → Begins (answers_to site bytes) (answers_to site (bytes ++ more)) }
+{}
 
 /// The responses to more bytes begin with those to the first ones, so what was sent stands.
 pub fn responses_only_grow()

@@ -29,10 +29,8 @@ pub mod laws;
 mod path_room;
 mod ranges;
 mod targets;
-#[cfg(test)]
-mod tests;
 
 pub use answering::answer;
 pub use answers::Answer;
-pub use asking::{Asked, ask};
+pub use asking::{Asked, ask, target};
 pub use path_room::{PATH_ROOM, PathRoom};

@@ -31,7 +31,7 @@ struct Tally {
 }
 
 /// Serves so many connections, whose requests the number draws, out of sixteen files, with a thread
-/// for each worker, and writes the summary. It need not return.
+/// for each of several workers, and writes the summary. It need not return.
 ///
 /// The summary is the same for every shape. There are at most 1,024 connections.
 ///

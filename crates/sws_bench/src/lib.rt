@@ -16,8 +16,6 @@ mod draws;
 pub mod laws;
 mod script;
 mod site;
-#[cfg(test)]
-mod tests;
 
 pub use benching::bench;
 pub use script::bench_script;

@@ -30,7 +30,7 @@ use sws_words::{WordFault, read_words};
 /// error, in a line, and the status is the run's.
 pub fn command<T: AllocGlobal + Threads + Wait + Sync>(rt: &HostRuntime, threads: &T) -> ExitCode {
     let fault = match words(rt) {
-        Ok(words) => run(rt, threads, &words),
+        Ok(words) => fault_of(rt, threads, &words),
         Err(fault) => Some(fault),
     };
     match fault {
@@ -58,9 +58,12 @@ fn words(rt: &HostRuntime) -> Result<Vec<String>, TopFault> {
     Ok(words)
 }
 
-/// Runs the command on the machine's files, streams and sockets, and answers its fault, if it has
-/// one. The words are read here for the line of `serve` alone; `sws` reads them again.
-fn run<T: AllocGlobal + Threads + Wait + Sync>(
+/// Runs the command of these words, those behind the program's name, on the machine's files, streams
+/// and sockets, and answers its fault, if it has one. Nothing is said on standard error but the line
+/// of `serve`.
+///
+/// The words are read here for that line alone; `sws` reads them again.
+pub fn fault_of<T: AllocGlobal + Threads + Wait + Sync>(
     rt: &HostRuntime,
     threads: &T,
     words: &[String],

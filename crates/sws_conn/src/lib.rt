@@ -3,15 +3,16 @@
 //! A [`Conn`] reads pieces from its link, cuts heads off them, answers these out of a site and
 //! writes what the peer takes. Each call of [`Conn::step`] makes at most one call of the link, so
 //! that a server can give way to another connection after every step. However the bytes come in
-//! pieces and whatever the link answers, what was written begins the responses to the bytes that
-//! were taken. [`serve_one`] runs a connection to its end. A server that runs many connections
-//! knows them by the trait [`Talk`], in which nothing is said of what they talk about.
+//! pieces and whatever the link answers, what was written is a prefix of the responses to the
+//! bytes that were taken, wherever the link has a ghost model of them. [`serve_one`] runs a
+//! connection to its end. A server that runs many connections knows them by the trait [`Talk`], in
+//! which nothing is said of what they talk about.
 //!
 //! A connection ends after its last response, at the end of its input or after 65,536 bytes of it,
 //! after 30 answers in succession that the link isn't ready, and where the link fails.
 //!
-//! No contract ties want of memory to anything, so one that always answers it in
-//! `new` is seen by tests alone.
+//! Out of memory is the only error whose cause isn't specified, so a `new` that always answers it
+//! is detected by tests alone.
 //!
 //! ```text
 //! let mut conn = Conn::new(alloc, &site)?;
@@ -29,8 +30,6 @@ mod http;
 pub mod laws;
 mod serving;
 mod talk;
-#[cfg(test)]
-mod tests;
 mod window;
 
 pub use conn::Conn;

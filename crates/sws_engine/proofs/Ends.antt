@@ -7,5 +7,6 @@ pub mod ConcludedLemmas
 pub mod RunLeftLemmas
 pub mod NeverApartLemmas
 pub mod ThreadLemmas
+pub mod AloneLemmas
 pub mod InitialServedLemmas
 pub mod HandedLemmas

@@ -3,6 +3,12 @@
 //! Colour 0 asks the world which of the waiting connections is ready, colour 1 accepts links, and
 //! colour `2 + i` is the connection of the `i`-th link. There is one world; it lies in an event of
 //! colour 0 or 1, or rests in the state of colour 0.
+//!
+//! [`serve_all`] serves all links of a world out of a site, with a thread for each worker, and
+//! [`serve_steps`] on one thread, by a schedule. Whatever the workers do, what each connection was
+//! sent is a prefix of the responses to its bytes, wherever its link has a ghost model of them; of
+//! any other link, as a socket, the calls and counts are promised. [`talk_all`] and [`talk_steps`]
+//! are the same for any [`Talk`](sws_conn::Talk).
 #![tactic(auto)]
 
 mod accepting;
@@ -10,6 +16,7 @@ mod app;
 mod concluding;
 mod desk;
 mod ended;
+mod gated;
 mod handing;
 mod judging;
 mod laws;
@@ -31,6 +38,7 @@ mod whole;
 pub use app::Sws;
 pub use concluding::conclude;
 pub use ended::{EndRoom, Ended, Served, Verdict};
+pub use gated::Gated;
 pub use laws::{
     a_state_tells_what_was_served, each_path_opens_once, the_handlers_follow_the_paths,
     worked_schedules_hold,

@@ -8,37 +8,37 @@ ghost use Rattle.mely_run.specs.WholeRuns.{IsRunOut};
 ghost use Rattle.sws_engine.specs.RunFact.{RunFact};
 ghost use Rattle.sws_engine.specs.Limits.{conn_limit};
 
-use crate::app::Sws;
+use crate::gated::Gated;
 use crate::load::Load;
 use crate::place::Place;
 use mely_event::{Fits, Trail};
 use mely_weave::{Drained, Weave, Went};
-use mely_worker::App;
+use mely_worker::{App, Gate};
 use std::sync::Wait;
 use sws_conn::Talk;
 use sws_link::{Link, World};
 
 /// Runs the schedule, and then rounds until nothing is left. What stands of the
 /// run stands afterwards too.
-pub fn run_through<R: Wait, W: World + Drop, T: Talk<W::Link> + Drop>(
+pub fn run_through<'g, R: Wait, W: World + Drop, T: Talk<W::Link> + Drop, G: Gate>(
     rt: &R,
     weave: &mut Weave<Place<W, T>, Load<W, W::Link>>,
-    app: &Sws<W, T>,
+    app: &Gated<'g, W, T, G>,
     schedule: &[(u16, u32)],
 ) -> Drained
     requires cores { All (λ part. part.0 < (shape_of weave.old.setup).cores) schedule.now }
     requires count { sum_by (λ part. part.1) schedule.now < 2 ^ 64 }
-    requires colours { app.now.total + 2 ≤ colours_of weave.old.setup }
+    requires colours { app.now.app.total + 2 ≤ colours_of weave.old.setup }
     requires handlers { 10 ≤ length (rows_of (handlers_of weave.old.setup)) }
-    requires total { (W.tells weave.old.given.first).total ≡ app.now.total }
-    requires few { app.now.total ≤ conn_limit }
+    requires total { (W.tells weave.old.given.first).total ≡ app.now.app.total }
+    requires few { app.now.app.total ≤ conn_limit }
     requires stands { RunFact W.World T.Talk weave.old.given.first weave.old }
     ensures stands { RunFact W.World T.Talk weave.old.given.first weave.new }
     ensures free { AllFree weave.new }
     ensures drained { result ≡ Drained.Empty → HistoriesAreDrained weave.new }
     ensures out { result ≡ Drained.Empty → IsRunOut ⟦<Place<W, T> as Trail>⟧
-        ⟦<Place<W, T> as Fits<Load<W, W::Link>>>⟧.fits_under ⟦<Sws<W, T> as App>⟧ app.now
-        weave.old schedule.now weave.new }
+        ⟦<Place<W, T> as Fits<Load<W, W::Link>>>⟧.fits_under ⟦<Gated<'g, W, T, G> as App>⟧
+        app.now weave.old schedule.now weave.new }
     ensures same { KeepsSetup weave.old weave.new }
 {
     weave.stands_well();

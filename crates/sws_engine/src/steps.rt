@@ -11,6 +11,7 @@ use crate::ended::{EndRoom, Ended, Verdict};
 use crate::whole::run_apart;
 use mely_event::Handlers;
 use mely_history::{Setup, Shape};
+use mely_worker::{Gate, OpenGate};
 use std::alloc::Global;
 use std::sync::Wait;
 use sws_conn::Talk;
@@ -57,6 +58,38 @@ pub(crate) fn unbegun<W: World>(alloc: Global, world: W) -> Ended<W>
     }
 }
 
+/// Serves all links of a world by talks of one hall over a weave: the schedule's steps of each
+/// core, and then rounds of one step a core until nothing is left. The gate is passed before each
+/// handler, as by core 0. All room for what the run leaves is made before its first event.
+pub(crate) fn talk_gated<R: Wait, W: World + Drop, T: Talk<W::Link> + Drop, G: Gate>(
+    rt: &R,
+    alloc: Global,
+    hall: T::Hall,
+    shape: &Shape,
+    world: W,
+    schedule: &[(u16, u32)],
+    gate: &G,
+) -> Ended<W>
+    requires shape { IsShapedFor W.World shape.now world }
+    requires schedule { IsScheduleOf shape.now.cores schedule.now }
+    ensures leaves { StepsLeave W.World W.Link.Link T.Talk shape.now
+        (T.contents_of hall) world result }
+    ensures model { IsModelled W.World W.Link.Link T.Talk (T.contents_of hall) shape.now
+        world schedule.now result }
+{
+    let total = world.total();
+    let Ok(room) = EndRoom::new(alloc, total) else {
+        return unbegun(alloc, world);
+    };
+    let Ok(setup) = Setup::new(shape, u32::from(total) + 2, handler_table(), 1) else {
+        unreachable!()
+    };
+    match run_apart::<R, W, T, G>(rt, alloc, &setup, hall, world, schedule, gate) {
+        Ok((parts, drained)) => conclude(room, total, parts, drained),
+        Err(world) => unbegun(alloc, world),
+    }
+}
+
 /// Serves all links of a world by talks of one hall: the schedule's steps of each core, and
 /// then rounds of one step a core until nothing is left. All room for what the run leaves is
 /// made before its first event.
@@ -78,15 +111,5 @@ pub fn talk_steps<R: Wait, W: World + Drop, T: Talk<W::Link> + Drop>(
     ensures model { IsModelled W.World W.Link.Link T.Talk (T.contents_of hall) shape.now
         world schedule.now result }
 {
-    let total = world.total();
-    let Ok(room) = EndRoom::new(alloc, total) else {
-        return unbegun(alloc, world);
-    };
-    let Ok(setup) = Setup::new(shape, u32::from(total) + 2, handler_table(), 1) else {
-        unreachable!()
-    };
-    match run_apart::<R, W, T>(rt, alloc, &setup, hall, world, schedule) {
-        Ok((parts, drained)) => conclude(room, total, parts, drained),
-        Err(world) => unbegun(alloc, world),
-    }
+    talk_gated::<R, W, T, OpenGate>(rt, alloc, hall, shape, world, schedule, &OpenGate)
 }

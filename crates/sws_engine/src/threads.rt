@@ -1,5 +1,6 @@
-//! The server on threads, from the world and the hall to what the run leaves.
-ghost use Rattle.std.specs.Prelude.{◌≡◌, ◌≤◌, ◌+◌, Some, IfOk, IfErr, map, slice_get};
+//! The server with a thread for each worker, from the world and the hall to what the run leaves. One
+//! worker needs no thread: it runs over a weave.
+ghost use Rattle.std.specs.Prelude.{◌≡◌, ◌≤◌, ◌+◌, [], Some, IfOk, IfErr, map, slice_get};
 ghost use Rattle.mely_weave.specs.Dealing.{AtEach};
 ghost use Rattle.mely_weave.specs.Making.{AreInitial};
 ghost use Rattle.mely_worker.specs.Access.{FitsSetup};
@@ -11,14 +12,18 @@ ghost use Rattle.sws_engine.specs.RunFits.{RunFits};
 ghost use Rattle.sws_engine.specs.PartsKept.{PartsKept};
 ghost use Rattle.sws_engine.specs.ThreadsLeave.{IsUnkept, ThreadsLeave};
 ghost use Rattle.sws_engine.specs.Limits.{conn_limit};
+ghost use Rattle.sws_engine.specs.Modelled.{IsModelled};
+ghost use Rattle.sws_engine.specs.Scripted.{IsScheduled};
+ghost use Rattle.sws_engine.specs.StepsLeave.{StepsLeave};
 
 use crate::app::Sws;
 use crate::concluding::conclude;
 use crate::ended::{EndRoom, Ended};
+use crate::laws::each_path_opens_once;
 use crate::load::{Load, WorldLoad};
 use crate::place::Place;
 use crate::starting::{first_event, initial_places};
-use crate::steps::{handler_table, unbegun};
+use crate::steps::{handler_table, talk_gated, unbegun};
 use mely_event::{Colour, Event, Fits, Trail, Unregistered};
 use mely_fleet::run_crew;
 use mely_history::{Setup, Shape};
@@ -186,8 +191,12 @@ where
 /// is passed before each handler. All room for what the run leaves is made before its first
 /// event. It need not return.
 ///
-/// What is left over where the fleet is closed, because memory was refused to a worker, is run by
-/// one core after another then, and passes no gate.
+/// One worker runs over a weave, on the thread of the caller and with no lock. It leaves what
+/// [`talk_steps`](crate::talk_steps) leaves of an empty schedule, so the verdict is never
+/// [`Apart`](crate::Verdict::Apart).
+///
+/// What is left over where the fleet of several is closed, because memory was refused to a worker,
+/// is run by one core after another then, and passes no gate.
 pub fn talk_all<
     R: Threads + Wait + Sync,
     W: World + Drop + Send,
@@ -198,9 +207,16 @@ where
     W::Link: Send,
     T::Hall: Send,
     requires { IsShapedFor W.World shape.now world }
-    ensures { ThreadsLeave W.World W.Link.Link T.Talk shape.now (T.contents_of hall)
+    ensures leaves { ThreadsLeave W.World W.Link.Link T.Talk shape.now (T.contents_of hall)
         world result }
+    ensures alone { shape.now.cores ≡ 1 → StepsLeave W.World W.Link.Link T.Talk shape.now
+        (T.contents_of hall) world result }
+    ensures model { shape.now.cores ≡ 1 → IsModelled W.World W.Link.Link T.Talk
+        (T.contents_of hall) shape.now world [] result }
 {
+    if shape.cores == 1 {
+        return talk_gated::<R, W, T, G>(rt, alloc, hall, shape, world, &[], gate);
+    }
     let total = world.total();
     let Ok(room) = EndRoom::new(alloc, total) else {
         return unbegun(alloc, world);
@@ -219,6 +235,11 @@ where
 ///
 /// The verdict is exactly what the run shows: [`Verdict::Apart`](crate::Verdict::Apart) tells the
 /// first connection that lacks what it is owed, and where none does that the world is gone.
+///
+/// One worker runs over a weave, on the thread of the caller and with no lock. It leaves what
+/// [`serve_steps`](crate::serve_steps) leaves of an empty schedule: the verdict is never `Apart`,
+/// and where the world's links answer by scripts, the histories at `Ok` are those of the
+/// definition of a run, and no others.
 pub fn serve_all<'s, R: Threads + Wait + Sync, W: World + Drop + Send, G: Gate + Sync>(
     rt: &R,
     alloc: Global,
@@ -233,6 +254,13 @@ where
     ensures leaves { ThreadsLeave W.World W.Link.Link ⟦<Conn<'s, W::Link> as Talk<W::Link>>⟧
         shape.now site.now world result }
     ensures unkept { IsUnkept ⟦<Conn<'s, W::Link> as Talk<W::Link>>⟧ }
+    ensures alone { shape.now.cores ≡ 1
+        → StepsLeave W.World W.Link.Link ⟦<Conn<'s, W::Link> as Talk<W::Link>>⟧
+        shape.now site.now world result }
+    ensures scheduled { shape.now.cores ≡ 1
+        → IsScheduled W.World site.now shape.now world [] result }
 {
+    site.limits();
+    each_path_opens_once();
     talk_all::<R, W, Conn<'s, W::Link>, G>(rt, alloc, site, shape, world, gate)
 }

@@ -7,7 +7,7 @@ ghost use Rattle.sws_engine.specs.RunFits.{RunFits};
 ghost use Rattle.sws_engine.specs.RunParts.{RunParts};
 ghost use Rattle.sws_engine.specs.ServedRun.{HasRunOut, IsOfPaths};
 
-use crate::app::Sws;
+use crate::gated::Gated;
 use crate::load::Load;
 use crate::place::Place;
 use crate::running::run_through;
@@ -16,25 +16,26 @@ use mely_event::{Fits, Trail};
 use mely_history::Setup;
 use mely_tally::{the_parts_are_what_the_weave_had, what_is_left_in_the_parts_fits};
 use mely_weave::{Drained, Weave, WeaveParts};
-use mely_worker::App;
+use mely_worker::{App, Gate};
 use std::alloc::Global;
 use std::sync::Wait;
 use sws_conn::Talk;
 use sws_link::{Link, World};
 
 /// Serves all links of a world over a weave: the schedule's steps, and then
-/// rounds until nothing is left.
+/// rounds until nothing is left. The gate is passed before each handler.
 ///
 /// # Errors
 ///
 /// There was no memory to begin: the world comes back.
-pub fn run_whole<R: Wait, W: World + Drop, T: Talk<W::Link> + Drop>(
+pub fn run_whole<'g, R: Wait, W: World + Drop, T: Talk<W::Link> + Drop, G: Gate>(
     rt: &R,
     alloc: Global,
     setup: &Setup,
     hall: T::Hall,
     world: W,
     schedule: &[(u16, u32)],
+    gate: &'g G,
 ) -> Result<(Weave<Place<W, T>, Load<W, W::Link>>, Drained), W>
     requires set { IsSetFor W.World setup.now world }
     requires schedule { IsScheduleOf (shape_of setup.now).cores schedule.now }
@@ -44,7 +45,7 @@ pub fn run_whole<R: Wait, W: World + Drop, T: Talk<W::Link> + Drop>(
     ensures out { IfOk result (λ ran. ran.1 ≡ Drained.Empty
         → HasRunOut W.World T.Talk ⟦<Place<W, T> as Trail>⟧
         ⟦<Place<W, T> as Fits<Load<W, W::Link>>>⟧.fits_under
-        ⟦<Sws<W, T> as App>⟧ (λ app. app.total) setup.now world
+        ⟦<Gated<'g, W, T, G> as App>⟧ (λ gated. gated.app.total) setup.now world
         (T.contents_of hall) schedule.now ran.0) }
     ensures back { IfErr result (λ back. back ≡ world) }
 {
@@ -53,23 +54,25 @@ pub fn run_whole<R: Wait, W: World + Drop, T: Talk<W::Link> + Drop>(
         return Err(world);
     };
     let mut weave = start(alloc, setup, states, world, total)?;
-    let app = Sws::new(total);
+    let app = Gated::new(total, gate);
     let drained = run_through(rt, &mut weave, &app, schedule);
     Ok((weave, drained))
 }
 
-/// Makes a weave of the server, runs it by the schedule to its end, and takes it apart.
+/// Makes a weave of the server, runs it by the schedule to its end, and takes it apart. The gate is
+/// passed before each handler.
 ///
 /// # Errors
 ///
 /// There was no memory to begin: the world comes back.
-pub fn run_apart<R: Wait, W: World + Drop, T: Talk<W::Link> + Drop>(
+pub fn run_apart<R: Wait, W: World + Drop, T: Talk<W::Link> + Drop, G: Gate>(
     rt: &R,
     alloc: Global,
     setup: &Setup,
     hall: T::Hall,
     world: W,
     schedule: &[(u16, u32)],
+    gate: &G,
 ) -> Result<(WeaveParts<Place<W, T>, Load<W, W::Link>>, Drained), W>
     requires set { IsSetFor W.World setup.now world }
     requires schedule { IsScheduleOf (shape_of setup.now).cores schedule.now }
@@ -85,7 +88,7 @@ pub fn run_apart<R: Wait, W: World + Drop, T: Talk<W::Link> + Drop>(
         ran.0.states.items) }
     ensures back { IfErr result (λ back. back ≡ world) }
 {
-    let (weave, drained) = run_whole(rt, alloc, setup, hall, world, schedule)?;
+    let (weave, drained) = run_whole(rt, alloc, setup, hall, world, schedule, gate)?;
     weave.stands_well();
     T::a_run_serves();
     the_parts_are_what_the_weave_had::<Place<W, T>, Load<W, W::Link>>();

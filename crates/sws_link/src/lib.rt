@@ -3,19 +3,21 @@
 //!
 //! A server that reads and writes the machine itself can promise nothing of what it sends, since no
 //! contract knows what a socket or a disk holds. So everything of the server is written over the
-//! traits of this crate. An object of the outside *tells* contracts what it holds, as far as that
-//! is known: a source the bytes that are left, a sink the bytes that were written, a folder its
-//! files, a link its input, what was taken of it and what was written, a world the inputs of the
-//! links to come. An object that tells nothing goes on telling nothing. Each object also has a
-//! count of its faults, which never falls: every answer `Failed` comes only where that count rose
-//! in the call, and a call that answers anything else leaves it as it was. A link counts likewise
-//! how often it was not ready, and tells whether it was shut, after which it is neither read nor
-//! written. A link that answers as the lines of a script say tells these lines as well.
+//! traits of this crate. An object of the outside has a *ghost model* of its contents, as far as
+//! these are known: a source the bytes that are left, a sink the bytes that were written, a folder
+//! its files, a link its input, what was taken of it and what was written, a world the inputs of
+//! the links to come. An object without one goes on without. Each object also has a count of its
+//! faults, which never falls: every answer `Failed` comes only where that count rose in the call,
+//! and a call that answers anything else leaves it as it was. A link counts likewise how often it
+//! was not ready; and of every link contracts know whether it was shut, after which it is neither
+//! read nor written. The model of a link that answers by the lines of a script has these lines as
+//! well.
 //!
 //! [`MemSource`], [`MemSink`], [`MemFolder`], [`MemLink`] and [`MemWorld`] hold their contents in
-//! memory, tell all of them, and fail at the calls that they are told to. [`SureSource`],
-//! [`SureSink`], [`SureFolder`], [`SureLink`] and [`SureWorld`] are the same without faults.
-//! Adapters of the machine's own files and streams tell nothing and count errors.
+//! memory, have a model of all of them, and fail at the calls that they are given to fail at.
+//! [`SureSource`], [`SureSink`], [`SureFolder`], [`SureLink`] and [`SureWorld`] are the same
+//! without faults. Adapters of the machine's own files and streams have no model of contents, and
+//! count errors.
 //!
 //! ```text
 //! let mut source = SureSource::new(bytes);
@@ -45,6 +47,7 @@ mod mem_link;
 mod mem_sink;
 mod mem_source;
 mod mem_world;
+mod pieces;
 mod script_reader;
 mod scripted_bytes;
 mod sure_folder;
@@ -52,8 +55,6 @@ mod sure_link;
 mod sure_sink;
 mod sure_source;
 mod sure_world;
-#[cfg(test)]
-mod tests;
 mod world;
 
 pub use link_item::LinkItem;
@@ -62,6 +63,7 @@ pub use mem_link::MemLink;
 pub use mem_sink::MemSink;
 pub use mem_source::MemSource;
 pub use mem_world::MemWorld;
+pub use pieces::{Unwritten, write_pieces};
 use std::alloc::{AllocError, AllocFailed};
 use std::error::Error;
 use std::fmt;

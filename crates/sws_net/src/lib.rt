@@ -1,8 +1,8 @@
 //! The machine as the outside of the server: files, standard input and output, and TCP.
 //!
-//! Each type meets a trait of `sws_link` over an object of the machine. It tells nothing of
+//! Each type implements a trait of `sws_link` by an object of the machine. It has no ghost model of
 //! contents, and counts the machine's errors. What a file, a terminal or a socket carries is
-//! believed, and no contract speaks of it.
+//! trusted, and no contract speaks of it.
 //!
 //! | Type | Is | Over |
 //! |---|---|---|
@@ -36,8 +36,6 @@ mod std_sink;
 mod std_source;
 mod tcp_link;
 mod tcp_world;
-#[cfg(test)]
-mod tests;
 
 pub use file_folder::FileFolder;
 pub use output::Output;

@@ -20,8 +20,6 @@ ghost use Rattle.sws_parts.specs.Parts.{unsent_bytes, front_of, after_sending};
 ghost use Rattle.sws_parts.specs.Heads.{head_left, IsSentWithin};
 
 mod own_heads;
-#[cfg(test)]
-mod tests;
 
 pub use own_heads::{MAX_OWN_HEAD, OwnHead};
 use std::marker::Model;

@@ -1,3 +1,4 @@
+mod GoingLemmas
 mod InputLemmas
 mod WorldLemmas
 mod RunLemmas

@@ -15,7 +15,7 @@ use Rattle.sws_link.specs.declared.Put.{Put}
 use Rattle.sws_link.specs.declared.Put.TheVariants as put
 use Rattle.sws_report.specs.Journal.{journal}
 use Rattle.sws_report.specs.Transcript.{transcript, transcript_from, conn_text}
-use Rattle.sws_report.proofs.PieceLemmas.{Going, Going-moved, Going-written, Going-stopped, Going-cause}
+use Rattle.sws_replay.proofs.GoingLemmas.{Going, Going-moved, Going-written, Going-stopped, Going-cause}
 use Rattle.sws_script.specs.Scripted.{script_of}
 use Rattle.sws_script.specs.declared.input.Input.{Input}
 use Rattle.sws_script.specs.declared.input.ScriptConn.{ScriptConn}

@@ -1,15 +1,17 @@
 //! A script run over a site, and what is written of that run.
 //!
-//! [`replay`] serves the connections of a script on threads and writes their transcript, which is
-//! the same for every number of workers and shards: each connection is served as if it were alone.
+//! [`replay`] serves the connections of a script, several workers on threads, and writes their
+//! transcript, which is the same for every number of workers and shards: each connection is served
+//! as if it were alone.
 //! With the journal it writes the entries of each shard as well. [`replay_by_schedule`] runs the
 //! same connections on one thread, by a schedule that says which core makes a step, and writes the
 //! one text of that schedule ([`laws::a_schedule_has_one_text`]). [`run_script`] is the run alone,
 //! for whoever counts what it leaves.
 //!
-//! Nothing is written before a run has ended well. A run on threads tests on what it left what no
-//! contract says of running threads: that each connection met its link and the events that were
-//! due. Where that test fails, the connections are run again by one thread, of which it is proved.
+//! Nothing is written before a run has ended well. That a connection is lost isn't proved
+//! impossible on threads, so what such a run left is tested: that each connection met its link and
+//! the events that were due. Where that test fails, the connections are run again by one thread,
+//! of which it is proved.
 //!
 //! ```text
 //! let input = parse(alloc, text, false, shape.cores)?;
@@ -28,8 +30,6 @@ mod fault;
 pub mod laws;
 mod replaying;
 mod running;
-#[cfg(test)]
-mod tests;
 mod writing;
 
 pub use fault::RunFault;

@@ -18,7 +18,7 @@ use sws_link::{Put, Sink};
 use sws_script::{Input, ScriptConn};
 use sws_site::Site;
 
-/// Serves the connections of a script out of a site, with a thread for each worker, and
+/// Serves the connections of a script out of a site, with a thread for each of several workers, and
 /// writes their transcript; where the journal is asked for, that of the shards' histories
 /// behind it. It need not return.
 ///

@@ -19,8 +19,8 @@ use sws_link::MemWorld;
 use sws_script::{ScriptConn, script_world};
 use sws_site::Site;
 
-/// Serves the connections of a script out of a site, with a thread for each worker, and gives what
-/// the run leaves. It need not return.
+/// Serves the connections of a script out of a site, with a thread for each of several workers, and
+/// gives what the run leaves. It need not return.
 ///
 /// However the threads run, each connection is served as if it were alone.
 ///

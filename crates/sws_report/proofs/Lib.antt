@@ -1,3 +1,2 @@
-pub mod PieceLemmas
 pub mod UniqueJournalLemmas
 mod SummaryLemmas

@@ -3,7 +3,7 @@ use Rattle.std.specs.Prelude.{ℕ, ◌+◌, List, [], ◌∷◌, ◌++◌, lengt
 use Rattle.sws_text.specs.Shown.{shown_lines}
 use Rattle.sws_steps.specs.declared.End.{End}
 use Rattle.sws_steps.specs.declared.End.TheVariants.{Done, Idle, Fault, Memory}
-use Rattle.sws_report.specs.Numbers.{space_number}
+use Rattle.sws_text.specs.Numbers.{space_number}
 
 -- how a connection ended; want of memory has no word
 abbrev pub end_word : End → List ℕ

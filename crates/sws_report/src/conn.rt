@@ -6,12 +6,10 @@ ghost use Rattle.sws_link.specs.Counts.{HasCause};
 ghost use Rattle.sws_link.specs.Contents.{Puts};
 ghost use Rattle.sws_report.specs.Transcript.{end_word, conn_line, conn_text};
 
-use crate::numbers::push_spaced;
-use crate::pieces::write_pieces;
 use std::alloc::{AllocError, Global};
 use sws_conn::End;
-use sws_link::{Put, Sink};
-use sws_text::ShownLines;
+use sws_link::{Put, Sink, Unwritten, write_pieces};
+use sws_text::{ShownLines, push_spaced};
 
 /// Writes the transcript of a connection: its number, how it ended, how many bytes
 /// were written, and these.
@@ -24,8 +22,20 @@ pub fn write_conn<O: Sink>(alloc: Global, sink: &mut O, number: u16, end: End, b
     ensures cause { HasCause (O.faults sink.old) (O.faults sink.new) (result ≡ put.Failed) }
 {
     match make_line(alloc, number, end, bytes.len() as u64) {
-        Ok(line) => write_pieces(sink, line, ShownLines::new(bytes)),
+        Ok(line) => write_pieces(sink, line, Shown(ShownLines::new(bytes))),
         Err(_) => Put::Memory,
+    }
+}
+
+/// The lines of what a connection was sent.
+#[derive(Drop)]
+struct Shown<'b>(ShownLines<'b>);
+
+impl<'b> Unwritten for Shown<'b> {
+    ghost left = { λ lines. lines.0 };
+
+    fn push_next(&mut self, piece: &mut Vec<u8>) -> Result<bool, AllocError> {
+        self.0.push_next(piece)
     }
 }
 

@@ -5,14 +5,13 @@ ghost use Rattle.std.specs.List.{flat_map};
 ghost use Rattle.sws_link.specs.declared.Put.TheVariants as put;
 ghost use Rattle.sws_link.specs.Counts.{HasCause};
 ghost use Rattle.sws_link.specs.Contents.{Puts};
-ghost use Rattle.sws_report.specs.Numbers.{space_number};
+ghost use Rattle.sws_text.specs.Numbers.{space_number};
 ghost use Rattle.sws_report.specs.Journal.{entry_line, shard_line, journal_from, journal};
 
-use crate::numbers::push_spaced;
-use crate::pieces::{Unwritten, write_pieces};
 use mely_history::Entry;
 use std::alloc::{AllocError, Global};
-use sws_link::{Put, Sink};
+use sws_link::{Put, Sink, Unwritten, write_pieces};
+use sws_text::push_spaced;
 
 /// Writes the journal of the shards' histories, in their order: for each shard its number, how many
 /// entries its history has, and these.

@@ -22,11 +22,7 @@
 mod conn;
 mod journal;
 pub mod laws;
-mod numbers;
-mod pieces;
 mod summary;
-#[cfg(test)]
-mod tests;
 
 pub use conn::write_conn;
 pub use journal::write_journal;

@@ -5,13 +5,13 @@ ghost use Rattle.sws_steps.specs.declared.End.TheVariants as how;
 ghost use Rattle.sws_link.specs.declared.Put.TheVariants as put;
 ghost use Rattle.sws_link.specs.Counts.{HasCause};
 ghost use Rattle.sws_link.specs.Contents.{Puts};
-ghost use Rattle.sws_report.specs.Numbers.{space_number};
+ghost use Rattle.sws_text.specs.Numbers.{space_number};
 ghost use Rattle.sws_report.specs.Summary.{is_done, is_idle, is_fault, ends_line, bytes_line, summary};
 
-use crate::numbers::push_spaced;
 use std::alloc::{AllocError, Global};
 use sws_conn::End;
 use sws_link::{Put, Sink};
+use sws_text::push_spaced;
 
 /// Writes how many connections ended in each way, and how many bytes were read and written in all.
 ///

@@ -21,8 +21,6 @@ mod cuts;
 pub mod head;
 pub mod request;
 mod scans;
-#[cfg(test)]
-mod tests;
 
 pub use cuts::Cut;
 pub use head::{MAX_HEAD, cut, cut_is_stable, scan};

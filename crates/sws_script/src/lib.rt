@@ -19,8 +19,6 @@ mod place;
 mod printing;
 mod reading;
 mod sequence;
-#[cfg(test)]
-mod tests;
 mod words;
 mod world;
 

@@ -1,6 +1,6 @@
 -- The first file of a name.
-use Rattle.std.proofs.Common.{◌≡◌, ℕ, ◌+◌, ◌<◌, ◌≤◌, suc, Bool, true, false, List, [], ◌∷◌, length, None, refl, ap, ◌∙◌, arith}
-use Rattle.std.specs.Prelude.{All, Some, if◌then◌else◌}
+use Rattle.std.proofs.Common.{◌≡◌, ℕ, ◌+◌, ◌<◌, ◌≤◌, zero, suc, Bool, true, false, List, [], ◌∷◌, length, None, refl, ap, ◌∙◌, arith}
+use Rattle.std.specs.Prelude.{All, Some, slice_get, if◌then◌else◌}
 use Rattle.std.specs.Str.{bytes_eq}
 use Rattle.std.proofs.lemmas.List.Sums.{sum_by-append}
 use Rattle.std.proofs.lemmas.Slice.Eq.{bytes_eq-Decides}
@@ -39,3 +39,16 @@ file_named-short (first ∷ files) name file e = by_test (bytes_eq first.0 name)
         → (if t then Some first else file_named name files) ≡ Some file → length file.1 ≤ bytes_of (first ∷ files)
     by_test true later f = let same : first ≡ file = cc in let long = ap (λ (x : File). length x.1) same in omega (arith, sum)
     by_test false later f = let short = later f in omega (arith, sum)
+
+-- and so are those of a file at a place
+pub file_at-short : (files : List File) (i : ℕ) (file : File) → slice_get files i ≡ Some file → length file.1 ≤ bytes_of files
+file_at-short [] i file e = absurd (cc)
+file_at-short (first ∷ files) zero file e =
+    let sum = sum_by-append (λ (f : File). length f.1) (first ∷ []) files in
+    let same : first ≡ file = cc in
+    let long = ap (λ (x : File). length x.1) same in
+    omega (arith, sum)
+file_at-short (first ∷ files) (suc i) file e =
+    let sum = sum_by-append (λ (f : File). length f.1) (first ∷ []) files in
+    let short = file_at-short files i file e in
+    omega (arith, sum)

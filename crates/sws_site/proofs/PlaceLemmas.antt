@@ -1,5 +1,5 @@
 -- Where the first file of a name is kept.
-use Rattle.std.proofs.Common.{◌≡◌, ℕ, ◌+◌, ◌<◌, suc, Bool, true, false, List, [], ◌∷◌, length, drop, get_or, refl, sym, ap, ◌∙◌, Option, Some, None, Vec, drop-cons, arith}
+use Rattle.std.proofs.Common.{◌≡◌, ℕ, ◌+◌, ◌<◌, subst, suc, Bool, true, false, List, [], ◌∷◌, length, drop, get_or, refl, sym, ap, ◌∙◌, Option, Some, None, Vec, drop-cons, arith}
 use Rattle.std.proofs.Math.Bool.{cond}
 use Rattle.std.specs.declared.alloc.Global.{Global}
 use Rattle.std.specs.declared.cmp.Ordering.{Ordering}
@@ -14,7 +14,9 @@ use Rattle.std.proofs.lemmas.Slice.Eq.{bytes_eq-Decides}
 use Rattle.std.proofs.lemmas.Bool.Decides.{same_from_decides, Decides-like}
 use Rattle.sws_site.specs.declared.stored.StoredFile.{StoredFile}
 use Rattle.httpdate.specs.declared.date.HttpDate.{HttpDate}
-use Rattle.std.specs.Prelude.{option_map}
+use Rattle.std.specs.Prelude.{option_map, slice_get}
+use Rattle.std.proofs.lemmas.List.{length-map}
+use Rattle.std.proofs.lemmas.Option.{slice_get-map, slice_get_read}
 use Rattle.sws_site.specs.Files.{File, file_named}
 use Rattle.sws_site.specs.Site.{SiteState, found_in}
 use Rattle.sws_site.specs.Page.{PageState}
@@ -135,3 +137,20 @@ pub found_in-none : (site : SiteState) (files : List StoredFile) (date : Option 
     → None ≡ found_in site name
 found_in-none site files date name shows none =
     ap (option_map (page_of date)) (sym none) ∙ ap (λ (s : SiteState). found_in s name) shows
+
+-- ---- the files by their numbers
+
+-- as many files are stored as are shown
+pub stored-count : (site : SiteState) (files : List StoredFile) (date : Option HttpDate) (i : ℕ)
+    → record { files = files_of files; date = date } ≡ site → i < length site.files → i < length files
+stored-count site files date i shows within =
+    subst (λ n. i < n) (sym (ap (λ (s : SiteState). length s.files) shows) ∙ length-map files file_of) within
+
+-- the file that is stored there is shown there
+pub stored-at : (site : SiteState) (files : List StoredFile) (date : Option HttpDate) (i : ℕ) (stored : StoredFile)
+    → record { files = files_of files; date = date } ≡ site → i < length files → stored ≡ get_or files i stored
+    → slice_get site.files i ≡ Some (file_of stored)
+stored-at site files date i stored shows within at =
+    sym (ap (λ (s : SiteState). slice_get s.files i) shows)
+    ∙ slice_get-map file_of files i
+    ∙ ap (option_map file_of) (slice_get_read files (length files) i stored refl within at)

@@ -28,8 +28,6 @@ mod site_faults;
 mod sites;
 mod statuses;
 mod stored;
-#[cfg(test)]
-mod tests;
 
 pub use head_kinds::HeadKind;
 pub use heads::{ContentRange, HeadParts, MAX_KIND, write_head};

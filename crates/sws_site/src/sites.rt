@@ -1,5 +1,5 @@
 //! A whole site: loading it, looking files up by name, and its responses that refuse.
-ghost use Rattle.std.specs.Prelude.{◌≡◌, ◌≤◌, length, Err, IfOk, IfSome, IsTrue, Some, None};
+ghost use Rattle.std.specs.Prelude.{◌≡◌, ◌<◌, ◌≤◌, length, slice_get, option_map, Err, IfOk, IfSome, IsTrue, Some, None};
 ghost use Rattle.sws_link.specs.Counts.{HasCause};
 ghost use Rattle.httpdate.specs.declared.date.HttpDate.{HttpDate as Date};
 ghost use Rattle.sws_site.specs.Fixed.{is_fixed, fixed_head, fixed_body, IsFixed, IsFixedHead, IsFixedBody};
@@ -181,6 +181,28 @@ impl Site {
         ensures { result ≡ length self.now.files }
     {
         self.files.len()
+    }
+
+    /// The name of a file, of at most 1,024 bytes. Files are counted from 0, in the folder's order.
+    pub fn name_at(&self, i: usize) -> &[u8]
+        requires { i < length self.now.files }
+        ensures { option_map (λ file. file.0) (slice_get self.now.files i) ≡ Some result.now }
+    {
+        &self.files[i].name
+    }
+
+    /// One file. Files are counted from 0, in the folder's order; of those of one name
+    /// [`Site::lookup`] finds the first alone.
+    pub fn page_at(&self, i: usize) -> Page<'_>
+        requires { i < length self.now.files }
+        ensures file { slice_get self.now.files i ≡ Some result.file }
+        ensures date { result.date ≡ self.now.date }
+    {
+        Page {
+            file: &self.files[i],
+            not_modified: &self.not_modified,
+            date: self.date,
+        }
     }
 
     /// When the files were last modified, in seconds after the beginning of 1970, if that is known.

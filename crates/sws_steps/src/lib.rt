@@ -1,11 +1,12 @@
 //! The steps of a connection, whatever it talks about.
 //!
-//! A connection reads pieces from its link, finds the requests in them, answers these out of a hall
-//! and writes what the peer takes; it makes at most one call of the link in a step. A [`ConnCore`]
-//! is all of a connection but its link, with one method a step. Where requests end, how they are
-//! answered and how many count is a [`Speech`], which also keeps the bytes that were taken and the
-//! answer that is written; contracts see it as a protocol. What each step does and what all of them
-//! come to is defined, and proved, over any protocol whose answers come in order.
+//! A connection reads pieces from its link, finds the requests in them, answers these from given
+//! resources (its *hall*) and writes what the peer takes; it makes at most one call of the link in
+//! a step. A [`ConnCore`] is all of a connection but its link, with one method a step. Where
+//! requests end, how they are answered and how many count is a [`Speech`], which also keeps the
+//! bytes that were taken and the answer that is written; contracts see it as a protocol. What each
+//! step does and what all of them come to is defined, and proved, over any protocol whose answers
+//! come in order.
 #![tactic(auto)]
 
 mod conn_core;

@@ -2,3 +2,4 @@ pub mod Signs
 pub mod Texts
 pub mod Shown
 pub mod SignsIn
+pub mod Numbers

@@ -4,7 +4,8 @@
 //! and what begins with a backslash for one byte. Some bytes have several spellings: [`push_text`]
 //! writes the one that is looked for from the left, which is the shortest, and [`read_text`] reads
 //! all of them. [`ShownLines`] are the lines of a transcript, in which the text of bytes is broken
-//! behind each LF. [`read_decimal`] reads the numbers that stand beside texts.
+//! behind each LF. [`push_spaced`] writes the numbers that stand beside texts, and
+//! [`read_decimal`] reads them.
 //!
 //! ```text
 //! let mut text = Vec::new(alloc);
@@ -18,11 +19,9 @@ mod plain;
 mod reading;
 mod showing;
 mod sign;
-#[cfg(test)]
-mod tests;
 mod writing;
 
-pub use number::read_decimal;
+pub use number::{push_spaced, read_decimal};
 pub use reading::read_text;
 pub use showing::ShownLines;
 pub use sign::Sign;

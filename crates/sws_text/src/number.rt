@@ -1,9 +1,22 @@
 //! Numbers of a text.
-ghost use Rattle.std.specs.Prelude.{◌≡◌, ◌≤◌, ◌<◌, ◌^◌, ℕ, MatchOption};
+ghost use Rattle.std.specs.Prelude.{◌≡◌, ◌≤◌, ◌<◌, ◌^◌, ◌++◌, ℕ, MatchOption, OnOk};
 ghost use Rattle.std.specs.Fmt.{decimal};
+ghost use Rattle.sws_text.specs.Numbers.{space_number};
+
+use itoa::Buffer;
+use std::alloc::AllocError;
 
 /// The most digits of a number below 2^64.
 const MAX_DIGITS: usize = 20;
+
+/// Adds a space, and the decimal digits of a number.
+pub fn push_spaced(text: &mut Vec<u8>, number: u64) -> Result<(), AllocError>
+    ensures { OnOk result (text.new.items ≡ text.old.items ++ space_number number) }
+{
+    text.push(b' ')?;
+    text.extend_from_slice(Buffer::new().format(number).as_bytes())?;
+    Ok(())
+}
 
 /// The number that a word writes in decimal digits without leading zeros, at most `high`.
 ///

@@ -6,3 +6,4 @@ mod EndLemmas
 mod DuplexLinkLemmas
 mod ServeLemmas
 mod CauseLemmas
+mod LostLemmas

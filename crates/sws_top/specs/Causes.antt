@@ -35,6 +35,14 @@ abbrev pub HasLost : {W L : Type 0} → Outcome W L → ℕ → Type 0
 HasLost {W} {L} outcome conn = (ended : Ended W L) × (outcome.ended ≡ Some ended)
     × (ended.verdict ≡ verdict.Apart conn)
 
+-- a run of the order may lose a connection: two workers or more serve
+abbrev pub MayLose : Order → Type 0
+MayLose (answer path date) = ⊥
+MayLose (replay path shape date journal schedule) = ⊥
+MayLose (serve path port connections shape date) = 2 ≤ shape.cores
+MayLose (bench connections number shape) = ⊥
+MayLose (check connections shape) = ⊥
+
 module _ {F R W L O : Type 0} (f : FolderWords F) (r : SourceWords R) (x : WorldWords W L)
     (o : SinkWords O) (before now : Hands F R O) (world : W) (outcome : Outcome W L) where
   -- Each fault of the outside comes only where the count of what failed rose, and the sink's, the

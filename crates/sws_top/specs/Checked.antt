@@ -9,7 +9,7 @@ use Rattle.mely_check.specs.Verdicts.{IsDrainedRun}
 use Rattle.mely_check.specs.declared.report.CoreReport.{CoreReport}
 use Rattle.mely_check.specs.declared.report.Report.{Report}
 use Rattle.sws_engine.specs.ServerRun.{handler_rows}
-use Rattle.sws_report.specs.Numbers.{space_number}
+use Rattle.sws_text.specs.Numbers.{space_number}
 
 -- the setup of the server's runs with so many connections: a colour of polling, which stays on its
 -- core, one of accepting, and one for each connection

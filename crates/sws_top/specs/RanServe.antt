@@ -13,6 +13,7 @@ use Rattle.sws_link.specs.declared.world.World.{Ghosts as WorldWords}
 use Rattle.sws_steps.specs.declared.End.{End}
 use Rattle.sws_steps.specs.declared.End.TheVariants as ending
 use Rattle.sws_conn.specs.declared.talk.Talk.{Ghosts as TalkWords}
+use Rattle.sws_engine.specs.StepsLeave.{StepsLeave}
 use Rattle.sws_engine.specs.ThreadsLeave.{ThreadsLeave, IsUnkept}
 use Rattle.sws_engine.specs.declared.ended.Ended.{Ended}
 use Rattle.sws_engine.specs.declared.ended.Served.{Served}
@@ -74,8 +75,8 @@ module _ {W L O T G : Type 0} (x : WorldWords W L) (l : LinkWords L) (o : SinkWo
     pub back : IsBack now_world outcome
     pub unwritten : out_now ≡ out
 
-  -- The world was opened at the port for so many connections, and they were served on threads,
-  -- with all that this leaves.
+  -- The world was opened at the port for so many connections, and they were served, several workers
+  -- on threads, with all that this leaves.
   pub record HasServed (port connections : ℕ) (shape : Shape) (site : SiteState) : Type 0 where
     pub first : W
     pub listens : Listens x.tells x.faults x.waits world port connections opened.Ready first
@@ -84,6 +85,8 @@ module _ {W L O T G : Type 0} (x : WorldWords W L) (l : LinkWords L) (o : SinkWo
     pub gone : outcome.world ≡ None
     pub leaves : ThreadsLeave x l y shape site first ended
     pub unkept : IsUnkept y
+    -- one worker leaves what steps leave: it loses no connection
+    pub alone : shape.cores ≡ 1 → StepsLeave x l y shape site first ended
     -- the world that is handed out has the port, and where it failed its count of faults rose; at
     -- Ok and World it is handed out
     pub port_is : (last : W) → ended.world ≡ Some last → (x.tells last).port ≡ port

@@ -2,7 +2,7 @@
 ghost use Rattle.std.specs.Prelude.{◌≡◌, ◌++◌, OnOk, IfOk};
 ghost use Rattle.sws_link.specs.Contents.{Puts};
 ghost use Rattle.sws_link.specs.Counts.{HasCause};
-ghost use Rattle.sws_report.specs.Numbers.{space_number};
+ghost use Rattle.sws_text.specs.Numbers.{space_number};
 ghost use Rattle.sws_top.specs.Checked.{accepted_line, core_line, core_lines, report_text};
 ghost use Rattle.sws_top.specs.Faults.{fault_of};
 ghost use Rattle.sws_top.specs.Texts.{WritesText};

@@ -4,7 +4,7 @@
 //! [`sws`] takes the words of the command line behind the program's name and runs the command that
 //! they say. It is for a program that hands it the machine's files, streams and sockets, and for
 //! whoever wants to know what that program writes: what is read and written is stated for every
-//! folder, source, sink and world that tell what they hold.
+//! folder, source, sink and world with a ghost model of its contents.
 //!
 //! ```text
 //! answer FOLDER ..                              one connection, from the source to the sink
@@ -34,8 +34,6 @@ mod replaying;
 mod scripts;
 mod serving;
 mod sites;
-#[cfg(test)]
-mod tests;
 
 pub use faults::{SiteLimit, TopFault};
 pub use ordering::sws;

@@ -1,8 +1,8 @@
 //! The top call: from the words to the command that they order.
-ghost use Rattle.std.specs.Prelude.{◌≡◌, Some, None, map, string_bytes};
+ghost use Rattle.std.specs.Prelude.{◌≡◌, ℕ, Some, None, map, string_bytes};
 ghost use Rattle.sws_words.specs.Orders.{order_of, Order as OrderValue};
 ghost use Rattle.sws_words.specs.Told.{order_view};
-ghost use Rattle.sws_top.specs.Causes.{HasCauses, IsDone, IsSound, NothingFailed};
+ghost use Rattle.sws_top.specs.Causes.{HasCauses, IsDone, IsSound, MayLose, NothingFailed};
 ghost use Rattle.sws_top.specs.Faults.{status_of};
 ghost use Rattle.sws_top.specs.Hands.{hands};
 ghost use Rattle.sws_top.specs.Ran.{IsRefused, Ran, RanAs};
@@ -44,7 +44,7 @@ use sws_words::{Order, WordFault, read_words};
 /// - `BadJournal` (10), `NotLegal` (11) and `NotDrained` (12) exactly where the source's bytes are
 ///   no accepted journal, and the first of these three that is so of them.
 /// - `Apart` (13) exactly where a run on the world that was handed in has lost a connection, which
-///   `ended` shows.
+///   `ended` shows. That takes `serve`, with two workers or more.
 pub fn sws<
     T: AllocGlobal + Threads + Wait + Sync,
     F: Folder,
@@ -68,6 +68,9 @@ where
     ensures causes { HasCauses F.Folder R.Source W.World O.Sink
         (hands folder.old source.old out.old) (hands folder.new source.new out.new)
         world result }
+    ensures lost { (order : OrderValue) (conn : ℕ)
+        → order_of (map string_bytes words.now) ≡ Some order
+        → result.fault ≡ Some (TopFault.Apart conn) → MayLose order }
 
     // words in the grammar, a site, a script and a journal as they must be, and no fault outside
     ensures complete { (order : OrderValue) → order_of (map string_bytes words.now) ≡ Some order

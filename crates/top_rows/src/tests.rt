@@ -1,17 +1,25 @@
 //! What each command writes for these words and this input, and how it ends.
 
 mod answering;
+mod benches;
 mod checking;
+mod faults;
 mod meeting;
 mod replaying;
+mod replays;
+mod scripts;
 mod serving;
 
 use std::alloc::{AllocError, Global};
+use std::process::Abort;
 use std::sync::Wait;
 use std::test::Fail;
 use std::thread::Threads;
-use sws_link::{SureFolder, SureSink, SureSource, SureWorld};
-use sws_top::{TopFault, sws};
+use sws_link::{
+    Folder, MemFolder, MemSink, MemSource, Sink, Source, SureFolder, SureSink, SureSource,
+    SureWorld, World,
+};
+use sws_top::{Outcome, TopFault, sws};
 
 /// A request for the index, and the response to it. Each `~` is CR LF.
 const INDEX: &str = "GET / HTTP/1.1~Host: x~~";
@@ -26,6 +34,37 @@ struct Said {
     fault: Option<TopFault>,
     written: Vec<u8>,
 }
+
+impl Said {
+    /// The run is done, and has written this.
+    fn is_done(&self, rt: &impl Abort, row: &str, written: &[u8]) {
+        assert_eq!(rt; self.fault, None, "{row}");
+        assert_eq!(rt; self.status, 0, "{row}");
+        assert_eq!(rt; self.written.as_slice(), written, "{row}");
+    }
+
+    /// The run has ended by this fault, and has written nothing.
+    fn is_refused(&self, rt: &impl Abort, row: &str, status: u8, fault: TopFault) {
+        assert_eq!(rt; self.fault, Some(fault), "{row}");
+        assert_eq!(rt; self.status, status, "{row}");
+        assert_eq!(rt; self.written.len(), 0, "{row}");
+    }
+}
+
+/// The number of the call of a folder, of a source and of a sink that fails, counted from 1;
+/// or 0 where none does.
+#[derive(Clone, Copy)]
+struct Failing {
+    folder: u32,
+    source: u32,
+    sink: u32,
+}
+
+const NO_CALL: Failing = Failing {
+    folder: 0,
+    source: 0,
+    sink: 0,
+};
 
 /// Puts the text behind the bytes so many times, with CR LF for each `~`.
 fn put(bytes: &mut Vec<u8>, text: &str, times: usize) -> Result<(), AllocError> {
@@ -60,11 +99,6 @@ fn small_files(alloc: Global) -> Result<Vec<(Vec<u8>, Vec<u8>)>, AllocError> {
     Ok(files)
 }
 
-/// A site of them.
-fn small_site(alloc: Global) -> Result<SureFolder, AllocError> {
-    Ok(SureFolder::new(alloc, small_files(alloc)?))
-}
-
 /// The words of a line, which stand one space apart.
 fn words_of(alloc: Global, line: &str) -> Result<Vec<String>, AllocError> {
     let mut words = Vec::new(alloc);
@@ -77,22 +111,87 @@ fn words_of(alloc: Global, line: &str) -> Result<Vec<String>, AllocError> {
     Ok(words)
 }
 
-/// Runs these words on the small site, with this input and a world that has no link.
+/// Runs the words of a line.
+///
+/// It is the one call of `sws` in these tests, and says nothing of it, so that no proof of a test
+/// carries the contract of that call: what a run comes to they find out by running it.
+fn run<
+    T: AllocGlobal + Threads + Wait + Sync,
+    F: Folder,
+    R: Source,
+    W: World + Drop + Send,
+    O: Sink,
+>(
+    rt: &T,
+    line: &str,
+    folder: &mut F,
+    source: &mut R,
+    world: W,
+    sink: &mut O,
+) -> Result<Outcome<W>, AllocError>
+where
+    W::Link: Send,
+{
+    let words = words_of(rt.alloc(), line)?;
+    Ok(sws(rt, &words, folder, source, world, sink))
+}
+
+/// Runs these words with a world that has no link: how that ends.
+fn end_of<T: AllocGlobal + Threads + Wait + Sync, F: Folder, R: Source, O: Sink>(
+    rt: &T,
+    line: &str,
+    folder: &mut F,
+    source: &mut R,
+    sink: &mut O,
+) -> Result<(u8, Option<TopFault>), AllocError> {
+    let world = SureWorld::new(Vec::new(rt.alloc()));
+    let outcome = run(rt, line, folder, source, world, sink)?;
+    Ok((outcome.status, outcome.fault))
+}
+
+/// Runs these words on a folder of these files, with this input and a world that has no link.
+fn say_on<T: AllocGlobal + Threads + Wait + Sync>(
+    rt: &T,
+    line: &str,
+    files: Vec<(Vec<u8>, Vec<u8>)>,
+    input: Vec<u8>,
+) -> Result<Said, AllocError> {
+    let mut folder = SureFolder::new(rt.alloc(), files);
+    let mut source = SureSource::new(input);
+    let mut sink = SureSink::new(rt.alloc());
+    let (status, fault) = end_of(rt, line, &mut folder, &mut source, &mut sink)?;
+    Ok(Said {
+        status,
+        fault,
+        written: sink.written().to_vec(rt.alloc())?,
+    })
+}
+
+/// Runs these words on the small site.
 fn say<T: AllocGlobal + Threads + Wait + Sync>(
     rt: &T,
     line: &str,
     input: Vec<u8>,
 ) -> Result<Said, AllocError> {
+    say_on(rt, line, small_files(rt.alloc())?, input)
+}
+
+/// Runs these words on the small site, where these calls fail.
+fn say_failing<T: AllocGlobal + Threads + Wait + Sync>(
+    rt: &T,
+    line: &str,
+    input: Vec<u8>,
+    failing: Failing,
+) -> Result<Said, AllocError> {
     let alloc = rt.alloc();
-    let words = words_of(alloc, line)?;
-    let mut folder = small_site(alloc)?;
-    let mut source = SureSource::new(input);
-    let mut sink = SureSink::new(alloc);
-    let world = SureWorld::new(Vec::new(alloc));
-    let outcome = sws(rt, &words, &mut folder, &mut source, world, &mut sink);
+    let files = small_files(alloc)?;
+    let mut folder = MemFolder::new(alloc, files, vec![in alloc; failing.folder]?);
+    let mut source = MemSource::new(input, vec![in alloc; failing.source]?);
+    let mut sink = MemSink::new(alloc, vec![in alloc; failing.sink]?);
+    let (status, fault) = end_of(rt, line, &mut folder, &mut source, &mut sink)?;
     Ok(Said {
-        status: outcome.status,
-        fault: outcome.fault,
+        status,
+        fault,
         written: sink.written().to_vec(alloc)?,
     })
 }
@@ -118,9 +217,7 @@ fn words_out_of_the_grammar_are_refused(rt: HostRuntime) -> Result<(), Fail> {
     ];
     for line in rows {
         let said = say(&rt, line, bytes_of(rt.alloc(), INDEX)?)?;
-        assert_eq!(rt; said.fault, Some(TopFault::Usage), "{line}");
-        assert_eq!(rt; said.status, 2, "{line}");
-        assert_eq!(rt; said.written.len(), 0, "{line}");
+        said.is_refused(&rt, line, 2, TopFault::Usage);
     }
     Ok(())
 }

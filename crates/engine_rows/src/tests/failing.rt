@@ -25,9 +25,9 @@ fn a_call_that_fails_ends_its_connection_with_what_was_written(rt: HostRuntime) 
         let link = MemLink::new(rt.alloc(), items, None, None, failing);
         match serve_one(rt.alloc(), &site, link) {
             Ok((link, ended)) => {
-                assert_eq!(rt; ended, end, "call {number}");
+                assert!(rt; ended == end, "call {number}");
                 assert!(rt; link.is_shut(), "call {number}");
-                assert_eq!(rt; link.written(), &A[..len], "call {number}");
+                assert!(rt; link.written() == &A[..len], "call {number}");
             }
             Err(_) => panic!(rt; "no memory"),
         }

@@ -38,9 +38,13 @@ fn piece(rt: &(impl AllocGlobal + Abort), bytes: &[u8]) -> LinkItem {
     LinkItem::Bytes(Vec::from_slice(rt.alloc(), bytes).expect(rt, "memory"))
 }
 
+/// What a client does, how many bytes a write to it takes at most, and after how many bytes its
+/// link fails.
+pub(super) type Client<'a> = (&'a [Part<'a>], Option<u32>, Option<u64>);
+
 /// A link that gives these parts, takes at most `step` bytes a write, and fails where
 /// `cut` bytes were written.
-pub(super) fn link(
+fn link(
     rt: &(impl AllocGlobal + Abort),
     parts: &[Part],
     step: Option<u32>,
@@ -63,6 +67,20 @@ pub(super) fn link(
         }
     }
     MemLink::new(rt.alloc(), items, step, cut, Vec::new(rt.alloc()))
+}
+
+/// The links of these clients.
+pub(super) fn links_of(rt: &(impl AllocGlobal + Abort), clients: &[Client]) -> Vec<MemLink>
+    ensures few { length result.items ≤ conn_limit }
+    ensures initial { AllByRecursion IsInitialMemLink result.items }
+{
+    let mut links = Vec::new(rt.alloc());
+    'clients: for client in clients {
+        let (parts, step, cut) = *client;
+        links.push(link(rt, parts, step, cut)).expect(rt, "memory");
+    }
+    assert!(rt; links.len() <= 1024);
+    links
 }
 
 /// The site of the rows.

@@ -6,9 +6,9 @@ ghost use Rattle.sws_link.specs.MemWorlds.{IsInitialMemLink};
 ghost use Rattle.sws_engine.specs.Limits.{conn_limit};
 
 use super::counted::CountedWorld;
-use super::replaying::{Part, link, printed, site};
+use super::replaying::{Client, Part, links_of, printed, site};
 use super::starving::Starving;
-use super::{A, G, GET_EMPTY, PLAIN};
+use super::{A, ASKS, G, PLAIN, THREE};
 use mely_event::{Colour, Event};
 use mely_history::{Judged, Setup, Shape, judge};
 use mely_worker::{Gate, OpenGate};
@@ -24,22 +24,13 @@ use sws_link::{Link, MemLink, MemWorld, World};
 use sws_site::Site;
 
 /// What three connections leave: a request for the first file, one for the empty file, and none.
-const THREE: &[u8] =
+const THREE_LEAVE: &[u8] =
     b"conn 0 done 79\n| HTTP/1.1 200 OK~\n| Server: sws~\n| Content-Type: text/html~\n| Content-Length: 3~\n| ~\n| hi\\n\nconn 1 done 75\n| HTTP/1.1 200 OK~\n| Server: sws~\n| Content-Type: text/css~\n| Content-Length: 0~\n| ~\nconn 2 done 0\n";
 
 /// Four workers, and two shards.
 const FOUR: Shape = Shape {
     cores: 4,
     shards: 2,
-    batch: 10,
-    steal_cost: 20,
-    group: 4,
-};
-
-/// One worker, and one shard.
-const ONE: Shape = Shape {
-    cores: 1,
-    shards: 1,
     batch: 10,
     steal_cost: 20,
     group: 4,
@@ -66,8 +57,9 @@ fn calls_link(handler: u8) -> bool {
     handler == 4 || handler == 7 || handler == 8 || handler == 9
 }
 
-/// A gate that compares how many calls the links had with how many the handlers make that have
-/// passed it before. With one worker, a handler that has run by its own pass is one call ahead.
+/// A gate that compares how many calls the only link had with how many the handlers make that have
+/// passed it before, each time that a handler of these passes. One that has run by its own pass is
+/// one call ahead. They are all of one colour, so no two of them run at once.
 #[derive(Drop)]
 struct Before<'r> {
     calls: &'r AtomicU64,
@@ -77,12 +69,13 @@ struct Before<'r> {
 
 impl Gate for Before<'_> {
     fn pass(&self, _core: u16, _colour: Colour, event: Event) {
+        if !calls_link(event.handler) {
+            return;
+        }
         if self.calls.load(Ordering::SeqCst) != self.due.load(Ordering::SeqCst) {
             self.is_late.store(1, Ordering::SeqCst);
         }
-        if calls_link(event.handler) {
-            self.due.fetch_add(1, Ordering::SeqCst);
-        }
+        self.due.fetch_add(1, Ordering::SeqCst);
     }
 }
 
@@ -146,7 +139,7 @@ fn serve<R: AllocGlobal + Abort + Threads + Wait + Sync, G: Gate + Sync>(
     };
     let ended = serve_all(rt, rt.alloc(), site, shape, world, gate);
     for history in &ended.histories {
-        assert_eq!(rt; judge(&setup, history), Judged::Legal);
+        assert!(rt; judge(&setup, history) == Judged::Legal);
     }
     ended
 }
@@ -159,20 +152,71 @@ fn three<R: AllocGlobal + Abort + Threads + Wait + Sync, G: Gate + Sync>(
     shards: u16,
     gate: &G,
 ) -> Ended<MemWorld> {
-    let mut links = Vec::new(rt.alloc());
-    links
-        .push(link(rt, &[Part::Send(G)], None, None))
-        .expect(rt, "memory");
-    links
-        .push(link(rt, &[Part::Send(GET_EMPTY)], None, None))
-        .expect(rt, "memory");
-    links.push(link(rt, &[], None, None)).expect(rt, "memory");
-    let ended = serve(rt, site, &shape(cores, shards), links, gate);
-    assert_eq!(rt; ended.verdict, Verdict::Ok);
+    let ended = serve(rt, site, &shape(cores, shards), links_of(rt, &THREE), gate);
+    assert!(rt; ended.verdict == Verdict::Ok);
     assert!(rt; ended.world.is_some());
-    assert_eq!(rt; (ended.accepted, ended.failed), (3, false));
-    assert_eq!(rt; printed(rt, &ended, false).written(), THREE);
+    assert!(rt; (ended.accepted, ended.failed) == (3, false));
+    assert!(rt; printed(rt, &ended, false).written() == THREE_LEAVE);
     ended
+}
+
+/// How many events were run.
+fn events_of(trails: &[Vec<Event>]) -> u64 {
+    let mut events: u64 = 0;
+    for trail in trails {
+        events = events.wrapping_add(trail.len() as u64);
+    }
+    events
+}
+
+/// How each connection ended, and what it was written.
+type Left<'a> = (End, &'a [u8]);
+
+/// A run of a world in memory left these connections.
+fn have_left(rt: &impl Abort, ended: &Ended<MemWorld>, rows: &[Left]) {
+    assert!(rt; ended.served.len() == rows.len());
+    for (served, (end, written)) in ended.served.iter().zip(rows) {
+        assert!(rt; (served.end, served.stray) == (Some(*end), None));
+        match &served.link {
+            Some(link) => assert!(rt; link.written() == *written),
+            None => panic!(rt; "a link is gone"),
+        }
+    }
+}
+
+/// A run of a world whose link of this number finds no memory, by threads.
+fn starve<R: AllocGlobal + Abort + Threads + Wait + Sync>(
+    rt: &R,
+    shape: &Shape,
+    links: Vec<MemLink>,
+    refuses: u16,
+) -> Ended<Starving>
+    requires few { length links.items ≤ conn_limit }
+    requires initial { AllByRecursion IsInitialMemLink links.items }
+{
+    let site = site(rt, None);
+    let world = Starving {
+        world: MemWorld::new(links, Vec::new(rt.alloc())),
+        refuses,
+        given: 0,
+    };
+    let colours = u32::from(world.total()) + 2;
+    let Ok(_) = Setup::new(shape, colours, handler_table(), 1) else {
+        panic!(rt; "a number of the shape is out of its range");
+    };
+    serve_all(rt, rt.alloc(), &site, shape, world, &OpenGate)
+}
+
+/// A run of a world whose link of some number found no memory left these connections.
+fn starved_have_left(rt: &impl Abort, ended: &Ended<Starving>, rows: &[Left]) {
+    assert!(rt; ended.served.len() == rows.len());
+    for (served, (end, written)) in ended.served.iter().zip(rows) {
+        assert!(rt; (served.end, served.stray) == (Some(*end), None));
+        match &served.link {
+            Some(held) => assert!(rt; held.link.written() == *written),
+            None => panic!(rt; "a link is gone"),
+        }
+    }
 }
 
 #[test]
@@ -196,26 +240,33 @@ fn three_connections_are_served_so_each_time(rt: HostRuntime) {
 #[test]
 fn the_gate_is_passed_as_often_as_handlers_run(rt: HostRuntime) {
     let site = site(&rt, None);
-    for shards in [1, 4] {
-        let gate = Counting {
-            passed: AtomicU64::new(0),
-        };
-        let ended = three(&rt, &site, 4, shards, &gate);
-        let mut events: u64 = 0;
-        for trail in &ended.trails {
-            events = events.wrapping_add(trail.len() as u64);
+    for cores in [1, 4] {
+        for shards in [1, 4] {
+            let gate = Counting {
+                passed: AtomicU64::new(0),
+            };
+            let ended = three(&rt, &site, cores, shards, &gate);
+            assert!(rt; gate.passed.load(Ordering::SeqCst) == events_of(&ended.trails));
         }
-        assert_eq!(rt; gate.passed.load(Ordering::SeqCst), events);
     }
 }
 
-#[test]
-fn the_gate_is_passed_before_the_handler_runs(rt: HostRuntime) {
-    let site = site(&rt, None);
-    let mut links = Vec::new(rt.alloc());
-    links
-        .push(link(&rt, &[Part::Pause(1), Part::Send(G)], None, None))
-        .expect(&rt, "memory");
+/// A run of a world that counts calls left one connection.
+fn counted_has_left(rt: &impl Abort, ended: &Ended<CountedWorld>, end: End, written: &[u8]) {
+    assert!(rt; ended.served.len() == 1);
+    for served in &ended.served {
+        assert!(rt; (served.end, served.stray) == (Some(end), None));
+        match &served.link {
+            Some(held) => assert!(rt; held.link.written() == written),
+            None => panic!(rt; "a link is gone"),
+        }
+    }
+}
+
+/// One connection by so many workers: each handler that calls its link has passed the gate before.
+fn one_behind_the_gate<R: AllocGlobal + Abort + Threads + Wait + Sync>(rt: &R, cores: u16) {
+    let site = site(rt, None);
+    let links = links_of(rt, &[(&[Part::Pause(1), Part::Send(G)], None, None)]);
     let calls = AtomicU64::new(0);
     let gate = Before {
         calls: &calls,
@@ -226,33 +277,32 @@ fn the_gate_is_passed_before_the_handler_runs(rt: HostRuntime) {
         world: MemWorld::new(links, Vec::new(rt.alloc())),
         calls: &calls,
     };
-    let ended = serve_all(&rt, rt.alloc(), &site, &ONE, world, &gate);
-    assert_eq!(rt; ended.verdict, Verdict::Ok);
-    assert_eq!(rt; gate.is_late.load(Ordering::SeqCst), 0);
+    let shape = shape(cores, 1);
+    let colours = u32::from(world.total()) + 2;
+    let Ok(_setup) = Setup::new(&shape, colours, handler_table(), 1) else {
+        panic!(rt; "a number of the shape is out of its range");
+    };
+    let ended = serve_all(rt, rt.alloc(), &site, &shape, world, &gate);
+    assert!(rt; ended.verdict == Verdict::Ok);
+    assert!(rt; gate.is_late.load(Ordering::SeqCst) == 0);
     // a read that finds the link not ready, that read again, a write of the answer's head, one of
     // its body, a read that finds the end, and the close
-    assert_eq!(rt; calls.load(Ordering::SeqCst), 6);
-    assert_eq!(rt; gate.due.load(Ordering::SeqCst), 6);
-    assert_eq!(rt; ended.served.len(), 1);
-    for served in &ended.served {
-        assert_eq!(rt; (served.end, served.stray), (Some(End::Done), None));
-        match &served.link {
-            Some(held) => assert_eq!(rt; held.link.written(), A),
-            None => panic!(rt; "a link is gone"),
-        }
+    assert!(rt; calls.load(Ordering::SeqCst) == 6);
+    assert!(rt; gate.due.load(Ordering::SeqCst) == 6);
+    counted_has_left(rt, &ended, End::Done, A);
+}
+
+#[test]
+fn the_gate_is_passed_before_the_handler_runs(rt: HostRuntime) {
+    for cores in [1, 2] {
+        one_behind_the_gate(&rt, cores);
     }
 }
 
 #[test]
 fn two_workers_are_at_the_gate_at_once(rt: HostRuntime) {
     let site = site(&rt, None);
-    let mut links = Vec::new(rt.alloc());
-    links
-        .push(link(&rt, &[Part::Send(G)], None, None))
-        .expect(&rt, "memory");
-    links
-        .push(link(&rt, &[Part::Send(G)], None, None))
-        .expect(&rt, "memory");
+    let links = links_of(&rt, &[ASKS; 2]);
     let gate = Meeting {
         clock: &rt,
         passed: AtomicU64::new(0),
@@ -264,100 +314,67 @@ fn two_workers_are_at_the_gate_at_once(rt: HostRuntime) {
         ..shape(2, 1)
     };
     let ended = serve(&rt, &site, &free, links, &gate);
-    assert_eq!(rt; ended.verdict, Verdict::Ok);
-    assert_eq!(rt; gate.is_missed.load(Ordering::SeqCst), 0);
-    let mut events: u64 = 0;
-    for trail in &ended.trails {
-        events = events.wrapping_add(trail.len() as u64);
-    }
-    assert_eq!(rt; gate.passed.load(Ordering::SeqCst), events);
+    assert!(rt; ended.verdict == Verdict::Ok);
+    assert!(rt; gate.is_missed.load(Ordering::SeqCst) == 0);
+    assert!(rt; gate.passed.load(Ordering::SeqCst) == events_of(&ended.trails));
 }
+
+/// A client whose link fails, one whose link is not ready, one whose link stays so, one that is cut
+/// off, and one that sends byte by byte.
+const FAIL_AND_WAIT: [Client; 5] = [
+    (&[Part::Send(G), Part::Fault], None, None),
+    (&[Part::Pause(29), Part::Send(G)], None, None),
+    (&[Part::Send(G), Part::Pause(30)], None, None),
+    (&[Part::Send(G)], Some(1), Some(7)),
+    (&[Part::Drops(G)], None, None),
+];
+
+const FAIL_AND_WAIT_LEAVE: [Left; 5] = [
+    (End::Fault, A),
+    (End::Done, A),
+    (End::Idle, A),
+    (End::Fault, b"HTTP/1."),
+    (End::Done, A),
+];
 
 #[test]
 fn links_that_fail_and_wait_leave_the_others_alone(rt: HostRuntime) {
     let site = site(&rt, None);
-    let mut links = Vec::new(rt.alloc());
-    links
-        .push(link(&rt, &[Part::Send(G), Part::Fault], None, None))
-        .expect(&rt, "memory");
-    links
-        .push(link(&rt, &[Part::Pause(29), Part::Send(G)], None, None))
-        .expect(&rt, "memory");
-    links
-        .push(link(&rt, &[Part::Send(G), Part::Pause(30)], None, None))
-        .expect(&rt, "memory");
-    links
-        .push(link(&rt, &[Part::Send(G)], Some(1), Some(7)))
-        .expect(&rt, "memory");
-    links
-        .push(link(&rt, &[Part::Drops(G)], None, None))
-        .expect(&rt, "memory");
+    let links = links_of(&rt, &FAIL_AND_WAIT);
     let ended = serve(&rt, &site, &shape(4, 2), links, &OpenGate);
-    assert_eq!(rt; ended.verdict, Verdict::Ok);
-    let rows: [(End, &[u8]); 5] = [
-        (End::Fault, A),
-        (End::Done, A),
-        (End::Idle, A),
-        (End::Fault, b"HTTP/1."),
-        (End::Done, A),
-    ];
-    assert_eq!(rt; ended.served.len(), rows.len());
-    for (served, (end, written)) in ended.served.iter().zip(rows) {
-        assert_eq!(rt; (served.end, served.stray), (Some(end), None));
-        match &served.link {
-            Some(link) => assert_eq!(rt; link.written(), written),
-            None => panic!(rt; "a link is gone"),
-        }
-    }
+    assert!(rt; ended.verdict == Verdict::Ok);
+    have_left(&rt, &ended, &FAIL_AND_WAIT_LEAVE);
 }
 
 #[test]
 fn nothing_is_to_be_served_by_threads_where_there_is_no_link(rt: HostRuntime) {
     let site = site(&rt, None);
     let ended = serve(&rt, &site, &shape(4, 4), Vec::new(rt.alloc()), &OpenGate);
-    assert_eq!(rt; ended.verdict, Verdict::Ok);
+    assert!(rt; ended.verdict == Verdict::Ok);
     assert!(rt; ended.world.is_some());
-    assert_eq!(rt; (ended.accepted, ended.served.len()), (0, 0));
+    assert!(rt; (ended.accepted, ended.served.len()) == (0, 0));
 }
+
+const THIRD_STARVES: [Client; 4] = [
+    (&[Part::Send(G), Part::Fault], None, None),
+    (&[Part::Pause(29), Part::Send(G)], None, None),
+    ASKS,
+    ASKS,
+];
+
+const THIRD_STARVES_LEAVE: [Left; 4] = [
+    (End::Fault, A),
+    (End::Done, A),
+    (End::Memory, b""),
+    (End::Done, A),
+];
 
 /// Four connections on four workers: one fails, one waits, one finds no memory to
 /// write, and one is served.
 #[test]
 fn want_of_memory_of_a_link_ends_its_own_connection_on_threads(rt: HostRuntime) {
-    let site = site(&rt, None);
-    let mut links = Vec::new(rt.alloc());
-    links
-        .push(link(&rt, &[Part::Send(G), Part::Fault], None, None))
-        .expect(&rt, "memory");
-    links
-        .push(link(&rt, &[Part::Pause(29), Part::Send(G)], None, None))
-        .expect(&rt, "memory");
-    links
-        .push(link(&rt, &[Part::Send(G)], None, None))
-        .expect(&rt, "memory");
-    links
-        .push(link(&rt, &[Part::Send(G)], None, None))
-        .expect(&rt, "memory");
-    let world = Starving {
-        world: MemWorld::new(links, Vec::new(rt.alloc())),
-        refuses: 3,
-        given: 0,
-    };
-    let ended = serve_all(&rt, rt.alloc(), &site, &FOUR, world, &OpenGate);
-    assert_eq!(rt; ended.verdict, Verdict::Memory);
-    assert_eq!(rt; (ended.accepted, ended.failed), (4, false));
-    let rows: [(End, &[u8]); 4] = [
-        (End::Fault, A),
-        (End::Done, A),
-        (End::Memory, b""),
-        (End::Done, A),
-    ];
-    assert_eq!(rt; ended.served.len(), rows.len());
-    for (served, (end, written)) in ended.served.iter().zip(rows) {
-        assert_eq!(rt; (served.end, served.stray), (Some(end), None));
-        match &served.link {
-            Some(held) => assert_eq!(rt; held.link.written(), written),
-            None => panic!(rt; "a link is gone"),
-        }
-    }
+    let ended = starve(&rt, &FOUR, links_of(&rt, &THIRD_STARVES), 3);
+    assert!(rt; ended.verdict == Verdict::Memory);
+    assert!(rt; (ended.accepted, ended.failed) == (4, false));
+    starved_have_left(&rt, &ended, &THIRD_STARVES_LEAVE);
 }

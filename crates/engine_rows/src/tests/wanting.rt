@@ -1,16 +1,20 @@
 //! Want of memory in a run.
-ghost use Rattle.std.specs.Prelude.{◌≡◌, ◌≤◌, ◌<◌, ◌^◌, All, sum_by};
+ghost use Rattle.std.specs.Prelude.{◌≡◌, ◌≤◌, ◌<◌, ◌^◌, None, All, sum_by, length};
+ghost use Rattle.std.specs.List.{AllByRecursion};
+ghost use Rattle.mely_history.specs.Setup.{first_out_of_range};
+ghost use Rattle.sws_link.specs.MemWorlds.{IsInitialMemLink};
+ghost use Rattle.sws_engine.specs.Limits.{conn_limit};
 
-use super::replaying::{Part, link, site};
+use super::replaying::{Client, Part, links_of, site};
 use super::starving::{Starving, Thrifty};
-use super::{A, EMPTY, G, GET_EMPTY, PLAIN};
+use super::{A, ASKS, EMPTY, G, GET_EMPTY, PLAIN, joined};
 use mely_event::Colour;
 use mely_history::{Entry, Judged, Setup, Shape, judge};
 use std::process::Abort;
 use std::sync::Wait;
 use sws_conn::End;
 use sws_engine::{Ended, Verdict, handler_table, serve_steps};
-use sws_link::{Link, MemWorld, World};
+use sws_link::{Link, MemLink, MemWorld, World};
 
 /// Two workers, who steal what is worth more than 5.
 const TWO_CORES: Shape = Shape {
@@ -21,26 +25,34 @@ const TWO_CORES: Shape = Shape {
     group: 4,
 };
 
-/// Two connections that ask for the same, of which the second may find no memory to write.
-fn two<R: AllocGlobal + Abort + Wait>(rt: &R, refuses: u16) -> Ended<Starving> {
+/// A run of these links by a schedule, of which that of this number finds no memory to write. Where
+/// the number is 0, none does.
+fn starve<R: AllocGlobal + Abort + Wait>(
+    rt: &R,
+    shape: &Shape,
+    links: Vec<MemLink>,
+    refuses: u16,
+    schedule: &[(u16, u32)],
+) -> Ended<Starving>
+    requires few { length links.items ≤ conn_limit }
+    requires initial { AllByRecursion IsInitialMemLink links.items }
+    requires cores { All (λ part. part.0 < shape.now.cores) schedule.now }
+    requires count { sum_by (λ part. part.1) schedule.now < 2 ^ 64 }
+{
     let site = site(rt, None);
-    let mut links = Vec::new(rt.alloc());
-    links
-        .push(link(rt, &[Part::Send(G)], None, None))
-        .expect(rt, "memory");
-    links
-        .push(link(rt, &[Part::Send(G)], None, None))
-        .expect(rt, "memory");
     let world = Starving {
         world: MemWorld::new(links, Vec::new(rt.alloc())),
         refuses,
         given: 0,
     };
-    serve_steps(rt, rt.alloc(), &site, &PLAIN, world, &[])
+    setup_of(rt, shape, u32::from(world.total()) + 2);
+    serve_steps(rt, rt.alloc(), &site, shape, world, schedule)
 }
 
 /// The server's setup of so many colours.
-fn setup_of(rt: &impl Abort, shape: &Shape, colours: u32) -> Setup {
+fn setup_of(rt: &impl Abort, shape: &Shape, colours: u32) -> Setup
+    ensures { first_out_of_range shape.now colours 1 ≡ None }
+{
     match Setup::new(shape, colours, handler_table(), 1) {
         Ok(setup) => setup,
         Err(_) => panic!(rt; "no setup"),
@@ -66,14 +78,14 @@ fn finished(history: &[Entry], sought: Colour) -> u64 {
 fn stands(rt: &(impl AllocGlobal + Abort), ended: &Ended<Starving>, shape: &Shape) {
     let setup = setup_of(rt, shape, 4);
     for history in &ended.histories {
-        assert_eq!(rt; judge(&setup, history), Judged::Legal);
+        assert!(rt; judge(&setup, history) == Judged::Legal);
     }
     for (colour, trail) in ended.trails.iter().enumerate() {
         let mut count = 0u64;
         for history in &ended.histories {
             count = count.wrapping_add(finished(history, Colour((colour % 4) as u16)));
         }
-        assert_eq!(rt; trail.len() as u64, count, "colour {colour}");
+        assert!(rt; trail.len() as u64 == count, "colour {colour}");
     }
     let mut links = 0u16;
     for served in &ended.served {
@@ -82,46 +94,30 @@ fn stands(rt: &(impl AllocGlobal + Abort), ended: &Ended<Starving>, shape: &Shap
         }
     }
     match &ended.world {
-        Some(world) => assert_eq!(rt; (ended.accepted, links), (world.given, world.given)),
+        Some(world) => assert!(rt; (ended.accepted, links) == (world.given, world.given)),
         None => panic!(rt; "the world is gone"),
     }
 }
 
 #[test]
 fn a_link_without_memory_ends_its_own_connection(rt: HostRuntime) {
-    let ended = two(&rt, 2);
-    assert_eq!(rt; ended.verdict, Verdict::Memory);
-    assert_eq!(rt; ended.served.len(), 2);
+    let ended = starve(&rt, &PLAIN, links_of(&rt, &[ASKS; 2]), 2, &[]);
+    assert!(rt; ended.verdict == Verdict::Memory);
+    assert!(rt; ended.served.len() == 2);
     let ends = [End::Done, End::Memory];
     let bytes: [&[u8]; 2] = [A, b""];
     for (number, served) in ended.served.iter().enumerate() {
-        assert_eq!(rt; served.end, Some(ends[number % 2]));
+        assert!(rt; served.end == Some(ends[number % 2]));
         match &served.link {
-            Some(held) => assert_eq!(rt; held.link.written(), bytes[number % 2]),
+            Some(held) => assert!(rt; held.link.written() == bytes[number % 2]),
             None => panic!(rt; "a link is gone"),
         }
     }
     stands(&rt, &ended, &PLAIN);
 }
 
-/// Two workers serve a connection of one request and one of two, by a
-/// schedule in which one is stolen.
-fn by_schedule<R: AllocGlobal + Abort + Wait>(rt: &R) -> Ended<Starving> {
-    let site = site(rt, None);
-    let mut links = Vec::new(rt.alloc());
-    links
-        .push(link(rt, &[Part::Send(G)], None, None))
-        .expect(rt, "memory");
-    links
-        .push(link(rt, &[Part::Send(GET_EMPTY), Part::Send(G)], None, None))
-        .expect(rt, "memory");
-    let world = Starving {
-        world: MemWorld::new(links, Vec::new(rt.alloc())),
-        refuses: 0,
-        given: 0,
-    };
-    serve_steps(rt, rt.alloc(), &site, &TWO_CORES, world, &[(0, 6), (1, 12)])
-}
+/// A client of one request, and one of two.
+const ONE_AND_TWO: [Client; 2] = [ASKS, (&[Part::Send(GET_EMPTY), Part::Send(G)], None, None)];
 
 /// A connection was written a front of these answers, and all of them where
 /// the run was not refused.
@@ -131,42 +127,41 @@ fn has_front(
     number: usize,
     answers: &[&[u8]],
 ) {
-    let mut whole: Vec<u8> = Vec::new(rt.alloc());
-    for answer in answers {
-        whole.extend_from_slice(answer).expect(rt, "memory");
-    }
+    let whole = joined(rt, answers);
     let Some(served) = ended.served.get(number) else {
         panic!(rt; "a connection is gone");
     };
     let Some(held) = &served.link else {
-        assert_eq!(rt; (ended.verdict, served.written), (Verdict::Memory, 0));
+        assert!(rt; (ended.verdict, served.written) == (Verdict::Memory, 0));
         return;
     };
     assert!(rt; whole.starts_with(held.link.written()));
     if ended.verdict == Verdict::Ok {
-        assert_eq!(rt; served.end, Some(End::Done));
-        assert_eq!(rt; held.link.written(), whole.as_slice());
+        assert!(rt; served.end == Some(End::Done));
+        assert!(rt; held.link.written() == whole.as_slice());
     }
 }
 
-/// Whatever request for memory is refused in the run: it answers `Ok` with all of it, or `Memory`
+/// Two workers serve a connection of one request and one of two, by a
+/// schedule in which one is stolen. Whatever request for memory is refused in the run: it answers `Ok` with all of it, or `Memory`
 /// with fronts. By itself the test refuses none: it is for `bench/memory.py --tests`.
 #[test]
 fn a_run_that_is_refused_memory_leaves_fronts(rt: HostRuntime) {
-    let ended = by_schedule(&rt);
+    let links = links_of(&rt, &ONE_AND_TWO);
+    let ended = starve(&rt, &TWO_CORES, links, 0, &[(0, 6), (1, 12)]);
     match ended.verdict {
         Verdict::Ok | Verdict::Memory => {}
         Verdict::World => panic!(rt; "the world doesn't fail"),
         Verdict::Apart { conn: _ } => panic!(rt; "a connection is amiss"),
     }
     if ended.histories.is_empty() {
-        assert_eq!(rt; ended.verdict, Verdict::Memory);
+        assert!(rt; ended.verdict == Verdict::Memory);
         assert!(rt; ended.world.is_some());
-        assert_eq!(rt; (ended.served.len(), ended.trails.len()), (0, 0));
+        assert!(rt; (ended.served.len(), ended.trails.len()) == (0, 0));
         return;
     }
     stands(&rt, &ended, &TWO_CORES);
-    assert_eq!(rt; (ended.served.len(), ended.trails.len()), (2, 4));
+    assert!(rt; (ended.served.len(), ended.trails.len()) == (2, 4));
     has_front(&rt, &ended, 0, &[A]);
     has_front(&rt, &ended, 1, &[EMPTY, A]);
 }

@@ -1,5 +1,5 @@
 -- How what is found of a run grows.
-use Rattle.std.proofs.Common.{◌≡◌, ℕ, zero, suc, ◌+◌, ◌<◌, ◌⊎◌, List, [], ◌∷◌, ◌++◌, Option, Vec, Global, length, map, vec_len, vec_capacity, refl, sym, ◌∙◌, ap, subst, arith, inl, inr, append_assoc, append-nil, length-append}
+use Rattle.std.proofs.Common.{◌≡◌, ℕ, zero, suc, ◌+◌, ◌<◌, ◌⊎◌, List, [], ◌∷◌, ◌++◌, Option, Vec, Global, length, map, vec_len, vec_capacity, refl, sym, ◌∙◌, ap, subst, arith, inl, inr, Some, append_assoc, append-nil, length-append}
 use Rattle.std.proofs.lemmas.List.{map-append}
 use Rattle.std.specs.Prelude.{slice_get}
 use Rattle.mely_event.specs.declared.event.Event.{Event}
@@ -8,8 +8,10 @@ use Rattle.sws_engine.specs.declared.ended.Served.{Served}
 use Rattle.sws_engine.specs.declared.left.Left.{Left}
 use Rattle.sws_engine.specs.declared.load.WorldLoad.{WorldLoad}
 use Rattle.sws_engine.specs.declared.place.Role.{Role}
+use Rattle.sws_engine.specs.declared.place.Role.TheVariants.{Talking}
+use Rattle.sws_engine.specs.declared.place.Seat.{Seat}
 use Rattle.sws_engine.specs.Place.{PlaceState}
-use Rattle.sws_engine.specs.RunLeaves.{Talker, talker_by, talkers, or_else, resting_by, resting_in, ShowAll}
+use Rattle.sws_engine.specs.RunLeaves.{Talker, talker_by, talkers, or_else, resting_by, resting_in, ShowAll, ShowsSeat}
 use Rattle.sws_engine.specs.LeftKept.{KeepsStates}
 
 -- what stands at a place of two lists, one behind the other
@@ -24,6 +26,16 @@ get_either (x ∷ xs) ys (suc i) = elim (get_either xs ys i) [
 module _ {W L T G H : Type 0} (y : TalkWords T L G H) where
   show_none : ShowAll {W = W} y [] []
   show_none = record { many = refl; each = λ i talker s at there. cc }
+
+  one_each : (talker : Talker H W T) (s : Served L) → ShowsSeat y talker.seat s → (i : ℕ) (t : Talker H W T) (r : Served L) → slice_get (talker ∷ []) i ≡ Some t → slice_get (s ∷ []) i ≡ Some r → ShowsSeat y t.seat r
+  one_each talker s shows zero t r at there =
+      let same : talker ≡ t = cc in
+      let is : s ≡ r = cc in
+      subst (λ (z : Talker H W T). ShowsSeat y z.seat r) same (subst (ShowsSeat y talker.seat) is shows)
+  one_each talker s shows (suc i) t r at there = cc
+
+  show_one : (talker : Talker H W T) (s : Served L) → ShowsSeat y talker.seat s → ShowAll y (talker ∷ []) (s ∷ [])
+  show_one talker s shows = record { many = refl; each = one_each talker s shows }
 
   -- connections behind connections
   show_more : (all more : List (Talker H W T)) (served added : List (Served L)) → ShowAll y all served → ShowAll y more added → ShowAll y (all ++ more) (served ++ added)
@@ -104,6 +116,25 @@ module _ {W L T G H : Type 0} (y : TalkWords T L G H) where
         served = ap (λ v. v.items) served ∙ sym (append-nil a.served.items);
         served_len = (let same = ap vec_len served in omega (arith, same, no_length));
         served_room = ap vec_capacity served;
+        world = world ∙ ap (λ (r : Role W T). or_else (resting_by r) a.world) (sym role_is);
+        trails = ap (λ l. map (λ v. v.items) l) trails ∙ map-append (λ v. v.items) a.trails.items (trail ∷ []) ∙ ap (λ (e : List Event). map (λ v. v.items) a.trails.items ++ e ∷ []) trail_is;
+        trails_len = len;
+        trails_room = room;
+      }
+
+  -- a state that talks
+  pub keep_talking : (place : PlaceState H W T) (seat : Seat T) (trail : Vec Event Global) (s : Served L) (a b : Left W L) → place.role ≡ Talking seat → trail.items ≡ place.trail → ShowsSeat y seat s
+      → b.served.items ≡ a.served.items ++ s ∷ [] → vec_len b.served ≡ vec_len a.served + 1 → vec_capacity b.served ≡ vec_capacity a.served → b.world ≡ a.world
+      → b.trails.items ≡ a.trails.items ++ trail ∷ [] → vec_len b.trails ≡ vec_len a.trails + 1 → vec_capacity b.trails ≡ vec_capacity a.trails → KeepsStates y (place ∷ []) a b
+  keep_talking place seat trail s a b role_is trail_is shows served served_len served_room world trails len room =
+      let one : talkers (place ∷ []) ≡ record { place = place; seat = seat } ∷ [] = append-nil (talker_by place place.role) ∙ ap (talker_by place) role_is in
+      let one_length = ap length one in
+      record {
+        added = s ∷ [];
+        shows = subst (λ (l : List (Talker H W T)). ShowAll y l (s ∷ [])) (sym one) (show_one (record { place = place; seat = seat }) s shows);
+        served = served;
+        served_len = omega (arith, served_len, one_length);
+        served_room = served_room;
         world = world ∙ ap (λ (r : Role W T). or_else (resting_by r) a.world) (sym role_is);
         trails = ap (λ l. map (λ v. v.items) l) trails ∙ map-append (λ v. v.items) a.trails.items (trail ∷ []) ∙ ap (λ (e : List Event). map (λ v. v.items) a.trails.items ++ e ∷ []) trail_is;
         trails_len = len;

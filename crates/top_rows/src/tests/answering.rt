@@ -1,11 +1,7 @@
 //! The command `answer`.
-use super::{INDEX, INDEX_SENT, bytes_of, file, put, say, small_files, small_site, words_of};
-use std::alloc::AllocError;
-use std::sync::Wait;
+use super::{Failing, INDEX, INDEX_SENT, NO_CALL, bytes_of, file, put, say, say_failing, say_on};
 use std::test::Fail;
-use std::thread::Threads;
-use sws_link::{MemFolder, MemSink, MemSource, SureFolder, SureSink, SureSource, SureWorld};
-use sws_top::{SiteLimit, TopFault, sws};
+use sws_top::{SiteLimit, TopFault};
 
 const INDEX_SENT_LAST: &str =
     "HTTP/1.1 200 OK~Server: sws~Connection: close~Content-Type: text/html~Content-Length: 3~~hi\n";
@@ -65,8 +61,7 @@ fn each_input_is_answered_with_these_bytes(rt: HostRuntime) -> Result<(), Fail> 
     ];
     for (input, wanted) in rows {
         let said = say(&rt, "answer S", bytes_of(rt.alloc(), input)?)?;
-        assert_eq!(rt; said.status, 0, "{input}");
-        assert_eq!(rt; said.written, bytes_of(rt.alloc(), wanted)?, "{input}");
+        said.is_done(&rt, input, &bytes_of(rt.alloc(), wanted)?);
     }
     Ok(())
 }
@@ -103,9 +98,8 @@ fn long_heads_and_many_heads_are_answered_up_to_their_limits(rt: HostRuntime) ->
         let mut wanted = Vec::new(rt.alloc());
         put(&mut wanted, answer, answers)?;
         put(&mut wanted, last, 1)?;
-        let said = say(&rt, "answer S", input)?;
-        assert_eq!(rt; said.status, 0, "{middle} {times} times");
-        assert_eq!(rt; said.written, wanted, "{middle} {times} times");
+        let row = format!(in rt.alloc(); "{middle} {times} times")?;
+        say(&rt, "answer S", input)?.is_done(&rt, row.as_str(), &wanted);
     }
     Ok(())
 }
@@ -120,8 +114,8 @@ fn a_head_is_answered_once_it_is_whole(rt: HostRuntime) -> Result<(), Fail> {
         let said = say(&rt, "answer S", two[..len].to_vec(rt.alloc())?)?;
         let mut wanted = Vec::new(rt.alloc());
         put(&mut wanted, INDEX_SENT, len.checked_div(one).unwrap_or(0))?;
-        assert_eq!(rt; said.status, 0, "{len} bytes");
-        assert_eq!(rt; said.written, wanted, "{len} bytes");
+        let row = format!(in rt.alloc(); "{len} bytes")?;
+        said.is_done(&rt, row.as_str(), &wanted);
     }
     Ok(())
 }
@@ -140,13 +134,9 @@ fn hostile_bytes_are_answered_as_any_others(rt: HostRuntime) -> Result<(), Fail>
         let mut input = bytes_of(rt.alloc(), start)?;
         put(&mut input, middle, times)?;
         put(&mut input, end, 1)?;
+        let row = format!(in rt.alloc(); "{middle:?} {times} times")?;
         let said = say(&rt, "answer S", input)?;
-        assert_eq!(rt; said.status, 0, "{middle:?} {times} times");
-        assert_eq!(rt;
-            said.written,
-            bytes_of(rt.alloc(), wanted)?,
-            "{middle:?} {times} times"
-        );
+        said.is_done(&rt, row.as_str(), &bytes_of(rt.alloc(), wanted)?);
     }
     assert_eq!(rt; bytes_of(rt.alloc(), BAD_REQUEST)?.len(), 122);
     assert_eq!(rt; bytes_of(rt.alloc(), TOO_LARGE)?.len(), 162);
@@ -167,23 +157,9 @@ fn a_dated_site_answers_the_date_of_a_request(rt: HostRuntime) -> Result<(), Fai
         put(&mut input, value, 1)?;
         put(&mut input, "~~", 1)?;
         let said = say(&rt, "answer S --date +0784111777", input)?;
-        assert_eq!(rt; said.status, 0, "{value}");
-        assert_eq!(rt; said.written, bytes_of(rt.alloc(), wanted)?, "{value}");
+        said.is_done(&rt, value, &bytes_of(rt.alloc(), wanted)?);
     }
     Ok(())
-}
-
-/// How a run on a folder of these files ends.
-fn fault_of<T: AllocGlobal + Threads + Wait + Sync>(
-    rt: &T,
-    files: Vec<(Vec<u8>, Vec<u8>)>,
-) -> Result<Option<TopFault>, AllocError> {
-    let words = words_of(rt.alloc(), "answer S")?;
-    let mut folder = SureFolder::new(rt.alloc(), files);
-    let mut source = SureSource::new(Vec::new(rt.alloc()));
-    let mut sink = SureSink::new(rt.alloc());
-    let world = SureWorld::new(Vec::new(rt.alloc()));
-    Ok(sws(rt, &words, &mut folder, &mut source, world, &mut sink).fault)
 }
 
 #[test]
@@ -193,49 +169,32 @@ fn a_folder_over_a_limit_is_named_by_its_first_file_too_many(rt: HostRuntime) ->
     for _ in 0..4097 {
         many.push(file(alloc, b"f", b"")?)?;
     }
-    let full = Some(TopFault::SiteFull(SiteLimit::Files { count: 4097 }));
-    assert_eq!(rt; fault_of(&rt, many)?, full);
+    let said = say_on(&rt, "answer S", many, Vec::new(alloc))?;
+    let full = TopFault::SiteFull(SiteLimit::Files { count: 4097 });
+    said.is_refused(&rt, "4097 files", 8, full);
 
     let mut long = Vec::new(alloc);
     long.push(file(alloc, b"f", b"")?)?;
     long.push((vec![in alloc; b'n'; 1025]?, Vec::new(alloc)))?;
-    let full = Some(TopFault::SiteFull(SiteLimit::Name { number: 2 }));
-    assert_eq!(rt; fault_of(&rt, long)?, full);
+    let said = say_on(&rt, "answer S", long, Vec::new(alloc))?;
+    let full = TopFault::SiteFull(SiteLimit::Name { number: 2 });
+    said.is_refused(&rt, "a name of 1025 bytes", 8, full);
     Ok(())
 }
 
 #[test]
 fn what_was_read_is_answered_before_a_fault(rt: HostRuntime) -> Result<(), Fail> {
-    let alloc = rt.alloc();
-    let words = words_of(alloc, "answer S")?;
+    let reading = Failing {
+        source: 2,
+        ..NO_CALL
+    };
+    let said = say_failing(&rt, "answer S", bytes_of(rt.alloc(), INDEX)?, reading)?;
+    assert_eq!(rt; said.status, 4);
+    assert_eq!(rt; said.written, bytes_of(rt.alloc(), INDEX_SENT)?);
 
-    let mut source = MemSource::new(bytes_of(alloc, INDEX)?, vec![in alloc; 2]?);
-    let mut sink = SureSink::new(alloc);
-    let world = SureWorld::new(Vec::new(alloc));
-    let outcome = sws(
-        &rt,
-        &words,
-        &mut small_site(alloc)?,
-        &mut source,
-        world,
-        &mut sink,
-    );
-    assert_eq!(rt; outcome.status, 4);
-    assert_eq!(rt; sink.written(), bytes_of(alloc, INDEX_SENT)?.as_slice());
-
-    let mut source = SureSource::new(bytes_of(alloc, INDEX)?);
-    let mut sink = MemSink::new(alloc, vec![in alloc; 1]?);
-    let world = SureWorld::new(Vec::new(alloc));
-    let outcome = sws(
-        &rt,
-        &words,
-        &mut small_site(alloc)?,
-        &mut source,
-        world,
-        &mut sink,
-    );
-    assert_eq!(rt; outcome.status, 5);
-    assert_eq!(rt; sink.written().len(), 0);
+    let writing = Failing { sink: 1, ..NO_CALL };
+    let said = say_failing(&rt, "answer S", bytes_of(rt.alloc(), INDEX)?, writing)?;
+    said.is_refused(&rt, "the first write", 5, TopFault::WriteFault);
     Ok(())
 }
 
@@ -244,21 +203,19 @@ fn what_was_read_is_answered_before_a_fault(rt: HostRuntime) -> Result<(), Fail>
 #[test]
 fn a_folder_that_fails_at_any_call_gives_no_answer(rt: HostRuntime) -> Result<(), Fail> {
     let alloc = rt.alloc();
-    let words = words_of(alloc, "answer S")?;
-    let sent = bytes_of(alloc, INDEX_SENT)?;
     let mut failed: u32 = 0;
     for number in 1..=100u32 {
-        let mut folder = MemFolder::new(alloc, small_files(alloc)?, vec![in alloc; number]?);
-        let mut source = SureSource::new(bytes_of(alloc, INDEX)?);
-        let mut sink = SureSink::new(alloc);
-        let world = SureWorld::new(Vec::new(alloc));
-        let outcome = sws(&rt, &words, &mut folder, &mut source, world, &mut sink);
-        if outcome.status == 0 {
-            assert_eq!(rt; sink.written(), sent.as_slice(), "call {number}");
+        let row = format!(in alloc; "call {number}")?;
+        let failing = Failing {
+            folder: number,
+            ..NO_CALL
+        };
+        let said = say_failing(&rt, "answer S", bytes_of(alloc, INDEX)?, failing)?;
+        if said.status == 0 {
+            said.is_done(&rt, row.as_str(), &bytes_of(alloc, INDEX_SENT)?);
             break;
         }
-        assert_eq!(rt; outcome.status, 4, "call {number}");
-        assert_eq!(rt; sink.written().len(), 0, "call {number}");
+        said.is_refused(&rt, row.as_str(), 4, TopFault::ReadFault);
         failed = number;
     }
     // It is opened, each of three files is named and read to its end, and no other file follows.
@@ -271,22 +228,22 @@ fn a_folder_that_fails_at_any_call_gives_no_answer(rt: HostRuntime) -> Result<()
 #[test]
 fn a_sink_that_fails_at_any_call_has_a_front_of_the_answer(rt: HostRuntime) -> Result<(), Fail> {
     let alloc = rt.alloc();
-    let words = words_of(alloc, "answer S")?;
     let sent = bytes_of(alloc, INDEX_SENT)?;
     let mut failed: u32 = 0;
     for number in 1..=100u32 {
-        let mut source = SureSource::new(bytes_of(alloc, INDEX)?);
-        let mut sink = MemSink::new(alloc, vec![in alloc; number]?);
-        let world = SureWorld::new(Vec::new(alloc));
-        let mut folder = small_site(alloc)?;
-        let outcome = sws(&rt, &words, &mut folder, &mut source, world, &mut sink);
-        if outcome.status == 0 {
-            assert_eq!(rt; sink.written(), sent.as_slice(), "call {number}");
+        let row = format!(in alloc; "call {number}")?;
+        let failing = Failing {
+            sink: number,
+            ..NO_CALL
+        };
+        let said = say_failing(&rt, "answer S", bytes_of(alloc, INDEX)?, failing)?;
+        if said.status == 0 {
+            said.is_done(&rt, row.as_str(), &sent);
             break;
         }
-        assert_eq!(rt; outcome.status, 5, "call {number}");
-        assert!(rt; sent.starts_with(sink.written()), "call {number}");
-        assert!(rt; sink.written().len() < sent.len(), "call {number}");
+        assert_eq!(rt; said.status, 5, "{row}");
+        assert!(rt; sent.starts_with(&said.written), "{row}");
+        assert!(rt; said.written.len() < sent.len(), "{row}");
         failed = number;
     }
     assert!(rt; (1..100).contains(&failed), "{failed} calls");

@@ -1,13 +1,12 @@
 //! The command `check`.
-use super::{Said, file, say, small_site, words_of};
+use super::{Failing, NO_CALL, Said, file, say, say_failing, say_on};
 use std::alloc::{AllocError, Global};
 use std::sync::Wait;
 use std::test::Fail;
 use std::thread::Threads;
 use sws_bench::bench_script;
-use sws_link::{MemSink, MemSource, SureFolder, SureSink, SureSource, SureWorld};
 use sws_script::{Input, Sequence, print};
-use sws_top::{TopFault, sws};
+use sws_top::TopFault;
 
 const LINE: &str = "check --connections 1 --workers 2 --cost 5";
 
@@ -53,9 +52,7 @@ fn journal(alloc: Global, first: &str, at: usize, instead: &str) -> Result<Vec<u
 #[test]
 fn a_journal_is_accepted_with_its_sums(rt: HostRuntime) -> Result<(), Fail> {
     let said = say(&rt, LINE, journal(rt.alloc(), "shard 0 22\n", 22, "")?)?;
-    assert_eq!(rt; said.status, 0);
-    assert_eq!(rt; said.fault, None);
-    assert_eq!(rt; said.written.as_slice(), REPORT.as_bytes());
+    said.is_done(&rt, LINE, REPORT.as_bytes());
     Ok(())
 }
 
@@ -86,10 +83,9 @@ fn a_changed_journal_is_refused_where_it_goes_wrong(rt: HostRuntime) -> Result<(
         ),
     ];
     for (first, at, instead, status, fault) in rows {
+        let row = format!(in rt.alloc(); "{first:?} entry {at}")?;
         let said = say(&rt, LINE, journal(rt.alloc(), first, at, instead)?)?;
-        assert_eq!(rt; said.fault, Some(fault), "entry {at}");
-        assert_eq!(rt; said.status, status, "entry {at}");
-        assert_eq!(rt; said.written.len(), 0, "entry {at}");
+        said.is_refused(&rt, row.as_str(), status, fault);
     }
     Ok(())
 }
@@ -97,24 +93,18 @@ fn a_changed_journal_is_refused_where_it_goes_wrong(rt: HostRuntime) -> Result<(
 /// The source fails at its second read, and the sink at its first write.
 #[test]
 fn a_check_tells_faults_of_the_outside(rt: HostRuntime) -> Result<(), Fail> {
-    let alloc = rt.alloc();
-    let words = words_of(alloc, LINE)?;
-    let text = journal(alloc, "shard 0 22\n", 22, "")?;
-    let mut folder = small_site(alloc)?;
+    let reading = Failing {
+        source: 2,
+        ..NO_CALL
+    };
+    let text = journal(rt.alloc(), "shard 0 22\n", 22, "")?;
+    let said = say_failing(&rt, LINE, text, reading)?;
+    said.is_refused(&rt, "the second read", 4, TopFault::ReadFault);
 
-    let mut source = MemSource::new(text.as_slice().to_vec(alloc)?, vec![in alloc; 2]?);
-    let mut sink = SureSink::new(alloc);
-    let world = SureWorld::new(Vec::new(alloc));
-    let outcome = sws(&rt, &words, &mut folder, &mut source, world, &mut sink);
-    assert_eq!(rt; outcome.status, 4);
-    assert_eq!(rt; sink.written().len(), 0);
-
-    let mut source = SureSource::new(text);
-    let mut sink = MemSink::new(alloc, vec![in alloc; 1]?);
-    let world = SureWorld::new(Vec::new(alloc));
-    let outcome = sws(&rt, &words, &mut folder, &mut source, world, &mut sink);
-    assert_eq!(rt; outcome.status, 5);
-    assert_eq!(rt; sink.written().len(), 0);
+    let writing = Failing { sink: 1, ..NO_CALL };
+    let text = journal(rt.alloc(), "shard 0 22\n", 22, "")?;
+    let said = say_failing(&rt, LINE, text, writing)?;
+    said.is_refused(&rt, "the first write", 5, TopFault::WriteFault);
     Ok(())
 }
 
@@ -130,13 +120,13 @@ fn letters(alloc: Global, number: u8) -> Result<Vec<u8>, AllocError> {
 }
 
 /// The files that a bench asks for.
-fn bench_folder(alloc: Global) -> Result<SureFolder, AllocError> {
+fn bench_files(alloc: Global) -> Result<Vec<(Vec<u8>, Vec<u8>)>, AllocError> {
     let mut files = Vec::new(alloc);
     for number in 0..16 {
         let name = format!(in alloc; "f{number}.txt")?;
         files.push(file(alloc, name.as_bytes(), &letters(alloc, number)?)?)?;
     }
-    Ok(SureFolder::new(alloc, files))
+    Ok(files)
 }
 
 /// The script of a bench of eight connections, or nothing where there was no memory.
@@ -156,17 +146,7 @@ fn say_on_bench<T: AllocGlobal + Threads + Wait + Sync>(
     input: &[u8],
 ) -> Result<Said, AllocError> {
     let alloc = rt.alloc();
-    let words = words_of(alloc, line)?;
-    let mut folder = bench_folder(alloc)?;
-    let mut source = SureSource::new(input.to_vec(alloc)?);
-    let mut sink = SureSink::new(alloc);
-    let world = SureWorld::new(Vec::new(alloc));
-    let outcome = sws(rt, &words, &mut folder, &mut source, world, &mut sink);
-    Ok(Said {
-        status: outcome.status,
-        fault: outcome.fault,
-        written: sink.written().to_vec(alloc)?,
-    })
+    say_on(rt, line, bench_files(alloc)?, input.to_vec(alloc)?)
 }
 
 /// What a run on eight threads prints behind its transcript is the journal of

@@ -1,5 +1,5 @@
 use Rattle.std.proofs.Common.{[], ◌∷◌, ◌++◌, arith}
-use Rattle.sws_report.specs.Numbers.{space_number}
+use Rattle.sws_text.specs.Numbers.{space_number}
 use Rattle.mely_check.proofs.ReadingLemmas.{space_ends, second_is, last_is, reg_behind}
 use Rattle.mely_check.proofs.reading.read_reg.Goals as goal
 

@@ -1,5 +1,5 @@
 use Rattle.std.proofs.Common.{[], ◌∷◌, ◌++◌}
-use Rattle.sws_report.specs.Numbers.{space_number}
+use Rattle.sws_text.specs.Numbers.{space_number}
 use Rattle.mely_check.proofs.ReadingLemmas.{second_is}
 use Rattle.mely_check.proofs.reading.three.Goals as goal
 

@@ -7,6 +7,11 @@ use Rattle.mely_worker.specs.Conditions.{AppServes}
 use Rattle.mely_fleet.specs.Fleets.{frame_in}
 use Rattle.mely_fleet.specs.Frames.{shard_frame}
 use Rattle.mely_fleet.specs.Seats.{IsOutsider}
+use Rattle.mely_weave.specs.Side.{shard_of}
+use Rattle.mely_fleet.specs.Calls.{front_in}
+use Rattle.mely_fleet.specs.Rows.{fronts}
+use Rattle.mely_weave.proofs.Runs.WeaveRunLemmas.{run_grows}
+use Rattle.mely_fleet.proofs.BegunLemmas.{registered_after, first_of}
 use Rattle.mely_fleet.proofs.CrewLemmas.{there_of, the_only, refilled, gathered_frame}
 use Rattle.mely_fleet.proofs.crew.run_crew.Goals as goal
 use Rattle.mely_fleet.proofs.crew.run_crew.Goals.{In-Ok, After-push_reserved, After-close_home-weave}
@@ -92,3 +97,20 @@ drain-drained-requires g c =
 
 pub returns-clause-framed : goal.returns-clause-framed
 returns-clause-framed g c = λ state at. ap g.S.Trail.frame_of c.drain-drained.ensures.same.given ∙ weave_framed g (goal.at.returns-clause-framed g c).After-close_home-weave ∙ sym (c.in-Ok.ensures.framed state at)
+
+pub returns-clause-begun : goal.returns-clause-begun
+returns-clause-begun g c =
+    let one = c.push_reserved.ensures.items ∙ ap (λ l. l ++ c.post.new.passes ∷ []) c.in-Ok.ensures.outsiders.0 in
+    let closed = c.close_home-weave.ensures.home.closed in
+    let sees = c.in_default-post.ensures.sees in
+    let by = c.in-Ok.crew.outside.number in
+    let weave = c.close_home-weave.result in
+    let seen = fronts c.post.new.passes.shards.items in
+    registered_after c.args.begin.0 c.args.begin.1 by weave c.drain-drained.new.self (front_in seen (shard_of c.in-Ok.crew.fleet.setup c.args.begin.0)) sees.seen.point
+    c.drain-drained.ensures.same.setup closed.stands.shards
+    (subst (λ (s : Setup). (shape_of s).cores ≤ by) (sym closed.setup) c.in-Ok.ensures.outside.outside)
+    sees.seen.does.0
+    (λ has at.
+    let since = (closed.histories (shard_of weave.setup c.args.begin.0) has at).seen 0 c.post.new.passes (first_of _ _ _ one) in
+    (since.0, subst (λ (s : Setup). has.history ≡ front_in seen (shard_of s c.args.begin.0) ++ since.0) closed.setup since.1))
+    (run_grows g.S.Trail g.S.Fits.fits_under g.A.App c.drain-drained.ensures.calls.0 weave c.drain-drained.new.self c.drain-drained.ensures.calls.1)

@@ -2,6 +2,7 @@ use Rattle.std.proofs.Common.{◌≡◌, ◌++◌, ◌∷◌, [], Some, length, 
 use Rattle.std.proofs.lemmas.List.{map-append}
 use Rattle.std.specs.Prelude.{IsSome, slice_get}
 use Rattle.std.specs.Vec.Iter.{into_iter_items}
+use Rattle.mely_fleet.proofs.ClosingRows.{all_yielded}
 use Rattle.mely_fleet.proofs.OpeningLemmas.{at_seam}
 use Rattle.mely_fleet.proofs.seat.leave_all.Goals as goal
 
@@ -32,3 +33,13 @@ seats-preserved g c =
       behind = one.ensures.items ∙ ap (λ l. l ++ seat.passes ∷ []) at.behind ∙ append_assoc c.args.passes.items (map (λ seat. seat.passes) c.seats.yielded) (seat.passes ∷ []) ∙ ap (λ l. c.args.passes.items ++ l) (sym (map-append (λ seat. seat.passes) c.seats.yielded (seat ∷ [])));
       workers = ap (map (λ rest. Some rest)) other.ensures.items ∙ map-append (λ rest. Some rest) c.seats.rested.items (worker ∷ []) ∙ ap (λ l. l ++ Some worker ∷ []) at.workers ∙ ap (λ w. map (λ seat. seat.worker) c.seats.yielded ++ w ∷ []) (sym c.in-Some-worker.is) ∙ sym (map-append (λ seat. seat.worker) c.seats.yielded (seat ∷ []));
     }
+
+pub returns-clause-passes : goal.returns-clause-passes
+returns-clause-passes g c =
+    let at = c.seats.invariant in
+    at.behind ∙ ap (λ l. c.args.passes.items ++ map (λ seat. seat.passes) l) (all_yielded c.seats.yielded (into_iter_items c.seats.seat-iterator) c.args.seats.items _ at.split at.left c.in-None.ensures.steps.0)
+
+pub returns-clause-rested : goal.returns-clause-rested
+returns-clause-rested g c =
+    let at = c.seats.invariant in
+    at.workers ∙ ap (map (λ seat. seat.worker)) (all_yielded c.seats.yielded (into_iter_items c.seats.seat-iterator) c.args.seats.items _ at.split at.left c.in-None.ensures.steps.0)

@@ -1,7 +1,8 @@
-use Rattle.std.proofs.Common.{◌≡◌, ◌+◌, ◌++◌, ◌∷◌, [], Some, length, map, ap, ◌∙◌, sym, arith, length-append, append_assoc}
+use Rattle.std.proofs.Common.{◌≡◌, ◌+◌, ◌++◌, ◌∷◌, [], Some, length, map, ap, ◌∙◌, sym, arith, length-append, append-nil, append_assoc}
 use Rattle.std.proofs.lemmas.List.{map-append, reverse-append}
-use Rattle.std.specs.Prelude.{reverse}
+use Rattle.std.specs.Prelude.{reverse, slice_get}
 use Rattle.std.specs.Vec.Iter.{into_iter_items}
+use Rattle.mely_fleet.proofs.ClosingRows.{all_yielded, map_front}
 use Rattle.mely_fleet.proofs.SeatLemmas.{joined_at}
 use Rattle.mely_fleet.proofs.seat.seat_all.Goals as goal
 
@@ -30,3 +31,14 @@ passes-preserved g c =
 
 pub returns-clause-workers : goal.returns-clause-workers
 returns-clause-workers g c = λ n rest seat at_rest at_seat. joined_at (λ seat. seat.worker) (λ rest. Some rest) c.passes.seats.items _ c.args.rested.items c.passes.invariant.workers n seat rest at_seat at_rest
+
+pub returns-clause-many : goal.returns-clause-many
+returns-clause-many g c =
+    let at = c.passes.invariant in
+    at.many ∙ ap length (all_yielded c.passes.yielded (into_iter_items c.passes.own-iterator) c.args.passes.items _ at.split at.left c.in-None.ensures.steps.0)
+
+pub returns-clause-passes : goal.returns-clause-passes
+returns-clause-passes g c =
+    let at = c.passes.invariant in
+    let whole = append-nil (map (λ seat. seat.passes) c.passes.seats.items) ∙ at.passes ∙ all_yielded c.passes.yielded (into_iter_items c.passes.own-iterator) c.args.passes.items _ at.split at.left c.in-None.ensures.steps.0 in
+    λ n own seat is there. map_front (λ seat. seat.passes) c.passes.seats.items [] n seat own there (ap (λ l. slice_get l n) whole ∙ is)

@@ -1,6 +1,6 @@
 use Rattle.std.proofs.Common.{refl, sym, ◌∙◌, ap}
 use Rattle.sws_engine.specs.RunLeaves.{or_else}
-use Rattle.sws_engine.proofs.Ends.LeftLemmas.{keep_quiet}
+use Rattle.sws_engine.proofs.Ends.LeftLemmas.{keep_quiet, keep_talking}
 use Rattle.sws_engine.proofs.left.keep_state.Goals as goal
 
 pub returns-in-Some-clause-keeps : goal.returns-in-Some-clause-keeps
@@ -11,3 +11,7 @@ returns-in-Polling-clause-keeps g c = keep_quiet g.T.Talk c.args.place _ c.place
 
 pub returns-in-Accepting-clause-keeps : goal.returns-in-Accepting-clause-keeps
 returns-in-Accepting-clause-keeps g c = keep_quiet g.T.Talk c.args.place _ c.place.inside.trail c.args.left.now _ (sym (ap (λ p. p.role) c.place.view_is) ∙ (sym c.into_inner.ensures ∙ c.in-Accepting.is)) refl (ap (λ p. p.trail) c.place.view_is) refl refl c.push_reserved.ensures.items c.push_reserved.ensures.len c.push_reserved.ensures.capacity
+
+pub returns-clause-keeps : goal.returns-clause-keeps
+returns-clause-keeps g c = keep_talking g.T.Talk c.args.place c.in-Talking.seat c.place.inside.trail c.served_by.result c.args.left.now _ (sym (ap (λ p. p.role) c.place.view_is) ∙ (sym c.into_inner.ensures ∙ c.in-Talking.is)) (ap (λ p. p.trail) c.place.view_is) c.served_by.ensures
+    c.push_reserved-in-Talking.ensures.items c.push_reserved-in-Talking.ensures.len c.push_reserved-in-Talking.ensures.capacity refl c.push_reserved.ensures.items c.push_reserved.ensures.len c.push_reserved.ensures.capacity

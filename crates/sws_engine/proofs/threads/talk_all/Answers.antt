@@ -1,6 +1,7 @@
 use Rattle.std.proofs.Common.{ap, ◌∙◌, subst, inr, arith}
 use Rattle.mely_event.specs.HandlerTable.{rows_of}
 use Rattle.sws_engine.specs.Conclusion.{IsConcluded}
+use Rattle.sws_engine.proofs.Ends.AloneLemmas.{steps_leave_threads}
 use Rattle.sws_engine.proofs.Ends.ThreadLemmas.{has_run_threads}
 use Rattle.sws_engine.proofs.Ends.ConcludedLemmas.{rules_are}
 use Rattle.sws_engine.proofs.Ends.SeatsOfRunLemmas.{seats_stand}
@@ -13,8 +14,11 @@ conclude-requires-clause-seats g c =
     let same = c.total-total.ensures in
     omega (arith, seats, same)
 
-pub returns-in-Ok-run_threads : goal.returns-in-Ok-run_threads
-returns-in-Ok-run_threads g c =
+pub returns-then-shape-eq1-clause-leaves : goal.returns-then-shape-eq1-clause-leaves
+returns-then-shape-eq1-clause-leaves g c = steps_leave_threads g.W.World g.W.Link.Link g.T.Talk c.args.shape.now (g.T.Talk.contents_of c.args.hall) c.args.world c.talk_gated.result c.talk_gated.ensures.leaves
+
+pub returns-in-Ok-run_threads-clause-leaves : goal.returns-in-Ok-run_threads-clause-leaves
+returns-in-Ok-run_threads-clause-leaves g c =
     let same = c.total-total.ensures in
     let setup = c.in-Ok-new.ensures in
     let from = c.from.ensures in

@@ -1,7 +1,7 @@
 use Rattle.std.proofs.Common.{rules, ◌≡◌, ◌++◌, length, [], ◌∷◌, ◌∙◌, ap}
 use Rattle.std.specs.Prelude.{codes}
 use Rattle.std.specs.List.{count_by}
-use Rattle.sws_report.specs.Numbers.{space_number}
+use Rattle.sws_text.specs.Numbers.{space_number}
 use Rattle.sws_report.specs.Summary.{is_done, is_idle, is_fault}
 use Rattle.sws_report.proofs.SummaryLemmas.{five}
 use Rattle.sws_report.proofs.summary.push_ends.Goals as goal

@@ -1,10 +1,11 @@
 use Rattle.std.specs.Prelude.{map, string_bytes}
-use Rattle.std.proofs.Common.{◌≡◌, inr, subst}
+use Rattle.std.proofs.Common.{◌≡◌, inr, sym, subst}
 use Rattle.sws_words.specs.Orders.{Order}
 use Rattle.sws_words.specs.Told.{order_view}
-use Rattle.sws_top.specs.Causes.{IsSound}
+use Rattle.sws_top.specs.Causes.{IsSound, MayLose}
 use Rattle.sws_top.specs.Hands.{hands}
 use Rattle.sws_top.proofs.CauseLemmas.{causes_of, done_of}
+use Rattle.sws_top.proofs.LostLemmas.{lost_by}
 use Rattle.sws_top.proofs.RangeLemmas.{order_in_range}
 use Rattle.sws_top.proofs.ordering.sws.Goals as goal
 
@@ -25,3 +26,14 @@ returns-in-Ok-clause-complete g c = λ order is sound nothing.
     let same : order ≡ order_view c.in-Ok.order = (let read = c.in-Ok.ensures.read in cc) in
     done_of g.F.Folder g.R.Source g.W.World g.W.Link.Link g.O.Sink _ before now c.args.world c.run.result (order_view c.in-Ok.order) (inr c.run.ensures.ran)
     (subst (λ (k : Order). IsSound g.F.Folder g.R.Source g.W.World g.O.Sink before now c.args.world c.run.result k) same sound) nothing
+
+pub returns-in-Ok-clause-lost : goal.returns-in-Ok-clause-lost
+returns-in-Ok-clause-lost g c = λ order conn is apart.
+    let before = hands c.args.folder.now c.args.source.now c.args.out.now in
+    let now = hands c.run.new.folder c.run.new.source c.run.new.out in
+    let read = order_view c.in-Ok.order in
+    let same : order ≡ read = (let there = c.in-Ok.ensures.read in cc) in
+    let causes = causes_of g.F.Folder g.R.Source g.W.World g.W.Link.Link g.O.Sink _ before now c.args.world c.run.result read (inr c.run.ensures.ran) in
+    subst MayLose (sym same)
+    (lost_by g.F.Folder g.R.Source g.W.World g.W.Link.Link g.O.Sink _ before now c.args.world c.run.result conn ((causes.lost conn).0 apart) read
+    (order_in_range (map string_bytes c.args.words.now) read c.in-Ok.ensures.read) (inr c.run.ensures.ran))

@@ -1,5 +1,0 @@
-use Rattle.std.proofs.Common.{◌≡◌}
-use Rattle.mely_core.proofs.tests.push_all.Given as goal
-
-abbrev pub invariant-colours : goal.invariant-colours
-invariant-colours g l = l.queue.colours ≡ 65536

@@ -1,0 +1,5 @@
+pub mod Rising
+pub mod Seen
+pub mod Steps
+pub mod Stream
+pub mod InOrder

@@ -1,0 +1,30 @@
+-- The colours of a legend.
+use Rattle.std.proofs.Common.{◌≡◌, ℕ, ◌+◌, Bool, true, false, List, [], ◌∷◌, ◌++◌, map, drop, refl, sym, ap, ◌∙◌}
+use Rattle.std.specs.Prelude.{if◌then◌else◌}
+use Rattle.std.specs.List.{flat_map}
+use Rattle.mely_history.specs.declared.entry.Entry.{Entry}
+use Rattle.mely_picture.specs.Marks.{taken_colour, with_new, has}
+
+choose : (t : Bool) (b p q r s : List ℕ) → p ≡ with_new r b → q ≡ with_new s b → (if t then p else q) ≡ with_new (if t then r else s) b
+choose true b p q r s one other = one
+choose false b p q r s one other = other
+
+-- numbers behind others are added after those
+pub with_new-append : (seen a b : List ℕ) → with_new seen (a ++ b) ≡ with_new (with_new seen a) b
+with_new-append seen [] b = refl
+with_new-append seen (n ∷ a) b =
+    choose (has n seen) b (with_new seen (a ++ b)) (with_new (seen ++ n ∷ []) (a ++ b)) (with_new seen a) (with_new (seen ++ n ∷ []) a) (with_new-append seen a b) (with_new-append (seen ++ n ∷ []) a b)
+
+-- the colours of a history
+abbrev pub taken : List Entry → List ℕ
+taken history = flat_map taken_colour history
+
+-- some colours were added
+pub seen_more : (seen now here more rest whole : List ℕ) → here ≡ more ++ rest → now ≡ with_new seen more → with_new seen here ≡ whole → with_new now rest ≡ whole
+seen_more seen now here more rest whole parts is all = ap (λ s. with_new s rest) is ∙ sym (with_new-append seen more rest) ∙ ap (with_new seen) (sym parts) ∙ all
+
+-- the colours of a history were added
+pub history_more : {X : Type 0} (xs : List X) (items : X → List Entry) (at : ℕ) (x : X) (seen now whole : List ℕ) → drop at xs ≡ x ∷ drop (at + 1) xs → now ≡ with_new seen (taken (items x))
+    → with_new seen (flat_map taken (map items (drop at xs))) ≡ whole → with_new now (flat_map taken (map items (drop (at + 1) xs))) ≡ whole
+history_more xs items at x seen now whole parts is all =
+    seen_more seen now (flat_map taken (map items (drop at xs))) (taken (items x)) (flat_map taken (map items (drop (at + 1) xs))) whole (ap (λ l. flat_map taken (map items l)) parts) is all

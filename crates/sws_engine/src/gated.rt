@@ -1,0 +1,84 @@
+//! The server over a weave, with a gate before each handler.
+ghost use Rattle.std.specs.Prelude.{◌≡◌, ◌≤◌, ◌+◌, ◌++◌, ◌∷◌, [], ℕ, List, Option, length};
+ghost use Rattle.std.specs.List.{AllByRecursion};
+ghost use Rattle.mely_worker.specs.Access.{FitsIn};
+ghost use Rattle.sws_engine.specs.Loads.{Fit};
+
+use crate::app::Sws;
+use crate::load::Load;
+use crate::place::Place;
+use mely_event::Event;
+use mely_worker::{App, Gate, Outs};
+use sws_conn::Talk;
+use sws_link::{Link, World};
+
+/// The server, which passes a gate of its own before each handler: the steps of a weave pass none.
+///
+/// A state doesn't know which core runs it, so the gate is told core 0. Where there are more, pass
+/// an open one.
+#[derive(Drop)]
+pub struct Gated<'g, W, T, G> {
+    pub(crate) app: Sws<W, T>,
+    gate: &'g G,
+}
+
+impl<'g, W, T, G> Gated<'g, W, T, G> {
+    ghost use Rattle.std.specs.Prelude.{◌≡◌};
+
+    /// The server over so many links, behind a gate.
+    pub fn new(total: u16, gate: &'g G) -> Gated<'g, W, T, G>
+        ensures { result.app.total ≡ total }
+    {
+        Gated {
+            app: Sws::new(total),
+            gate,
+        }
+    }
+}
+
+impl<'g, W: World + Drop, T: Talk<W::Link> + Drop, G: Gate> App for Gated<'g, W, T, G> {
+    type Load = Load<W, W::Link>;
+
+    type State = Place<W, T>;
+
+    ghost use Rattle.std.specs.Prelude.{◌≡◌, ◌≤◌, ◌+◌};
+    ghost use Rattle.sws_engine.specs.Handling.{Runs};
+    ghost use Rattle.sws_engine.specs.Limits.{conn_limit};
+    ghost use Rattle.sws_engine.specs.PlaceFields.{frame_in};
+
+    ghost colours_of = { λ gated. gated.app.total + 2 };
+
+    ghost handlers_of = { λ gated. 10 };
+
+    ghost serves = { λ gated frame.
+        ((W.tells frame.first).total ≡ gated.app.total) × (gated.app.total ≤ conn_limit) };
+
+    ghost runs = { λ gated before event load after puts.
+        Runs W.World W.Link.Link T.Talk gated.app.total before event load after puts };
+
+    fn run(
+        &self,
+        state: &mut Place<W, T>,
+        event: Event,
+        load: Option<Load<W, W::Link>>,
+        outs: &mut Outs<Load<W, W::Link>>,
+    )
+        requires serves { ((W.tells state.old.first).total ≡ self.now.app.total)
+            × (self.now.app.total ≤ conn_limit) }
+        requires room { 1 ≤ state.old.spare }
+        requires empty { outs.old ≡ [] }
+        requires fits { Fit W.World W.Link.Link state.old.first state.old.colour event load }
+        ensures ran { Runs W.World W.Link.Link T.Talk self.now.app.total state.old event
+            load state.new outs.new }
+        ensures colour { state.new.colour ≡ state.old.colour }
+        ensures frame { frame_in state.new ≡ frame_in state.old }
+        ensures trail { state.new.trail ≡ state.old.trail ++ event ∷ [] }
+        ensures spare { state.old.spare ≡ state.new.spare + 1 }
+        ensures puts { AllByRecursion
+            (FitsIn (self.now.app.total + 2) 10 (Fit W.World W.Link.Link state.old.first)) outs.new }
+        ensures few { length outs.new ≤ 2 }
+    {
+        self.gate.pass(0, state.colour, event);
+        self.app.run(state, event, load, outs);
+    }
+}

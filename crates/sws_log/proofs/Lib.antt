@@ -1,0 +1,2 @@
+mod BriefLemmas
+mod WithinLemmas

@@ -1,0 +1,7 @@
+//! Connections, logs, scripts, printed texts and the checker of journals, as tests.
+//!
+//! They stand in a crate of their own, since a crate with tests is proved twice.
+#![tactic(auto)]
+
+#[cfg(test)]
+mod tests;

@@ -1,0 +1,151 @@
+//! Worked rows, and texts that are refused, with the line or the colour of each.
+use mely_check::{CheckFault, CoreReport, check_journal};
+use mely_event::Handlers;
+use mely_history::{Setup, Shape};
+use std::alloc::Global;
+use std::test::Fail;
+use sws_link::SureSource;
+
+/// The times and the penalties of the server's handlers: the weights are 10, 10, 10, 20,
+/// 30, 80, 50, 50, 30 and 30.
+const HANDLERS: [(u32, u32); 10] = [
+    (40, 4),
+    (10, 1),
+    (40, 4),
+    (20, 1),
+    (60, 2),
+    (80, 1),
+    (50, 1),
+    (100, 2),
+    (30, 1),
+    (60, 2),
+];
+
+/// Three colours, of which colour 0 is pinned, two workers and so many shards, at a cost of 5.
+fn setup(shards: u16) -> Result<Setup, Fail> {
+    let shape = Shape {
+        cores: 2,
+        shards,
+        batch: 10,
+        steal_cost: 5,
+        group: 4,
+    };
+    let handlers = Handlers::new(&HANDLERS).ok().ok_or("no table")?;
+    Ok(Setup::new(&shape, 3, handlers, 1).ok().ok_or("no setup")?)
+}
+
+/// Why a text is refused, or how many entries it has.
+fn found(alloc: Global, shards: u16, text: &str) -> Result<Result<u64, CheckFault>, Fail> {
+    let mut source = SureSource::new(Vec::from_slice(alloc, text.as_bytes())?);
+    match check_journal(alloc, &setup(shards)?, &mut source) {
+        Ok(report) => Ok(Ok(report.entries)),
+        Err(fault) => Ok(Err(fault)),
+    }
+}
+
+/// The journal of a run of two workers.
+const ROW: &str =
+    "shard 0 22\nreg 0 0 0 2\ntake 0 0 1\nreg 1 2 0 0\nfin 0 0 1\ntake 1 1 1\nreg 0 0 1 1\nreg 2 3 0 1\nfin 1 1 1\nsteal 2 0 1\ntake 0 0 1\ntake 2 1 1\nfin 0 0 1\nreg 2 4 0 1\nfin 2 1 1\ntake 2 1 1\nreg 2 5 0 1\nfin 2 1 1\ntake 2 1 1\nreg 2 8 0 1\nfin 2 1 1\ntake 2 1 1\nfin 2 1 1\n";
+
+/// Without the take of colour 1.
+const NO_TAKE: &str =
+    "shard 0 21\nreg 0 0 0 2\ntake 0 0 1\nreg 1 2 0 0\nfin 0 0 1\nreg 0 0 1 1\nreg 2 3 0 1\nfin 1 1 1\nsteal 2 0 1\ntake 0 0 1\ntake 2 1 1\nfin 0 0 1\nreg 2 4 0 1\nfin 2 1 1\ntake 2 1 1\nreg 2 5 0 1\nfin 2 1 1\ntake 2 1 1\nreg 2 8 0 1\nfin 2 1 1\ntake 2 1 1\nfin 2 1 1\n";
+
+/// Without its last line.
+const NO_FINISH: &str =
+    "shard 0 21\nreg 0 0 0 2\ntake 0 0 1\nreg 1 2 0 0\nfin 0 0 1\ntake 1 1 1\nreg 0 0 1 1\nreg 2 3 0 1\nfin 1 1 1\nsteal 2 0 1\ntake 0 0 1\ntake 2 1 1\nfin 0 0 1\nreg 2 4 0 1\nfin 2 1 1\ntake 2 1 1\nreg 2 5 0 1\nfin 2 1 1\ntake 2 1 1\nreg 2 8 0 1\nfin 2 1 1\ntake 2 1 1\n";
+
+/// Without its last line, which the shard's line counts.
+const TOO_SHORT: &str =
+    "shard 0 22\nreg 0 0 0 2\ntake 0 0 1\nreg 1 2 0 0\nfin 0 0 1\ntake 1 1 1\nreg 0 0 1 1\nreg 2 3 0 1\nfin 1 1 1\nsteal 2 0 1\ntake 0 0 1\ntake 2 1 1\nfin 0 0 1\nreg 2 4 0 1\nfin 2 1 1\ntake 2 1 1\nreg 2 5 0 1\nfin 2 1 1\ntake 2 1 1\nreg 2 8 0 1\nfin 2 1 1\ntake 2 1 1\n";
+
+/// A pinned colour is stolen.
+const PINNED: &str =
+    "shard 0 22\nreg 0 0 0 2\ntake 0 0 1\nreg 1 2 0 0\nfin 0 0 1\ntake 1 1 1\nreg 0 0 1 1\nreg 2 3 0 1\nfin 1 1 1\nsteal 0 0 1\ntake 0 0 1\ntake 2 1 1\nfin 0 0 1\nreg 2 4 0 1\nfin 2 1 1\ntake 2 1 1\nreg 2 5 0 1\nfin 2 1 1\ntake 2 1 1\nreg 2 8 0 1\nfin 2 1 1\ntake 2 1 1\nfin 2 1 1\n";
+
+/// A journal of a legal and drained run is accepted, with what each core ran and stole.
+#[test]
+fn the_row_is_accepted(rt: HostRuntime) -> Result<(), Fail> {
+    let mut source = SureSource::new(Vec::from_slice(rt.alloc(), ROW.as_bytes())?);
+    let report = check_journal(rt.alloc(), &setup(1)?, &mut source)?;
+    assert_eq!(rt; report.entries, 22);
+    let cores = [
+        CoreReport {
+            ran: 2,
+            stolen_in: 0,
+            stolen_out: 1,
+        },
+        CoreReport {
+            ran: 5,
+            stolen_in: 1,
+            stolen_out: 0,
+        },
+    ];
+    assert_eq!(rt; report.cores.as_slice(), cores.as_slice());
+    Ok(())
+}
+
+/// The row changed is refused where it goes wrong.
+#[test]
+fn the_row_changed_is_refused(rt: HostRuntime) -> Result<(), Fail> {
+    let refused = [
+        (NO_TAKE, CheckFault::NotLegal { line: 8 }),
+        (NO_FINISH, CheckFault::NotDrained { colour: 2 }),
+        (TOO_SHORT, CheckFault::BadJournal { line: 23 }),
+        (PINNED, CheckFault::NotLegal { line: 10 }),
+    ];
+    for (text, fault) in refused {
+        assert_eq!(rt; found(rt.alloc(), 1, text)?, Err(fault), "{text:?}");
+    }
+    Ok(())
+}
+
+/// Texts of two shards that are no journals, with the line at which each goes wrong.
+const BAD: [(&str, u32); 13] = [
+    ("", 1),
+    ("shard 0 0", 1),
+    ("shard 00 0\n", 1),
+    ("shard 0 0\n", 2),
+    ("shard 0 0\nshard 2 0\n", 2),
+    ("shard 0 0\nshard 1 0\nshard 2 0\n", 3),
+    ("shard 0 1\nfin 0 0 01\n", 2),
+    ("shard 0 1\nfin  0 0 1\n", 2),
+    ("shard 0 1\nreg 0 256 0 0\n", 2),
+    ("shard 0 1\nfin 0 0 1\nfin 0 0 1\n", 3),
+    ("shard 0 18446744073709551616\n", 1),
+    ("shard 0 1\nfin 0 0 1\nshard 1 0\nfin 0 0 1\n", 4),
+    (
+        "shard 0 0\nshard 1 00000000000000000000000000000000000000000000000000000000000000",
+        2,
+    ),
+];
+
+/// Each goes wrong at its line, also behind an entry that isn't allowed.
+#[test]
+fn a_bad_line_is_named(rt: HostRuntime) -> Result<(), Fail> {
+    for (text, line) in BAD {
+        let bad = Err(CheckFault::BadJournal { line });
+        assert_eq!(rt; found(rt.alloc(), 2, text)?, bad, "{text:?}");
+    }
+    Ok(())
+}
+
+/// Journals of two shards with one entry that isn't allowed, with its line. The
+/// greatest numbers are read.
+const ILLEGAL: [(&str, u32); 5] = [
+    ("shard 0 1\nreg 65535 255 65535 65535\nshard 1 0\n", 2),
+    ("shard 0 1\nsteal 65535 65535 65535\nshard 1 0\n", 2),
+    ("shard 0 1\nreg 1 0 0 0\nshard 1 0\n", 2),
+    ("shard 0 1\nreg 0 10 0 0\nshard 1 1\nfin 0 0 1\n", 2),
+    ("shard 0 1\nreg 2 3 0 0\nshard 1 1\nreg 2 3 0 0\n", 4),
+];
+
+/// The first one is named.
+#[test]
+fn an_entry_that_is_not_allowed_is_named(rt: HostRuntime) -> Result<(), Fail> {
+    for (text, line) in ILLEGAL {
+        let illegal = Err(CheckFault::NotLegal { line });
+        assert_eq!(rt; found(rt.alloc(), 2, text)?, illegal, "{text:?}");
+    }
+    Ok(())
+}

@@ -1,0 +1,5 @@
+use Rattle.std.proofs.Common.{◌≡◌}
+use Rattle.test_runtime.proofs.tests.chains.retell_all.Given as goal
+
+abbrev pub invariant-colours : goal.invariant-colours
+invariant-colours g l = l.queue.colours ≡ 65536

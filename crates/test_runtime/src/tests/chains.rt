@@ -1,0 +1,179 @@
+ghost use Rattle.std.specs.Prelude.{◌≡◌};
+
+use mely_core::CoreQueue;
+use mely_event::{Colour, Mark, There};
+use std::alloc::Global;
+use std::process::Abort;
+use std::test::Fail;
+
+fn mark(colour: u16, worth: u128) -> Mark
+    ensures { result ≡ record { colour = record { 0 = colour }; started = 0; worth = worth } }
+{
+    Mark {
+        colour: Colour(colour),
+        started: 0,
+        worth,
+    }
+}
+
+/// A core queue can be handed to a thread, and so be kept behind a lock.
+fn across<T: Send>(value: T) -> T
+    ensures { result ≡ value }
+{
+    value
+}
+
+/// A call of a core queue of four colours, with what it answers. A mark stands as its colour and
+/// its worth, since all begin at 0.
+#[derive(Clone, Copy)]
+enum Call {
+    /// A push of a mark, and whether there was none of its colour.
+    Push(u16, u128, bool),
+
+    /// A report of a colour, when its mark began and its worth, and whether the mark was there.
+    Retell(u16, u64, u128, bool),
+
+    At(usize, Option<(u16, u128)>),
+    IsEmpty(bool),
+    Pick(Option<(u16, u128)>),
+    Pop(Option<(u16, u128)>),
+}
+
+fn marked(of: Option<(u16, u128)>) -> Option<Mark> {
+    match of {
+        Some((colour, worth)) => Some(mark(colour, worth)),
+        None => None,
+    }
+}
+
+/// What a push of a mark answers where there is none of its colour, and where there is one.
+fn pushed(mark: Mark, is_new: bool) -> Result<(), There> {
+    if is_new { Ok(()) } else { Err(There { mark }) }
+}
+
+/// Makes a call, and says whether it answers so.
+fn answers(queue: &mut CoreQueue, call: Call) -> bool
+    requires { queue.old.colours ≡ 4 }
+    ensures { queue.new.colours ≡ 4 }
+{
+    match call {
+        Call::Push(colour, worth, is_new) if colour < 4 => {
+            let mark = mark(colour, worth);
+            queue.push(mark) == pushed(mark, is_new)
+        }
+        Call::Retell(colour, started, worth, found) if colour < 4 => {
+            queue.retell(Colour(colour), started, worth) == found
+        }
+        Call::At(place, of) => queue.at(place) == marked(of),
+        Call::IsEmpty(empty) => queue.is_empty() == empty,
+        Call::Pick(of) => queue.pick() == marked(of),
+        Call::Pop(of) => queue.pop() == marked(of),
+        Call::Push(..) | Call::Retell(..) => false,
+    }
+}
+
+/// Makes calls of a new queue of four colours and cost 20, of which so many are pinned.
+fn play(rt: &impl Abort, alloc: Global, pinned: u32, calls: &[Call]) -> Result<(), Fail> {
+    let mut queue = across(CoreQueue::new(alloc, 4, 20, pinned)?);
+    'calls: for (number, call) in calls.iter().enumerate() {
+        assert!(rt; answers(&mut queue, *call), "call {number}");
+    }
+    Ok(())
+}
+
+const HIGHEST_FIRST: [Call; 20] = [
+    Call::Push(0, 30, true),
+    Call::Push(1, 20, true),
+    Call::Push(2, 50, true),
+    Call::Push(3, 90, true),
+    Call::Retell(0, 0, 45, true),
+    Call::Retell(0, 1, 90, false),
+    Call::Push(1, 20, false),
+    Call::At(0, Some((0, 45))),
+    Call::At(1, Some((1, 20))),
+    Call::At(2, Some((2, 50))),
+    Call::At(3, Some((3, 90))),
+    Call::At(4, None),
+    Call::IsEmpty(false),
+    Call::Pick(Some((3, 90))),
+    Call::Pick(Some((2, 50))),
+    Call::Pick(Some((0, 45))),
+    Call::Pick(None),
+    Call::Pop(Some((1, 20))),
+    Call::Pop(None),
+    Call::IsEmpty(true),
+];
+
+#[test]
+fn a_thief_takes_from_the_highest_class_and_the_core_runs_the_rest(
+    rt: HostRuntime,
+) -> Result<(), Fail> {
+    play(&rt, rt.alloc(), 0, &HIGHEST_FIRST)
+}
+
+const TWO_ARE_PINNED: [Call; 10] = [
+    Call::Push(0, 90, true),
+    Call::Push(1, 90, true),
+    Call::Push(2, 90, true),
+    Call::Push(3, 90, true),
+    Call::Retell(1, 0, 100, true),
+    Call::Pick(Some((2, 90))),
+    Call::Pick(Some((3, 90))),
+    Call::Pick(None),
+    Call::Pop(Some((0, 90))),
+    Call::Pop(Some((1, 100))),
+];
+
+#[test]
+fn a_thief_takes_no_pinned_colour(rt: HostRuntime) -> Result<(), Fail> {
+    play(&rt, rt.alloc(), 2, &TWO_ARE_PINNED)
+}
+
+/// The number of colours there are.
+const ALL: u32 = 65_536;
+
+/// Pushes the mark (c, 0, 30) of every colour, upwards.
+fn push_all(rt: &impl Abort, queue: &mut CoreQueue)
+    requires { queue.old.colours ≡ ALL }
+    ensures { queue.new.colours ≡ ALL }
+{
+    'colours: for number in 0..ALL {
+        let colour = number as u16;
+        assert!(rt; queue.push(mark(colour, 30)) == Ok(()));
+    }
+}
+
+/// Reports of every colour that it is worth 90, downwards.
+fn retell_all(rt: &impl Abort, queue: &mut CoreQueue)
+    requires { queue.old.colours ≡ ALL }
+    ensures { queue.new.colours ≡ ALL }
+{
+    'colours: for number in 0..ALL {
+        let colour = (ALL - 1 - number) as u16;
+        assert!(rt; queue.retell(Colour(colour), 0, 90));
+    }
+}
+
+/// Picks every colour, the last first, each worth 90.
+fn pick_all(rt: &impl Abort, queue: &mut CoreQueue)
+    requires { queue.old.colours ≡ ALL }
+    ensures { queue.new.colours ≡ ALL }
+{
+    'colours: for number in 0..ALL {
+        let colour = (ALL - 1 - number) as u16;
+        assert!(rt; queue.pick() == Some(mark(colour, 90)));
+    }
+}
+
+#[test]
+fn every_colour_is_pushed_told_of_and_picked_a_hundred_times(rt: HostRuntime) -> Result<(), Fail> {
+    let mut queue = CoreQueue::new(rt.alloc(), ALL, 20, 0)?;
+    'rounds: for _ in 0..100 {
+        push_all(&rt, &mut queue);
+        retell_all(&rt, &mut queue);
+        pick_all(&rt, &mut queue);
+        assert!(rt; queue.pick() == None);
+        assert!(rt; queue.pop() == None);
+    }
+    Ok(())
+}

@@ -1,0 +1,195 @@
+//! A diary that several passes write into, in turn and from threads.
+ghost use Rattle.std.specs.Prelude.{◌≡◌, ◌<◌, ◌++◌, ◌∷◌, [], List, length, All, OnOk, OnErr};
+ghost use Rattle.mely_lock.specs.Seen.{OthersSince};
+ghost use Rattle.mely_lock.specs.Words.{front, IsPassOf, IsOutside};
+
+use mely_event::{Kept, Memory};
+use mely_lock::{Held, Pass, Ticketed};
+use std::alloc::Global;
+use std::sync::Wait;
+use std::test::Fail;
+use std::thread;
+use std::thread::Threads;
+
+/// A line, with the pass that wrote it and how many that pass had written before.
+#[derive(Drop)]
+struct Line {
+    pass: u16,
+    turn: u64,
+}
+
+/// Lines, and a colour of ink that stays.
+#[derive(Drop)]
+struct Diary {
+    lines: Vec<Line>,
+    ink: u8,
+}
+
+impl Kept for Diary {
+    type Note = Line;
+
+    type Frame = u8;
+
+    ghost history_of = { λ d. d.lines.items };
+
+    ghost pass_of = { λ l. l.pass };
+
+    ghost frame_of = { λ d. d.ink };
+
+    fn notes(&self) -> u64 {
+        self.lines.len() as u64
+    }
+}
+
+impl Diary {
+    fn new(alloc: Global, ink: u8) -> Diary
+        ensures { (result.lines.items ≡ []) × (result.ink ≡ ink) }
+    {
+        Diary {
+            lines: Vec::new(alloc),
+            ink,
+        }
+    }
+
+    fn add(&mut self, pass: u16, turn: u64) -> Result<(), Memory>
+        ensures ink { self.new.ink ≡ self.old.ink }
+        ensures ok { OnOk result (self.new.lines.items
+            ≡ self.old.lines.items ++ record { pass = pass; turn = turn } ∷ []) }
+        ensures err { OnErr result (self.new.lines.items ≡ self.old.lines.items) }
+    {
+        self.lines.push(Line { pass, turn })?;
+        Ok(())
+    }
+}
+
+/// Goes in, adds a line and goes out: the line is the next one after the point of the call.
+fn write<R: Wait>(
+    rt: &R,
+    lock: &Ticketed<Diary>,
+    pass: &mut Pass<Diary>,
+    turn: u64,
+) -> Result<(), Memory>
+    requires { IsPassOf ⟦<Diary as Kept>⟧.frame_of lock.now pass.old × IsOutside pass.old }
+    ensures pass { IsPassOf ⟦<Diary as Kept>⟧.frame_of lock.now pass.new × IsOutside pass.new
+        × (pass.new.number ≡ pass.old.number) }
+    ensures ok { OnOk result ((point : List Line)
+        × OthersSince ⟦<Diary as Kept>⟧.pass_of pass.old.number (front pass.old) point
+        × (front pass.new ≡ point ++ record { pass = pass.old.number; turn = turn } ∷ [])) }
+    ensures err { OnErr result (OthersSince ⟦<Diary as Kept>⟧.pass_of pass.old.number
+        (front pass.old) (front pass.new)) }
+{
+    let mut held = lock.enter(rt, pass);
+    let number = pass.number();
+    let wrote = held.value().add(number, turn);
+    held.leave(pass);
+    wrote
+}
+
+/// Goes in, looks how many lines there are and goes out.
+fn look<R: Wait>(rt: &R, lock: &Ticketed<Diary>, pass: &mut Pass<Diary>) -> u64
+    requires { IsPassOf ⟦<Diary as Kept>⟧.frame_of lock.now pass.old × IsOutside pass.old }
+    ensures pass { IsPassOf ⟦<Diary as Kept>⟧.frame_of lock.now pass.new × IsOutside pass.new
+        × (pass.new.number ≡ pass.old.number) }
+    ensures all { result ≡ length (front pass.new) }
+{
+    let mut held = lock.enter(rt, pass);
+    let found = held.value().notes();
+    held.leave(pass);
+    found
+}
+
+#[test]
+fn a_pass_finds_what_another_has_noted(rt: HostRuntime) -> Result<(), Fail> {
+    let (lock, mut passes) = Ticketed::new(rt.alloc(), Diary::new(rt.alloc(), 3), 2)?;
+    assert!(rt; passes.len() == 2);
+    assert!(rt; (passes[0].number(), passes[0].seen()) == (0, 0));
+    assert!(rt; (passes[1].number(), passes[1].seen()) == (1, 0));
+    assert!(rt; write(&rt, &lock, &mut passes[0], 0).is_ok());
+    assert!(rt; (passes[0].seen(), passes[1].seen()) == (1, 0));
+    assert!(rt; look(&rt, &lock, &mut passes[1]) == 1);
+    assert!(rt; passes[1].seen() == 1);
+    let diary = lock.close(passes);
+    assert!(rt; (diary.lines.len(), diary.ink) == (1, 3));
+    Ok(())
+}
+
+/// Writes as many lines, one after another.
+fn write_many<R: Wait>(rt: &R, lock: &Ticketed<Diary>, pass: &mut Pass<Diary>, count: u64)
+    requires { IsPassOf ⟦<Diary as Kept>⟧.frame_of lock.now pass.old × IsOutside pass.old }
+    ensures { IsPassOf ⟦<Diary as Kept>⟧.frame_of lock.now pass.new × IsOutside pass.new
+        × (pass.new.number ≡ pass.old.number) }
+{
+    for turn in 0..count {
+        let _ = write(rt, lock, pass, turn);
+    }
+}
+
+/// Each pass writes as many lines, from a thread of its own.
+fn write_from_threads<R: Threads + Wait + Sync>(
+    rt: &R,
+    lock: &Ticketed<Diary>,
+    passes: &mut [Pass<Diary>],
+    threads: usize,
+    count: u64,
+)
+    requires threads { 0 < threads }
+    requires passes { All (λ p. IsPassOf ⟦<Diary as Kept>⟧.frame_of lock.now p
+        × IsOutside p) passes.old }
+    ensures passes { All (λ p. IsPassOf ⟦<Diary as Kept>⟧.frame_of lock.now p
+        × IsOutside p) passes.new }
+    ensures many { length passes.new ≡ length passes.old }
+{
+    thread::for_each_mut(
+        rt,
+        passes,
+        threads,
+        &|_, pass: &mut Pass<Diary>|
+            requires { IsPassOf (λ (d : Diary). d.ink) lock.now pass.now × IsOutside pass.now }
+            ensures { IsPassOf (λ (d : Diary). d.ink) lock.entry.now pass.exit.now
+                × IsOutside pass.exit.now }
+        { write_many(rt, lock, pass, count) },
+    );
+}
+
+/// Whether the diary has as many lines of each pass, each pass's in the
+/// order in which it wrote them.
+fn has_each_in_order(diary: &Diary, next: &mut [u64], count: u64) -> bool {
+    for line in &diary.lines {
+        let pass = line.pass as usize;
+        if pass >= next.len() || next[pass] != line.turn || line.turn >= count {
+            return false;
+        }
+        next[pass] = line.turn + 1;
+    }
+    next.iter().all(|turn| *turn == count)
+}
+
+#[test]
+fn lines_of_two_threads_stand_in_one_history(rt: HostRuntime) -> Result<(), Fail> {
+    let (lock, mut passes) = Ticketed::new(rt.alloc(), Diary::new(rt.alloc(), 3), 2)?;
+    write_from_threads(&rt, &lock, &mut passes, 2, 50);
+    let diary = lock.close(passes);
+    assert!(rt; has_each_in_order(&diary, &mut [0; 2], 50));
+    Ok(())
+}
+
+#[test]
+fn eight_threads_write_ten_thousand_lines_each(rt: HostRuntime) -> Result<(), Fail> {
+    let (lock, mut passes) = Ticketed::new(rt.alloc(), Diary::new(rt.alloc(), 3), 8)?;
+    write_from_threads(&rt, &lock, &mut passes, 8, 10_000);
+    let diary = lock.close(passes);
+    assert!(rt; diary.lines.len() == 80_000);
+    assert!(rt; has_each_in_order(&diary, &mut [0; 8], 10_000));
+    Ok(())
+}
+
+fn may_cross<T: Send>(_value: &T) {}
+
+fn may_be_shared<T: Send + Sync>(_value: &T) {}
+
+/// What crosses threads wherever the value may.
+fn crosses<V: Kept + Send>(lock: &Ticketed<V>, pass: &Pass<V>, held: &Held<V>) {
+    may_be_shared(lock);
+    may_cross(pass);
+    may_cross(held);
+}

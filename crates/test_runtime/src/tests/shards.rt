@@ -1,0 +1,458 @@
+ghost use Rattle.std.specs.Prelude.{◌≡◌, ◌≤◌, ◌<◌, ◌-◌, ◌++◌, ◌∷◌, [], length, IfOk, OnOk};
+ghost use Rattle.mely_shard.specs.Shard.{IsOwn, KeepsFrame, TurnStands};
+ghost use Rattle.test_runtime.specs.ShardExamples.{IsExample};
+
+use mely_event::{Colour, Event, Fits, Handlers, Memory, Trail, TrailLog};
+use mely_history::{After, Judged, NoSteal, NoTake, Registered, Setup, Shape, Stolen, judge};
+use mely_queue::Turn;
+use mely_shard::Shard;
+use std::alloc::{AllocError, Global};
+use std::process::Abort;
+use std::test::Fail;
+
+/// A state that adds up the loads.
+#[derive(Drop)]
+struct Tally {
+    log: TrailLog,
+    total: u64,
+}
+
+impl Trail for Tally {
+    ghost use Rattle.mely_event.specs.TrailLog.{AreAlike, alike_itself, alike_onward};
+    ghost use Rattle.std.proofs.Common.{refl};
+
+    type Frame = ();
+
+    ghost trail_of = { λ s. s.log.events };
+
+    ghost colour_of = { λ s. s.log.colour };
+
+    ghost frame_of = { λ s. tt };
+
+    ghost spare_of = { λ s. s.log.spare };
+
+    ghost alike = { AreAlike (λ s. s.log) (λ s. s.total) };
+
+    fn trail(&self) -> &[Event] {
+        self.log.trail()
+    }
+
+    fn reserve(&mut self, n: usize) -> Result<(), Memory> {
+        self.log.reserve(n)
+    }
+
+    ghost alike_itself = { λ s. alike_itself s };
+
+    ghost alike_onward = { λ r s t one other. alike_onward one other };
+
+    ghost alike_trail = { λ s t same. same.events };
+
+    ghost alike_colour = { λ s t same. same.colour };
+
+    ghost alike_frame = { λ s t same. refl };
+}
+
+impl Fits<u32> for Tally {
+    ghost fits_under = { λ frame colour event load. Unit {0} };
+}
+
+impl Tally {
+    /// Runs an event.
+    fn run(&mut self, event: Event, load: Option<u32>)
+        requires { 1 ≤ self.old.log.spare }
+        ensures { self.new.log ≡ record self.old.log {
+          events = self.old.log.events ++ event ∷ [];
+          spare = self.old.log.spare - 1;
+        } }
+    {
+        self.log.push(event);
+        self.total = self.total.wrapping_add(u64::from(load.unwrap_or(0)));
+    }
+}
+
+/// A state at first.
+fn initial_tally(alloc: Global, colour: u16) -> Tally
+    ensures { result.log ≡ record { colour = record { 0 = colour }; events = []; spare = 0 } }
+{
+    Tally {
+        log: TrailLog::new(alloc, Colour(colour)),
+        total: 0,
+    }
+}
+
+/// Runs what a turn has, and takes its state home.
+fn run_and_finish(shard: &mut Shard<Tally, u32>, mut turn: Turn<Tally, u32>) -> After
+    requires own { IsOwn shard.old turn.colour }
+    requires stands { TurnStands ⟦<Tally as Trail>⟧
+        ⟦<Tally as Fits<u32>>⟧.fits_under shard.old turn }
+    requires room { length turn.events ≤ ⟦<Tally as Trail>⟧.spare_of turn.state }
+    ensures { KeepsFrame shard.old shard.new }
+{
+    while let Some((event, load)) = turn.next() {
+        turn.state().run(event, load);
+    }
+    shard.finish(turn)
+}
+
+/// Four colours on two cores in one shard, batch 10, and one handler of weight 30.
+fn example(alloc: Global, steal_cost: u32, pinned: u32) -> Result<Shard<Tally, u32>, Fail>
+    ensures { IfOk result IsExample }
+{
+    let shape = Shape {
+        cores: 2,
+        shards: 1,
+        batch: 10,
+        steal_cost,
+        group: 1,
+    };
+    let Ok(handlers) = Handlers::new(&[(60, 2)]) else {
+        return Err(Fail::from("no table"));
+    };
+    let Ok(setup) = Setup::new(&shape, 4, handlers, pinned) else {
+        return Err(Fail::from("no setup"));
+    };
+    let mut states = Vec::new(alloc);
+    states.push(initial_tally(alloc, 0))?;
+    states.push(initial_tally(alloc, 1))?;
+    states.push(initial_tally(alloc, 2))?;
+    states.push(initial_tally(alloc, 3))?;
+    match Shard::new(alloc, &setup, 0, states) {
+        Ok(shard) => Ok(shard),
+        Err(_) => Err(Fail::from("no shard")),
+    }
+}
+
+/// Registers an event of handler 0 by pass 2.
+fn register(shard: &mut Shard<Tally, u32>, colour: u16) -> Option<Registered>
+    requires is { IsExample shard.old }
+    requires colour { colour < 4 }
+    ensures { IsExample shard.new }
+{
+    let event = Event { handler: 0, arg: 0 };
+    shard.register(Colour(colour), event, Some(5), 2).ok()
+}
+
+/// Takes a colour, runs what was taken and finishes, and answers how many events that were.
+fn take_turn(shard: &mut Shard<Tally, u32>, colour: u16, core: u16) -> Result<(u16, After), NoTake>
+    requires is { IsExample shard.old }
+    requires colour { colour < 4 }
+    ensures { IsExample shard.new }
+{
+    let turn = shard.take(Colour(colour), core)?;
+    let count = turn.count();
+    Ok((count, run_and_finish(shard, turn)))
+}
+
+fn steal(shard: &mut Shard<Tally, u32>, colour: u16, to: u16) -> Result<Stolen, NoSteal>
+    requires is { IsExample shard.old }
+    requires colour { colour < 4 }
+    requires core { to < 2 }
+    ensures { IsExample shard.new }
+{
+    shard.steal(Colour(colour), to)
+}
+
+fn ready(shard: &Shard<Tally, u32>, colour: u16) -> Option<(u16, u64, u128)>
+    requires is { IsExample shard.now }
+    requires colour { colour < 4 }
+{
+    shard.ready(Colour(colour))
+}
+
+/// What the loads that were run on a colour add up to.
+fn total_at(shard: &Shard<Tally, u32>, colour: u16) -> Option<u64>
+    requires is { IsExample shard.now }
+    requires colour { colour < 4 }
+{
+    Some(shard.state(Colour(colour))?.total)
+}
+
+fn register_meanwhile(
+    shard: &mut Shard<Tally, u32>,
+    turn: &Turn<Tally, u32>,
+    colour: u16,
+) -> Option<Registered>
+    requires is { IsExample shard.old }
+    requires colour { colour < 4 }
+    requires stands { TurnStands ⟦<Tally as Trail>⟧
+        ⟦<Tally as Fits<u32>>⟧.fits_under shard.old turn.now }
+    ensures is { IsExample shard.new }
+    ensures frame { KeepsFrame shard.old shard.new }
+    ensures stands { TurnStands ⟦<Tally as Trail>⟧
+        ⟦<Tally as Fits<u32>>⟧.fits_under shard.new turn.now }
+{
+    let _history = shard.history();
+    let event = Event { handler: 0, arg: 0 };
+    match shard.register(Colour(colour), event, Some(5), 2) {
+        Ok(reply) => Some(reply),
+        Err(_) => None,
+    }
+}
+
+/// A take of the colour of a turn that is out.
+fn take_meanwhile(shard: &mut Shard<Tally, u32>, turn: &Turn<Tally, u32>) -> Option<NoTake>
+    requires is { IsExample shard.old }
+    requires own { IsOwn shard.old turn.now.colour }
+    requires stands { TurnStands ⟦<Tally as Trail>⟧
+        ⟦<Tally as Fits<u32>>⟧.fits_under shard.old turn.now }
+    ensures is { IsExample shard.new }
+    ensures frame { KeepsFrame shard.old shard.new }
+    ensures stands { TurnStands ⟦<Tally as Trail>⟧
+        ⟦<Tally as Fits<u32>>⟧.fits_under shard.new turn.now }
+{
+    match shard.take(turn.colour(), 0) {
+        Err(refusal) => Some(refusal),
+        Ok(_) => unreachable!(),
+    }
+}
+
+/// A steal of the colour of a turn that is out.
+fn steal_meanwhile(shard: &mut Shard<Tally, u32>, turn: &Turn<Tally, u32>) -> Option<NoSteal>
+    requires is { IsExample shard.old }
+    requires own { IsOwn shard.old turn.now.colour }
+    requires stands { TurnStands ⟦<Tally as Trail>⟧
+        ⟦<Tally as Fits<u32>>⟧.fits_under shard.old turn.now }
+    ensures is { IsExample shard.new }
+    ensures frame { KeepsFrame shard.old shard.new }
+    ensures stands { TurnStands ⟦<Tally as Trail>⟧
+        ⟦<Tally as Fits<u32>>⟧.fits_under shard.new turn.now }
+{
+    match shard.steal(turn.colour(), 1) {
+        Err(refusal) => Some(refusal),
+        Ok(_) => unreachable!(),
+    }
+}
+
+/// What the calls on a running colour answer.
+#[derive(Clone, Copy)]
+struct Meanwhile {
+    count: u16,
+    registered: Option<Registered>,
+    no_take: Option<NoTake>,
+    no_steal: Option<NoSteal>,
+    after: After,
+}
+
+/// Takes a colour, registers, takes and steals it while it runs, and finishes.
+fn take_turn_with_calls(shard: &mut Shard<Tally, u32>, colour: u16) -> Result<Meanwhile, NoTake>
+    requires is { IsExample shard.old }
+    requires colour { colour < 4 }
+    ensures { IsExample shard.new }
+{
+    let turn = shard.take(Colour(colour), 0)?;
+    let registered = register_meanwhile(shard, &turn, colour);
+    let no_take = take_meanwhile(shard, &turn);
+    let no_steal = steal_meanwhile(shard, &turn);
+    Ok(Meanwhile {
+        count: turn.count(),
+        registered,
+        no_take,
+        no_steal,
+        after: run_and_finish(shard, turn),
+    })
+}
+
+/// The answers to the first and the second registration on a colour of core 0.
+const WOKE: Registered = Registered::Woke {
+    owner: 0,
+    started: 0,
+    worth: 30,
+};
+
+const TOLD: Registered = Registered::Told {
+    owner: 0,
+    started: 0,
+    worth: 60,
+};
+
+/// The answers to a finish that leaves one event, and to a steal of that one.
+const MORE: After = After::More {
+    started: 2,
+    worth: 30,
+};
+
+const TAKEN_OVER: Stolen = Stolen {
+    from: 0,
+    started: 2,
+    worth: 30,
+};
+
+/// Whether what is called while colour 2 runs is answered so, where two of its events wait.
+fn answers_meanwhile(shard: &mut Shard<Tally, u32>) -> bool
+    requires { IsExample shard.old }
+    ensures { IsExample shard.new }
+{
+    let Ok(turn) = take_turn_with_calls(shard, 2) else {
+        return false;
+    };
+    turn.count == 2
+        && turn.registered == Some(Registered::Running { core: 0 })
+        && turn.no_take == Some(NoTake::Busy { core: 0 })
+        && turn.no_steal == Some(NoSteal::Busy { core: 0 })
+        && turn.after == MORE
+}
+
+/// A call of the example's shard, with what it answers.
+#[derive(Clone, Copy)]
+enum Call {
+    Register(u16, Registered),
+    Registers(u16),
+    Reserve,
+
+    /// A turn of a colour by a core: how many events it had, and how it was finished.
+    Turn(u16, u16, Result<(u16, After), NoTake>),
+
+    /// A turn of colour 2, with calls while it runs.
+    TurnWithCalls,
+
+    Steal(u16, u16, Result<Stolen, NoSteal>),
+    Steals(u16, u16),
+    Ready(u16, Option<(u16, u64, u128)>),
+
+    /// What the loads that were run on a colour add up to.
+    Total(u16, u64),
+
+    IsDrained(bool),
+
+    /// How long the history is.
+    Entries(usize),
+}
+
+/// Makes a call, and says whether it answers so.
+fn answers(shard: &mut Shard<Tally, u32>, call: Call) -> bool
+    requires { IsExample shard.old }
+    ensures { IsExample shard.new }
+{
+    match call {
+        Call::Register(colour, answer) if colour < 4 => register(shard, colour) == Some(answer),
+        Call::Registers(colour) if colour < 4 => register(shard, colour).is_some(),
+        Call::Reserve => shard.reserve(1) == Ok(()),
+        Call::Turn(colour, core, answer) if colour < 4 => {
+            take_turn(shard, colour, core) == answer
+        }
+        Call::TurnWithCalls => answers_meanwhile(shard),
+        Call::Steal(colour, to, answer) if colour < 4 && to < 2 => {
+            steal(shard, colour, to) == answer
+        }
+        Call::Steals(colour, to) if colour < 4 && to < 2 => steal(shard, colour, to).is_ok(),
+        Call::Ready(colour, answer) if colour < 4 => ready(shard, colour) == answer,
+        Call::Total(colour, total) if colour < 4 => total_at(shard, colour) == Some(total),
+        Call::IsDrained(is_so) => shard.is_drained() == is_so,
+        Call::Entries(count) => shard.history().len() == count,
+        _ => false,
+    }
+}
+
+/// Makes calls of a shard.
+fn play(rt: &impl Abort, shard: &mut Shard<Tally, u32>, calls: &[Call])
+    requires { IsExample shard.old }
+    ensures { IsExample shard.new }
+{
+    'calls: for (number, call) in calls.iter().enumerate() {
+        assert!(rt; answers(shard, *call), "call {number}");
+    }
+}
+
+const IN_ORDER: [Call; 12] = [
+    Call::Register(2, WOKE),
+    Call::Register(2, TOLD),
+    Call::Turn(2, 1, Err(NoTake::Elsewhere { owner: 0 })),
+    Call::TurnWithCalls,
+    Call::Steal(2, 0, Err(NoSteal::Own)),
+    Call::Reserve,
+    Call::Steal(2, 1, Ok(TAKEN_OVER)),
+    Call::Turn(2, 1, Ok((1, After::Idle))),
+    Call::Turn(2, 1, Err(NoTake::Empty { registered: 3 })),
+    Call::Steal(2, 0, Err(NoSteal::Empty { registered: 3 })),
+    Call::Steal(0, 1, Err(NoSteal::Empty { registered: 0 })),
+    Call::Entries(8),
+];
+
+#[test]
+fn calls_on_one_shard_answer_in_order(rt: HostRuntime) -> Result<(), Fail> {
+    let shard = &mut example(rt.alloc(), 20, 0)?;
+    play(&rt, shard, &IN_ORDER);
+    Ok(())
+}
+
+const AT_THE_COST: [Call; 6] = [
+    Call::IsDrained(true),
+    Call::Ready(2, None),
+    Call::Registers(2),
+    Call::IsDrained(false),
+    Call::Ready(2, Some((0, 0, 30))),
+    Call::Steal(2, 1, Err(NoSteal::Cheap { worth: 30 })),
+];
+
+#[test]
+fn a_steal_at_the_cost_is_cheap(rt: HostRuntime) -> Result<(), Fail> {
+    let shard = &mut example(rt.alloc(), 30, 0)?;
+    play(&rt, shard, &AT_THE_COST);
+    Ok(())
+}
+
+/// What a steal of colour 0 answers where it is pinned.
+const PINNED: Result<Stolen, NoSteal> = Err(NoSteal::Pinned { colour: Colour(0) });
+
+const ONE_IS_PINNED: [Call; 8] = [
+    Call::Steal(0, 1, PINNED),
+    Call::Steal(0, 0, PINNED),
+    Call::Registers(0),
+    Call::Registers(2),
+    Call::Steal(0, 1, PINNED),
+    Call::Steals(2, 1),
+    Call::Turn(0, 0, Ok((1, After::Idle))),
+    Call::Steal(0, 1, PINNED),
+];
+
+#[test]
+fn a_pinned_colour_is_never_stolen(rt: HostRuntime) -> Result<(), Fail> {
+    let shard = &mut example(rt.alloc(), 20, 1)?;
+    play(&rt, shard, &ONE_IS_PINNED);
+    Ok(())
+}
+
+/// What a drained shard comes apart into: how many entries, what the loads of each colour add up
+/// to, and how many lists of queued events.
+fn parts_of(
+    alloc: Global,
+    shard: Shard<Tally, u32>,
+) -> Result<Option<(usize, Vec<u64>, usize)>, AllocError> {
+    if !shard.is_drained() {
+        return Ok(None);
+    }
+    let (history, states, queues) = shard.into_parts();
+    let mut totals = Vec::new(alloc);
+    for state in &states {
+        totals.push(state.total)?;
+    }
+    Ok(Some((history.len(), totals, queues.len())))
+}
+
+/// What a new shard of cost 30 comes apart into after these calls.
+fn apart_after(
+    rt: &impl Abort,
+    alloc: Global,
+    calls: &[Call],
+) -> Result<Option<(usize, Vec<u64>, usize)>, Fail> {
+    let mut shard = example(alloc, 30, 0)?;
+    play(rt, &mut shard, calls);
+    shard.events_stand_once();
+    Ok(parts_of(alloc, shard)?)
+}
+
+const ONE_RAN: [Call; 3] = [
+    Call::Registers(3),
+    Call::Turn(3, 1, Ok((1, After::Idle))),
+    Call::Total(3, 5),
+];
+
+#[test]
+fn a_shard_comes_apart_into_what_it_held(rt: HostRuntime) -> Result<(), Fail> {
+    let totals = vec![in rt.alloc(); 0, 0, 0, 5]?;
+    let whole = apart_after(&rt, rt.alloc(), &ONE_RAN)?;
+    assert!(rt; whole == Some((3, totals, 4)));
+    let none = apart_after(&rt, rt.alloc(), &[Call::Registers(3)])?;
+    assert!(rt; none == None);
+    Ok(())
+}

@@ -1,0 +1,8 @@
+//! What a connection and the command depend on, as tests: texts, links, heads, parts, sites, answers,
+//! words and sockets.
+//!
+//! They stand in a crate of their own, since a crate with tests is proved twice.
+#![tactic(auto)]
+
+#[cfg(test)]
+mod tests;

@@ -1,0 +1,10 @@
+//! What these crates give for worked rows, a module for each.
+
+mod answers;
+mod links;
+mod parts;
+mod requests;
+mod sites;
+mod sockets;
+mod texts;
+mod words;

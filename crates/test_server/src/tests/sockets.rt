@@ -1,0 +1,4 @@
+//! The adapters over what the machine may do.
+
+mod streams;
+mod tcp;

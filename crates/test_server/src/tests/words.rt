@@ -1,0 +1,183 @@
+//! Words that are a command line, and words that are none.
+use std::alloc::{AllocError, Global};
+use std::test::Fail;
+use sws_words::{Order, WordFault, read_words};
+
+/// The words of a line, which stand one space apart.
+fn words_of(alloc: Global, line: &str) -> Result<Vec<String>, AllocError> {
+    let mut words = Vec::new(alloc);
+    if line.is_empty() {
+        return Ok(words);
+    }
+    for word in line.split(' ') {
+        words.push(String::from_str(alloc, word)?)?;
+    }
+    Ok(words)
+}
+
+static GOOD: [&str; 30] = [
+    "answer S --",
+    "answer S",
+    "answer S --date 5",
+    "answer --date 5 S",
+    "answer --date=5 S",
+    "answer --date +007 -- S",
+    "answer -- S",
+    "answer -- -S",
+    "answer -- --date",
+    "answer -",
+    "answer S --date=253402300799",
+    "answer -- --",
+    "answer --date=+5 -",
+    "replay S",
+    "replay S --journal --schedule",
+    "replay --schedule S --journal --workers=64 --shards 64 --batch 1000 --group 64 --cost 1000000 --date 0",
+    "replay S --cost=0",
+    "replay --workers 1 -- S",
+    "serve S --port 1 --connections 1",
+    "serve --connections=1024 --port=65535 S",
+    "serve S --port 8080 --connections 2 --date 784111777",
+    "bench 1 0",
+    "bench 1024 4294967295",
+    "bench --workers 8 1024 7",
+    "bench +1 +7 --cost 5",
+    "bench -- 1 7",
+    "check --connections 0",
+    "check --connections=1024 --workers 64 --shards=64",
+    "check --cost 5 --connections +7",
+    "check --connections 1 --",
+];
+
+static BAD: [&str; 87] = [
+    "",
+    "frob S",
+    "answer",
+    "replay",
+    "replay S --workers 65",
+    "replay S --workers 1 --workers 1",
+    "answer S T",
+    "answer S --date",
+    "answer --date",
+    "answer S --date -5",
+    "answer S --date -",
+    "answer S --date=",
+    "answer S --date=-0",
+    "answer S --date -0",
+    "answer S --date 253402300800",
+    "answer S --date 18446744073709551616",
+    "answer S --date ++5",
+    "answer S --date 5x",
+    "answer S --dat 5",
+    "answer S --dates 5",
+    "answer S -d 5",
+    "answer -S",
+    "answer S -x",
+    "answer --help",
+    "answer S --help",
+    "answer -h",
+    "answer S --version",
+    "answer S -V",
+    "help answer",
+    "answer help S",
+    "--help",
+    "answer S --journal",
+    "answer S --workers 1",
+    "answer -- S --date 5",
+    "answer S --date --",
+    "answer --date -- S",
+    "answer S --=5",
+    "answer S --date 5 --date 5",
+    "answer S --date=5 --date=6",
+    "answer S --date=5=6",
+    "replay S --journal --journal",
+    "replay S --journal=true",
+    "replay S --journal=",
+    "replay S --schedule x",
+    "replay S --workers 0",
+    "replay S --shards 65",
+    "replay S --batch 1001",
+    "replay S --batch 0",
+    "replay S --group 0",
+    "replay S --cost 1000001",
+    "replay S --cost -1",
+    "replay S --workers=-1",
+    "replay S --workers 1_0",
+    "replay S --port 1",
+    "serve S",
+    "serve S --port 1",
+    "serve S --connections 1",
+    "serve S --port 0 --connections 1",
+    "serve S --port 65536 --connections 1",
+    "serve S --port 1 --connections 0",
+    "serve S --port 1 --connections 1025",
+    "serve S --port 1 --connections 1 --journal",
+    "serve --port 1 --connections 1",
+    "bench",
+    "bench 1",
+    "bench 0 1",
+    "bench 1025 1",
+    "bench 1 4294967296",
+    "bench 1 2 3",
+    "bench -1 2",
+    "bench 1 -2",
+    "bench 1 2 --date 5",
+    "bench x 1",
+    "check",
+    "check 1",
+    "check S --connections 1",
+    "check --connections 1025",
+    "check --connections 1 --connections 1",
+    "check --connections 1 --date 5",
+    "check --connections 1 -- S",
+    "Answer S",
+    "answer S --Date 5",
+    "answer S ---date 5",
+    "answer S --date 5 -",
+    "answer S -ü",
+    "answer S --ü",
+    "answer S --date ü",
+];
+
+#[test]
+fn command_lines_are_read(rt: HostRuntime) -> Result<(), Fail> {
+    for line in GOOD.as_slice() {
+        let words = words_of(rt.alloc(), line)?;
+        assert!(rt; read_words(rt.alloc(), words.as_slice()).is_ok(), "{line}");
+    }
+    Ok(())
+}
+
+#[test]
+fn other_lines_are_no_command_lines(rt: HostRuntime) -> Result<(), Fail> {
+    for line in BAD.as_slice() {
+        let words = words_of(rt.alloc(), line)?;
+        match read_words(rt.alloc(), words.as_slice()) {
+            Err(WordFault::Usage) => {}
+            _ => panic!(rt; "{line}"),
+        }
+    }
+    Ok(())
+}
+
+#[test]
+fn defaults_and_values_come_where_they_belong(rt: HostRuntime) -> Result<(), Fail> {
+    let line = "replay --cost=5 --journal S --workers +2 --date 007";
+    let words = words_of(rt.alloc(), line)?;
+    match read_words(rt.alloc(), words.as_slice()) {
+        Ok(
+            Order::Replay {
+                folder,
+                shape,
+                date,
+                journal,
+                schedule,
+            },
+        ) => {
+            assert!(rt; folder.as_str() == "S" && date == Some(7) && journal && !schedule);
+            assert!(rt; shape.cores == 2 && shape.shards == 1 && shape.batch == 10);
+            assert!(rt; shape.group == 4 && shape.steal_cost == 5);
+        }
+        _ => panic!(rt; "{line}"),
+    }
+    Ok(())
+}

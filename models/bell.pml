@@ -1,0 +1,538 @@
+/* The bell of a fleet (crates/mely_fleet/src/bell.rt and working.rt), step by step.
+ *
+ * Each read or write of a word that several threads use is a step of its own, in the order of the
+ * code; all are sequentially consistent, as in the code. What a waker does under the mutex of a bed
+ * is one step, since nobody else sees a part of it. `rung` says whether the bed's `rings` differ from
+ * what its worker read when it lay down.
+ *
+ * How often a worker hunts before it lies down is left open, and so is how often it hunts in vain
+ * before its patience ends: so a check holds for every number of looks.
+ *
+ * What a check is made of:
+ *
+ *   ROUNDS     how often the workers are let work, each time once all have left; an event is posted
+ *              before each round, on the colour START or any
+ *   LATE       each worker begins at any time; else all have begun
+ *   REFUSED    from this round on, counted from 0, the machine refuses the last worker a thread: it
+ *              begins when the first one has left
+ *   OUTSIDER   so many events are posted from outside in the first round, at any time
+ *   UNMARKED   so many events are registered from outside, and nobody pushes their marks
+ *   HALTS      a worker may be halted once, for want of memory, when it is about to run
+ *   ALONE      no worker has victims
+ *   PROMPT     a worker lies down after its first hunt in vain, and its patience is one hunt: for
+ *              checks that are too large without
+ *
+ * Properties:
+ *
+ *   no end state that isn't one: nobody waits for ever while nobody else can make a step
+ *   `quiet`    a worker that answers Quiet leaves nothing behind, where nobody posts from outside
+ *   `cause`    a worker gives up because all others wait only once all have begun, where nothing
+ *              runs, something is ready, and each mark lies in the chain of a core whose worker has
+ *              left, or nowhere
+ *   `patient`  with NO_CAUSE nobody gives up at all
+ *   `clean`    after a round nobody is counted any more
+ *   `again`    what was left behind is run in the next round
+ *   `ends`     with ENDS: each run comes to an end, where each thread is run now and then and who
+ *              waits for a mutex gets it
+ *
+ * Wrong bells, which a check has to find:
+ *
+ *   FLAG_FIRST      a worker sets `asleep` before it is counted in `sleepers`
+ *   NEVER_LAST      a worker waits even where all others do
+ *   NEVER_FEWER     who began is counted for ever
+ *   NO_NEWS         a worker gives up without regard to news under way
+ *   LEAVE_UNTOLD    that a leaving worker wakes the others is no news under way
+ *   LEAVE_UNRUNG    a worker leaves and wakes nobody
+ *   NO_LAST_HUNT    a worker doesn't hunt between lying down and waiting
+ *
+ * Another order, of which no check says that it is wrong:
+ *
+ *   CREW_AFTER      a worker that is about to wait counts itself before it reads how many are at work;
+ *                   with two workers it is as good
+ */
+#include "fleet.pml"
+
+#ifndef ROUNDS
+#define ROUNDS 1
+#endif
+
+#if C == 2
+#define IS_LEFT(c) (stage[c] == Idle || (stage[c] == Ready && (HAS_NO_MARK(c) \
+    || (lies[c] != NONE && !is_here[lies[c]]))))
+#define IS_STUCK (!ALL_IDLE && IS_LEFT(0) && IS_LEFT(1))
+#else
+#define IS_LEFT(c) (stage[c] == Idle || (stage[c] == Ready && (HAS_NO_MARK(c) \
+    || (lies[c] != NONE && !is_here[lies[c]]))))
+#define IS_STUCK (!ALL_IDLE && IS_LEFT(0) && IS_LEFT(1) && IS_LEFT(2))
+#endif
+
+/* A bed for each core. */
+bool asleep[K];
+bool rung[K];
+bool waits[K];
+bool held[K];          /* its worker holds the mutex */
+#ifdef ENDS
+bool wanted[K];        /* somebody else waits for the mutex, and is the next who gets it */
+#define WANTS(b) wanted[b] = true
+#define HAS(b) wanted[b] = false
+#define IS_WANTED(b) wanted[b]
+#else
+#define WANTS(b) skip
+#define HAS(b) skip
+#define IS_WANTED(b) false
+#endif
+
+byte sleepers;
+byte waiting;
+byte begun_news;
+byte ended_news;
+byte begun;            /* both halves of the crew's word change in one step */
+byte at_work;
+bool has_given_up;
+#ifdef HALTS
+bool is_stopped;
+byte halts = 1;
+#endif
+
+/* What only the properties look at. */
+bool is_here[K];       /* its worker is at work */
+byte began;            /* workers that began in this round */
+byte gone;             /* workers that have left in this round */
+bool outside_done;
+bool first_left;
+
+/* `wake`. */
+inline wake(b, did) {
+    if
+    :: atomic { asleep[b] -> asleep[b] = false; did = true };
+        atomic { sleepers--; WANTS(b) };
+        atomic {
+            !held[b];
+            if
+            :: waits[b] -> waits[b] = false; waiting--
+            :: else
+            fi;
+            rung[b] = true;
+            HAS(b)
+        }
+    :: atomic { !asleep[b] -> did = false }
+    fi
+}
+
+/* `ring_all`. */
+inline ring_all(v, did) {
+    v = 0;
+    do
+    :: v < K -> wake(v, did); atomic { v++; did = false }
+    :: else -> v = 0; break
+    od
+}
+
+/* `told`, of news. */
+inline told(to, is_for_thieves, v, did) {
+    if
+    :: sleepers == 0
+    :: else ->
+        wake(to, did);
+        if
+        :: is_for_thieves && !did ->
+            v = 0;
+            do
+            :: v < K && !did -> wake(v, did); v++
+            :: else -> v = 0; break
+            od
+        :: else
+        fi;
+        did = false
+    fi
+}
+
+/* `rise`. */
+inline rise() {
+    if
+    :: atomic { lain && asleep[me] -> lain = false; asleep[me] = false }; sleepers--
+    :: atomic { lain && !asleep[me] -> lain = false }
+    :: !lain
+    fi
+}
+
+/* What follows a registration by the caller `by`: a mark is pushed, or a chain is told. */
+inline deliver(by, d, to, is_new, is_worthy, other, v, did) {
+    if
+    :: to != NONE && is_new ->
+        count_woken(by);
+        push(d, to, is_worthy, other);
+        told(to, (is_worthy && (other || by != to)), v, did)
+    :: to != NONE && !is_new ->
+        retell(d, to, is_worthy, other);
+        if
+        :: other -> told(to, is_worthy, v, did)
+        :: else
+        fi
+    :: else
+    fi;
+    atomic { d = 0; to = 0; is_new = false; is_worthy = false; other = false }
+}
+
+#ifdef HALTS
+#define STOP_IF_TOLD if :: is_stopped -> d = 0; c = 0; goto stop :: else fi
+#else
+#define STOP_IF_TOLD skip
+#endif
+
+inline begin(me) {
+    atomic { begun++; at_work++; is_here[me] = true; began++ }
+}
+
+proctype Worker(byte me) {
+    byte c, d, to, v, crew;
+    bool lain, has_missed, did, is_new, is_worthy, other;
+    short sum;
+
+#if defined(LATE) || defined(REFUSED)
+    begin(me);
+#endif
+
+free:
+    STOP_IF_TOLD;
+    pop(c, me);
+    if
+    :: c != NONE -> rise(); has_missed = false; goto popped
+    :: c == NONE && has_missed -> c = 0; goto pause
+    :: c == NONE && !has_missed -> c = 0; has_missed = true
+    fi;
+
+hunt:
+#ifndef ALONE
+    d = 1;
+    do
+    :: d < K ->
+        STOP_IF_TOLD;
+        pick(c, (me + d) % K);
+        if
+        :: c != NONE -> d = 0; rise(); has_missed = false; goto picked
+        :: else
+        fi;
+        d++
+    :: else -> d = 0; break
+    od;
+    c = 0;
+#endif
+    goto free;
+
+pause:
+    /* A whole hunt has found nothing. */
+    add_up(sum, v);
+    if
+    :: sum == 0 ->
+        look_at_shards(other, v);
+        if
+        :: other ->
+            other = false;
+#if !defined(OUTSIDER) && !defined(UNMARKED)
+            assert(ALL_IDLE);                                       /* quiet */
+#endif
+            goto leave
+        :: else -> goto hunt
+        fi
+    :: else -> sum = 0
+    fi;
+    if
+#if !defined(ENDS) && !defined(PROMPT)
+    :: !lain -> goto hunt
+#endif
+    :: !lain ->
+        atomic { rung[me] = false; lain = true };
+#ifdef FLAG_FIRST
+        asleep[me] = true;
+        sleepers++;
+#else
+        sleepers++;
+        asleep[me] = true;
+#endif
+#ifdef NO_LAST_HUNT
+        goto rest
+#else
+        goto hunt
+#endif
+    :: lain -> goto rest
+    fi;
+
+rest:
+    if
+    :: has_given_up -> goto give_up
+    :: else
+    fi;
+    if
+    :: begun < K ->
+        if
+#if !defined(ENDS) && !defined(PROMPT)
+        :: goto hunt
+#endif
+        :: goto give_up
+        fi
+    :: else
+    fi;
+#ifndef CREW_AFTER
+    crew = at_work;
+#endif
+    to = ended_news;
+    if
+    :: atomic { rung[me] -> crew = 0; to = 0 }; goto rise_again
+    :: atomic {
+            !rung[me] && !IS_WANTED(me) ->
+            held[me] = true; waits[me] = true; waiting++; v = waiting;
+            other = IS_STUCK && began == K
+        }
+    fi;
+#ifdef CREW_AFTER
+    crew = at_work;
+#endif
+    if
+#ifdef NEVER_LAST
+    :: true ->
+#else
+    :: v < crew ->
+#endif
+        atomic { held[me] = false; other = false; crew = 0; to = 0; v = 0 };
+        rung[me];
+        goto rise_again
+#ifndef NEVER_LAST
+    :: v >= crew ->
+        atomic { waits[me] = false; waiting--; held[me] = false; crew = 0; v = 0 };
+        if
+#ifdef NO_NEWS
+        :: true ->
+#else
+        :: begun_news == to ->
+#endif
+            assert(other);                                          /* cause */
+            atomic { other = false; to = 0 };
+            goto give_up
+#ifndef NO_NEWS
+        :: begun_news != to -> atomic { other = false; to = 0 }; goto hunt
+#endif
+        fi
+#endif
+    fi;
+
+rise_again:
+    rise();
+    has_missed = false;
+    goto free;
+
+picked:
+    steal(c, me, is_worthy);
+    push(c, me, is_worthy, other);
+    told(me, (is_worthy && other), v, did);
+    atomic { is_worthy = false; other = false; c = 0 };
+    goto free;
+
+popped:
+#ifdef HALTS
+    if
+    :: atomic { halts > 0 -> halts-- };
+        /* Its take is refused: it puts back the mark in its hand. */
+        push(c, me, c >= PINNED, other);
+        told(me, (c >= PINNED && other), v, did);
+        atomic { other = false; c = 0 };
+        goto stop
+    :: true
+    fi;
+#endif
+    take(c, me);
+    do
+    :: atomic { puts > 0 -> puts--; choose(d); register(d, to, is_new, is_worthy) };
+        deliver(me, d, to, is_new, is_worthy, other, v, did)
+    :: break
+    od;
+    finish(c, is_new, is_worthy);
+    if
+    :: is_new ->
+        push(c, me, is_worthy, other);
+        told(me, (is_worthy && other), v, did)
+    :: else ->
+        count_idled(me);
+        if
+        :: sleepers == 0
+        :: else ->
+            add_up(sum, v);
+            if
+            :: sum == 0 -> ring_all(v, did)
+            :: else -> sum = 0
+            fi
+        fi
+    fi;
+    atomic { is_new = false; is_worthy = false; other = false; c = 0 };
+    goto free;
+
+#ifdef HALTS
+stop:
+    is_stopped = true;
+    goto leave;
+#endif
+
+give_up:
+#ifdef NO_CAUSE
+    assert(false);                                                  /* patient */
+#endif
+    has_given_up = true;
+
+leave:
+    rise();
+#ifndef LEAVE_UNTOLD
+    begun_news++;
+#endif
+#ifdef NEVER_FEWER
+    atomic { at_work--; is_here[me] = false };
+#else
+    atomic { at_work--; is_here[me] = false; other = (at_work == 0); crew = begun };
+    if
+    :: other ->
+        atomic {
+            other = (at_work == 0 && begun == crew);
+            if
+            :: other -> begun = 0
+            :: else
+            fi
+        };
+        if
+        :: other -> has_given_up = false
+        :: else
+        fi
+    :: else
+    fi;
+#endif
+#ifndef LEAVE_UNRUNG
+    ring_all(v, did);
+#endif
+#ifndef LEAVE_UNTOLD
+    ended_news++;
+#endif
+    atomic { if :: me == 0 -> first_left = true :: else fi; gone++; c = 0; other = false; crew = 0 }
+}
+
+#if defined(OUTSIDER) || defined(UNMARKED)
+proctype Outsider() {
+    byte d, to, v, n;
+    bool did, is_new, is_worthy, other;
+#ifdef UNMARKED
+    n = UNMARKED;
+    do
+    :: atomic {
+            n > 0 -> n--; any_colour(d); register(d, to, is_new, is_worthy);
+            if
+            :: to != NONE && is_new -> unmarked[d] = true
+            :: else -> is_new = false
+            fi
+        };
+        if
+        :: is_new -> count_woken(K)
+        :: else
+        fi;
+        atomic { d = 0; to = 0; is_new = false; is_worthy = false }
+    :: n == 0 -> break
+    od;
+#endif
+#ifdef OUTSIDER
+    n = OUTSIDER;
+    do
+    :: n > 0 ->
+        atomic { n--; begun_news++ };
+        atomic { any_colour(d); register(d, to, is_new, is_worthy) };
+        deliver(K, d, to, is_new, is_worthy, other, v, did);
+        ended_news++
+    :: n == 0 -> break
+    od;
+#endif
+    outside_done = true
+}
+#endif
+
+init {
+    byte d, to, v, round;
+    bool is_new, is_worthy, other;
+    atomic {
+        v = 0;
+        do
+        :: v < C -> owner[v] = v % K; v++
+        :: else -> v = 0; break
+        od
+    }
+    do
+    :: round < ROUNDS ->
+        atomic {
+#ifdef START
+            d = START;
+#else
+            any_colour(d);
+#endif
+            register(d, to, is_new, is_worthy);
+            if
+            :: to != NONE && is_new -> count_woken(K); push(d, to, is_worthy, other)
+            :: else
+            fi;
+            d = 0; to = 0; is_new = false; is_worthy = false; other = false;
+            gone = 0;
+            began = 0;
+            first_left = false;
+            v = 0;
+            do
+            :: v < K ->
+#if !defined(LATE) && !defined(REFUSED)
+                begin(v);
+#endif
+                v++
+            :: else -> v = 0; break
+            od;
+            do
+            :: v < K - 1 -> run Worker(v); v++
+            :: else -> v = 0; break
+            od;
+#if defined(OUTSIDER) || defined(UNMARKED)
+            if
+            :: round == 0 -> run Outsider()
+            :: else
+            fi
+#endif
+        }
+#ifdef REFUSED
+        if
+        :: round >= REFUSED -> first_left
+        :: else
+        fi;
+#endif
+        atomic { run Worker(K - 1) };
+        gone == K;
+#if defined(OUTSIDER) || defined(UNMARKED)
+        outside_done;
+#endif
+        atomic {
+            assert(at_work == 0 && waiting == 0 && sleepers == 0);  /* clean */
+#ifndef NEVER_FEWER
+            assert(begun == 0 && !has_given_up);                    /* clean */
+#endif
+            v = 0;
+            do
+            :: v < K -> assert(!asleep[v] && !waits[v] && !held[v]); v++
+            :: else -> v = 0; break
+            od
+        };
+#if !defined(UNMARKED) && !defined(LATE) && !defined(REFUSED) && !defined(HALTS)
+#if defined(OUTSIDER)
+        if
+        :: round > 0 -> assert(ALL_IDLE)                            /* again */
+        :: else
+        fi;
+#else
+        assert(ALL_IDLE);                                           /* again */
+#endif
+#endif
+        round++
+    :: else -> break
+    od
+}
+
+#ifdef ENDS
+ltl ends { <> (gone == K) }
+#endif

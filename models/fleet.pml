@@ -1,0 +1,212 @@
+/* Colours, shards and chains of a fleet, as far as the bell depends on them.
+ *
+ * A call on a shard or on a chain is made behind its lock, so it is one step here. A chain is a set
+ * of marks: which of them is popped or picked first is left open. Each colour has a shard of its
+ * own, and a turn takes one event.
+ *
+ *   K         workers, one for each core
+ *   C         colours, 2 or 3; colour c begins on core c % K
+ *   PINNED    the colours below this one are never stolen
+ *   WORTH     from how many queued events on a colour is worth a steal
+ *   EVENTS    how many events all handlers together may register, on any colours in any order
+ *   IN_TURN   these go to the colours IN_TURN + EVENTS - 1, .., IN_TURN, in this order
+ *   COARSE    a bed's counts are added up, and the shards looked at, in one step
+ *   ENDS      for the property `ends`: a colour that was stolen isn't stolen again before it ran, as
+ *             two thieves could pass it to and fro for ever
+ */
+#ifndef K
+#define K 2
+#endif
+#ifndef C
+#define C 2
+#endif
+#ifndef PINNED
+#define PINNED 1
+#endif
+#ifndef WORTH
+#define WORTH 1
+#endif
+#ifndef EVENTS
+#define EVENTS 2
+#endif
+
+#define NONE 15
+
+mtype = { Idle, Ready, Runs };
+
+mtype stage[C] = Idle;
+byte queued[C];        /* events that wait */
+byte owner[C];
+byte lies[C] = NONE;   /* the core in whose chain the mark lies */
+bool good[C];          /* whether the mark says there that it is worth a steal */
+byte puts = EVENTS;    /* events that handlers may still register */
+#ifdef UNMARKED
+bool unmarked[C];      /* the colour was made ready by a caller that pushes no mark */
+#define HAS_NO_MARK(c) unmarked[c]
+#else
+#define HAS_NO_MARK(c) false
+#endif
+
+/* How many colours were made ready, and how many left idle: each caller counts in a bed of its own.
+ * With COARSE their difference. */
+#ifdef COARSE
+byte busy;
+#define count_woken(by) busy++
+#define count_idled(by) busy--
+#else
+byte woken[K + 1];
+byte idled[K + 1];
+#define count_woken(by) woken[by]++
+#define count_idled(by) idled[by]++
+#endif
+
+#if C == 2
+#define OTHERS_IN(k) (lies[0] == (k) || lies[1] == (k))
+#define ALL_IDLE (stage[0] == Idle && stage[1] == Idle)
+#else
+#define OTHERS_IN(k) (lies[0] == (k) || lies[1] == (k) || lies[2] == (k))
+#define ALL_IDLE (stage[0] == Idle && stage[1] == Idle && stage[2] == Idle)
+#endif
+
+inline any_colour(d) {
+    if
+    :: d = 0
+    :: d = 1
+#if C > 2
+    :: d = 2
+#endif
+    fi
+}
+
+/* The colour of the next event that a handler registers. */
+inline choose(d) {
+#ifdef IN_TURN
+    d = puts + IN_TURN
+#else
+    any_colour(d)
+#endif
+}
+
+/* `register`: `to` is the core whose chain is told, or NONE; `is_new` asks for a mark, else for a
+ * report. */
+inline register(d, to, is_new, is_worthy) {
+    queued[d]++;
+    is_worthy = (d >= PINNED && queued[d] >= WORTH);
+    if
+    :: stage[d] == Idle -> stage[d] = Ready; is_new = true; to = owner[d]
+    :: stage[d] == Ready -> is_new = false; to = owner[d]
+    :: stage[d] == Runs -> is_new = false; to = NONE
+    fi
+}
+
+/* `push`; whether the chain has other marks is answered beside. */
+inline push(d, to, is_worthy, is_crowded) {
+    atomic {
+        assert(lies[d] == NONE);
+        is_crowded = OTHERS_IN(to);
+        lies[d] = to;
+        good[d] = is_worthy
+    }
+}
+
+/* `retell`; whether the mark was found there. */
+inline retell(d, to, is_worthy, is_found) {
+    atomic {
+        is_found = (lies[d] == to);
+        if
+        :: is_found -> good[d] = is_worthy
+        :: else
+        fi
+    }
+}
+
+/* `pop`: any mark of a chain, or NONE. */
+inline pop(c, from) {
+    atomic {
+        if
+        :: lies[0] == from -> c = 0; lies[0] = NONE; good[0] = false
+        :: lies[1] == from -> c = 1; lies[1] = NONE; good[1] = false
+#if C > 2
+        :: lies[2] == from -> c = 2; lies[2] = NONE; good[2] = false
+#endif
+        :: else -> c = NONE
+        fi
+    }
+}
+
+/* `pick`: any mark of a chain that is worth a steal, or NONE. */
+inline pick(c, from) {
+    atomic {
+        if
+        :: lies[0] == from && good[0] -> c = 0; lies[0] = NONE; good[0] = false
+        :: lies[1] == from && good[1] -> c = 1; lies[1] = NONE; good[1] = false
+#if C > 2
+        :: lies[2] == from && good[2] -> c = 2; lies[2] = NONE; good[2] = false
+#endif
+        :: else -> c = NONE
+        fi
+    }
+}
+
+/* `take`, `steal` and `finish` aren't refused. */
+inline take(c, by) {
+    atomic {
+        assert(owner[c] == by && stage[c] == Ready && queued[c] > 0);
+        queued[c]--;
+        stage[c] = Runs
+    }
+}
+
+inline steal(c, by, is_worthy) {
+    atomic {
+        assert(owner[c] != by && stage[c] == Ready && c >= PINNED);
+        owner[c] = by;
+#ifdef ENDS
+        is_worthy = false
+#else
+        is_worthy = (queued[c] >= WORTH)
+#endif
+    }
+}
+
+inline finish(c, is_more, is_worthy) {
+    atomic {
+        is_more = queued[c] > 0;
+        is_worthy = (c >= PINNED && queued[c] >= WORTH);
+        stage[c] = (is_more -> Ready : Idle)
+    }
+}
+
+/* `is_idle`: adds up what was left idle, then what was made ready, bed by bed; equal where `sum` is
+ * 0. `are_drained`: looks at each shard until one isn't. */
+#ifdef COARSE
+inline add_up(sum, v) {
+    sum = busy
+}
+
+inline look_at_shards(is_drained, v) {
+    is_drained = ALL_IDLE
+}
+#else
+inline add_up(sum, v) {
+    sum = 0;
+    v = 0;
+    do
+    :: atomic { v <= K -> sum = sum + idled[v]; v++ }
+    :: atomic { v > K -> v = 0 } -> break
+    od;
+    do
+    :: atomic { v <= K -> sum = sum - woken[v]; v++ }
+    :: atomic { v > K -> v = 0 } -> break
+    od
+}
+
+inline look_at_shards(is_drained, v) {
+    is_drained = true;
+    v = 0;
+    do
+    :: atomic { v < C && is_drained -> is_drained = (stage[v] == Idle); v++ }
+    :: atomic { v >= C || !is_drained -> v = 0 } -> break
+    od
+}
+#endif
