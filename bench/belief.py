@@ -234,9 +234,14 @@ CORES = {"run_app": ["IsAllowed"], "answer": ["responses_of"], "serve": ["respon
          "check": ["IsAllowed"]}
 
 
+def impls_of_http(repository):
+    """What a connection of HTTP gives for the members of `Talk`: those of a connection over any speech, and what HTTP gives as one."""
+    return {"Talk": repository.impl_of("Talk", "sws_steps", "SpeechConn"), "Speech": repository.impl_of("Speech", "sws_conn", "Http")}
+
+
 def promises_of(repository):
     """The promises in the order in which the page has them, each with its parts."""
-    talk = {"Talk": repository.impl_of("Talk", "sws_conn", "Conn")}
+    talk = impls_of_http(repository)
     found = []
 
     def promise(name, title, first, *calls, impls=()):
@@ -328,7 +333,7 @@ class Page:
                     lines.append(f"| {shown} | {part.title or 'the promise'} | {numbers} |")
                     shown = ""
         contract = self.repository.must("crates/sws_top/src/ordering.rt").contract("sws")
-        talk = {"Talk": self.repository.impl_of("Talk", "sws_conn", "Conn")}
+        talk = impls_of_http(self.repository)
         whole = Chain(self.repository, [contract.item(clause) for clause in contract.clauses], talk)
         numbers = " | ".join(f"{number:,}" for number in counted(self.repository, whole.items.values()))
         lines.append(f"| all of `sws` | each command, the words, and the causes of faults | {numbers} |")

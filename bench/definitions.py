@@ -524,8 +524,9 @@ class CodeFile:
         scope = Scope(self.crate, self.path)
         scope.take(self.code[brace:end], "ghost use")
         members = self.members("impl", f"{found.group(1)} for {found.group(2)}", brace, end, "=")
+        bounds = re.findall(r"[A-Z]\w*", head[4:len(head) - len(self.without_bounds(head)) + 4])
         for member in members.values():
-            member.inner = scope
+            member.inner, member.bounds = scope, bounds
         if found.group(1) == "Model":
             if "Value" in members:
                 self.views[found.group(2)] = self.view(found.group(2), members)

@@ -19,8 +19,13 @@
  *   UNMARKED   so many events are registered from outside, and nobody pushes their marks
  *   HALTS      a worker may be halted once, for want of memory, when it is about to run
  *   ALONE      no worker has victims
- *   PROMPT     a worker lies down after its first hunt in vain, and its patience is one hunt: for
- *              checks that are too large without
+ *   AT_ONCE    a worker leaves in one step, and looks at the words of all chains in one: for checks of
+ *              three
+ *   FROM_SLEEP the workers from this one on begin asleep, as they are once they have hunted in vain
+ *              while a handler runs
+ *   PROMPT     a worker is counted as searching as soon as it finds its own chain empty, lies down
+ *              after its first hunt in vain, and its patience is one hunt: for checks that are too
+ *              large without
  *
  * Properties:
  *
@@ -44,6 +49,12 @@
  *   LEAVE_UNTOLD    that a leaving worker wakes the others is no news under way
  *   LEAVE_UNRUNG    a worker leaves and wakes nobody
  *   NO_LAST_HUNT    a worker doesn't hunt between lying down and waiting
+ *   NO_LOOK         who takes the count of those that search to 0 looks nowhere afterwards
+ *   NO_SECOND_LOOK  who counted one more as searching, and found nobody to wake, doesn't either
+ *   HINT_AFTER      what a chain's word says is stored once the caller has told of the mark
+ *   UNCOUNTED       who was woken to search isn't counted as searching, though the waker counted it
+ *   LEAVE_COUNTED   a worker leaves without giving back that it searches
+ *   WOKEN_ALONE     a mark that the owner alone may take wakes nobody while somebody searches
  *
  * Another order, of which no check says that it is wrong:
  *
@@ -67,7 +78,8 @@
 #endif
 
 /* A bed for each core. */
-bool asleep[K];
+mtype = { Up, Asleep, Called };
+mtype bed[K] = Up;     /* Called: woken to search, and counted as one that does */
 bool rung[K];
 bool waits[K];
 bool held[K];          /* its worker holds the mutex */
@@ -83,6 +95,7 @@ bool wanted[K];        /* somebody else waits for the mutex, and is the next who
 #endif
 
 byte sleepers;
+byte searching;
 byte waiting;
 byte begun_news;
 byte ended_news;
@@ -101,10 +114,10 @@ byte gone;             /* workers that have left in this round */
 bool outside_done;
 bool first_left;
 
-/* `wake`. */
-inline wake(b, did) {
+/* `wake`: as an owner (`as` is Up), or to search (Called). */
+inline wake(b, as, did) {
     if
-    :: atomic { asleep[b] -> asleep[b] = false; did = true };
+    :: atomic { bed[b] == Asleep -> bed[b] = as; did = true };
         atomic { sleepers--; WANTS(b) };
         atomic {
             !held[b];
@@ -115,7 +128,7 @@ inline wake(b, did) {
             rung[b] = true;
             HAS(b)
         }
-    :: atomic { !asleep[b] -> did = false }
+    :: atomic { bed[b] != Asleep -> did = false }
     fi
 }
 
@@ -123,38 +136,130 @@ inline wake(b, did) {
 inline ring_all(v, did) {
     v = 0;
     do
-    :: v < K -> wake(v, did); atomic { v++; did = false }
+    :: v < K -> wake(v, Up, did); atomic { v++; did = false }
     :: else -> v = 0; break
     od
 }
 
-/* `told`, of news. */
-inline told(to, is_for_thieves, v, did) {
-    if
-    :: sleepers == 0
-    :: else ->
-        wake(to, did);
+#if K == 2
+#define HAS_HINT (hinted[0] || hinted[1])
+#else
+#define HAS_HINT (hinted[0] || hinted[1] || hinted[2])
+#endif
+
+/* `has_spoils`: looks at the word of each chain, one after another. */
+inline look(v, did) {
+#ifdef AT_ONCE
+    did = HAS_HINT
+#else
+    v = 0;
+    did = false;
+    do
+    :: atomic { v < K && !did -> did = hinted[v]; v++ }
+    :: atomic { v == K || did -> v = 0 }; break
+    od
+#endif
+}
+
+/* `call`: sees to it that somebody searches, if somebody sleeps: an owner of a mark for thieves, or
+ * else the first. */
+inline call(v, did) {
+    do
+    :: searching > 0 -> break
+    :: searching == 0 ->
         if
-        :: is_for_thieves && !did ->
-            v = 0;
-            do
-            :: v < K && !did -> wake(v, did); v++
-            :: else -> v = 0; break
-            od
+        :: sleepers == 0 -> break
+        :: sleepers > 0
+        fi;
+        if
+        :: searching > 0 -> break
+        :: atomic { searching == 0 -> searching = 1 }
+        fi;
+        v = 0;
+        did = false;
+        do
+        :: atomic { v < K && !did && !hinted[v] -> v++ }
+        :: atomic { v < K && !did && hinted[v] -> did = false }; wake(v, Called, did); v++
+        :: else -> v = 0; break
+        od;
+        do
+        :: v < K && !did -> wake(v, Called, did); v++
+        :: else -> v = 0; break
+        od;
+        if
+        :: did -> did = false; break
         :: else
         fi;
-        did = false
+        /* All are up. Others may have relied on this count. */
+        if
+        :: atomic { searching > 1 -> searching-- }; break
+        :: atomic { searching == 1 -> searching = 0 }
+        fi;
+#ifdef NO_SECOND_LOOK
+        break
+#else
+        look(v, did);
+        if
+        :: did -> did = false
+        :: else -> break
+        fi
+#endif
+    od
+}
+
+/* `search_no_more`: a worker found a mark, or has lain down. */
+inline search_no_more(v, did) {
+    if
+    :: atomic { seeks && searching > 1 -> searching--; seeks = false }
+    :: atomic { seeks && searching == 1 -> searching = 0; seeks = false };
+#ifndef NO_LOOK
+        look(v, did);
+        if
+        :: did -> did = false; call(v, did)
+        :: else
+        fi
+#else
+        skip
+#endif
+    :: !seeks
     fi
 }
 
-/* `rise`. */
+/* `pushed`; a report that makes a mark worth a steal calls alike. */
+inline told(to, by, is_for_thieves, v, did) {
+    if
+    :: is_for_thieves -> call(v, did)
+    :: !is_for_thieves && by == to
+    :: !is_for_thieves && by != to ->
+        if
+        :: sleepers == 0
+#ifdef WOKEN_ALONE
+        :: searching > 0
+#endif
+        :: sleepers > 0 -> wake(to, Up, did); did = false
+        fi
+    fi
+}
+
+/* `rise`: whoever woke it to search has counted it already. */
 inline rise() {
     if
-    :: atomic { lain && asleep[me] -> lain = false; asleep[me] = false }; sleepers--
-    :: atomic { lain && !asleep[me] -> lain = false }
+    :: atomic { lain && bed[me] == Asleep -> lain = false; bed[me] = Up }; sleepers--
+#ifdef UNCOUNTED
+    :: atomic { lain && bed[me] == Called -> lain = false; bed[me] = Up }
+#else
+    :: atomic { lain && bed[me] == Called -> lain = false; bed[me] = Up; seeks = true }
+#endif
+    :: atomic { lain && bed[me] == Up -> lain = false }
     :: !lain
     fi
 }
+
+#ifdef HINT_AFTER
+#define STORES_HINT_AFTER(to, is_worthy) hinted[to] = (hinted[to] || is_worthy)
+#else
+#define STORES_HINT_AFTER(to, is_worthy) skip
+#endif
 
 /* What follows a registration by the caller `by`: a mark is pushed, or a chain is told. */
 inline deliver(by, d, to, is_new, is_worthy, other, v, did) {
@@ -162,11 +267,12 @@ inline deliver(by, d, to, is_new, is_worthy, other, v, did) {
     :: to != NONE && is_new ->
         count_woken(by);
         push(d, to, is_worthy, other);
-        told(to, (is_worthy && (other || by != to)), v, did)
+        told(to, by, FOR_THIEVES(is_worthy, other, by, to), v, did);
+        STORES_HINT_AFTER(to, is_worthy)
     :: to != NONE && !is_new ->
         retell(d, to, is_worthy, other);
         if
-        :: other -> told(to, is_worthy, v, did)
+        :: other && is_worthy -> call(v, did); STORES_HINT_AFTER(to, is_worthy)
         :: else
         fi
     :: else
@@ -186,20 +292,33 @@ inline begin(me) {
 
 proctype Worker(byte me) {
     byte c, d, to, v, crew;
-    bool lain, has_missed, did, is_new, is_worthy, other;
+    bool lain, has_missed, seeks, did, is_new, is_worthy, other;
     short sum;
 
 #if defined(LATE) || defined(REFUSED)
     begin(me);
+#endif
+#ifdef FROM_SLEEP
+    if
+    :: me >= FROM_SLEEP -> lain = true; goto asleep
+    :: else
+    fi;
 #endif
 
 free:
     STOP_IF_TOLD;
     pop(c, me);
     if
-    :: c != NONE -> rise(); has_missed = false; goto popped
+    :: c != NONE -> rise(); search_no_more(v, did); has_missed = false; goto popped
     :: c == NONE && has_missed -> c = 0; goto pause
     :: c == NONE && !has_missed -> c = 0; has_missed = true
+    fi;
+    if
+    :: atomic { !seeks && !lain -> searching++; seeks = true }
+#if !defined(ENDS) && !defined(PROMPT)
+    :: !seeks && !lain
+#endif
+    :: seeks || lain
     fi;
 
 hunt:
@@ -210,7 +329,7 @@ hunt:
         STOP_IF_TOLD;
         pick(c, (me + d) % K);
         if
-        :: c != NONE -> d = 0; rise(); has_missed = false; goto picked
+        :: c != NONE -> d = 0; rise(); search_no_more(v, did); has_missed = false; goto picked
         :: else
         fi;
         d++
@@ -244,12 +363,13 @@ pause:
     :: !lain ->
         atomic { rung[me] = false; lain = true };
 #ifdef FLAG_FIRST
-        asleep[me] = true;
+        bed[me] = Asleep;
         sleepers++;
 #else
         sleepers++;
-        asleep[me] = true;
+        bed[me] = Asleep;
 #endif
+        search_no_more(v, did);
 #ifdef NO_LAST_HUNT
         goto rest
 #else
@@ -295,6 +415,7 @@ rest:
     :: v < crew ->
 #endif
         atomic { held[me] = false; other = false; crew = 0; to = 0; v = 0 };
+asleep:
         rung[me];
         goto rise_again
 #ifndef NEVER_LAST
@@ -324,7 +445,8 @@ rise_again:
 picked:
     steal(c, me, is_worthy);
     push(c, me, is_worthy, other);
-    told(me, (is_worthy && other), v, did);
+    told(me, me, FOR_THIEVES(is_worthy, other, me, me), v, did);
+    STORES_HINT_AFTER(me, is_worthy);
     atomic { is_worthy = false; other = false; c = 0 };
     goto free;
 
@@ -334,7 +456,7 @@ popped:
     :: atomic { halts > 0 -> halts-- };
         /* Its take is refused: it puts back the mark in its hand. */
         push(c, me, c >= PINNED, other);
-        told(me, (c >= PINNED && other), v, did);
+        told(me, me, FOR_THIEVES(c >= PINNED, other, me, me), v, did);
         atomic { other = false; c = 0 };
         goto stop
     :: true
@@ -346,11 +468,18 @@ popped:
         deliver(me, d, to, is_new, is_worthy, other, v, did)
     :: break
     od;
+#ifdef LONG
+    if
+    :: c < PINNED -> !IS_GOOD || at_work == 1   /* nobody is left to come for them */
+    :: else
+    fi;
+#endif
     finish(c, is_new, is_worthy);
     if
     :: is_new ->
         push(c, me, is_worthy, other);
-        told(me, (is_worthy && other), v, did)
+        told(me, me, FOR_THIEVES(is_worthy, other, me, me), v, did);
+        STORES_HINT_AFTER(me, is_worthy)
     :: else ->
         count_idled(me);
         if
@@ -379,7 +508,16 @@ give_up:
     has_given_up = true;
 
 leave:
+#ifdef AT_ONCE
+    atomic {
+#endif
     rise();
+#ifndef LEAVE_COUNTED
+    if
+    :: atomic { seeks -> searching--; seeks = false }
+    :: !seeks
+    fi;
+#endif
 #ifndef LEAVE_UNTOLD
     begun_news++;
 #endif
@@ -408,6 +546,9 @@ leave:
 #endif
 #ifndef LEAVE_UNTOLD
     ended_news++;
+#endif
+#ifdef AT_ONCE
+    }
 #endif
     atomic { if :: me == 0 -> first_left = true :: else fi; gone++; c = 0; other = false; crew = 0 }
 }
@@ -455,7 +596,7 @@ init {
     atomic {
         v = 0;
         do
-        :: v < C -> owner[v] = v % K; v++
+        :: v < C -> owner[v] = v % OWNERS; v++
         :: else -> v = 0; break
         od
     }
@@ -481,6 +622,12 @@ init {
             :: v < K ->
 #if !defined(LATE) && !defined(REFUSED)
                 begin(v);
+#endif
+#ifdef FROM_SLEEP
+                if
+                :: v >= FROM_SLEEP -> bed[v] = Asleep; sleepers++; waits[v] = true; waiting++
+                :: else
+                fi;
 #endif
                 v++
             :: else -> v = 0; break
@@ -509,12 +656,13 @@ init {
 #endif
         atomic {
             assert(at_work == 0 && waiting == 0 && sleepers == 0);  /* clean */
+            assert(searching == 0);                                 /* clean */
 #ifndef NEVER_FEWER
             assert(begun == 0 && !has_given_up);                    /* clean */
 #endif
             v = 0;
             do
-            :: v < K -> assert(!asleep[v] && !waits[v] && !held[v]); v++
+            :: v < K -> assert(bed[v] == Up && !waits[v] && !held[v]); v++
             :: else -> v = 0; break
             od
         };

@@ -15,13 +15,15 @@ trap 'rm -rf "$build"' EXIT
 
 # one NAME EXPECTED DEFINITIONS...: prints its line; EXPECTED is `holds` or the property that fails.
 one() {
-    local name=$1 expected=$2 flags=-DSAFETY words= start=$SECONDS found
+    local name=$1 expected=$2 flags=-DSAFETY words= depth=3000 start=$SECONDS found
     shift 2
     [[ " $* " == *" -DENDS "* ]] && flags=-DNFAIR=3 words="-a -f"
+    # A search that is to fail goes less deep, which finds the failure sooner.
+    [[ $expected == holds ]] && depth=1000000
     mkdir "$build/$name" && cd "$build/$name" && cp "$models"/*.pml . || return 1
     spin -a "$@" bell.pml > log 2>&1 \
         && gcc -O1 -w -DMEMLIM=2600 -DCOLLAPSE $flags -o pan pan.c >> log 2>&1 \
-        && nice -n 5 ./pan -m1000000 $words >> log 2>&1
+        && nice -n 5 ./pan -m$depth $words >> log 2>&1
     found=fault
     if grep -q 'errors: 0$' log && ! grep -qE 'not completed|max search depth' log; then
         found=holds
@@ -56,16 +58,27 @@ check() {
     jobs_now=$((jobs_now + 1))
 }
 
+# A check of three workers reads tens of millions of states: it runs only where its name is asked for.
+large() {
+    [[ -n $word ]] && check "$@"
+}
+
 two="-DK=2 -DC=2"
-three="-DK=3 -DC=3 -DCOARSE"
+three="-DK=3 -DC=3 -DCOARSE -DAT_ONCE"
 sleeper="$three -DEVENTS=2 -DSTART=2 -DIN_TURN=0 -DPROMPT -DNO_CAUSE"
+helper="$three -DOWNERS=2 -DPINNED=2 -DEVENTS=2 -DSTART=0 -DIN_TURN=1 -DPROMPT -DFROM_SLEEP=1 -DLONG -DNO_CAUSE"
 
 # Nobody from outside, and all begin at once: nobody gives up.
-check order-three holds $sleeper
+large order-three holds $sleeper
 check order-two holds $two -DEVENTS=3 -DNO_CAUSE
 check worth holds $two -DC=3 -DWORTH=2 -DEVENTS=3 -DCOARSE -DNO_CAUSE
 check no-victims holds $two -DALONE -DEVENTS=2 -DCOARSE -DNO_CAUSE
 check again holds $two -DEVENTS=1 -DROUNDS=2 -DCOARSE -DNO_CAUSE
+
+# Help comes: a handler goes on until no mark that thieves may have lies in any chain.
+large help-three holds $helper
+check help holds $two -DC=3 -DEVENTS=3 -DCOARSE -DLONG -DNO_CAUSE
+check help-outside holds $two -DEVENTS=1 -DOUTSIDER=1 -DCOARSE -DLONG -DPROMPT -DSTART=0
 
 # A caller from outside, while workers leave.
 check outside holds $two -DEVENTS=1 -DOUTSIDER=1 -DCOARSE
@@ -75,18 +88,19 @@ check unmarked holds $two -DEVENTS=1 -DUNMARKED=1 -DCOARSE
 
 # A worker that begins late, or whose thread is refused; want of memory.
 check late holds $two -DEVENTS=1 -DROUNDS=2 -DLATE -DCOARSE
-check late-three holds $three -DEVENTS=1 -DLATE -DSTART=0
+large late-three holds $three -DEVENTS=1 -DLATE -DSTART=0
 check refused holds $two -DPINNED=2 -DEVENTS=1 -DROUNDS=2 -DREFUSED=1 -DCOARSE
 check halted holds $two -DEVENTS=2 -DHALTS -DCOARSE
 
 # Each run ends.
 check ends-two holds $two -DPINNED=2 -DEVENTS=2 -DENDS
+check ends-no-victims holds $two -DALONE -DEVENTS=1 -DENDS -DCOARSE
 check ends-outside holds $two -DEVENTS=0 -DOUTSIDER=1 -DENDS -DCOARSE
 
 # Wrong bells. The first two are the order that the bell once had, with what it had then beside it.
-check wrong-order-once asleep $sleeper -DFLAG_FIRST -DNEVER_LAST -DNEVER_FEWER
+large wrong-order-three asleep $sleeper -DFLAG_FIRST -DNEVER_LAST -DNEVER_FEWER
 check wrong-crew-once asleep $two -DPINNED=2 -DEVENTS=1 -DROUNDS=2 -DREFUSED=1 -DCOARSE -DNEVER_FEWER -DNEVER_LAST
-check wrong-order cause $sleeper -DFLAG_FIRST
+check wrong-order cause $two -DEVENTS=0 -DOUTSIDER=2 -DCOARSE -DFLAG_FIRST
 check wrong-crew cause $two -DPINNED=2 -DEVENTS=1 -DROUNDS=2 -DREFUSED=1 -DCOARSE -DNEVER_FEWER
 check wrong-last asleep $two -DEVENTS=0 -DOUTSIDER=1 -DCOARSE -DNEVER_LAST
 check wrong-last-unmarked asleep $two -DEVENTS=0 -DUNMARKED=1 -DCOARSE -DNEVER_LAST
@@ -94,6 +108,12 @@ check wrong-news cause $two -DEVENTS=0 -DOUTSIDER=1 -DCOARSE -DNO_NEWS
 check wrong-leave-untold cause $two -DEVENTS=0 -DOUTSIDER=1 -DCOARSE -DLEAVE_UNTOLD
 check wrong-leave-unrung asleep $two -DEVENTS=1 -DOUTSIDER=1 -DCOARSE -DLEAVE_UNRUNG
 check wrong-hunt asleep $two -DEVENTS=2 -DCOARSE -DNO_LAST_HUNT -DNEVER_LAST
+check wrong-look cause $two -DALONE -DEVENTS=0 -DOUTSIDER=1 -DCOARSE -DNO_LOOK
+check wrong-second-look asleep $two -DEVENTS=1 -DOUTSIDER=1 -DCOARSE -DLONG -DNO_SECOND_LOOK
+check wrong-hint cause $two -DALONE -DEVENTS=0 -DOUTSIDER=1 -DCOARSE -DHINT_AFTER
+check wrong-called clean $two -DEVENTS=1 -DOUTSIDER=1 -DCOARSE -DUNCOUNTED
+check wrong-leave-counted clean $two -DEVENTS=1 -DOUTSIDER=1 -DCOARSE -DLEAVE_COUNTED
+check wrong-own cause $two -DEVENTS=0 -DOUTSIDER=1 -DCOARSE -DWOKEN_ALONE
 
 while ((jobs_now > 0)); do
     wait -n || faults=$((faults + 1))

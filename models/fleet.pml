@@ -5,17 +5,24 @@
  * own, and a turn takes one event.
  *
  *   K         workers, one for each core
- *   C         colours, 2 or 3; colour c begins on core c % K
+ *   C         colours, 2 or 3; colour c begins on core c % OWNERS (K, if it isn't said)
  *   PINNED    the colours below this one are never stolen
  *   WORTH     from how many queued events on a colour is worth a steal
  *   EVENTS    how many events all handlers together may register, on any colours in any order
  *   IN_TURN   these go to the colours IN_TURN + EVENTS - 1, .., IN_TURN, in this order
  *   COARSE    a bed's counts are added up, and the shards looked at, in one step
+ *   LONG      the handler of a pinned colour goes on until no mark that thieves may have lies in any
+ *             chain, or all other workers have left: it ends only if somebody comes to help. Thieves
+ *             are told of each mark that is worth it then, as which mark is popped next is left open
+ *             here
  *   ENDS      for the property `ends`: a colour that was stolen isn't stolen again before it ran, as
  *             two thieves could pass it to and fro for ever
  */
 #ifndef K
 #define K 2
+#endif
+#ifndef OWNERS
+#define OWNERS K
 #endif
 #ifndef C
 #define C 2
@@ -39,6 +46,7 @@ byte queued[C];        /* events that wait */
 byte owner[C];
 byte lies[C] = NONE;   /* the core in whose chain the mark lies */
 bool good[C];          /* whether the mark says there that it is worth a steal */
+bool hinted[K];        /* the chain's word: it may have a mark that is worth a steal */
 byte puts = EVENTS;    /* events that handlers may still register */
 #ifdef UNMARKED
 bool unmarked[C];      /* the colour was made ready by a caller that pushes no mark */
@@ -63,9 +71,28 @@ byte idled[K + 1];
 #if C == 2
 #define OTHERS_IN(k) (lies[0] == (k) || lies[1] == (k))
 #define ALL_IDLE (stage[0] == Idle && stage[1] == Idle)
+#define IS_GOOD ((lies[0] != NONE && good[0]) || (lies[1] != NONE && good[1]))
 #else
 #define OTHERS_IN(k) (lies[0] == (k) || lies[1] == (k) || lies[2] == (k))
 #define ALL_IDLE (stage[0] == Idle && stage[1] == Idle && stage[2] == Idle)
+#define IS_GOOD ((lies[0] != NONE && good[0]) || (lies[1] != NONE && good[1]) \
+    || (lies[2] != NONE && good[2]))
+#endif
+
+/* Whether thieves are told of a mark: an owner that pushes it alone takes it next. */
+#ifdef LONG
+#define FOR_THIEVES(is_worthy, is_crowded, by, to) (is_worthy)
+#else
+#define FOR_THIEVES(is_worthy, is_crowded, by, to) (is_worthy && (is_crowded || by != to))
+#endif
+
+/* What a chain's word says is stored behind the lock, so in the same step as the change: that there
+ * may be a mark for thieves, where one came in or became worth it; that there is none, where a thief
+ * found none or the chain is empty. */
+#ifdef HINT_AFTER
+#define STORES_HINT(to, is_worthy) skip
+#else
+#define STORES_HINT(to, is_worthy) hinted[to] = (hinted[to] || is_worthy)
 #endif
 
 inline any_colour(d) {
@@ -105,7 +132,8 @@ inline push(d, to, is_worthy, is_crowded) {
         assert(lies[d] == NONE);
         is_crowded = OTHERS_IN(to);
         lies[d] = to;
-        good[d] = is_worthy
+        good[d] = is_worthy;
+        STORES_HINT(to, is_worthy)
     }
 }
 
@@ -114,7 +142,7 @@ inline retell(d, to, is_worthy, is_found) {
     atomic {
         is_found = (lies[d] == to);
         if
-        :: is_found -> good[d] = is_worthy
+        :: is_found -> good[d] = is_worthy; STORES_HINT(to, is_worthy)
         :: else
         fi
     }
@@ -130,7 +158,8 @@ inline pop(c, from) {
         :: lies[2] == from -> c = 2; lies[2] = NONE; good[2] = false
 #endif
         :: else -> c = NONE
-        fi
+        fi;
+        hinted[from] = (hinted[from] && OTHERS_IN(from))
     }
 }
 
@@ -143,8 +172,9 @@ inline pick(c, from) {
 #if C > 2
         :: lies[2] == from && good[2] -> c = 2; lies[2] = NONE; good[2] = false
 #endif
-        :: else -> c = NONE
-        fi
+        :: else -> c = NONE; hinted[from] = false
+        fi;
+        hinted[from] = (hinted[from] && OTHERS_IN(from))
     }
 }
 

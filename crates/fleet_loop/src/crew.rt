@@ -2,14 +2,16 @@
 ghost use Rattle.std.specs.Prelude.{◌≡◌, IfOk, IfSome};
 ghost use Rattle.mely_fleet.specs.Fleets.{ArePasses};
 ghost use Rattle.mely_fleet.specs.Frames.{shard_frame};
-ghost use Rattle.fleet_loop.specs.Loops.{IsLoop, AreSeats, MayWorkHere};
+ghost use Rattle.mely_fleet.specs.Seats.{IsSeatOf};
+ghost use Rattle.mely_weave.specs.Dealing.{AtEach};
+ghost use Rattle.fleet_loop.specs.Loops.{IsLoop};
 
 use counting_app::{Passing, Tally, initial_states};
-use mely_event::{Colour, Event, Handlers, Memory, Trail};
-use mely_fleet::{Fleet, Passes, Worked};
+use mely_event::{Colour, Event, Fits, Handlers, Memory, Trail};
+use mely_fleet::{Fleet, Passes, Room, Seat, Worked};
 use mely_history::{Setup, Shape};
-use mely_steal::victims;
-use mely_worker::{OpenGate, Worker};
+use mely_weave::Drained;
+use mely_worker::OpenGate;
 use std::alloc::Global;
 use std::sync::Wait;
 use std::sync::atomic::{AtomicU64, Ordering};
@@ -60,6 +62,8 @@ fn post_all<R: Wait>(
 ) -> bool
     requires shaped { IsLoop colours fleet.now.setup }
     requires passes { ArePasses (shard_frame ⟦<Tally as Trail>⟧.frame_of) fleet.now outside.old }
+    ensures passes { ArePasses (shard_frame ⟦<Tally as Trail>⟧.frame_of) fleet.now outside.new }
+    ensures number { outside.new.number ≡ outside.old.number }
 {
     let event = Event {
         handler: 0,
@@ -82,7 +86,7 @@ pub struct Ran {
     /// How many handlers ran.
     pub events: u64,
 
-    /// Whether each worker answered that all is quiet; else events may be left.
+    /// Whether each worker answered that all is quiet; else some events were run behind them.
     pub is_quiet: bool,
 }
 
@@ -94,62 +98,57 @@ struct Counts {
     quiet: AtomicU64,
 }
 
-/// The work of one core, in its thread, with an app of its own: a count that the workers shared
-/// would be a line of memory that each event takes from another core. How it ended, which `counts`
-/// has besides; nothing for want of memory.
-fn work_one<R: Wait>(
-    rt: &R,
-    alloc: Global,
-    fleet: &Fleet<Tally, u8>,
-    setup: &Setup,
-    passes: &mut Passes<Tally, u8>,
-    order: &Order,
-    counts: &Counts,
-) -> Option<Worked>
-    requires { MayWorkHere (shard_frame ⟦<Tally as Trail>⟧.frame_of) order.now.colours setup.now
-        fleet.now passes.old }
+/// The app of the loop, which has run nothing.
+fn passing(order: &Order) -> Passing
+    ensures { result.colours ≡ order.now.colours }
 {
-    let core = passes.number();
-    if core >= setup.cores() {
-        return None;
-    }
-    let Ok(victims) = victims(alloc, core, setup.cores(), setup.group()) else {
-        return None;
-    };
-    let Ok(mut worker) = Worker::new(alloc, core, victims, setup.batch()) else {
-        return None;
-    };
-    let app = Passing {
+    Passing {
         colours: order.colours,
         stays: order.stays,
         rounds: order.rounds,
         ran: AtomicU64::new(0),
-    };
-    let worked = fleet.work(rt, &mut worker, passes, &app, &OpenGate);
+    }
+}
+
+/// The work of one core, in its thread, with an app of its own: a count that the workers shared
+/// would be a line of memory that each event takes from another core.
+fn work_one<R: Wait>(
+    rt: &R,
+    fleet: &Fleet<Tally, u8>,
+    number: usize,
+    seat: &mut Seat<Tally, u8>,
+    order: &Order,
+    counts: &Counts,
+)
+    requires shaped { IsLoop order.now.colours fleet.now.setup }
+    requires seat { IsSeatOf ⟦<Tally as Trail>⟧.frame_of ⟦<Tally as Fits<u8>>⟧.fits_under
+        fleet.now number seat.old.passes seat.old.worker }
+    ensures { IsSeatOf ⟦<Tally as Trail>⟧.frame_of ⟦<Tally as Fits<u8>>⟧.fits_under
+        fleet.now number seat.new.passes seat.new.worker }
+{
+    let app = passing(order);
+    let worked = fleet.work_at(rt, seat, &app, &OpenGate);
     counts
         .ran
         .fetch_add(app.ran.load(Ordering::SeqCst), Ordering::SeqCst);
     if worked == Worked::Quiet {
         counts.quiet.fetch_add(1, Ordering::SeqCst);
     }
-    let lost = worker.into_lost();
-    drop(lost);
-    Some(worked)
 }
 
 /// The work of all cores, each in a thread of its own.
 fn work_all<R: Threads + Wait + Sync>(
     rt: &R,
-    alloc: Global,
     fleet: &Fleet<Tally, u8>,
-    setup: &Setup,
-    seats: &mut [Passes<Tally, u8>],
+    seats: &mut [Seat<Tally, u8>],
     order: &Order,
     counts: &Counts,
 )
-    requires shaped { IsLoop order.now.colours setup.now }
-    requires of_setup { fleet.now.setup ≡ setup.now }
-    requires seats { AreSeats (shard_frame ⟦<Tally as Trail>⟧.frame_of) fleet.now seats.old }
+    requires shaped { IsLoop order.now.colours fleet.now.setup }
+    requires seats { AtEach (λ n seat. IsSeatOf ⟦<Tally as Trail>⟧.frame_of
+        ⟦<Tally as Fits<u8>>⟧.fits_under fleet.now n seat.passes seat.worker) seats.old }
+    ensures { AtEach (λ n seat. IsSeatOf ⟦<Tally as Trail>⟧.frame_of
+        ⟦<Tally as Fits<u8>>⟧.fits_under fleet.now n seat.passes seat.worker) seats.new }
 {
     let threads = seats.len();
     if threads == 0 {
@@ -159,17 +158,19 @@ fn work_all<R: Threads + Wait + Sync>(
         rt,
         seats,
         threads,
-        &|_, own: &mut Passes<Tally, u8>|
-            requires { MayWorkHere (shard_frame (λ s. tt)) order.now.colours
-                setup.now fleet.now own.now }
-        {
-            drop(work_one(rt, alloc, fleet, setup, own, order, counts));
-        },
+        &|number, seat: &mut Seat<Tally, u8>|
+            requires shaped { IsLoop order.now.colours fleet.now.setup }
+            requires seat { IsSeatOf (λ s. tt) (λ f c e l. Unit {0}) fleet.now number
+                seat.now.passes seat.now.worker }
+            ensures { IsSeatOf (λ s. tt) (λ f c e l. Unit {0}) fleet.entry.now number
+                seat.exit.now.passes seat.exit.now.worker }
+        { work_one(rt, fleet, number, seat, order, counts) },
     );
 }
 
-/// Runs an event on each of so many colours, passed on so often, and answers what came of it.
-/// Nothing for want of memory, or where a number is out of its range.
+/// Runs an event on each of so many colours, passed on so often, and answers what came of it. Once
+/// the workers are back the fleet is closed, and what they left is run here. Nothing for want of
+/// memory, or where a number is out of its range.
 pub fn run<R: Threads + Wait + Sync>(rt: &R, alloc: Global, order: &Order) -> Option<Ran> {
     let setup = setup_of(order)?;
     let states = initial_states(alloc, order.colours).ok()?;
@@ -177,17 +178,34 @@ pub fn run<R: Threads + Wait + Sync>(rt: &R, alloc: Global, order: &Order) -> Op
         return None;
     };
     let mut outside = passes.pop()?;
+    let Ok(room) = Room::new(alloc, &setup, 1) else {
+        return None;
+    };
+    let Ok(mut seats) = fleet.seats(alloc, passes) else {
+        return None;
+    };
+    let Ok(mut outsiders) = Vec::with_capacity(alloc, 1) else {
+        return None;
+    };
     let counts = Counts {
         ran: AtomicU64::new(0),
         quiet: AtomicU64::new(0),
     };
     let is_posted = post_all(rt, &fleet, &mut outside, order.colours, order.passes);
-    work_all(rt, alloc, &fleet, &setup, &mut passes, order, &counts);
-    if !is_posted {
+    work_all(rt, &fleet, &mut seats, order, &counts);
+    outsiders.push_reserved(outside);
+    let Ok(mut weave) = fleet.close_seats(alloc, room, seats, outsiders) else {
+        return None;
+    };
+    let app = passing(order);
+    let drained = weave.drain(rt, &app);
+    drop(weave.into_parts());
+    if !is_posted || drained != Drained::Empty {
         return None;
     }
+    let on_threads = counts.ran.load(Ordering::SeqCst);
     Some(Ran {
-        events: counts.ran.load(Ordering::SeqCst),
+        events: on_threads.wrapping_add(app.ran.load(Ordering::SeqCst)),
         is_quiet: counts.quiet.load(Ordering::SeqCst) == u64::from(order.workers),
     })
 }

@@ -5,8 +5,8 @@ ghost use Rattle.sws_link.specs.Links.{IsInitialLink};
 use crate::HangUp;
 use std::alloc::Global;
 use std::test::Fail;
-use sws_conn::{End, Next, Talk};
 use sws_link::{Link, LinkItem, Memory, SureLink};
+use sws_steps::{End, Next, Talk};
 
 /// So many steps of a talk over a link, through the bound: how it has ended, and how many
 /// bytes it took and wrote.
@@ -33,7 +33,7 @@ fn it_ends_at_the_first_bytes(rt: HostRuntime) -> Result<(), Fail> {
     items.push(LinkItem::Wait(2))?;
     items.push(LinkItem::Fill(20))?;
     let link = SureLink::new(rt.alloc(), items, None);
-    let served = talk_over::<SureLink, HangUp<SureLink>>(rt.alloc(), (), link, 4);
+    let served = talk_over::<SureLink, HangUp<SureLink>>(rt.alloc(), (), link, 6);
     assert_eq!(rt; served, Ok((Some(End::Done), 16, 0)));
     Ok(())
 }

@@ -26,3 +26,10 @@ pub record AllCounted (ended : Ended Counter) : Type 0 where
   pub counted : (c : Colour) (state : Counter) (history : List Entry)
       → slice_get ended.states.items c.0 ≡ Some state
       → slice_get (histories_of ended) (c.0 % 2) ≡ Some history → Counts history c state
+
+-- each colour has counted so many events: who greets greets so often, and who hears it hears
+-- each greeting once
+pub record AllGreeted (times : ℕ) (ended : Ended Counter) : Type 0 where
+  pub colours : length ended.states.items ≡ 2
+  pub each : (c : Colour) (state : Counter) → slice_get ended.states.items c.0 ≡ Some state
+      → state.count ≡ times

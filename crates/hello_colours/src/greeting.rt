@@ -4,7 +4,7 @@ ghost use Rattle.std.specs.List.{AllByRecursion};
 ghost use Rattle.mely_worker.specs.Access.{FitsIn};
 ghost use Rattle.hello_colours.specs.declared.greeting.TheConstants.{COLOURS, HANDLERS};
 ghost use Rattle.hello_colours.specs.Greetings.{greetings_of};
-ghost use Rattle.hello_colours.specs.Counting.{AllCounted};
+ghost use Rattle.hello_colours.specs.Counting.{AllCounted, AllGreeted};
 
 use crate::counter::Counter;
 use mely_app::{Ended, run_app};
@@ -72,7 +72,7 @@ impl App for Greeting {
     }
 }
 
-/// Greets so often on two workers, each in a thread of its own.
+/// Greets so often on two workers, each in a thread of its own. Each greeting is heard once.
 ///
 /// # Errors
 ///
@@ -83,7 +83,8 @@ pub fn greet<R: Threads + Wait + Sync>(
     times: u16,
 ) -> Result<Ended<Counter>, Memory>
     requires { 1 ≤ times }
-    ensures { IfOk result AllCounted }
+    ensures counted { IfOk result AllCounted }
+    ensures greeted { IfOk result (AllGreeted times) }
 {
     let shape = Shape {
         cores: 2,

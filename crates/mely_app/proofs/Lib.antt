@@ -1,2 +1,4 @@
 mod InitialLemmas
 mod RanLemmas
+pub mod PutsLemmas
+mod AllPutLemmas

@@ -21,7 +21,7 @@ use Rattle.mely_fleet.specs.Crew.{IsRegistered, IsRegisteredIn}
 use Rattle.mely_app.specs.RanAll.{RanAll}
 
 -- where nothing is left behind a front, that is the whole
-front_whole : {A : Type 0} (n : ℕ) (xs : List A) → drop n xs ≡ [] → take n xs ≡ xs
+pub front_whole : {A : Type 0} (n : ℕ) (xs : List A) → drop n xs ≡ [] → take n xs ≡ xs
 front_whole n xs none = sym (append-nil (take n xs)) ∙ ap (λ l. take n xs ++ l) (sym none) ∙ take-append-drop n xs
 
 -- where nothing runs or waits, all that was registered was run

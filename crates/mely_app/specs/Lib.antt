@@ -1,1 +1,2 @@
 pub mod RanAll
+pub mod Puts

@@ -15,9 +15,12 @@
 //! What is promised is [`RanAll`](../specs/RanAll.antt): every event that was registered was run,
 //! on the state of its colour, once, in the order in which its colour's events were registered,
 //! however the threads ran. So whatever the type of a state keeps over its trail, as that a count
-//! is the trail's length, is so of all that was registered. Not promised is that the run ends (an
-//! app may register for ever), nor which events were registered: what a handler puts is, but no
-//! contract of a running fleet says so.
+//! is the trail's length, is so of all that was registered. And what was registered is the first
+//! event and what the handlers put, each as often ([`HasPutAll`](../specs/Puts.antt)): there is a
+//! list of their runs, by the app's own relation. Where what a handler puts is told by the events,
+//! `put_as_told` (`proofs/PutsLemmas.antt`) makes of it an equation on the histories. Not promised
+//! is that the run ends (an app may register for ever), nor any order between what handlers of
+//! different turns put.
 #![tactic(auto)]
 
 mod initial;

@@ -2,6 +2,7 @@
 ghost use Rattle.std.specs.Prelude.{IfOk, map};
 ghost use Rattle.mely_worker.specs.Access.{FitsSetup};
 ghost use Rattle.mely_worker.specs.Conditions.{AppServes};
+ghost use Rattle.mely_app.specs.Puts.{HasPutAll};
 ghost use Rattle.mely_app.specs.RanAll.{RanAll};
 
 use crate::initial::{Initial, initial_states};
@@ -48,8 +49,11 @@ pub fn run_app<
 ) -> Result<Ended<S>, Memory>
     requires served { AppServes A.App setup.now S.initial_frame app.now }
     requires fits { FitsSetup S.fits_under setup.now S.initial_frame (colour, event, load) }
-    ensures { IfOk result (λ ended. RanAll S.Trail setup.now colour event
+    ensures ran { IfOk result (λ ended. RanAll S.Trail setup.now colour event
         (map (λ history. history.items) ended.histories.items) ended.states.items) }
+    ensures puts { IfOk result (λ ended. HasPutAll S.Trail S.fits_under A.App app.now
+        setup.now S.initial_frame (colour, event, load)
+        (map (λ history. history.items) ended.histories.items)) }
 {
     let states = initial_states::<S, P>(alloc, setup)?;
     let Ok((weave, drained)) = run_crew(

@@ -13,3 +13,6 @@ pub mod SeatLemmas
 mod CallLemmas
 mod CrewLemmas
 mod BegunLemmas
+mod OwnLemmas
+mod WorkerAccountLemmas
+mod CrewAccountLemmas

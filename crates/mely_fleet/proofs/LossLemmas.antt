@@ -116,4 +116,4 @@ module _ {R S P F : Type 0} (t : TrailWords S F) (fits : F → Colour → Event 
   -- and so over all steps that a worker makes
   pub steps_keep : (steps : List Made) (a b : Standpoint F) (w v : WorkerState S P) → MakesSteps t fits y app steps a w b v → KeepsLosses w v
   steps_keep [] a b w v made = subst (λ z. KeepsLosses w z) (sym made.1) (keeps_itself w)
-  steps_keep (step ∷ later) a b w v (c, d, u, looked, one, rest) = keeps_onward w u v (step_keeps (words t fits) y app c d w step u one) (steps_keep later d b u v rest)
+  steps_keep (step ∷ later) a b w v (c, d, u, looked, one, rest) = keeps_onward w u v (step_keeps (words t fits) y app c d w step u one.steps) (steps_keep later d b u v rest)

@@ -11,10 +11,9 @@ use Rattle.mely_history.specs.Entries.{pass_of}
 use Rattle.mely_lock.specs.Seen.{OthersSince}
 use Rattle.mely_worker.specs.declared.app.App.{Ghosts as AppWords}
 use Rattle.mely_worker.specs.declared.made.Made.{Made}
-use Rattle.mely_worker.specs.Step.{Steps}
 use Rattle.mely_worker.specs.Worker.{WorkerState}
 use Rattle.mely_fleet.specs.Calls.{SeesAt, LooksAt, front_in}
-use Rattle.mely_fleet.specs.Work.{Standpoint, words, HasLooked, MakesSteps}
+use Rattle.mely_fleet.specs.Work.{Standpoint, HasLooked, StepsOn, MakesSteps}
 
 -- nobody made a note
 since_itself : (n : ℕ) (history : List Entry) → OthersSince pass_of n history history
@@ -63,6 +62,6 @@ module _ {R S P F : Type 0} (t : TrailWords S F) (fits : F → Colour → Event 
   makes_looked (step ∷ later) a b c w v (d, e, u, first, one, rest) looked = (d, e, u, first, one, makes_looked later e b c u v rest looked)
 
   -- after the steps, and a look, it made one more
-  pub makes_step : (steps : List Made) (step : Made) (a b c d : Standpoint F) (w v u : WorkerState S P) → MakesSteps t fits y app steps a w b v → HasLooked b c → Steps (words t fits) y app c v step d u → MakesSteps t fits y app (steps ++ step ∷ []) a w d u
-  makes_step [] step a b c d w v u made looked one = (c, d, u, looked_onward a b c made.0 looked, subst (λ x. Steps (words t fits) y app c x step d u) made.1 one, (looked_itself d, refl))
+  pub makes_step : (steps : List Made) (step : Made) (a b c d : Standpoint F) (w v u : WorkerState S P) → MakesSteps t fits y app steps a w b v → HasLooked b c → StepsOn t fits y app c v step d u → MakesSteps t fits y app (steps ++ step ∷ []) a w d u
+  makes_step [] step a b c d w v u made looked one = (c, d, u, looked_onward a b c made.0 looked, subst (λ x. StepsOn t fits y app c x step d u) made.1 one, (looked_itself d, refl))
   makes_step (first ∷ later) step a b c d w v u (e, f, x, before, of_first, rest) looked one = (e, f, x, before, of_first, makes_step later step f b c d x v u rest looked one)

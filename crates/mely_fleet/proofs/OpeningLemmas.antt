@@ -1,6 +1,6 @@
 -- A fleet as it is made.
 use Rattle.std.proofs.Common.{◌≡◌, ℕ, ◌+◌, ◌*◌, ◌%◌, ◌<◌, ◌≤◌, List, [], ◌∷◌, ◌++◌, length-append, Some, length, map, refl, sym, ◌∙◌, ap, arith, zero, suc, All}
-use Rattle.std.specs.Prelude.{slice_get}
+use Rattle.std.specs.Prelude.{slice_get, slice_index_or}
 use Rattle.std.proofs.lemmas.Option.{slice_get-get_or, slice_get_within, unwrap_or-slice_get}
 use Rattle.std.proofs.lemmas.List.Elements.{All-from_recursion}
 use Rattle.std.proofs.Math.Seq.{get_or-append_seam}
@@ -21,7 +21,6 @@ use Rattle.mely_weave.proofs.Wholes.GatherLemmas.{get_there}
 use Rattle.std.specs.List.{AllByRecursion}
 use Rattle.mely_fleet.specs.declared.kept_shard.ShardFrame.{ShardFrame}
 use Rattle.mely_fleet.specs.declared.kept_chain.ChainFrame.{ChainFrame}
-use Rattle.mely_fleet.specs.Calls.{front_in}
 use Rattle.mely_fleet.specs.Fleets.{frame_for, chain_frame_for, first_of_some}
 use Rattle.mely_fleet.specs.Rows.{IsPassAt, AreFramed, fronts}
 use Rattle.mely_fleet.specs.Dealing.{IsInitialRow}
@@ -81,7 +80,7 @@ number_onward number before here rest all is split few =
     omega (arith, low, longer, is)
 
 -- passes that have seen nothing, by place
-pub all_unseen : {V F : Type 0} {g : _} (row : List (Pass V Entry F g)) → ((k : ℕ) (pass : Pass V Entry F g) → slice_get row k ≡ Some pass → front pass ≡ []) → (k : ℕ) → front_in (fronts row) k ≡ []
+pub all_unseen : {V N F : Type 0} {g : _} (row : List (Pass V N F g)) → ((k : ℕ) (pass : Pass V N F g) → slice_get row k ≡ Some pass → front pass ≡ []) → (k : ℕ) → slice_index_or (fronts row) k [] ≡ []
 all_unseen [] none k = sym (unwrap_or-slice_get [] k [])
 all_unseen (pass ∷ row) none zero = none 0 pass refl
 all_unseen (pass ∷ row) none (suc k) = all_unseen row (λ j. none (suc j)) k

@@ -1,18 +1,24 @@
 -- The threads of a fleet's cores.
-use Rattle.std.specs.Prelude.{◌≡◌, ◌<◌, ◌≤◌, ℕ, Option, None, Some}
+use Rattle.std.specs.Prelude.{◌≡◌, ◌<◌, ◌≤◌, ℕ, List, [], Option, None, Some, slice_get}
 use Rattle.mely_event.specs.declared.colour.Colour.{Colour}
 use Rattle.mely_event.specs.declared.event.Event.{Event}
+use Rattle.mely_event.specs.declared.trail.Trail.{Ghosts as TrailWords}
 use Rattle.mely_history.specs.declared.entry.Entry.{Entry}
 use Rattle.mely_history.specs.Setup.{shape_of}
+use Rattle.mely_worker.specs.declared.app.App.{Ghosts as AppWords}
 use Rattle.mely_worker.specs.IdleWorker.{IdleWorkerState, resumed_worker}
+use Rattle.mely_weave.specs.Dealing.{AtEach}
 use Rattle.mely_weave.specs.Gathering.{MayGatherWorker}
 use Rattle.mely_fleet.specs.declared.fleet.FleetOf.{FleetOf}
 use Rattle.mely_fleet.specs.declared.passes.PassesOf.{PassesOf}
+use Rattle.mely_fleet.specs.declared.seat.SeatOf.{SeatOf}
 use Rattle.mely_fleet.specs.declared.kept_shard.ShardFrame.{ShardFrame}
+use Rattle.mely_fleet.specs.Calls.{front_in}
 use Rattle.mely_fleet.specs.Frames.{shard_frame}
 use Rattle.mely_fleet.specs.KeptShard.{KeptShardState}
 use Rattle.mely_fleet.specs.Fleets.{ArePasses, frame_in}
-use Rattle.mely_fleet.specs.Work.{HasFinishedBut, standpoint}
+use Rattle.mely_fleet.specs.Rows.{fronts}
+use Rattle.mely_fleet.specs.Work.{HasFinishedBut, MakesOn, standpoint}
 
 -- a core's passes and its worker at rest: the passes are of the fleet, with the finish of each turn
 -- that the core took, and the worker is the setup's for this core
@@ -44,3 +50,36 @@ pub record IsOutsider {V F : Type 0} {g : _} (kept_frame : V → ShardFrame F)
     (own : PassesOf V Entry (ShardFrame F) g) : Type 0 where
   pub passes : ArePasses kept_frame fleet own
   pub outside : (shape_of fleet.setup).cores ≤ own.number
+
+-- passes that have seen nothing, and a worker at rest that was refused nothing
+pub record IsFresh {P V F : Type 0} {g : _} (own : PassesOf V Entry (ShardFrame F) g)
+    (worker : Option (IdleWorkerState P)) : Type 0 where
+  pub unseen : (k : ℕ) → front_in (fronts own.shards.items) k ≡ []
+  pub rest : IdleWorkerState P
+  pub rested : worker ≡ Some rest
+  pub none_lost : rest.lost ≡ []
+
+-- the worker at rest made steps with these passes, and rests again
+pub record HasMade {R S P F : Type 0} {g : _} (t : TrailWords S F)
+    (fits : F → Colour → Event → Option P → Type 0) (y : AppWords R P S F) (app : R)
+    (fleet : FleetOf (KeptShardState S P) Entry (ShardFrame F))
+    (before : PassesOf (KeptShardState S P) Entry (ShardFrame F) g)
+    (worker : Option (IdleWorkerState P))
+    (after : PassesOf (KeptShardState S P) Entry (ShardFrame F) g)
+    (worker_after : Option (IdleWorkerState P)) : Type 0 where
+  pub rest : IdleWorkerState P
+  pub rested : worker ≡ Some rest
+  pub again : IdleWorkerState P
+  pub rests : worker_after ≡ Some again
+  pub makes : MakesOn t fits y app fleet before (resumed_worker rest) after (resumed_worker again)
+
+-- each seat made steps, as it stood at its place before
+abbrev pub HaveMade : {R S P F : Type 0} {g : _} → TrailWords S F
+    → (F → Colour → Event → Option P → Type 0) → AppWords R P S F → R
+    → FleetOf (KeptShardState S P) Entry (ShardFrame F)
+    → List (SeatOf (KeptShardState S P) (Option (IdleWorkerState P)) Entry (ShardFrame F) g)
+    → List (SeatOf (KeptShardState S P) (Option (IdleWorkerState P)) Entry (ShardFrame F) g)
+    → Type 0
+HaveMade t fits y app fleet before after = AtEach (λ n seat. (old : _)
+    × (slice_get before n ≡ Some old)
+    × HasMade t fits y app fleet old.passes old.worker seat.passes seat.worker) after

@@ -14,6 +14,7 @@ use Rattle.mely_lock.specs.Seen.{OthersSince}
 use Rattle.mely_worker.specs.declared.access.Access.{Ghosts as AccessWords}
 use Rattle.mely_worker.specs.declared.app.App.{Ghosts as AppWords}
 use Rattle.mely_worker.specs.declared.made.Made.{Made}
+use Rattle.mely_worker.specs.Access.{Stays}
 use Rattle.mely_worker.specs.Step.{Steps}
 use Rattle.mely_worker.specs.Worker.{WorkerState}
 use Rattle.mely_weave.specs.Hands.{colour_run_by}
@@ -118,13 +119,22 @@ pub record HasLooked {F : Type 0} (a b : Standpoint F) : Type 0 where
 
 module _ {R S P F : Type 0} (t : TrailWords S F) (fits : F → Colour → Event → Option P → Type 0)
     (y : AppWords R P S F) (app : R) where
-  -- the worker made these steps, one after another, each by its rule on what the caller had seen by
-  -- then; before each, and after the last one, the caller may have looked at shards
+  -- the worker made a step by its rule, on what the caller had seen by then; the caller is the same,
+  -- and before it and after it the worker meets the conditions of a step
+  pub record StepsOn (a : Standpoint F) (w : WorkerState S P) (step : Made) (b : Standpoint F)
+      (v : WorkerState S P) : Type 0 where
+    pub steps : Steps (words t fits) y app a w step b v
+    pub stays : Stays (λ s. s.setup) (λ s. s.number) (λ s. s.frame) a b
+    pub may : MayStepAt t fits (words t fits) a w
+    pub may_then : MayStepAt t fits (words t fits) b v
+
+  -- the worker made these steps, one after another; before each, and after the last one, the caller
+  -- may have looked at shards
   abbrev pub MakesSteps : List Made → Standpoint F → WorkerState S P → Standpoint F
       → WorkerState S P → Type 0
   MakesSteps [] a w b v = HasLooked a b × (v ≡ w)
   MakesSteps (step ∷ later) a w b v = (c d : Standpoint F) × (u : WorkerState S P)
-      × HasLooked a c × Steps (words t fits) y app c w step d u × MakesSteps later d u b v
+      × HasLooked a c × StepsOn c w step d u × MakesSteps later d u b v
 
 -- the worker may make a step with these passes
 abbrev pub MayWork : {S P F : Type 0} {g : _} → TrailWords S F

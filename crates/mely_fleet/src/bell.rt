@@ -1,5 +1,6 @@
 //! Where workers that find nothing to do wait until somebody has news for them. `BELL.md` argues
 //! that nobody is left asleep.
+use crate::hint::Hint;
 use mely_event::Memory;
 use mely_worker::Made;
 use std::alloc::Global;
@@ -7,9 +8,13 @@ use std::sync::atomic::{AtomicBool, AtomicU64, Ordering};
 use std::sync::{Condvar, Mutex, Wait};
 use std::{hint, thread};
 
-/// How many looks at chains in a row find nothing before a worker goes to sleep: some tens of
-/// microseconds, where waking it again costs ten.
+/// How many looks in a row find nothing before a worker goes to sleep: some tens of microseconds,
+/// where waking it again costs ten.
 const LOOKS: u32 = 500;
+
+/// After how many of them it is counted as one that searches: so a worker whose next mark comes at
+/// once leaves the count alone, which all write.
+const LOOKS_UNCOUNTED: u32 = 20;
 
 /// How many looks at chains in a row find nothing before a worker gives up a fleet whose workers
 /// haven't all begun, and after how many of them it lets another thread have the processor: a tenth
@@ -22,6 +27,15 @@ const LOOKS_A_YIELD: u32 = 2_000;
 /// A crew's word is how many workers began, times this, and how many of them are still at work.
 const BEGUN: u64 = 1 << 32;
 
+/// What a bed says of its worker: it is up, or was woken for what lies in its own chain.
+const UP: u64 = 0;
+
+/// It sleeps or is about to, and nobody has come to wake it.
+const ASLEEP: u64 = 1;
+
+/// It was woken to search, and who woke it has counted it as one that does.
+const CALLED: u64 = 2;
+
 /// What one worker writes, and whoever wakes it.
 #[derive(Drop)]
 struct Bed {
@@ -29,8 +43,8 @@ struct Bed {
     woken: AtomicU64,
     idled: AtomicU64,
 
-    /// Whether the worker sleeps or is about to, and nobody has come to wake it.
-    asleep: AtomicBool,
+    /// `UP`, `ASLEEP` or `CALLED`.
+    worker: AtomicU64,
 
     /// How often it was woken. Whoever holds the lock may change `waits`: whether the worker waits
     /// to be woken, and is counted as one that does.
@@ -45,10 +59,18 @@ struct Bed {
 /// What a worker remembers of its hunts.
 #[derive(Drop)]
 pub(crate) struct Watch {
-    /// How many looks at chains in a row found nothing, and whether the last of them was at the
-    /// worker's own chain.
+    /// How many looks at chains or at their words in a row found nothing, and whether the last step
+    /// was a look at the worker's own chain.
     misses: u32,
     is_home: bool,
+
+    /// Where the next step looks: at the own chain, which is place 0, or at the victim of this
+    /// number, counted from 1. How many places there are, once a whole hunt has shown it.
+    place: u32,
+    places: u32,
+
+    /// Whether it is counted as one that searches.
+    seeks: bool,
 
     /// Where it said that it is about to sleep: how often it had been woken before.
     rings: Option<u64>,
@@ -65,22 +87,38 @@ impl Watch {
         Watch {
             misses: 0,
             is_home: false,
+            place: 0,
+            places: 0,
+            seeks: false,
             rings: None,
             vain: 0,
             unyielded: 0,
         }
     }
 
-    /// Whether a whole hunt has just found nothing. It ends at the worker's own chain: between two
-    /// in a row it looked there and at each victim's chain, however many victims it has.
+    /// Whether a worker that has looked for long has just found nothing in its own chain. Between
+    /// two such ends it looks there and at each victim's chain, however many victims it has.
     pub(crate) fn is_hunted(&self) -> bool {
-        self.is_home && self.misses > 1
+        self.is_home && self.misses >= LOOKS
+    }
+
+    /// A look at the own chain found nothing: the first victim comes next.
+    fn miss_home(&mut self) {
+        if self.place > 0 {
+            self.places = self.place;
+        }
+        self.place = 0;
+        self.miss(true);
     }
 
     /// A look found nothing; whether it was at the worker's own chain.
     fn miss(&mut self, is_home: bool) {
         self.misses = self.misses.wrapping_add(1);
         self.is_home = is_home;
+        self.place = self.place.wrapping_add(1);
+        if self.place == self.places {
+            self.place = 0;
+        }
         hint::spin_loop();
     }
 }
@@ -90,7 +128,8 @@ impl Watch {
 ///
 /// No contract speaks of it. An event is counted only where it makes its colour ready, and a turn
 /// where it leaves its colour idle, each on a line of the caller's own. Whoever pushes a mark reads
-/// one word more, which is written only where a worker goes to sleep or is woken.
+/// one word or two more, which are written only where a worker begins or ends to search, goes to
+/// sleep or is woken.
 #[derive(Drop)]
 pub(crate) struct Bell {
     stopped: AtomicBool,
@@ -101,29 +140,44 @@ pub(crate) struct Bell {
     /// Whether one of them gave up.
     has_given_up: AtomicBool,
 
+    /// How often a caller that isn't counted as at work began to tell news, and how often it ended.
+    begun_news: AtomicU64,
+    ended_news: AtomicU64,
+
+    /// Keeps what is seldom written, and read before each step, on lines of its own.
+    apart: [u64; 16],
+
+    /// How many workers search, or have been woken to.
+    searching: AtomicU64,
+
     /// At least as many as workers sleep or are about to, and nobody has come to wake them.
     sleepers: AtomicU64,
 
     /// How many workers wait to be woken, and nobody has.
     waiting: AtomicU64,
-
-    /// How often a caller that isn't counted as at work began to tell news, and how often it ended.
-    begun_news: AtomicU64,
-    ended_news: AtomicU64,
+    apart_too: [u64; 16],
 
     /// One for each core, and one that all other callers share.
     beds: Vec<Bed>,
+
+    /// One for the chain of each core, and one of no chain.
+    hints: Vec<Hint>,
+    nowhere: Hint,
 }
 
 impl Bell {
     /// A bell for so many cores.
     pub(crate) fn new(alloc: Global, cores: u16) -> Result<Bell, Memory> {
+        let mut hints = Vec::new(alloc);
+        for _core in 0..cores {
+            hints.push(Hint::new())?;
+        }
         let mut beds = Vec::new(alloc);
         for _caller in 0..u32::from(cores) + 1 {
             beds.push(Bed {
                 woken: AtomicU64::new(0),
                 idled: AtomicU64::new(0),
-                asleep: AtomicBool::new(false),
+                worker: AtomicU64::new(UP),
                 rings: Mutex::new(0),
                 rung: Condvar::new(),
                 waits: AtomicBool::new(false),
@@ -134,11 +188,16 @@ impl Bell {
             stopped: AtomicBool::new(false),
             crew: AtomicU64::new(0),
             has_given_up: AtomicBool::new(false),
-            sleepers: AtomicU64::new(0),
-            waiting: AtomicU64::new(0),
             begun_news: AtomicU64::new(0),
             ended_news: AtomicU64::new(0),
+            apart: [0; 16],
+            searching: AtomicU64::new(0),
+            sleepers: AtomicU64::new(0),
+            waiting: AtomicU64::new(0),
+            apart_too: [0; 16],
             beds,
+            hints,
+            nowhere: Hint::new(),
         })
     }
 
@@ -147,6 +206,14 @@ impl Bell {
         match self.beds.get(number as usize) {
             Some(bed) => Some(bed),
             None => self.beds.last(),
+        }
+    }
+
+    /// What is known of the chain of a core.
+    pub(crate) fn hint(&self, core: u16) -> &Hint {
+        match self.hints.get(core as usize) {
+            Some(hint) => hint,
+            None => &self.nowhere,
         }
     }
 
@@ -250,6 +317,11 @@ impl Bell {
     /// after it is the first of another.
     pub(crate) fn leave<R: Wait>(&self, rt: &R, number: u16, watch: &mut Watch) {
         self.rise(number, watch);
+        if watch.seeks {
+            // Who relied on it needs no other: all are woken.
+            watch.seeks = false;
+            self.searching.fetch_sub(1, Ordering::SeqCst);
+        }
         self.begin_news();
         let crew = self.crew.fetch_sub(1, Ordering::SeqCst).wrapping_sub(1);
         if crew % BEGUN == 0 {
@@ -265,24 +337,100 @@ impl Bell {
         self.end_news();
     }
 
-    /// A mark came into the chain of this core, or is worth more there, if that is so: the core's
-    /// worker is woken if it sleeps, else another one that can take the mark, if one can.
-    pub(crate) fn told<R: Wait>(&self, rt: &R, core: u16, is_news: bool, is_for_thieves: bool) {
-        if !is_news || self.sleepers.load(Ordering::SeqCst) == 0 {
-            return;
-        }
-        let is_woken = match self.beds.get(core as usize) {
-            Some(bed) => self.wake(rt, bed),
-            None => false,
-        };
-        if is_for_thieves && !is_woken {
-            self.wake_one(rt);
+    /// A mark was pushed on the chain of a core by the caller of this number; whether a thief may
+    /// take it there. Then somebody is called to search; else the owner is woken, if it sleeps. An
+    /// owner that pushes on its own chain is up.
+    pub(crate) fn pushed<R: Wait>(&self, rt: &R, by: u16, core: u16, is_for_thieves: bool) {
+        if is_for_thieves {
+            self.call(rt);
+        } else if by != core && self.sleepers.load(Ordering::SeqCst) > 0 {
+            if let Some(bed) = self.beds.get(core as usize) {
+                self.wake(rt, bed, UP);
+            }
         }
     }
 
-    /// Wakes the worker of a bed, if it sleeps or is about to.
-    fn wake<R: Wait>(&self, rt: &R, bed: &Bed) -> bool {
-        if !bed.asleep.swap(false, Ordering::SeqCst) {
+    /// Whether a mark in a chain has become one that a thief may take: then somebody is called.
+    pub(crate) fn retold<R: Wait>(&self, rt: &R, is_for_thieves: bool) {
+        if is_for_thieves {
+            self.call(rt);
+        }
+    }
+
+    /// Sees to it that somebody searches, if somebody sleeps: where nobody does, one is woken to.
+    /// Where all are up after all, somebody may have relied on the count in the meantime, and so on
+    /// what follows it.
+    fn call<R: Wait>(&self, rt: &R) {
+        'calls: for _ in rt.forever() {
+            if self.searching.load(Ordering::SeqCst) > 0
+                || self.sleepers.load(Ordering::SeqCst) == 0
+                || !self.counts_the_first()
+                || self.wakes_one(rt)
+                || self.searching.fetch_sub(1, Ordering::SeqCst) > 1
+                || !self.has_spoils()
+            {
+                return;
+            }
+            // Where a worker is counted as a sleeper, and its bed doesn't say so yet.
+            thread::yield_now();
+        }
+    }
+
+    /// Counts one as searching where nobody is. Whether nobody was.
+    fn counts_the_first(&self) -> bool {
+        self.searching
+            .compare_exchange(0, 1, Ordering::SeqCst, Ordering::SeqCst)
+            .is_ok()
+    }
+
+    /// Wakes one to search: the worker of a chain with marks for thieves, if it sleeps, or else the
+    /// first that does. Whether one did.
+    fn wakes_one<R: Wait>(&self, rt: &R) -> bool {
+        for (bed, hint) in self.beds.iter().zip(&self.hints) {
+            if hint.has_spoils() && self.wake(rt, bed, CALLED) {
+                return true;
+            }
+        }
+        for bed in &self.beds {
+            if self.wake(rt, bed, CALLED) {
+                return true;
+            }
+        }
+        false
+    }
+
+    /// Whether the word of a chain says that it may have a mark for thieves.
+    fn has_spoils(&self) -> bool {
+        self.hints.iter().any(|hint| hint.has_spoils())
+    }
+
+    /// Counts a worker that has found nothing for a while as one that searches.
+    fn search(&self, watch: &mut Watch) {
+        if watch.misses >= LOOKS_UNCOUNTED && !watch.seeks {
+            watch.seeks = true;
+            self.searching.fetch_add(1, Ordering::SeqCst);
+        }
+    }
+
+    /// A worker doesn't search any more, if it did: it found a mark, or has lain down. Where it was
+    /// the last one that did, and there are marks for thieves, another is called.
+    fn search_no_more<R: Wait>(&self, rt: &R, watch: &mut Watch) {
+        if !watch.seeks {
+            return;
+        }
+        watch.seeks = false;
+        if self.searching.fetch_sub(1, Ordering::SeqCst) == 1 && self.has_spoils() {
+            self.call(rt);
+        }
+    }
+
+    /// Wakes the worker of a bed, if it sleeps or is about to: `UP` for what lies in its own chain,
+    /// or `CALLED` to search, where it has been counted as one that does. Whether it slept.
+    fn wake<R: Wait>(&self, rt: &R, bed: &Bed, as_what: u64) -> bool {
+        let was = bed
+            .worker
+            .compare_exchange(ASLEEP, as_what, Ordering::SeqCst, Ordering::SeqCst);
+        if was.is_err() {
             return false;
         }
         self.sleepers.fetch_sub(1, Ordering::SeqCst);
@@ -295,43 +443,59 @@ impl Bell {
         true
     }
 
-    /// Wakes the first worker that sleeps.
-    fn wake_one<R: Wait>(&self, rt: &R) {
-        for bed in &self.beds {
-            if self.wake(rt, bed) {
-                return;
-            }
-        }
-    }
-
     /// Wakes all workers that sleep.
     fn ring_all<R: Wait>(&self, rt: &R) {
         for bed in &self.beds {
-            self.wake(rt, bed);
+            self.wake(rt, bed, UP);
         }
     }
 
     /// A worker made this step.
-    pub(crate) fn note(&self, number: u16, watch: &mut Watch, made: Made) {
+    pub(crate) fn note<R: Wait>(&self, rt: &R, number: u16, watch: &mut Watch, made: Made) {
         match made {
-            Made::NoneHere => watch.miss(true),
+            Made::NoneHere => watch.miss_home(),
             Made::NoneThere { victim: _ } => watch.miss(false),
             _ => {
                 watch.misses = 0;
                 watch.vain = 0;
+                watch.place = 0;
                 self.rise(number, watch);
+                self.search_no_more(rt, watch);
             }
         }
     }
 
-    /// Takes back that a worker is about to sleep, if it said so and nobody has come to wake it.
+    /// A free worker that is about to look at its own chain makes no step, for a while, as long as
+    /// the words of all chains say that it would find nothing. It is not so of one that is about to
+    /// sleep, which hunts.
+    pub(crate) fn await_news(&self, number: u16, watch: &mut Watch) {
+        if watch.place > 0 || watch.rings.is_some() {
+            return;
+        }
+        let own = self.hint(number);
+        'looks: for _look in watch.misses..LOOKS {
+            if own.has_marks() || self.has_spoils() || self.is_stopped() {
+                return;
+            }
+            watch.misses = watch.misses.wrapping_add(1);
+            self.search(watch);
+            hint::spin_loop();
+        }
+    }
+
+    /// Takes back that a worker is about to sleep, if it said so and nobody has come to wake it. One
+    /// that was woken to search is counted already.
     fn rise(&self, number: u16, watch: &mut Watch) {
         if watch.rings.take().is_none() {
             return;
         }
         if let Some(bed) = self.bed(number) {
-            if bed.asleep.swap(false, Ordering::SeqCst) {
-                self.sleepers.fetch_sub(1, Ordering::SeqCst);
+            match bed.worker.swap(UP, Ordering::SeqCst) {
+                ASLEEP => {
+                    self.sleepers.fetch_sub(1, Ordering::SeqCst);
+                }
+                CALLED => watch.seeks = true,
+                _ => {}
             }
         }
     }
@@ -349,25 +513,23 @@ impl Bell {
         false
     }
 
-    /// A worker found nothing in a whole hunt, while something is ready or runs. It goes on for a
-    /// while. Then it says that it is about to sleep, and hunts once more: whatever comes into its
-    /// chain from then on wakes it. Where it finds nothing again it sleeps; but where not all workers
-    /// have begun, one that never will can leave it asleep for good, so it hunts on. Nor does it
-    /// sleep where all others at work do: unless somebody tells news, none can come any more. Whether
-    /// it gives up.
+    /// A worker found nothing for a while, and now nothing in its own chain, while something is ready
+    /// or runs. It says that it is about to sleep, searches no more, and hunts once more: whatever
+    /// comes into its chain from then on wakes it. Where it finds nothing again it sleeps; but where
+    /// not all workers have begun, one that never will can leave it asleep for good, so it hunts on.
+    /// Nor does it sleep where all others at work do: unless somebody tells news, none can come any
+    /// more. Whether it gives up.
     pub(crate) fn rest<R: Wait>(&self, rt: &R, number: u16, watch: &mut Watch) -> bool {
-        if watch.misses < LOOKS {
-            return false;
-        }
         let Some(bed) = self.bed(number) else {
             return false;
         };
         match watch.rings {
             None => {
                 watch.rings = Some(*bed.rings.lock(rt));
-                // Whoever takes the flag takes 1 away, which has to be there by then.
+                // Whoever wakes it takes 1 away, which has to be there by then.
                 self.sleepers.fetch_add(1, Ordering::SeqCst);
-                bed.asleep.store(true, Ordering::SeqCst);
+                bed.worker.store(ASLEEP, Ordering::SeqCst);
+                self.search_no_more(rt, watch);
                 watch.misses = LOOKS;
             }
             Some(_) if self.has_given_up.load(Ordering::SeqCst) => return true,

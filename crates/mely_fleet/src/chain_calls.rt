@@ -1,4 +1,4 @@
-//! One call on the chain behind a lock.
+//! One call on the chain behind a lock. What it leaves there is hinted at before the lock is left.
 ghost use Rattle.std.specs.Prelude.{◌≡◌, ◌<◌, ◌+◌, ◌^◌, IfSome, length};
 ghost use Rattle.mely_lock.specs.Words.{initial_value, front, IsInside, IsPassOf};
 ghost use Rattle.mely_lock.specs.Seen.{OthersSince};
@@ -6,6 +6,7 @@ ghost use Rattle.mely_fleet.specs.Chains.{IsOnChain, PushesAt, PopsAt, RetellsAt
 ghost use Rattle.mely_fleet.specs.Rows.{MayEnter, HasLeft};
 ghost use Rattle.mely_fleet.specs.Frames.{chain_frame};
 
+use crate::hint::Hint;
 use crate::kept_chain::KeptChain;
 use mely_event::{Colour, Kept, Mark, There};
 use mely_lock::{Held, Pass, Ticketed};
@@ -35,12 +36,15 @@ fn enter_with_room<'a, R: Wait>(
     held
 }
 
-/// Puts a mark at the back. Whether the chain has other marks is told beside the answer.
+/// Puts a mark at the back; whether thieves may take it there. Whether the chain has other marks is
+/// told beside the answer.
 pub(crate) fn push_at<R: Wait>(
     rt: &R,
+    hint: &Hint,
     lock: &Ticketed<KeptChain>,
     pass: &mut Pass<KeptChain>,
     mark: Mark,
+    is_worthy: bool,
 ) -> (Result<(), There>, bool)
     requires pass { MayEnter chain_frame lock.now pass.old }
     requires colour { mark.colour.0 < (initial_value lock.now).has.colours }
@@ -53,6 +57,7 @@ pub(crate) fn push_at<R: Wait>(
     let chain = held.value();
     let answer = chain.push(mark, by);
     let is_crowded = chain.is_crowded();
+    hint.came(is_worthy & answer.is_ok());
     held.leave(pass);
     (answer, is_crowded)
 }
@@ -60,6 +65,7 @@ pub(crate) fn push_at<R: Wait>(
 /// Takes the mark at the front of a chain, under its lock.
 pub(crate) fn pop_at<R: Wait>(
     rt: &R,
+    hint: &Hint,
     lock: &Ticketed<KeptChain>,
     pass: &mut Pass<KeptChain>,
 ) -> Option<Mark>
@@ -71,20 +77,24 @@ pub(crate) fn pop_at<R: Wait>(
 {
     let by = pass.number();
     let mut held = enter_with_room(rt, lock, pass);
-    let answer = held.value().pop(by);
+    let chain = held.value();
+    let answer = chain.pop(by);
+    hint.popped(chain.is_empty());
     held.leave(pass);
     answer
 }
 
-/// Tells the mark of a colour in a chain what its events are worth, under its
-/// lock. Whether there was one.
+/// Tells the mark of a colour in a chain what its events are worth, under its lock; whether thieves
+/// may take it at that. Whether there was one.
 pub(crate) fn retell_at<R: Wait>(
     rt: &R,
+    hint: &Hint,
     lock: &Ticketed<KeptChain>,
     pass: &mut Pass<KeptChain>,
     colour: Colour,
     started: u64,
     worth: u128,
+    is_worthy: bool,
 ) -> bool
     requires pass { MayEnter chain_frame lock.now pass.old }
     requires colour { colour.0 < (initial_value lock.now).has.colours }
@@ -96,6 +106,7 @@ pub(crate) fn retell_at<R: Wait>(
     let by = pass.number();
     let mut held = enter_with_room(rt, lock, pass);
     let answer = held.value().retell(colour, started, worth, by);
+    hint.told(is_worthy & answer);
     held.leave(pass);
     answer
 }
@@ -104,6 +115,7 @@ pub(crate) fn retell_at<R: Wait>(
 /// where thieves may have none.
 pub(crate) fn pick_at<R: Wait>(
     rt: &R,
+    hint: &Hint,
     lock: &Ticketed<KeptChain>,
     pass: &mut Pass<KeptChain>,
 ) -> Option<Mark>
@@ -115,7 +127,9 @@ pub(crate) fn pick_at<R: Wait>(
 {
     let by = pass.number();
     let mut held = enter_with_room(rt, lock, pass);
-    let answer = held.value().pick(by);
+    let chain = held.value();
+    let answer = chain.pick(by);
+    hint.picked(answer.is_some(), chain.is_empty());
     held.leave(pass);
     answer
 }

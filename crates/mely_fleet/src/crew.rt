@@ -1,5 +1,5 @@
 //! A whole run: a fleet with a thread for each core, from the states to the weave that they leave.
-ghost use Rattle.std.specs.Prelude.{◌≡◌, ◌<◌, ◌≤◌, ◌+◌, [], IfOk, IfErr, Some, length, slice_get, vec_capacity};
+ghost use Rattle.std.specs.Prelude.{◌≡◌, ◌<◌, ◌≤◌, ◌+◌, ◌∷◌, [], ℕ, IfOk, IfErr, Some, length, slice_get, vec_capacity};
 ghost use Rattle.mely_history.specs.Setup.{shape_of};
 ghost use Rattle.mely_weave.specs.Dealing.{AtEach};
 ghost use Rattle.mely_weave.specs.Drains.{AllFree, HistoriesAreDrained};
@@ -9,7 +9,10 @@ ghost use Rattle.mely_worker.specs.Access.{FitsSetup};
 ghost use Rattle.mely_worker.specs.Conditions.{AppServes};
 ghost use Rattle.mely_fleet.specs.Fleets.{frame_in};
 ghost use Rattle.mely_fleet.specs.Frames.{shard_frame};
-ghost use Rattle.mely_fleet.specs.Seats.{IsSeatOf, IsOutsider};
+ghost use Rattle.mely_tally.specs.Account.{IsAccounted};
+ghost use Rattle.mely_fleet.specs.Calls.{front_in};
+ghost use Rattle.mely_fleet.specs.Rows.{fronts};
+ghost use Rattle.mely_fleet.specs.Seats.{IsSeatOf, IsOutsider, IsFresh, HasMade, HaveMade};
 ghost use Rattle.mely_fleet.specs.Crew.{IsRegistered};
 
 use crate::fleet::{Fleet, FleetOf};
@@ -63,8 +66,14 @@ fn make_crew<S: Fits<P> + Drop, P: Drop>(
     ensures seats { IfOk result (λ crew. AtEach
         (λ n seat. IsSeatOf S.frame_of S.fits_under crew.fleet n seat.passes seat.worker)
         crew.seats.items) }
+    ensures fresh { IfOk result (λ crew.
+        AtEach (λ n seat. IsFresh seat.passes seat.worker) crew.seats.items) }
     ensures outside { IfOk result (λ crew.
         IsOutsider (shard_frame S.frame_of) crew.fleet crew.outside) }
+    ensures numbered { IfOk result (λ crew.
+        crew.outside.number ≡ (shape_of setup.now).cores) }
+    ensures unseen { IfOk result (λ crew. (k : ℕ)
+        → front_in (fronts crew.outside.shards.items) k ≡ []) }
     ensures room { IfOk result (λ crew. (crew.room.setup ≡ setup.now)
         × (crew.room.passes ≡ (shape_of setup.now).cores + 1)) }
     ensures outsiders { IfOk result (λ crew. (crew.outsiders.items ≡ [])
@@ -107,8 +116,9 @@ fn work_all<
         IsSeatOf S.frame_of S.fits_under fleet.now n seat.passes seat.worker) seats.old }
     requires served { let frame = frame_in (shard_frame S.frame_of) fleet.now in
         AppServes A.App fleet.now.setup frame app.now }
-    ensures { AtEach (λ n seat.
+    ensures seats { AtEach (λ n seat.
         IsSeatOf S.frame_of S.fits_under fleet.now n seat.passes seat.worker) seats.new }
+    ensures made { HaveMade S.Trail S.fits_under A.App app.now fleet.now seats.old seats.new }
 {
     let threads = seats.len();
     if threads == 0 {
@@ -123,7 +133,10 @@ fn work_all<
                 seat.now.passes seat.now.worker }
             requires served { AppServes A.App fleet.now.setup
                 (frame_in (shard_frame S.frame_of) fleet.now) app.now }
-            ensures { IsSeatOf S.frame_of S.fits_under fleet.entry.now number
+            ensures seat { IsSeatOf S.frame_of S.fits_under fleet.entry.now number
+                seat.exit.now.passes seat.exit.now.worker }
+            ensures made { HasMade S.Trail S.fits_under A.App app.entry.now fleet.entry.now
+                seat.entry.now.passes seat.entry.now.worker
                 seat.exit.now.passes seat.exit.now.worker }
         {
             drop(fleet.work_at(rt, seat, app, gate));
@@ -162,6 +175,8 @@ pub fn run_crew<
     ensures framed { IfOk result (λ ran. (state : _) → slice_get states.items 0 ≡ Some state
         → S.frame_of ran.0.given ≡ S.frame_of state) }
     ensures begun { IfOk result (λ ran. IsRegistered begin.0 begin.1 ran.0) }
+    ensures accounted { IfOk result (λ ran.
+        IsAccounted S.Trail S.fits_under A.App app.now (begin ∷ []) ran.0) }
     ensures stands { IfOk result (λ ran. StandsWell S.Trail S.fits_under ran.0) }
     ensures free { IfOk result (λ ran. AllFree ran.0) }
     ensures drained { IfOk result (λ ran. ran.1 ≡ Drained.Empty → HistoriesAreDrained ran.0) }

@@ -1,5 +1,5 @@
 //! All shards and chains behind their locks, and the calls on them.
-ghost use Rattle.std.specs.Prelude.{◌≡◌, ◌<◌, ◌≤◌, [], length, IsTrue, IfOk, OnErr, IfSome, vec_capacity};
+ghost use Rattle.std.specs.Prelude.{◌≡◌, ◌<◌, ◌≤◌, ◌↔◌, [], length, IsTrue, IfOk, OnErr, IfSome, vec_capacity};
 ghost use Rattle.mely_history.specs.Setup.{shape_of};
 ghost use Rattle.mely_fleet.specs.Rows.{HavePasses};
 
@@ -299,7 +299,7 @@ impl<S: Fits<P>, P> FleetOf<KeptShard<S, P>> {
         ensures same { KeepChains passes.old passes.new }
         ensures sees { SeesOn self.now shard passes.old passes.new (λ setup n. LooksAt) }
         ensures drained { IsTrue result
-            → IsDrained (front_in (fronts passes.new.shards.items) shard) }
+            ↔ IsDrained (front_in (fronts passes.new.shards.items) shard) }
     {
         let place = shard as usize;
         look_at(rt, &self.shards[place], &mut passes.shards[place])
@@ -325,12 +325,15 @@ impl<S: Fits<P>, P> FleetOf<KeptShard<S, P>> {
         let is_worthy = self.is_worthy(mark.colour, mark.worth);
         let (answer, is_crowded) = push_at(
             rt,
+            self.bell.hint(core),
             &self.chains[place],
             &mut passes.chains[place],
             mark,
+            is_worthy,
         );
+        // An owner that pushes a mark alone takes it next.
         let is_for_thieves = is_worthy & (is_crowded | (passes.number != core));
-        self.bell.told(rt, core, true, is_for_thieves);
+        self.bell.pushed(rt, passes.number, core, is_for_thieves);
         answer
     }
 
@@ -345,7 +348,12 @@ impl<S: Fits<P>, P> FleetOf<KeptShard<S, P>> {
         ensures mark { IfSome result (λ mark. IsColour self.now.setup mark.colour) }
     {
         let place = core as usize;
-        pop_at(rt, &self.chains[place], &mut passes.chains[place])
+        pop_at(
+            rt,
+            self.bell.hint(core),
+            &self.chains[place],
+            &mut passes.chains[place],
+        )
     }
 
     /// Tells the chain of a core what a colour is worth.
@@ -367,16 +375,18 @@ impl<S: Fits<P>, P> FleetOf<KeptShard<S, P>> {
             (λ of n. RetellsAt of n colour started worth result) }
     {
         let place = core as usize;
+        let is_worthy = self.is_worthy(colour, worth);
         let is_found = retell_at(
             rt,
+            self.bell.hint(core),
             &self.chains[place],
             &mut passes.chains[place],
             colour,
             started,
             worth,
+            is_worthy,
         );
-        let is_worthy = self.is_worthy(colour, worth);
-        self.bell.told(rt, core, is_found, is_worthy);
+        self.bell.retold(rt, is_found & is_worthy);
         is_found
     }
 
@@ -391,6 +401,11 @@ impl<S: Fits<P>, P> FleetOf<KeptShard<S, P>> {
         ensures mark { IfSome result (λ mark. IsColour self.now.setup mark.colour) }
     {
         let place = core as usize;
-        pick_at(rt, &self.chains[place], &mut passes.chains[place])
+        pick_at(
+            rt,
+            self.bell.hint(core),
+            &self.chains[place],
+            &mut passes.chains[place],
+        )
     }
 }

@@ -123,6 +123,13 @@ impl KeptChain {
         self.queue.at(1).is_some()
     }
 
+    /// Whether there is no mark.
+    pub(crate) fn is_empty(&self) -> bool
+        ensures { IsTrue result ↔ (self.now.has.chain ≡ []) }
+    {
+        self.queue.is_empty()
+    }
+
     /// Takes the mark at the front; nothing, and no change, where the chain is empty.
     pub(crate) fn pop(&mut self, by: u16) -> Option<Mark>
         requires room { length self.old.changes + 1 < 2 ^ 64 }

@@ -33,6 +33,7 @@ mod closing;
 mod crew;
 mod dealing;
 mod fleet;
+mod hint;
 mod kept_chain;
 mod kept_shard;
 mod opening;

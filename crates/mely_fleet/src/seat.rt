@@ -1,12 +1,12 @@
 //! The threads of a fleet's cores.
-ghost use Rattle.std.specs.Prelude.{◌≡◌, ◌≤◌, ◌+◌, ◌++◌, [], ℕ, Some, IfOk, IsSome, length, map, slice_get, vec_len, vec_capacity};
+ghost use Rattle.std.specs.Prelude.{◌≡◌, ◌≤◌, ◌+◌, ◌++◌, ◌↔◌, [], ℕ, Some, true, IfOk, IfSome, IsSome, length, map, slice_get, vec_len, vec_capacity};
 ghost use Rattle.mely_history.specs.Setup.{shape_of};
 ghost use Rattle.mely_worker.specs.Conditions.{AppServes};
 ghost use Rattle.mely_weave.specs.Dealing.{AtEach};
 ghost use Rattle.mely_fleet.specs.Fleets.{frame_in};
 ghost use Rattle.mely_fleet.specs.Frames.{shard_frame};
 ghost use Rattle.mely_fleet.specs.Opening.{AreInitialPasses};
-ghost use Rattle.mely_fleet.specs.Seats.{MaySit, IsSeatOf};
+ghost use Rattle.mely_fleet.specs.Seats.{MaySit, IsSeatOf, IsFresh, HasMade};
 ghost use Rattle.mely_worker.specs.IdleWorker.{resumed_worker};
 ghost use Rattle.mely_fleet.specs.Work.{SeesAllDrained, SeesMore, standpoint};
 
@@ -77,6 +77,8 @@ impl<S: Fits<P> + Drop, P: Drop> FleetOf<KeptShard<S, P>> {
         ensures each { IfOk result (λ seats.
             AtEach (λ n seat. IsSeatOf S.frame_of S.fits_under self.now n seat.passes seat.worker)
             seats.items) }
+        ensures fresh { IfOk result (λ seats.
+            AtEach (λ n seat. IsFresh seat.passes seat.worker) seats.items) }
     {
         let rested = rested_of(alloc, &self.setup)?;
         let seats = seat_all(alloc, passes, rested)?;
@@ -96,6 +98,10 @@ impl<S: Fits<P> + Drop, P: Drop> FleetOf<KeptShard<S, P>> {
         requires served { let frame = frame_in (shard_frame S.frame_of) self.now in
             AppServes A.App self.now.setup frame app.now }
         ensures seat { MaySit S.frame_of S.fits_under self.now seat.new.passes seat.new.worker }
+        ensures made { HasMade S.Trail S.fits_under A.App app.now self.now
+            seat.old.passes seat.old.worker seat.new.passes seat.new.worker }
+        ensures memory { IfSome seat.new.worker (λ rest.
+            (result ≡ Worked.Memory) ↔ (rest.halted ≡ true)) }
         ensures number { seat.new.passes.number ≡ seat.old.passes.number }
         ensures more { let at = standpoint (shard_frame S.frame_of) self.now in
             SeesMore (at seat.old.passes) (at seat.new.passes) }

@@ -1,5 +1,5 @@
 //! A worker at work on its own thread.
-ghost use Rattle.std.specs.Prelude.{◌≡◌, None, IsTrue, IfSome};
+ghost use Rattle.std.specs.Prelude.{◌≡◌, ◌↔◌, None, true, IsTrue, IfSome};
 ghost use Rattle.mely_worker.specs.Conditions.{AppServes};
 ghost use Rattle.mely_worker.specs.Phase.{is_free};
 ghost use Rattle.mely_fleet.specs.Frames.{shard_frame};
@@ -23,21 +23,26 @@ pub enum Worked {
     /// Nothing runs and nothing is queued, by what the worker's passes have seen of each shard.
     Quiet,
 
-    /// Some worker met want of memory, or gave up: something was ready that no worker at work could
-    /// take. So it is where the machine refuses a thread, where an event is posted from outside for
-    /// a core whose worker has just left, and where a colour was made ready and its mark pushed by
-    /// nobody. What is queued then stays queued, until all work again or the fleet is closed.
+    /// The worker is halted, as it met want of memory: exactly where it is.
     Memory,
+
+    /// The worker isn't halted, and left work all the same: another met want of memory, or all gave
+    /// up, as something was ready that no worker at work could take. So it is where the machine
+    /// refuses a thread, where an event is posted from outside for a core whose worker has just
+    /// left, and where a colour was made ready and its mark pushed by nobody. What is queued then
+    /// stays queued, until all work again or the fleet is closed.
+    Stopped,
 }
 
 impl<S: Fits<P> + Drop, P: Drop> FleetOf<KeptShard<S, P>> {
     /// Lets the worker of the core of these passes work until nothing is left to do.
     ///
     /// It makes one step after another, and waits while it finds nothing. Where a worker is halted
-    /// all come to an end: each ends its turn and puts back the mark in its hand. Where all that are
-    /// at work find nothing, and something is ready all the same, they give up. So they do where one
-    /// finds nothing to do for a while, a tenth of a second or more, and another hasn't begun: let
-    /// all begin at once. That it returns isn't promised.
+    /// all come to an end: each ends its turn and puts back the mark in its hand; the halted one
+    /// answers `Memory`, and the others `Stopped`. Where all that are at work find nothing, and
+    /// something is ready all the same, they give up. So they do where one finds nothing to do for a
+    /// while, a tenth of a second or more, and another hasn't begun: let all begin at once. That it
+    /// returns isn't promised.
     pub fn work<R: Wait, A: App<State = S, Load = P>, G: Gate>(
         &self,
         rt: &R,
@@ -55,6 +60,7 @@ impl<S: Fits<P> + Drop, P: Drop> FleetOf<KeptShard<S, P>> {
             passes.old worker.old passes.new worker.new }
         ensures losses { KeepsLosses worker.old worker.new }
         ensures free { IsTrue (is_free worker.new.phase) }
+        ensures memory { (result ≡ Worked.Memory) ↔ (worker.new.halted ≡ true) }
         ensures quiet { let seen = standpoint (shard_frame S.frame_of) self.now passes.new in
             result ≡ Worked.Quiet → SeesAllDrained seen }
     {
@@ -65,14 +71,15 @@ impl<S: Fits<P> + Drop, P: Drop> FleetOf<KeptShard<S, P>> {
                 return worked;
             }
             let made = self.step(rt, worker, passes, app, gate);
-            self.bell.note(passes.number, &mut watch, made);
+            self.bell.note(rt, passes.number, &mut watch, made);
         }
         unreachable!()
     }
 
     /// What a worker does between two steps: nothing, unless it is free. Then it comes to an end
-    /// where some worker is halted; and where it found nothing in a whole hunt, it looks whether
-    /// everything is finished, or waits, or gives up. How its work ended, if it did.
+    /// where some worker is halted; it waits for a while where it would find nothing; and where it
+    /// has looked for long, it looks whether everything is finished, or sleeps, or gives up. How its
+    /// work ended, if it did.
     fn pause<R: Wait>(
         &self,
         rt: &R,
@@ -86,16 +93,23 @@ impl<S: Fits<P> + Drop, P: Drop> FleetOf<KeptShard<S, P>> {
         ensures worked { HasWorked S.Trail S.fits_under self.now
             passes.old worker.now passes.new worker.now }
         ensures free { IfSome result (λ _. IsTrue (is_free worker.now.phase)) }
+        ensures memory { IfSome result (λ worked.
+            (worked ≡ Worked.Memory) ↔ (worker.now.halted ≡ true)) }
         ensures quiet { let seen = standpoint (shard_frame S.frame_of) self.now passes.new in
             IfSome result (λ worked. worked ≡ Worked.Quiet → SeesAllDrained seen) }
     {
         if !worker.is_free() {
             return None;
         }
-        if worker.is_halted() || self.bell.is_stopped() {
+        if worker.is_halted() {
             self.bell.stop(rt, passes.number, watch);
             return Some(Worked::Memory);
         }
+        if self.bell.is_stopped() {
+            self.bell.stop(rt, passes.number, watch);
+            return Some(Worked::Stopped);
+        }
+        self.bell.await_news(passes.number, watch);
         if !watch.is_hunted() {
             return None;
         }
@@ -108,7 +122,7 @@ impl<S: Fits<P> + Drop, P: Drop> FleetOf<KeptShard<S, P>> {
         }
         if self.bell.rest(rt, passes.number, watch) {
             self.bell.give_up(rt, passes.number, watch);
-            return Some(Worked::Memory);
+            return Some(Worked::Stopped);
         }
         None
     }

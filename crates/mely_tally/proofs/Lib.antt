@@ -8,3 +8,8 @@ mod WholeLemmas
 pub mod CarryingLemmas
 mod ConservedLemmas
 mod PartsFittingLemmas
+pub mod AlongLemmas
+pub mod StepAccountLemmas
+pub mod HistoryCountsLemmas
+pub mod WeaveAccountLemmas
+pub mod AccountLemmas

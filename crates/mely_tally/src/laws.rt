@@ -1,5 +1,5 @@
 //! The laws over all states and all events under way.
-ghost use Rattle.std.specs.Prelude.{◌≡◌, ℕ, List, Option, Some, Result, map, flat_map};
+ghost use Rattle.std.specs.Prelude.{◌≡◌, ℕ, List, [], Option, Some, Result, map, flat_map};
 ghost use Rattle.mely_event.specs.declared.colour.Colour.{Colour};
 ghost use Rattle.mely_event.specs.declared.event.Event.{Event};
 ghost use Rattle.mely_event.specs.declared.unregistered.Unregistered.{Unregistered};
@@ -12,11 +12,12 @@ ghost use Rattle.mely_weave.specs.declared.running.Went.{Went};
 ghost use Rattle.mely_weave.specs.Drains.{AllFree, Drains, HistoriesAreDrained};
 ghost use Rattle.mely_weave.specs.Lanes.{AreByColour};
 ghost use Rattle.mely_weave.specs.Making.{AreInitial, IsInitialWeave};
-ghost use Rattle.mely_weave.specs.Runs.{RunsTo};
+ghost use Rattle.mely_weave.specs.Runs.{RunsTo, StepsWell};
 ghost use Rattle.mely_weave.specs.StandsWell.{StandsWell};
 ghost use Rattle.mely_weave.specs.Weave.{WeaveState};
 ghost use Rattle.mely_weave.specs.WeaveRun.{PostCall, StepCall};
 ghost use Rattle.mely_weave.specs.WeaveStands.{WeaveStands};
+ghost use Rattle.mely_tally.specs.Account.{IsAccounted};
 ghost use Rattle.mely_tally.specs.Tallies.{Carried, under_way, refused_in};
 ghost use Rattle.mely_tally.specs.Tells.{IgnoresSpare, HandlersKeep, StepTells, PostTells, BeginsAs, IsTakenApart, PartsFit, total_of};
 
@@ -108,4 +109,29 @@ pub fn what_is_left_in_the_parts_fits<S: Fits<P>, P>()
         → AreByColour (λ lane. lane.events) weave.setup weave.shards queued
         → lost ≡ flat_map (λ w. w.lost) weave.workers
         → PartsFit S.Trail S.fits_under weave queued lost }
+{}
+
+/// All that handlers put and that was posted is accounted for, of an initial weave with nothing, and
+/// so after each step, each run of a schedule and each drain: it is registered, left of a turn, or was refused for memory; and
+/// what handlers were run on are the events that were taken, each by its place in the order of its
+/// colour.
+pub fn what_handlers_put_is_accounted_for<S: Fits<P>, P, R: App<State = S, Load = P>>()
+    ensures first { (app : R) (setup : Setup) (states : List S) (weave : WeaveState S P)
+        → IsInitialWeave setup states weave
+        → IsAccounted S.Trail S.fits_under R.App app [] weave }
+    ensures step { (app : R) (posted : List (Colour × Event × Option P)) (core : ℕ) (step : Made)
+        (before after : WeaveState S P) → StandsWell S.Trail S.fits_under before
+        → StepsWell S.Trail S.fits_under R.App app before core step after
+        → IsAccounted S.Trail S.fits_under R.App app posted before
+        → IsAccounted S.Trail S.fits_under R.App app posted after }
+    ensures run { (app : R) (posted : List (Colour × Event × Option P)) (cores : List ℕ)
+        (went : Went) (before after : WeaveState S P) → StandsWell S.Trail S.fits_under before
+        → RunsTo S.Trail S.fits_under R.App app before cores went after
+        → IsAccounted S.Trail S.fits_under R.App app posted before
+        → IsAccounted S.Trail S.fits_under R.App app posted after }
+    ensures drain { (app : R) (posted : List (Colour × Event × Option P)) (drained : Drained)
+        (before after : WeaveState S P) → StandsWell S.Trail S.fits_under before
+        → Drains S.Trail S.fits_under R.App app before drained after
+        → IsAccounted S.Trail S.fits_under R.App app posted before
+        → IsAccounted S.Trail S.fits_under R.App app posted after }
 {}

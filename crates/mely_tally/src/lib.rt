@@ -15,6 +15,10 @@
 //! [`what_is_left_in_the_parts_fits`]. So a fact on sums goes from the states that are handed in to
 //! the parts that come out, and an app's author proves it of each handler alone.
 //!
+//! What handlers put can be counted too, by its colours: an `Account` is the runs of handlers on the
+//! way to a weave, whose puts are what is registered, left to register, or was refused, and
+//! [`what_handlers_put_is_accounted_for`] carries it over steps, runs and drains.
+//!
 //! A fact that is no sum, but that every step keeps, is carried over runs and drains by the
 //! lemmas of `CarryingLemmas`.
 #![tactic(auto)]
@@ -25,5 +29,5 @@ pub use laws::{
     a_drained_weave_has_only_what_was_refused, a_post_brings_its_event,
     a_step_runs_one_event_or_only_moves, an_initial_weave_has_what_it_was_given,
     the_parts_are_what_the_weave_had, what_each_handler_keeps_a_run_keeps,
-    what_is_left_in_the_parts_fits,
+    what_handlers_put_is_accounted_for, what_is_left_in_the_parts_fits,
 };

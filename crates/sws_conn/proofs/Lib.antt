@@ -1,6 +1,5 @@
 mod WindowLemmas
 mod SearchLemmas
 mod LookLemmas
-mod LentLemmas
-pub mod PathLemmas
 pub mod ResponseLemmas
+mod LogLemmas

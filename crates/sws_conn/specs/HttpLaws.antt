@@ -124,11 +124,15 @@ http-orderly = record {
       omega (arith, length-append answer.head answer.body)));
   has_bytes = λ site asked last e. refl;
   short = λ site asked last limits. answer_of-short site (asked_for asked) last limits;
+  logged = λ on site asked last. refl;
+  measured = λ on answer. refl;
   all = all-counted;
   texts = all-texts;
   nothing = ap cut_by nothing_cut;
   some_input = lit< tt;
   some_answers = lit< tt;
+  few_input = lit< tt;
+  few_written = lit< tt;
 }
 
 -- a read finds room behind the buffer

@@ -5,12 +5,8 @@ pub mod Searches
 pub mod Http
 pub mod HttpLaws
 pub mod Conn
-pub mod Step
-pub mod ConnCoreFields
-pub mod Sound
 pub mod Outcome
 pub mod Path
 pub mod Serving
-pub mod Run
 pub mod Talks
-pub mod ConnTalks
+pub mod Logs

@@ -1,14 +1,16 @@
 //! What a connection of HTTP says.
-ghost use Rattle.std.specs.Prelude.{◌≡◌};
-ghost use Rattle.sws_parts.specs.Parts.{PartsState};
+ghost use Rattle.std.specs.Prelude.{◌≡◌, IfOk, length};
+ghost use Rattle.sws_parts.specs.Parts.{PartsState, unsent_bytes};
 
 use crate::buffer::Buffer;
-use sws_answer::{Answer, Asked, PathRoom, answer, ask};
-use sws_link::{Link, LinkRead};
+use std::alloc::Global;
+use sws_answer::{Answer, Asked, PathRoom, answer, ask, target};
+use sws_link::{Link, LinkRead, Memory};
+use sws_log::Brief;
 use sws_parts::Parts;
 use sws_request::Cut;
 use sws_site::Site;
-use sws_steps::Speech;
+use sws_steps::{Note, Speech, SpeechConn};
 
 /// The most bytes that are read of a connection.
 const MAX_INPUT: u64 = 65536;
@@ -19,14 +21,22 @@ const MAX_ANSWERS: u8 = 64;
 /// The heads in the bytes that were taken, answered out of a site.
 #[derive(Drop)]
 pub struct Http<'s> {
-    pub site: &'s Site,
-    pub buffer: Buffer,
-    pub parts: Parts<'s>,
-    pub room: PathRoom,
+    site: &'s Site,
+    buffer: Buffer,
+    parts: Parts<'s>,
+    note: Note,
+    room: PathRoom,
 }
 
+/// A connection of HTTP over a link, which does one step at a time.
+pub type Conn<'s, L> = SpeechConn<Http<'s>, L>;
+
 impl<'s> Speech for Http<'s> {
+    type Hall = &'s Site;
+
     type Contents = Site;
+
+    ghost contents_of = { λ hall. hall.now };
 
     ghost use Rattle.sws_answer.specs.Answers.{Answer as AnswerValue};
     ghost use Rattle.sws_conn.specs.Http.{http};
@@ -41,12 +51,31 @@ impl<'s> Speech for Http<'s> {
 
     ghost parts_of = { λ speech. speech.parts };
 
+    ghost note_of = { λ speech. speech.note };
+
+    fn make(alloc: Global, hall: &'s Site) -> Result<Http<'s>, Memory> {
+        let buffer = Buffer::new(alloc)?;
+        let room = PathRoom::new(alloc)?;
+        hall.limits();
+        Ok(Http {
+            site: hall,
+            buffer,
+            parts: Parts::new(b"", b""),
+            note: Note::none(),
+            room,
+        })
+    }
+
     fn input_limit(&self) -> u64 {
         MAX_INPUT
     }
 
     fn answer_limit(&self) -> u8 {
         MAX_ANSWERS
+    }
+
+    fn logs(&self) -> bool {
+        true
     }
 
     fn fill<L: Link>(&mut self, link: &mut L, most: usize) -> LinkRead {
@@ -68,11 +97,13 @@ impl<'s> Speech for Http<'s> {
             Cut::Head { len } => {
                 let asked = ask(&self.buffer.bytes()[..len]);
                 let given = answer(self.site, &asked, last, &mut self.room);
+                self.note = note(&given, Brief::of(target(&asked)));
                 self.buffer.drop_front(len);
                 send(&mut self.parts, given)
             }
             Cut::TooLong => {
                 let given = answer(self.site, &Asked::TooLong, last, &mut self.room);
+                self.note = note(&given, Brief::of(target(&Asked::TooLong)));
                 self.buffer.clear();
                 send(&mut self.parts, given)
             }
@@ -88,6 +119,10 @@ impl<'s> Speech for Http<'s> {
         self.parts.left() as u64
     }
 
+    fn note(&self) -> Note {
+        self.note
+    }
+
     fn advance(&mut self, count: usize) {
         self.parts.advance(count);
     }
@@ -95,6 +130,21 @@ impl<'s> Speech for Http<'s> {
     ghost use Rattle.sws_conn.specs.HttpLaws.{http-orderly};
 
     ghost orderly = { http-orderly };
+}
+
+/// What a log says of an answer, with the beginning of its target.
+fn note(given: &Answer<'_>, target: Brief) -> Note
+    ensures { result ≡ record {
+      code = given.now.code;
+      length = length (unsent_bytes given.now.parts);
+      target = target;
+    } }
+{
+    Note {
+        code: given.code,
+        length: given.parts.left() as u64,
+        target,
+    }
 }
 
 /// An answer is written next. Whether the connection ends with it.

@@ -1,8 +1,9 @@
 //! One connection of the server, a step at a time.
 //!
 //! A [`Conn`] reads pieces from its link, cuts heads off them, answers these out of a site and
-//! writes what the peer takes. Each call of [`Conn::step`] makes at most one call of the link, so
-//! that a server can give way to another connection after every step. However the bytes come in
+//! writes what the peer takes: it is the connection of `sws_steps` that talks HTTP. Each call of
+//! its `step` makes at most one call of the link, so that a server can give way to another
+//! connection after every step. However the bytes come in
 //! pieces and whatever the link answers, what was written is a prefix of the responses to the
 //! bytes that were taken, wherever the link has a ghost model of them. [`serve_one`] runs a
 //! connection to its end. A server that runs many connections knows them by the trait [`Talk`], in
@@ -24,16 +25,12 @@
 #![tactic(auto)]
 
 mod buffer;
-mod conn;
-mod conn_talk;
 mod http;
 pub mod laws;
 mod serving;
-mod talk;
 mod window;
 
-pub use conn::Conn;
+pub use http::Conn;
 pub use serving::serve_one;
-pub use sws_steps::{End, Next};
-pub use talk::Talk;
+pub use sws_steps::{End, Next, Talk};
 pub use window::Window;

@@ -2,12 +2,13 @@
 ghost use Rattle.std.specs.Prelude.{◌≡◌, true, false, None, IfOk, IfErr};
 ghost use Rattle.sws_link.specs.Counts.{Rose};
 ghost use Rattle.sws_link.specs.Links.{IsInitialLink};
-ghost use Rattle.sws_conn.specs.Step.{wait_limit};
-ghost use Rattle.sws_conn.specs.Run.{HasEnded};
+ghost use Rattle.sws_steps.specs.Step.{wait_limit};
+ghost use Rattle.sws_steps.specs.Run.{HasEnded};
+ghost use Rattle.sws_conn.specs.Http.{http};
 ghost use Rattle.sws_conn.specs.Serving.{EndsAs, Serves, RoseBy, KeepsBy};
 
 use crate::End;
-use crate::conn::Conn;
+use crate::http::Conn;
 use std::alloc::Global;
 use sws_link::Link;
 use sws_site::Site;
@@ -29,7 +30,7 @@ use sws_site::Site;
 pub fn serve_one<L: Link + Drop>(alloc: Global, site: &Site, link: L) -> Result<(L, End), L>
     requires initial { IsInitialLink (L.tells link) }
     requires not_shut { L.is_shut link ≡ false }
-    ensures ran { IfOk result (λ served. HasEnded L.Link site.now link served.0 served.1) }
+    ensures ran { IfOk result (λ served. HasEnded http L.Link site.now link served.0 served.1) }
     ensures scripted { IfOk result (λ served.
         EndsAs site.now (L.tells link) (L.tells served.0) served.1) }
     ensures serves { IfOk result (λ served.

@@ -9,7 +9,7 @@ use Rattle.mely_weave.specs.declared.draining.Drained.TheVariants as drained
 use Rattle.mely_weave.specs.Drains.{AllFree, HistoriesAreDrained}
 use Rattle.mely_weave.specs.Weave.{WeaveState}
 use Rattle.sws_link.specs.declared.world.World.{Ghosts as WorldWords}
-use Rattle.sws_conn.specs.declared.talk.Talk.{Ghosts as TalkWords}
+use Rattle.sws_steps.specs.declared.talk.Talk.{Ghosts as TalkWords}
 use Rattle.sws_engine.specs.Initial.{AreInitialPlacesOver}
 use Rattle.sws_engine.specs.Place.{PlaceState}
 use Rattle.sws_engine.specs.Limits.{conn_limit}

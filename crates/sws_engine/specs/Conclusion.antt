@@ -5,7 +5,7 @@ use Rattle.mely_weave.specs.declared.draining.Drained.{Drained}
 use Rattle.mely_weave.specs.declared.draining.Drained.TheVariants as drained
 use Rattle.mely_weave.specs.declared.parts.WeaveParts.{WeaveParts}
 use Rattle.mely_tally.specs.Tallies.{carried_by}
-use Rattle.sws_conn.specs.declared.talk.Talk.{Ghosts as TalkWords}
+use Rattle.sws_steps.specs.declared.talk.Talk.{Ghosts as TalkWords}
 use Rattle.sws_engine.specs.declared.ended.Served.{Served}
 use Rattle.sws_engine.specs.declared.ended.Ended.{Ended}
 use Rattle.sws_engine.specs.declared.load.WorldLoad.{WorldLoad}

@@ -4,7 +4,7 @@ use Rattle.mely_event.specs.declared.event.Event.{Event}
 use Rattle.sws_link.specs.declared.Link.{Ghosts as LinkWords}
 use Rattle.sws_link.specs.Links.{LinkContents}
 use Rattle.sws_link.specs.Scripts.{Script}
-use Rattle.sws_conn.specs.declared.talk.Talk.{Ghosts as TalkWords}
+use Rattle.sws_steps.specs.declared.talk.Talk.{Ghosts as TalkWords}
 use Rattle.sws_engine.specs.declared.ended.Served.{Served}
 use Rattle.sws_engine.specs.Invariant.{event_for}
 

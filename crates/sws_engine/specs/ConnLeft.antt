@@ -4,7 +4,7 @@ use Rattle.mely_event.specs.declared.event.Event.{Event}
 use Rattle.sws_link.specs.declared.Link.{Ghosts as LinkWords}
 use Rattle.sws_link.specs.declared.world.World.{Ghosts as WorldWords}
 use Rattle.sws_steps.specs.declared.Next.TheVariants as next
-use Rattle.sws_conn.specs.declared.talk.Talk.{Ghosts as TalkWords}
+use Rattle.sws_steps.specs.declared.talk.Talk.{Ghosts as TalkWords}
 use Rattle.sws_conn.specs.Responses.{input_limit}
 use Rattle.sws_conn.specs.Talks.{TalkView, unopened_view, reported_end, HasServed}
 use Rattle.sws_engine.specs.declared.ended.Served.{Served}

@@ -10,7 +10,7 @@ use Rattle.sws_link.specs.declared.Accepted.{Accepted}
 use Rattle.sws_link.specs.declared.Accepted.TheVariants as accepted
 use Rattle.sws_link.specs.Worlds.{Polls, Accepts}
 use Rattle.sws_steps.specs.declared.End.{End}
-use Rattle.sws_conn.specs.declared.talk.Talk.{Ghosts as TalkWords}
+use Rattle.sws_steps.specs.declared.talk.Talk.{Ghosts as TalkWords}
 use Rattle.sws_conn.specs.Path.{Handler}
 use Rattle.sws_conn.specs.Path.{open_link, read_piece, parse, look, write_part, resume, close}
 use Rattle.sws_conn.specs.Talks.{opened_view, due}

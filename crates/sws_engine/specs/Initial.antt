@@ -1,7 +1,7 @@
 -- The initial states, and the event that begins a run.
 use Rattle.std.specs.Prelude.{◌≡◌, ℕ, ◌+◌, ◌≤◌, ◌==◌, false, if◌then◌else◌, List, [], length, Some, None, slice_get}
 use Rattle.mely_event.specs.declared.event.Event.{Event}
-use Rattle.sws_conn.specs.declared.talk.Talk.{Ghosts as TalkWords}
+use Rattle.sws_steps.specs.declared.talk.Talk.{Ghosts as TalkWords}
 use Rattle.sws_conn.specs.Talks.{unopened_view}
 use Rattle.sws_engine.specs.declared.load.WorldLoad.{WorldLoad}
 use Rattle.sws_engine.specs.declared.place.Seat.{Seat}

@@ -1,6 +1,6 @@
 -- How what is found of a run grows, state by state.
 use Rattle.std.specs.Prelude.{◌≡◌, ◌+◌, List, ◌++◌, length, map, vec_len, vec_capacity}
-use Rattle.sws_conn.specs.declared.talk.Talk.{Ghosts as TalkWords}
+use Rattle.sws_steps.specs.declared.talk.Talk.{Ghosts as TalkWords}
 use Rattle.sws_engine.specs.declared.ended.Served.{Served}
 use Rattle.sws_engine.specs.declared.left.Left.{Left}
 use Rattle.sws_engine.specs.Place.{PlaceState}

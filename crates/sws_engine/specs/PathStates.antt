@@ -8,7 +8,7 @@ use Rattle.sws_link.specs.declared.world.World.{Ghosts as WorldWords}
 use Rattle.sws_link.specs.Worlds.{Coming}
 use Rattle.sws_steps.specs.declared.End.{End}
 use Rattle.sws_steps.specs.declared.End.TheVariants.{Done, Idle, Fault, Memory}
-use Rattle.sws_conn.specs.declared.talk.Talk.{Ghosts as TalkWords}
+use Rattle.sws_steps.specs.declared.talk.Talk.{Ghosts as TalkWords}
 use Rattle.sws_conn.specs.Path.{Handler, open_link}
 use Rattle.sws_conn.specs.Talks.{unopened_view, due, path_to_come}
 use Rattle.sws_engine.specs.declared.load.WorldLoad.{WorldLoad}

@@ -5,7 +5,7 @@ use Rattle.sws_link.specs.declared.world.World.{Ghosts as WorldWords}
 use Rattle.sws_steps.specs.declared.End.{End}
 use Rattle.sws_steps.specs.declared.End.TheVariants as ending
 use Rattle.sws_steps.specs.declared.Next.TheVariants as next
-use Rattle.sws_conn.specs.declared.talk.Talk.{Ghosts as TalkWords}
+use Rattle.sws_steps.specs.declared.talk.Talk.{Ghosts as TalkWords}
 use Rattle.sws_conn.specs.Responses.{input_limit}
 use Rattle.sws_conn.specs.Talks.{reported_end}
 use Rattle.sws_engine.specs.declared.ended.Served.{Served}

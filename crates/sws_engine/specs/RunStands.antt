@@ -1,7 +1,7 @@
 -- What holds of a run across its colours, as sums over all states and all events under way.
 use Rattle.std.specs.Prelude.{◌≡◌, ℕ, ◌+◌, ◌≤◌, ◌<◌, ◌==◌, ◌&&◌, not, nat_lt, Bool, true, List, Option, Some, None, sum_by}
 use Rattle.mely_event.specs.declared.event.Event.{Event}
-use Rattle.sws_conn.specs.declared.talk.Talk.{Ghosts as TalkWords}
+use Rattle.sws_steps.specs.declared.talk.Talk.{Ghosts as TalkWords}
 use Rattle.sws_conn.specs.Path.{Handler}
 use Rattle.sws_conn.specs.Talks.{due}
 use Rattle.sws_engine.specs.declared.load.WorldLoad.{WorldLoad}

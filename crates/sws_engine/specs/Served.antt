@@ -3,7 +3,7 @@
 use Rattle.std.specs.Prelude.{◌≡◌, ℕ, List, [], ◌∷◌, map, Option, Some, None}
 use Rattle.sws_link.specs.declared.Link.{Ghosts as LinkWords}
 use Rattle.sws_link.specs.declared.world.World.{Ghosts as WorldWords}
-use Rattle.sws_conn.specs.declared.talk.Talk.{Ghosts as TalkWords}
+use Rattle.sws_steps.specs.declared.talk.Talk.{Ghosts as TalkWords}
 use Rattle.sws_conn.specs.Outcome.{UnlessMemory}
 use Rattle.sws_conn.specs.Path.{Handler, TakesOff}
 use Rattle.sws_conn.specs.Talks.{unopened_view, due, HasServed, path_to_come, IsDue}

@@ -15,7 +15,7 @@ use Rattle.mely_machine.specs.Rules.{rules_of}
 use Rattle.mely_run.specs.WholeRuns.{IsBegun, IsRunOut}
 use Rattle.sws_link.specs.declared.Link.{Ghosts as LinkWords}
 use Rattle.sws_link.specs.declared.world.World.{Ghosts as WorldWords}
-use Rattle.sws_conn.specs.declared.talk.Talk.{Ghosts as TalkWords}
+use Rattle.sws_steps.specs.declared.talk.Talk.{Ghosts as TalkWords}
 use Rattle.sws_conn.specs.Path.{Handler}
 use Rattle.sws_engine.specs.declared.load.Load.{Load}
 use Rattle.sws_engine.specs.declared.load.Load.TheVariants as load

@@ -3,7 +3,7 @@ use Rattle.std.specs.Prelude.{◌≡◌, ◌≢◌, ◌⊎◌, ℕ, false, [], m
 use Rattle.mely_history.specs.declared.shape.Shape.{Shape}
 use Rattle.sws_link.specs.declared.Link.{Ghosts as LinkWords}
 use Rattle.sws_link.specs.declared.world.World.{Ghosts as WorldWords}
-use Rattle.sws_conn.specs.declared.talk.Talk.{Ghosts as TalkWords}
+use Rattle.sws_steps.specs.declared.talk.Talk.{Ghosts as TalkWords}
 use Rattle.sws_engine.specs.declared.ended.Ended.{Ended}
 use Rattle.sws_engine.specs.declared.ended.Verdict.TheVariants as verdict
 use Rattle.sws_engine.specs.RunParts.{RunParts}

@@ -1,18 +1,14 @@
 -- What a run of the server on threads leaves.
-use Rattle.std.specs.Prelude.{◌≡◌, ◌⊎◌, false, map, IsSome}
+use Rattle.std.specs.Prelude.{◌≡◌, ◌⊎◌, map}
 use Rattle.mely_history.specs.declared.shape.Shape.{Shape}
 use Rattle.sws_link.specs.declared.Link.{Ghosts as LinkWords}
 use Rattle.sws_link.specs.declared.world.World.{Ghosts as WorldWords}
-use Rattle.sws_conn.specs.declared.talk.Talk.{Ghosts as TalkWords}
+use Rattle.sws_steps.specs.declared.talk.Talk.{Ghosts as TalkWords}
 use Rattle.sws_engine.specs.declared.ended.Ended.{Ended}
 use Rattle.sws_engine.specs.declared.ended.Verdict.TheVariants as verdict
 use Rattle.sws_engine.specs.PartsKept.{PartsKept}
 use Rattle.sws_engine.specs.RunLeft.{RunLeft, AllFollow}
 use Rattle.sws_engine.specs.StepsLeave.{HasNotBegun}
-
--- a talk with an end is not kept waiting
-abbrev pub IsUnkept : {T L G H : Type 0} → TalkWords T L G H → Type 0
-IsUnkept {T} y = (talk : T) → IsSome (y.view_of talk).end → (y.view_of talk).waiting ≡ false
 
 module _ {W L T G H : Type 0} (x : WorldWords W L) (l : LinkWords L) (y : TalkWords T L G H)
     (shape : Shape) (hall : H) (first : W) (ended : Ended W L) where
@@ -24,7 +20,7 @@ module _ {W L T G H : Type 0} (x : WorldWords W L) (l : LinkWords L) (y : TalkWo
     pub kept : PartsKept x y setup first how (map (λ history. history.items) parts.histories.items)
         parts.states.items (map (λ events. events.items) parts.queued.items)
     -- at Ok each connection follows the script that its link is known to answer by
-    pub follows : IsUnkept y → ended.verdict ≡ verdict.Ok → AllFollow x l y hall first ended
+    pub follows : ended.verdict ≡ verdict.Ok → AllFollow x l y hall first ended
 
   -- memory was refused before the first event, or the server has run on the threads
   abbrev pub ThreadsLeave : Type 0

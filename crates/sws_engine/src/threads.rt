@@ -1,6 +1,6 @@
 //! The server with a thread for each worker, from the world and the hall to what the run leaves. One
 //! worker needs no thread: it runs over a weave.
-ghost use Rattle.std.specs.Prelude.{◌≡◌, ◌≤◌, ◌+◌, [], Some, IfOk, IfErr, map, slice_get};
+ghost use Rattle.std.specs.Prelude.{◌≡◌, ◌≤◌, ◌+◌, [], Some, false, IfOk, IfErr, IsSome, map, slice_get};
 ghost use Rattle.mely_weave.specs.Dealing.{AtEach};
 ghost use Rattle.mely_weave.specs.Making.{AreInitial};
 ghost use Rattle.mely_worker.specs.Access.{FitsSetup};
@@ -10,7 +10,7 @@ ghost use Rattle.sws_engine.specs.Initial.{AreInitialPlacesOver};
 ghost use Rattle.sws_engine.specs.Invariant.{IsConsistent};
 ghost use Rattle.sws_engine.specs.RunFits.{RunFits};
 ghost use Rattle.sws_engine.specs.PartsKept.{PartsKept};
-ghost use Rattle.sws_engine.specs.ThreadsLeave.{IsUnkept, ThreadsLeave};
+ghost use Rattle.sws_engine.specs.ThreadsLeave.{ThreadsLeave};
 ghost use Rattle.sws_engine.specs.Limits.{conn_limit};
 ghost use Rattle.sws_engine.specs.Modelled.{IsModelled};
 ghost use Rattle.sws_engine.specs.Scripted.{IsScheduled};
@@ -52,6 +52,11 @@ fn are_kept<W: World, T: Talk<W::Link>>(places: &[Place<W, T>])
         is_kept(place);
     }
 }
+
+/// A talk whose end is known isn't kept waiting, for contracts alone. A call does nothing.
+fn ended_is_unkept<L: Link, T: Talk<L>>()
+    ensures { (talk : T) → IsSome (T.view_of talk).end → (T.view_of talk).waiting ≡ false }
+{}
 
 /// Runs a crew of the states of a list, which are taken out of it. Who is generic in a part of the
 /// states lends their list.
@@ -224,6 +229,7 @@ where
     let Ok(setup) = Setup::new(shape, u32::from(total) + 2, handler_table(), 1) else {
         unreachable!()
     };
+    ended_is_unkept::<W::Link, T>();
     match run_threads::<R, W, T, G>(rt, alloc, &setup, hall, world, gate) {
         Ok((parts, drained)) => conclude(room, total, parts, drained),
         Err(world) => unbegun(alloc, world),
@@ -253,7 +259,6 @@ where
     requires { IsShapedFor W.World shape.now world }
     ensures leaves { ThreadsLeave W.World W.Link.Link ⟦<Conn<'s, W::Link> as Talk<W::Link>>⟧
         shape.now site.now world result }
-    ensures unkept { IsUnkept ⟦<Conn<'s, W::Link> as Talk<W::Link>>⟧ }
     ensures alone { shape.now.cores ≡ 1
         → StepsLeave W.World W.Link.Link ⟦<Conn<'s, W::Link> as Talk<W::Link>>⟧
         shape.now site.now world result }

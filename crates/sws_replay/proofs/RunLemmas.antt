@@ -15,7 +15,7 @@ use Rattle.sws_conn.specs.Path.{Handler, path_of}
 use Rattle.sws_conn.specs.Talks.{TalkView, ServesLink, ServesTold}
 use Rattle.sws_steps.specs.declared.End.{End}
 use Rattle.sws_steps.specs.declared.End.TheVariants.{Memory}
-use Rattle.sws_conn.specs.declared.talk.Talk.{Ghosts as TalkWords}
+use Rattle.sws_steps.specs.declared.talk.Talk.{Ghosts as TalkWords}
 use Rattle.sws_engine.specs.ConnFollows.{ConnFollows}
 use Rattle.sws_engine.specs.ConnLeft.{LinkLeft, ConnLeft}
 use Rattle.sws_engine.specs.Invariant.{event_for}
@@ -23,7 +23,7 @@ use Rattle.sws_engine.specs.Loads.{IsComing, LinkStands, WorldStands}
 use Rattle.sws_engine.specs.RunLeaves.{is_out_of_memory, NoneOutOfMemory}
 use Rattle.sws_engine.specs.RunLeft.{RunLeft, AllFollow}
 use Rattle.sws_engine.specs.StepsLeave.{StepsLeave}
-use Rattle.sws_engine.specs.ThreadsLeave.{IsUnkept, ThreadsLeave}
+use Rattle.sws_engine.specs.ThreadsLeave.{ThreadsLeave}
 use Rattle.sws_engine.specs.declared.ended.Ended.{Ended}
 use Rattle.sws_engine.specs.declared.ended.Served.{Served}
 use Rattle.sws_engine.specs.declared.ended.Verdict.TheVariants as verdict
@@ -163,11 +163,11 @@ run_well x l y site shape first conns ended run follow told link_told outcome_is
     }
 
 pub threads_run_well : {T G : Type 0} (x : WorldWords MemWorldState MemLinkState) (l : LinkWords MemLinkState) (y : TalkWords T MemLinkState G SiteState) (site : SiteState) (shape : Shape) (first : MemWorldState) (conns : List ScriptConn) (ended : Ended MemWorldState MemLinkState)
-    → ThreadsLeave x l y shape site first ended → IsUnkept y → x.tells first ≡ told_of conns → ((link : MemLinkState) → l.tells link ≡ mem_link_tells link) → ((script : Script) → y.outcome site script ≡ outcome_of site script)
+    → ThreadsLeave x l y shape site first ended → x.tells first ≡ told_of conns → ((link : MemLinkState) → l.tells link ≡ mem_link_tells link) → ((script : Script) → y.outcome site script ≡ outcome_of site script)
     → ((script : Script) → y.path site script ≡ path_of site script) → ended.verdict ≡ verdict.Ok → RunsWell site shape conns ended
-threads_run_well x l y site shape first conns ended (inl refused) unkept told link_told outcome_is path_is well = absurd (ok≢memory (sym well ∙ refused.refused))
-threads_run_well x l y site shape first conns ended (inr run) unkept told link_told outcome_is path_is well =
-    run_well x l y site shape first conns ended run.left (run.follows unkept well) told link_told outcome_is path_is well
+threads_run_well x l y site shape first conns ended (inl refused) told link_told outcome_is path_is well = absurd (ok≢memory (sym well ∙ refused.refused))
+threads_run_well x l y site shape first conns ended (inr run) told link_told outcome_is path_is well =
+    run_well x l y site shape first conns ended run.left (run.follows well) told link_told outcome_is path_is well
 
 pub steps_run_well : {T G : Type 0} (x : WorldWords MemWorldState MemLinkState) (l : LinkWords MemLinkState) (y : TalkWords T MemLinkState G SiteState) (site : SiteState) (shape : Shape) (first : MemWorldState) (conns : List ScriptConn) (ended : Ended MemWorldState MemLinkState)
     → StepsLeave x l y shape site first ended → x.tells first ≡ told_of conns → ((link : MemLinkState) → l.tells link ≡ mem_link_tells link) → ((script : Script) → y.outcome site script ≡ outcome_of site script)

@@ -17,7 +17,8 @@ use Rattle.sws_script.specs.Inputs.{input_lines, IsInput}
 use Rattle.sws_script.specs.Grammar.{lines_of, Spells}
 use Rattle.sws_script.specs.Printed.{line_text, printed_lines, print_input}
 use Rattle.sws_text.proofs.NumberLemmas.{decimal_digits}
-use Rattle.sws_script.proofs.SplitLemmas.{lines_of-line, AreLines}
+use Rattle.sws_text.proofs.LineLemmas.{lines_of-line}
+use Rattle.sws_script.proofs.SplitLemmas.{AreLines}
 
 HasNo-append : (a b : List ℕ) → HasNo 10 a → HasNo 10 b → HasNo 10 (a ++ b)
 HasNo-append [] b none_a none_b = none_b

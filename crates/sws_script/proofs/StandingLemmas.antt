@@ -20,13 +20,14 @@ use Rattle.sws_script.specs.Inputs.{input_lines, script_lines, schedule_lines, r
 use Rattle.sws_script.specs.Grammar.{lines_of, size_of, Spells, Begin, MayStand, IsFirstOutside, IsFirstTooMany, is_conn, conns_in, IsCause}
 use Rattle.sws_script.specs.Limits.{byte_limit, conn_limit}
 use Rattle.sws_script.specs.Order.{in_script, place_after, State, total_after, state_of, state_after, run, start, grown, conns_of, input_of, no_contents}
-use Rattle.sws_script.specs.Splits.{IsFirstLine}
+use Rattle.sws_text.specs.Lines.{IsFirstLine}
 use Rattle.sws_script.specs.Parsers.{state}
 use Rattle.sws_script.specs.Adding.{AddsSpelled, AddsLine}
 use Rattle.sws_script.proofs.LineLemmas.{SpellsLine-unique}
 use Rattle.sws_script.proofs.OrderLemmas.{run-append, run-last, run-middle, input-accepted, input-fits, at}
 use Rattle.sws_script.proofs.PlaceLemmas.{lines_to, head_lines, IsPlaced, grows, lines-in_script}
-use Rattle.sws_script.proofs.SplitLemmas.{GoesTo, first-goes, size_of-last, AllZip-middle, AllZip-append, AreLines, AreLines-middle, AreLines-append, spells-of, to-spelled, spelled-unique}
+use Rattle.sws_text.proofs.LineLemmas.{GoesTo, first-goes}
+use Rattle.sws_script.proofs.SplitLemmas.{size_of-last, AllZip-middle, AllZip-append, AreLines, AreLines-middle, AreLines-append, spells-of, to-spelled, spelled-unique}
 
 pub record Stands (schedule : Bool) (cores : ℕ) (text rest : List ℕ) (count : ℕ) (parser : Parser) : Type 0 where
   pub done : List (List ℕ)

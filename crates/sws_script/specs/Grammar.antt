@@ -1,19 +1,14 @@
 -- The texts of inputs, and where a text that is none goes wrong.
 use Rattle.std.specs.Prelude.{◌≡◌, ◌⊎◌, ℕ, ◌+◌, ◌<◌, ◌≤◌, min, ◌==◌, Bool, if◌then◌else◌, List, [], ◌∷◌, ◌++◌, length, take, codes, Result, Err, ⊤}
-use Rattle.std.specs.List.{AllZip, onto_first}
+use Rattle.std.specs.List.{AllZip}
 use Rattle.std.specs.Str.{bytes_eq}
 use Rattle.sws_script.specs.declared.input.Input.{Input}
 use Rattle.sws_script.specs.declared.fault.ScriptFault.{ScriptFault}
 use Rattle.sws_script.specs.declared.fault.ScriptFault.TheVariants.{Bad, TooMany, Memory}
+pub use Rattle.sws_text.specs.Lines.{lines_of}
 use Rattle.sws_script.specs.Lines.{SpellsLine}
 use Rattle.sws_script.specs.Inputs.{IsInput, input_lines}
 use Rattle.sws_script.specs.Limits.{byte_limit, conn_limit}
-
--- the lines of a text, without their LF, which may be missing at the last
-abbrev pub lines_of : List ℕ → List (List ℕ)
-lines_of [] = []
-lines_of (byte ∷ bytes) =
-    if byte == 10 then [] ∷ lines_of bytes else onto_first byte (lines_of bytes)
 
 -- each line spells a line of the input, in order
 abbrev pub SpellLines : Bool → List (List ℕ) → Input → Type 0

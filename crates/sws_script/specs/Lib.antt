@@ -2,7 +2,6 @@ pub mod Lines
 pub mod Inputs
 pub mod Grammar
 pub mod Words
-pub mod Splits
 pub mod Scripted
 pub mod Printed
 pub mod Order

@@ -1,8 +1,8 @@
 -- The word with which a line begins, and what may stand behind it.
 use Rattle.std.specs.Prelude.{◌≡◌, ◌≢◌, ℕ, ◌<◌, ◌⊎◌, ◌==◌, if◌then◌else◌, List, [], ◌∷◌, ◌++◌, length, codes, Option, Some, None, MatchOption}
-use Rattle.std.specs.List.{AllByRecursion}
 use Rattle.std.specs.Fmt.{decimal}
 use Rattle.sws_text.specs.Texts.{StandsFor}
+pub use Rattle.sws_text.specs.Lines.{HasNo}
 use Rattle.sws_script.specs.declared.input.Item.TheVariants as item
 use Rattle.sws_script.specs.declared.line.Line.{Line}
 use Rattle.sws_script.specs.declared.line.Line.TheVariants as line
@@ -48,10 +48,6 @@ first_word (word ∷ words) text =
 -- the word with which a line begins, and what stands behind it; `None` where it begins with no word
 unfoldable pub word_in : List ℕ → Option (Word × List ℕ)
 word_in text = first_word all_words text
-
--- no byte is this one
-abbrev pub HasNo : ℕ → List ℕ → Type 0
-HasNo byte bytes = AllByRecursion (λ b. b ≢ byte) bytes
 
 -- the lines that a word begins, by what stands behind it
 abbrev pub Says : Word → List ℕ → Line → Type 0

@@ -11,7 +11,6 @@ mod fault;
 mod input;
 pub mod laws;
 mod line;
-mod lines;
 mod number;
 mod parser;
 mod parsing;

@@ -10,11 +10,11 @@ ghost use Rattle.sws_script.specs.Order.{conns_of};
 ghost use Rattle.sws_script.specs.Adding.{AddsLine};
 
 use crate::line::Line;
-use crate::lines::first_line;
 use crate::parser::Parser;
 use crate::reading::read_line;
 use crate::{Input, ScriptFault};
 use std::alloc::Global;
+use sws_text::first_line;
 
 /// The most bytes of a text.
 pub const MAX_BYTES: usize = 16_777_216;

@@ -6,3 +6,4 @@ mod HeadLemmas
 mod PlaceLemmas
 mod SiteLemmas
 mod LoadLemmas
+pub mod NameLemmas

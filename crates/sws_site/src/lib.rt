@@ -29,6 +29,7 @@ mod sites;
 mod statuses;
 mod stored;
 
+pub use content_types::content_type_of;
 pub use head_kinds::HeadKind;
 pub use heads::{ContentRange, HeadParts, MAX_KIND, write_head};
 pub use pages::Page;

@@ -5,4 +5,3 @@ pub mod SinceLemmas
 pub mod ServedLemmas
 pub mod ExchangingLemmas
 pub mod KeptLemmas
-pub mod FrontLemmas

@@ -1,3 +1,5 @@
 pub mod Inputs
 pub mod Steps
 pub mod Runs
+mod LentLemmas
+pub mod Logs

@@ -2,4 +2,3 @@ pub mod ScriptedPathLemmas
 pub mod PathLemmas
 pub mod RunLemmas
 pub mod TalkLemmas
-pub mod SilentRows

@@ -1,6 +1,7 @@
 -- What a contract sees of a connection.
 use Rattle.std.specs.Prelude.{ℕ, ◌==◌, Bool, true, false, nat_lt, List, length, Option, Some, None}
 use Rattle.sws_parts.specs.Parts.{PartsState, unsent_bytes}
+use Rattle.sws_steps.specs.declared.note.Note.{Note}
 use Rattle.sws_steps.specs.declared.End.{End}
 use Rattle.sws_steps.specs.declared.Next.{Next}
 use Rattle.sws_steps.specs.declared.Next.TheVariants as next
@@ -16,10 +17,11 @@ pub record ConnCoreState (Hall : Type 0) : Type 0 where
   pub input_ended : Bool
   -- how often in succession the link was not ready
   pub waits : ℕ
-  -- what is left of the answer that is written, whether it closes, and how
-  -- many requests were answered
+  -- what is left of the answer that is written, whether it closes, and what a log says of it; and
+  -- how many requests were answered
   pub parts : PartsState
   pub closes : Bool
+  pub note : Note
   pub answered : ℕ
   pub end : Option End
   -- how many bytes were taken and written

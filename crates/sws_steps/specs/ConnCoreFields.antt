@@ -4,7 +4,7 @@ use Rattle.sws_steps.specs.declared.conn_core.ConnCore.{ConnCore}
 use Rattle.sws_steps.specs.ConnCore.{ConnCoreState}
 
 -- a connection without its link, of its fields
-abbrev pub state_of : {S C : Type 0} → SpeechWords S C → ConnCore S → ConnCoreState C
+abbrev pub state_of : {S G C : Type 0} → SpeechWords S G C → ConnCore S → ConnCoreState C
 state_of y core = record {
   hall = y.hall_of core.speech;
   pending = core.pending;
@@ -13,6 +13,7 @@ state_of y core = record {
   waits = core.waits;
   parts = y.parts_of core.speech;
   closes = core.closes;
+  note = y.note_of core.speech;
   answered = core.answered;
   end = core.end;
   read = core.read;

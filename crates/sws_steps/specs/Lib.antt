@@ -6,7 +6,11 @@ pub mod Step
 pub mod Sound
 pub mod Outcome
 pub mod Path
+pub mod Logs
 pub mod RestOutcome
 pub mod Serving
 pub mod Run
 pub mod Talks
+pub mod TalkLaws
+pub mod LogLaws
+pub mod Told

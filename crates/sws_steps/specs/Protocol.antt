@@ -1,7 +1,8 @@
 -- What a connection talks by: what cuts requests off its bytes, what answers them out of a hall,
 -- and how much of each there may be.
-use Rattle.std.specs.Prelude.{◌≡◌, ℕ, ◌-◌, ◌<◌, ◌≤◌, ◌==◌, Bool, true, false, if◌then◌else◌, List, [], ◌∷◌, ◌++◌, length, take}
+use Rattle.std.specs.Prelude.{◌≡◌, ℕ, ◌-◌, ◌*◌, ◌^◌, ◌<◌, ◌≤◌, ◌==◌, Bool, true, false, if◌then◌else◌, List, [], ◌∷◌, ◌++◌, length, take}
 use Rattle.std.specs.List.{flat_map, list_any}
+use Rattle.sws_steps.specs.declared.note.Note.{Note}
 
 -- where the first request of some bytes ends: behind so many of them, or it has more than a request
 -- may, or it is not whole yet
@@ -20,6 +21,10 @@ pub data Asked : Type 0 where
   request : List ℕ → Asked
   too_long : Asked
 
+-- what a log says before the first answer
+abbrev pub no_note : Note
+no_note = record { code = 0; length = 0; target = [] }
+
 -- a hall is what a connection is lent, which its answers are taken from
 pub record Protocol (Hall Answer : Type 0) : Type 1 where
   -- what is known of each hall
@@ -32,6 +37,9 @@ pub record Protocol (Hall Answer : Type 0) : Type 1 where
   pub body : Answer → List ℕ
   pub is_empty : Answer → Bool
   pub closes : Answer → Bool
+  -- what a log says of an answer, and whether the answers have lines in a log at all
+  pub note : Answer → Note
+  pub logs : Bool
   -- the answers to some bytes, so many at most; those to all bytes of a
   -- connection, and what is sent then
   pub answers : ℕ → Hall → List ℕ → List Answer
@@ -42,6 +50,10 @@ pub record Protocol (Hall Answer : Type 0) : Type 1 where
   pub input_limit : ℕ
   pub answer_limit : ℕ
   pub text_limit : ℕ
+
+-- so many bytes of a connection may count at most, whatever it talks by
+abbrev pub most_input : ℕ
+most_input = 65536
 
 -- the answers after one, unless it closes
 abbrev pub later_unless : {Answer : Type 0} → Bool → List Answer → List Answer
@@ -87,6 +99,12 @@ module _ {Hall Answer : Type 0} (p : Protocol Hall Answer) where
         → p.is_empty (p.answer hall asked last) ≡ false
     pub short : (hall : Hall) (asked : Asked) (last : Bool) → p.IsHall hall
         → length (text_of (p.answer hall asked last)) ≤ p.text_limit
+    -- where its answers have lines in a log, each has bytes, so that there is a write that ends it,
+    -- and its line says how many
+    pub logged : p.logs ≡ true → (hall : Hall) (asked : Asked) (last : Bool)
+        → p.is_empty (p.answer hall asked last) ≡ false
+    pub measured : p.logs ≡ true → (answer : Answer)
+        → (p.note answer).length ≡ length (text_of answer)
     -- those to all bytes are those to the ones that count, and the responses are their texts
     pub all : (hall : Hall) (bytes : List ℕ)
         → p.answers_to hall bytes ≡ p.answers p.answer_limit hall (take p.input_limit bytes)
@@ -96,3 +114,6 @@ module _ {Hall Answer : Type 0} (p : Protocol Hall Answer) where
     pub nothing : p.cut [] ≡ NotYet
     pub some_input : 0 < p.input_limit
     pub some_answers : 0 < p.answer_limit
+    -- few bytes count, and few are written
+    pub few_input : p.input_limit ≤ most_input
+    pub few_written : p.answer_limit * p.text_limit < 2 ^ 40

@@ -1,11 +1,12 @@
 -- What holds of a connection at every moment: how its bytes stand to the responses, and what is
 -- known at each pending step.
-use Rattle.std.specs.Prelude.{◌≡◌, ◌≢◌, ℕ, ◌-◌, ◌*◌, ◌<◌, ◌≤◌, ◌⊎◌, Bool, true, false, List, [], ◌++◌, length, Option, Some, None, IsSome, ⊤}
+use Rattle.std.specs.Prelude.{◌≡◌, ◌≢◌, ℕ, ◌-◌, ◌*◌, ◌<◌, ◌≤◌, ◌⊎◌, Bool, true, false, List, [], ◌∷◌, ◌++◌, length, Option, Some, None, IsSome, ⊤}
 use Rattle.sws_link.specs.declared.Link.{Ghosts as LinkWords}
 use Rattle.sws_link.specs.Contents.{IsPrefix}
 use Rattle.sws_link.specs.Links.{LinkContents}
-use Rattle.sws_parts.specs.Parts.{front_of, unsent_bytes}
-use Rattle.sws_steps.specs.Protocol.{Protocol, NotYet, later_unless, texts_of, is_closed}
+use Rattle.sws_parts.specs.Parts.{PartsState, front_of, unsent_bytes}
+use Rattle.sws_steps.specs.Protocol.{Protocol, no_note, NotYet, later_unless, text_of, texts_of, is_closed}
+use Rattle.sws_steps.specs.declared.note.Note.{Note}
 use Rattle.sws_steps.specs.ConnCore.{is_sent, ConnCoreState, ConnState}
 use Rattle.sws_steps.specs.declared.End.{End}
 use Rattle.sws_steps.specs.declared.End.TheVariants as ending
@@ -23,6 +24,7 @@ core_before_open hall = record {
   waits = 0;
   parts = record { head = []; body = [] };
   closes = false;
+  note = no_note;
   answered = 0;
   end = None;
   read = 0;
@@ -99,6 +101,19 @@ IsLinked next.Close link = IsSome link
 IsLinked next.Nothing link = IsSome link
 
 module _ {Hall Answer : Type 0} (p : Protocol Hall Answer) where
+  -- the last of these answers is what is written, and it is what the log's note is of
+  pub record IsWriting (parts : PartsState) (note : Note) (given : List Answer) : Type 0 where
+    pub earlier : List Answer
+    pub answer : Answer
+    pub given_is : given ≡ earlier ++ answer ∷ []
+    pub note_is : note ≡ p.note answer
+    pub left : length (unsent_bytes parts) ≤ length (text_of p answer)
+
+  -- no answer was given yet, and so none is written
+  pub record IsUnanswered (parts : PartsState) (given : List Answer) : Type 0 where
+    pub given_is : given ≡ []
+    pub nothing : unsent_bytes parts ≡ []
+
   -- The bytes that were taken are those of the requests that were answered, followed by the buffer.
   -- The bytes that were sent, followed by the rest of the parts, are the answers to those requests.
   -- Whatever comes behind these, they are answered first.
@@ -107,6 +122,8 @@ module _ {Hall Answer : Type 0} (p : Protocol Hall Answer) where
     pub given : List Answer
     pub taken_is : taken ≡ consumed ++ c.buffer
     pub sent_is : sent ++ unsent_bytes c.parts ≡ texts_of p given
+    pub count : length given ≡ c.answered
+    pub last : IsUnanswered c.parts given ⊎ IsWriting c.parts c.note given
     pub given_first : (more : List ℕ) → p.answers p.answer_limit c.hall (consumed ++ more)
         ≡ given ++ later_unless c.closes (p.answers (p.answer_limit - c.answered) c.hall more)
     pub closed_is : c.closes ≡ true → is_closed p given ≡ true

@@ -107,6 +107,7 @@ module _ {Hall Answer : Type 0} (p : Protocol Hall Answer) (c : ConnCoreState Ha
     buffer = rest;
     parts = record { head = p.head answer; body = p.body answer };
     closes = p.closes answer;
+    note = p.note answer;
     answered = c.answered + 1;
     pending = next.Write;
   }

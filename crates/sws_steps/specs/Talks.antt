@@ -1,12 +1,14 @@
 -- What contracts see of a talk, which is a connection over any hall: how it stands, what opening it
 -- does, and what its link was served.
-use Rattle.std.specs.Prelude.{◌≡◌, ℕ, ◌⊎◌, IsTrue, Bool, false, List, [], ◌∷◌, ◌++◌, length, Option, Some, None, Result, Ok, Err, ⊤, option_map}
+use Rattle.std.specs.Prelude.{◌≡◌, ℕ, ◌⊎◌, IsTrue, Bool, false, List, [], ◌∷◌, ◌++◌, length, map, take, ◌≤◌, Option, Some, None, Result, Ok, Err, ⊤, option_map}
 use Rattle.sws_link.specs.declared.Link.{Ghosts as LinkWords}
 use Rattle.sws_link.specs.Contents.{IsPrefix}
 use Rattle.sws_link.specs.Counts.{Rose, IsLater}
 use Rattle.sws_link.specs.Exchanges.{LinkCall, Exchanges, taken_in, written_in}
 use Rattle.sws_link.specs.Links.{LinkContents, input_of}
 use Rattle.sws_link.specs.Scripts.{Script}
+use Rattle.sws_log.specs.declared.line.LogLine.{LogLine}
+use Rattle.sws_log.specs.Lines.{lines_within}
 use Rattle.sws_steps.specs.declared.End.{End}
 use Rattle.sws_steps.specs.declared.End.TheVariants as ending
 use Rattle.sws_steps.specs.declared.Next.{Next}
@@ -17,6 +19,7 @@ use Rattle.sws_steps.specs.Sound.{IsUncut, is_over}
 use Rattle.sws_steps.specs.Step.{wait_limit}
 use Rattle.sws_steps.specs.Outcome.{Outcome, UnlessMemory}
 use Rattle.sws_steps.specs.Path.{Handler, open_link, read_piece, parse, look, write_part, resume, close, answers_to_come}
+use Rattle.sws_steps.specs.Logs.{lines_given, Step, last_line}
 use Rattle.sws_steps.specs.Run.{HasRun}
 use Rattle.sws_steps.specs.Serving.{RoseBy}
 
@@ -30,13 +33,22 @@ pub record TalkView : Type 0 where
   pub waiting : Bool
   -- the end, as soon as it is known
   pub end : Option End
-  -- how many bytes were taken and written
+  -- how many bytes were taken and written, and how many answers were written whole and so have a
+  -- line in a log
   pub read : ℕ
   pub written : ℕ
+  pub lines : ℕ
 
 -- no link was given yet
 abbrev pub unopened_view : TalkView
-unopened_view = record { pending = next.Open; waiting = false; end = None; read = 0; written = 0 }
+unopened_view = record {
+  pending = next.Open;
+  waiting = false;
+  end = None;
+  read = 0;
+  written = 0;
+  lines = 0;
+}
 
 -- a link was just given
 abbrev pub opened_view : TalkView
@@ -174,16 +186,51 @@ abbrev pub IsDue : Option Handler → Option (List Handler) → Type 0
 IsDue event None = ⊤
 IsDue event (Some rest) = BeginsWith event rest
 
+-- ---- the log
+
+-- as many lines were given as stand first in the log of the whole input and sum to at most the
+-- bytes that were written: those of the answers that were written whole
+pub record LinesOf (log : List LogLine) (view : TalkView) : Type 0 where
+  pub lines : take view.lines log ≡ lines_within view.written log
+  pub there : view.lines ≤ length log
+
+-- the same, where the link told its input
+abbrev pub LinesServed : (List ℕ → List LogLine) → Option LinkContents → TalkView → Type 0
+LinesServed log None view = ⊤
+LinesServed log (Some tells) view = LinesOf (log (input_of tells)) view
+
+-- the events that were run are the first steps of all, the last of which gave a line where one is
+-- told, and the next step is the one that is due
+pub record StepsOf (all : List Step) (trail : List Handler) (told : Bool)
+    (view : TalkView) : Type 0 where
+  pub ran : List Step
+  pub rest : List Step
+  pub all_is : all ≡ ran ++ rest
+  pub trail_is : map (λ step. step.handler) ran ≡ trail
+  pub told_is : told ≡ last_line ran
+  pub due_is : BeginsWith (due view) (map (λ step. step.handler) rest)
+
+-- the same, where the answers to come are known
+abbrev pub StepsBy : (Script → List Step) → Option Script → List Handler → Bool → TalkView → Type 0
+StepsBy steps None trail told view = ⊤
+StepsBy steps (Some script) trail told view = StepsOf (steps script) trail told view
+
+-- the same, where the link told its answers to come
+abbrev pub StepsServed : (Script → List Step) → Option LinkContents → List Handler → Bool
+    → TalkView → Type 0
+StepsServed steps tells trail told view = StepsBy steps (answers_to_come tells) trail told view
+
 -- ---- a connection as a talk
 
 -- a connection as a talk
-abbrev pub talk_view : {Hall : Type 0} → ConnCoreState Hall → TalkView
-talk_view c = record {
+abbrev pub talk_view : {Hall Answer : Type 0} → Protocol Hall Answer → ConnCoreState Hall → TalkView
+talk_view p c = record {
   pending = c.pending;
   waiting = is_waiting c;
   end = c.end;
   read = c.read;
   written = c.written;
+  lines = lines_given p c;
 }
 
 -- it was opened over this link, and has run these events since, of which the opening is the first

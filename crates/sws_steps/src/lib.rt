@@ -2,18 +2,26 @@
 //!
 //! A connection reads pieces from its link, finds the requests in them, answers these from given
 //! resources (its *hall*) and writes what the peer takes; it makes at most one call of the link in
-//! a step. A [`ConnCore`] is all of a connection but its link, with one method a step. Where
-//! requests end, how they are answered and how many count is a [`Speech`], which also keeps the
-//! bytes that were taken and the answer that is written; contracts see it as a protocol. What each
-//! step does and what all of them come to is defined, and proved, over any protocol whose answers
-//! come in order.
+//! a step. A [`SpeechConn`] is such a connection, and a [`ConnCore`] is all of it but its link,
+//! with one method a step. Where requests end, how they are answered and how many count is a
+//! [`Speech`], which also keeps the bytes that were taken and the answer that is written; contracts
+//! see it as a protocol. What each step does and what all of them come to is defined, and proved,
+//! over any protocol whose answers come in order. A server that runs many connections knows them by
+//! the trait [`Talk`], in which nothing is said of what they talk about.
 #![tactic(auto)]
 
+mod conn;
 mod conn_core;
+mod conn_talk;
+mod note;
 mod speech;
+mod talk;
 
+pub use conn::SpeechConn;
 pub use conn_core::ConnCore;
+pub use note::Note;
 pub use speech::Speech;
+pub use talk::Talk;
 
 /// How a connection ended.
 #[derive(Clone, Copy, Debug, PartialEq, Eq)]

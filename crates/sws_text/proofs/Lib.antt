@@ -5,3 +5,4 @@ pub mod LengthLemmas
 mod ShownLemmas
 mod PlainLemmas
 pub mod NumberLemmas
+pub mod LineLemmas

@@ -3,3 +3,4 @@ pub mod Texts
 pub mod Shown
 pub mod SignsIn
 pub mod Numbers
+pub mod Lines

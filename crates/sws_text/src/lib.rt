@@ -4,7 +4,7 @@
 //! and what begins with a backslash for one byte. Some bytes have several spellings: [`push_text`]
 //! writes the one that is looked for from the left, which is the shortest, and [`read_text`] reads
 //! all of them. [`ShownLines`] are the lines of a transcript, in which the text of bytes is broken
-//! behind each LF. [`push_spaced`] writes the numbers that stand beside texts, and
+//! behind each LF. [`first_line`] cuts the first line off a text. [`push_spaced`] writes the numbers that stand beside texts, and
 //! [`read_decimal`] reads them.
 //!
 //! ```text
@@ -14,6 +14,7 @@
 #![tactic(auto)]
 
 pub mod laws;
+mod lines;
 mod number;
 mod plain;
 mod reading;
@@ -21,6 +22,7 @@ mod showing;
 mod sign;
 mod writing;
 
+pub use lines::first_line;
 pub use number::{push_spaced, read_decimal};
 pub use reading::read_text;
 pub use showing::ShownLines;

@@ -19,7 +19,7 @@ use Rattle.sws_link.specs.declared.Opened.{Opened}
 use Rattle.sws_link.specs.declared.Opened.TheVariants as opened
 use Rattle.sws_link.specs.declared.Sink.{Ghosts as SinkWords}
 use Rattle.sws_link.specs.declared.world.World.{Ghosts as WorldWords}
-use Rattle.sws_conn.specs.declared.talk.Talk.{Ghosts as TalkWords}
+use Rattle.sws_steps.specs.declared.talk.Talk.{Ghosts as TalkWords}
 use Rattle.sws_engine.specs.declared.ended.Ended.{Ended}
 use Rattle.sws_engine.specs.declared.ended.Verdict.{Verdict}
 use Rattle.sws_engine.specs.declared.ended.Verdict.TheVariants as verdict

@@ -7,7 +7,7 @@ use Rattle.sws_link.specs.Links.{Way, reading, writing}
 use Rattle.sws_site.specs.Site.{SiteState}
 use Rattle.sws_steps.specs.declared.End.{End}
 use Rattle.sws_steps.specs.declared.End.TheVariants as ending
-use Rattle.sws_conn.specs.Step.{wait_limit}
+use Rattle.sws_steps.specs.Step.{wait_limit}
 use Rattle.sws_conn.specs.Serving.{RoseBy, Serves, IsAnswered}
 use Rattle.sws_top.specs.declared.faults.TopFault.{TopFault}
 use Rattle.sws_top.specs.declared.faults.TopFault.TheVariants.{ReadFault, WriteFault, Memory}

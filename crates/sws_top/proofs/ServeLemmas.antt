@@ -18,10 +18,10 @@ use Rattle.sws_link.specs.declared.Sink.{Ghosts as SinkWords}
 use Rattle.sws_link.specs.declared.world.World.{Ghosts as WorldWords}
 use Rattle.sws_steps.specs.declared.End.{End}
 use Rattle.sws_steps.specs.declared.End.TheVariants as ending
-use Rattle.sws_conn.specs.declared.talk.Talk.{Ghosts as TalkWords}
+use Rattle.sws_steps.specs.declared.talk.Talk.{Ghosts as TalkWords}
 use Rattle.sws_engine.specs.RunLeaves.{NoneOutOfMemory, is_out_of_memory}
 use Rattle.sws_engine.specs.StepsLeave.{StepsLeave}
-use Rattle.sws_engine.specs.ThreadsLeave.{ThreadsLeave, HasRunThreads, IsUnkept}
+use Rattle.sws_engine.specs.ThreadsLeave.{ThreadsLeave, HasRunThreads}
 use Rattle.sws_engine.specs.declared.ended.Ended.{Ended}
 use Rattle.sws_engine.specs.declared.ended.Served.{Served}
 use Rattle.sws_engine.specs.declared.ended.Verdict.TheVariants as verdict
@@ -118,16 +118,15 @@ module _ {W L T G : Type 0} (x : WorldWords W L) (l : LinkWords L) (y : TalkWord
 
   module _ {O : Type 0} (o : SinkWords O) (out out_now : O) (world : W) (outcome : Outcome W L) (port connections : ℕ)
       (listens : Listens x.tells x.faults x.waits world port connections opened.Ready first) where
-    pub served_by : ThreadsLeave x l y shape site first ended → IsUnkept y → (shape.cores ≡ 1 → StepsLeave x l y shape site first ended) → outcome.ended ≡ Some ended → outcome.world ≡ None
+    pub served_by : ThreadsLeave x l y shape site first ended → (shape.cores ≡ 1 → StepsLeave x l y shape site first ended) → outcome.ended ≡ Some ended → outcome.world ≡ None
         → EndsBy o out out_now outcome.fault ended.served.items ended.verdict → HasServed x l o y out out_now world outcome port connections shape site
-    served_by leaves unkept alone there gone ends = record {
+    served_by leaves alone there gone ends = record {
       first = first;
       listens = listens;
       ended = ended;
       there = there;
       gone = gone;
       leaves = leaves;
-      unkept = unkept;
       alone = alone;
       port_is = λ last is. port_by leaves last is;
       rose = λ last is failed. rose_by leaves last is failed;

@@ -5,7 +5,7 @@ use Rattle.sws_link.specs.declared.Source.{Ghosts as SourceWords}
 use Rattle.sws_link.specs.declared.Link.{Ghosts as LinkWords}
 use Rattle.sws_link.specs.declared.Sink.{Ghosts as SinkWords}
 use Rattle.sws_link.specs.declared.world.World.{Ghosts as WorldWords}
-use Rattle.sws_conn.specs.declared.talk.Talk.{Ghosts as TalkWords}
+use Rattle.sws_steps.specs.declared.talk.Talk.{Ghosts as TalkWords}
 use Rattle.sws_site.specs.Site.{SiteState}
 use Rattle.sws_words.specs.Orders.{Order, answer, replay, serve, bench, check}
 use Rattle.sws_top.specs.declared.faults.TopFault.TheVariants.{Usage, Memory}

@@ -12,9 +12,9 @@ use Rattle.sws_link.specs.declared.Sink.{Ghosts as SinkWords}
 use Rattle.sws_link.specs.declared.world.World.{Ghosts as WorldWords}
 use Rattle.sws_steps.specs.declared.End.{End}
 use Rattle.sws_steps.specs.declared.End.TheVariants as ending
-use Rattle.sws_conn.specs.declared.talk.Talk.{Ghosts as TalkWords}
+use Rattle.sws_steps.specs.declared.talk.Talk.{Ghosts as TalkWords}
 use Rattle.sws_engine.specs.StepsLeave.{StepsLeave}
-use Rattle.sws_engine.specs.ThreadsLeave.{ThreadsLeave, IsUnkept}
+use Rattle.sws_engine.specs.ThreadsLeave.{ThreadsLeave}
 use Rattle.sws_engine.specs.declared.ended.Ended.{Ended}
 use Rattle.sws_engine.specs.declared.ended.Served.{Served}
 use Rattle.sws_engine.specs.declared.ended.Verdict.{Verdict}
@@ -84,7 +84,6 @@ module _ {W L O T G : Type 0} (x : WorldWords W L) (l : LinkWords L) (o : SinkWo
     pub there : outcome.ended ≡ Some ended
     pub gone : outcome.world ≡ None
     pub leaves : ThreadsLeave x l y shape site first ended
-    pub unkept : IsUnkept y
     -- one worker leaves what steps leave: it loses no connection
     pub alone : shape.cores ≡ 1 → StepsLeave x l y shape site first ended
     -- the world that is handed out has the port, and where it failed its count of faults rose; at

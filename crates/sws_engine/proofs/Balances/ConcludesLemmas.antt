@@ -3,7 +3,7 @@ use Rattle.std.proofs.Common.{◌≡◌, ℕ, zero, suc, ◌+◌, ◌≤◌, ◌
 use Rattle.std.proofs.lemmas.Bool.Decides.{eqb_tells, nat_tests}
 use Rattle.std.specs.Prelude.{sum_by, not, nat_lt, ◌==◌, ◌&&◌, slice_get}
 use Rattle.mely_event.specs.declared.event.Event.{Event}
-use Rattle.sws_conn.specs.declared.talk.Talk.{Ghosts as TalkWords}
+use Rattle.sws_steps.specs.declared.talk.Talk.{Ghosts as TalkWords}
 use Rattle.sws_conn.specs.Path.{Handler}
 use Rattle.sws_conn.specs.Path.{open_link, read_piece, parse, look, write_part, resume, close}
 use Rattle.sws_conn.specs.Talks.{due}

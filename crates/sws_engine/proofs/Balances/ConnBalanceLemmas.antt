@@ -6,7 +6,7 @@ use Rattle.std.specs.Prelude.{sum_by, not, ◌==◌, ◌&&◌}
 use Rattle.mely_event.specs.declared.colour.Colour.{Colour}
 use Rattle.mely_event.specs.declared.event.Event.{Event}
 use Rattle.mely_tally.specs.Tallies.{carried_by}
-use Rattle.sws_conn.specs.declared.talk.Talk.{Ghosts as TalkWords}
+use Rattle.sws_steps.specs.declared.talk.Talk.{Ghosts as TalkWords}
 use Rattle.sws_conn.specs.Path.{Handler}
 use Rattle.sws_conn.specs.Path.{open_link, read_piece, parse, look, write_part, resume, close}
 use Rattle.sws_conn.specs.Talks.{due}

@@ -9,7 +9,7 @@ use Rattle.mely_event.specs.declared.colour.Colour.{Colour}
 use Rattle.mely_tally.specs.Tallies.{carried_by}
 use Rattle.sws_link.specs.declared.Link.{Ghosts as LinkWords}
 use Rattle.sws_link.specs.declared.world.World.{Ghosts as WorldWords}
-use Rattle.sws_conn.specs.declared.talk.Talk.{Ghosts as TalkWords}
+use Rattle.sws_steps.specs.declared.talk.Talk.{Ghosts as TalkWords}
 use Rattle.sws_engine.specs.declared.load.WorldLoad.{WorldLoad}
 use Rattle.sws_engine.specs.declared.place.Desk.{Desk}
 use Rattle.sws_engine.specs.declared.place.Role.TheVariants.{Polling}

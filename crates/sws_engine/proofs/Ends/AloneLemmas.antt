@@ -3,7 +3,7 @@ use Rattle.std.proofs.Common.{inl, inr}
 use Rattle.mely_history.specs.declared.shape.Shape.{Shape}
 use Rattle.sws_link.specs.declared.Link.{Ghosts as LinkWords}
 use Rattle.sws_link.specs.declared.world.World.{Ghosts as WorldWords}
-use Rattle.sws_conn.specs.declared.talk.Talk.{Ghosts as TalkWords}
+use Rattle.sws_steps.specs.declared.talk.Talk.{Ghosts as TalkWords}
 use Rattle.sws_engine.specs.declared.ended.Ended.{Ended}
 use Rattle.sws_engine.specs.StepsLeave.{StepsLeave}
 use Rattle.sws_engine.specs.ThreadsLeave.{ThreadsLeave}
@@ -14,5 +14,5 @@ steps_leave_threads x l y shape hall first ended (inl none) = inl none
 steps_leave_threads x l y shape hall first ended (inr run) = inr (record {
   left = run.left;
   kept = run.ran.kept;
-  follows = λ unkept. run.follows;
+  follows = run.follows;
 })

@@ -4,7 +4,7 @@ use Rattle.std.specs.Prelude.{flat_map, is_some, option_map}
 use Rattle.mely_weave.specs.declared.draining.Drained.{Drained}
 use Rattle.mely_weave.specs.declared.parts.WeaveParts.{WeaveParts}
 use Rattle.mely_tally.specs.Tallies.{carried_by}
-use Rattle.sws_conn.specs.declared.talk.Talk.{Ghosts as TalkWords}
+use Rattle.sws_steps.specs.declared.talk.Talk.{Ghosts as TalkWords}
 use Rattle.sws_engine.specs.declared.ended.Served.{Served}
 use Rattle.sws_engine.specs.declared.ended.EndRoom.{EndRoom}
 use Rattle.sws_engine.specs.declared.ended.Verdict.{Verdict}

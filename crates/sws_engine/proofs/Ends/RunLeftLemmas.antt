@@ -17,7 +17,7 @@ use Rattle.mely_weave.specs.declared.draining.Drained.{Drained}
 use Rattle.mely_weave.specs.declared.parts.WeaveParts.{WeaveParts}
 use Rattle.sws_link.specs.declared.Link.{Ghosts as LinkWords}
 use Rattle.sws_link.specs.declared.world.World.{Ghosts as WorldWords}
-use Rattle.sws_conn.specs.declared.talk.Talk.{Ghosts as TalkWords}
+use Rattle.sws_steps.specs.declared.talk.Talk.{Ghosts as TalkWords}
 use Rattle.sws_engine.specs.declared.ended.Ended.{Ended}
 use Rattle.sws_engine.specs.declared.ended.Verdict.{Verdict}
 use Rattle.sws_engine.specs.declared.ended.Verdict.TheVariants as verdict

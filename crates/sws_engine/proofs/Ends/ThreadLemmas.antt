@@ -1,7 +1,7 @@
 -- What a run on threads leaves, of the parts of the weave that its fleet was closed into.
 use Rattle.std.proofs.Common.{◌≡◌, ℕ, ◌+◌, ◌<◌, Bool, false, List, [], ◌++◌, Option, length, map, refl, sym, ◌∙◌, ap, subst, arith}
 use Rattle.std.proofs.lemmas.Option.{slice_get_within}
-use Rattle.std.specs.Prelude.{slice_get, is_some}
+use Rattle.std.specs.Prelude.{slice_get, is_some, IsSome}
 use Rattle.std.specs.List.{AllByRecursion}
 use Rattle.mely_event.specs.declared.colour.Colour.{Colour}
 use Rattle.mely_event.specs.declared.event.Event.{Event}
@@ -24,7 +24,7 @@ use Rattle.mely_tally.specs.Tells.{IsTakenApart}
 use Rattle.sws_link.specs.declared.Link.{Ghosts as LinkWords}
 use Rattle.sws_link.specs.declared.world.World.{Ghosts as WorldWords}
 use Rattle.sws_steps.specs.declared.Next.{Next}
-use Rattle.sws_conn.specs.declared.talk.Talk.{Ghosts as TalkWords}
+use Rattle.sws_steps.specs.declared.talk.Talk.{Ghosts as TalkWords}
 use Rattle.sws_conn.specs.Conn.{reported_by}
 use Rattle.sws_conn.specs.Talks.{due_after}
 use Rattle.sws_engine.specs.declared.ended.Ended.{Ended}
@@ -95,7 +95,8 @@ module _ {W L T G H : Type 0} (x : WorldWords W L) (l : LinkWords L) (y : TalkWo
     (rules : rules_of setup ≡ server_rules shape) (colours : colours_of setup ≡ (x.tells first).total + 2)
     (kept : PartsKept x y setup first how (map (λ history. history.items) parts.histories.items) parts.states.items (map (λ events. events.items) parts.queued.items))
     (fits : RunFits x l first hall parts.states.items (map (λ events. events.items) parts.queued.items) parts.lost.items)
-    (is : IsConcluded y (x.tells first).total how parts ended) (tell : AllByRecursion (StateTells x l y) parts.states.items) where
+    (is : IsConcluded y (x.tells first).total how parts ended) (tell : AllByRecursion (StateTells x l y) parts.states.items)
+    (unkept : (talk : T) → IsSome (y.view_of talk).end → (y.view_of talk).waiting ≡ false) where
   abbrev total : ℕ
   total = (x.tells first).total
 
@@ -107,7 +108,7 @@ module _ {W L T G H : Type 0} (x : WorldWords W L) (l : LinkWords L) (y : TalkWo
   has_run_threads = record {
     left = run_left x l y shape setup hall first how parts ended rules colours kept fits is tell;
     kept = kept;
-    follows = λ unkept same coming one script i s trail known at answers there run_of.
+    follows = λ same coming one script i s trail known at answers there run_of.
         let told = told_well same in
         let run = whole_is how parts.lost.items told.0.ran in
         let whole = subst (λ (b : Bool). AreWhole ended.served.items (links_owed b ended.accepted total)) told.2 told.3 in

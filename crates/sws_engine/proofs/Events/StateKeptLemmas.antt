@@ -6,7 +6,7 @@ use Rattle.mely_event.specs.declared.event.Event.{Event}
 use Rattle.mely_worker.specs.Access.{FitsIn}
 use Rattle.sws_link.specs.declared.Link.{Ghosts as LinkWords}
 use Rattle.sws_link.specs.declared.world.World.{Ghosts as WorldWords}
-use Rattle.sws_conn.specs.declared.talk.Talk.{Ghosts as TalkWords}
+use Rattle.sws_steps.specs.declared.talk.Talk.{Ghosts as TalkWords}
 use Rattle.sws_conn.specs.Path.{open_link}
 use Rattle.sws_conn.specs.Talks.{reported_next, due}
 use Rattle.sws_engine.specs.declared.load.Load.{Load}

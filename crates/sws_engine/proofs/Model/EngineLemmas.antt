@@ -26,7 +26,7 @@ use Rattle.mely_run.proofs.Lists.ElementsLemmas.{there_of}
 use Rattle.mely_run.proofs.Runs.FrameLemmas.{framed_there}
 use Rattle.sws_link.specs.declared.Link.{Ghosts as LinkWords}
 use Rattle.sws_link.specs.declared.world.World.{Ghosts as WorldWords}
-use Rattle.sws_conn.specs.declared.talk.Talk.{Ghosts as TalkWords}
+use Rattle.sws_steps.specs.declared.talk.Talk.{Ghosts as TalkWords}
 use Rattle.sws_conn.specs.Outcome.{UnlessMemory}
 use Rattle.sws_conn.specs.Path.{Handler, TakesOff}
 use Rattle.sws_conn.specs.Talks.{due, path_to_come, IsDue}

@@ -1,5 +1,5 @@
 -- A path begins with the opening and has no other.
-use Rattle.std.proofs.Common.{◌≡◌, ◌≢◌, ◌+◌, ℕ, zero, suc, Bool, true, false, cond, List, [], ◌∷◌, length, map, arith, refl, sym, ap, subst, ◌∙◌}
+use Rattle.std.proofs.Common.{◌≡◌, ◌≢◌, ◌+◌, ℕ, zero, suc, Bool, true, false, cond, List, [], ◌∷◌, length, take, drop, map, arith, refl, sym, ap, subst, ◌∙◌}
 use Rattle.std.specs.Prelude.{nat_le}
 use Rattle.std.proofs.lemmas.Option.{none-some, same_Some}
 use Rattle.sws_link.specs.declared.LinkRead.{LinkRead}
@@ -7,21 +7,16 @@ use Rattle.sws_link.specs.declared.LinkRead.TheVariants as read
 use Rattle.sws_link.specs.declared.LinkWrite.{LinkWrite}
 use Rattle.sws_link.specs.declared.LinkWrite.TheVariants as write
 use Rattle.sws_link.specs.Scripts.{Script, read_of, write_of}
-use Rattle.sws_request.specs.declared.cuts.Cut.{Cut}
-use Rattle.sws_request.specs.declared.cuts.Cut.TheVariants.{Head, TooLong, NotYet}
-use Rattle.sws_request.specs.Cuts.{cut_of}
-use Rattle.sws_site.specs.Site.{SiteState}
-use Rattle.sws_site.specs.Limits.{IsWithinLimits}
 use Rattle.sws_parts.specs.Parts.{front_of, after_sending}
-use Rattle.sws_conn.specs.Conn.{ConnCoreState, is_sent, is_waiting}
+use Rattle.sws_steps.specs.Protocol.{Protocol, IsOrderly, Cut, Whole, TooLong, NotYet, request, too_long}
+use Rattle.sws_steps.specs.ConnCore.{ConnCoreState, is_sent, is_waiting}
 use Rattle.sws_steps.specs.declared.End.TheVariants as ending
 use Rattle.sws_steps.specs.declared.Next.{Next}
 use Rattle.sws_steps.specs.declared.Next.TheVariants as next
-use Rattle.sws_conn.specs.Step.{going_to, ending_as, still_waiting, has_all_input, room_of, after_read, after_parse, after_look, after_part, after_write, wait_limit}
-use Rattle.sws_conn.specs.Sound.{core_before_open}
-use Rattle.sws_steps.specs.Path.{IsPathFrom as IsPathBy}
-use Rattle.sws_conn.specs.Path.{Handler, open_link, read_piece, parse, look, write_part, resume, close, handler_of, Scripted, scripted_at, scripted_step, IsPathFrom, path_of}
-use Rattle.sws_conn.proofs.PathLemmas.{path_of-path}
+use Rattle.sws_steps.specs.Step.{going_to, ending_as, still_waiting, has_all_input, room_of, after_read, after_parse, after_answer, with_answer, is_last, after_look, after_part, after_write, wait_limit}
+use Rattle.sws_steps.specs.Sound.{core_before_open}
+use Rattle.sws_steps.specs.Path.{Handler, open_link, read_piece, parse, look, write_part, resume, close, handler_of, Scripted, scripted_at, scripted_step, IsPathFrom, path_of}
+use Rattle.sws_steps.proofs.Runs.PathLemmas.{path_of-path}
 use Rattle.sws_engine.specs.Handling.{number_of}
 use Rattle.sws_engine.specs.Agrees.{HasNoOpening, AreOpened}
 
@@ -36,7 +31,7 @@ IsOpened next.Wait = Unit {0}
 IsOpened next.Close = Unit {0}
 IsOpened next.Nothing = Unit {0}
 
-module _ (c : ConnCoreState) where
+module _ {Hall : Type 0} (c : ConnCoreState Hall) where
   waiting_opened : (b : Bool) → IsOpened c.pending → IsOpened (still_waiting c b).pending
   waiting_opened true is = tt
   waiting_opened false is = is
@@ -47,36 +42,40 @@ module _ (c : ConnCoreState) where
   read_opened read.NotReady bytes is = waiting_opened (nat_le wait_limit (c.waits + 1)) is
   read_opened read.Failed bytes is = tt
 
-  parse_opened : (cut : Cut) → IsOpened (after_parse c cut).pending
-  parse_opened (Head len) = tt
-  parse_opened TooLong = tt
-  parse_opened NotYet = elim (has_all_input c) as (λ b. IsOpened (cond b (ending_as c ending.Done) (going_to c next.Read)).pending) [ true ↦ tt | false ↦ tt ]
+  part_opened : (sent closes : Bool) → IsOpened c.pending → IsOpened (after_part sent closes c).pending
+  part_opened false closes is = is
+  part_opened true true is = tt
+  part_opened true false is = tt
 
-  look_opened : (cut : Cut) → IsOpened c.pending → IsOpened (after_look c cut).pending
-  look_opened (Head len) is = tt
-  look_opened TooLong is = tt
-  look_opened NotYet is = is
-
-part_opened : (c : ConnCoreState) (sent closes : Bool) → IsOpened c.pending → IsOpened (after_part sent closes c).pending
-part_opened c false closes is = is
-part_opened c true true is = tt
-part_opened c true false is = tt
-
-write_opened : (c : ConnCoreState) (answer : LinkWrite) → IsOpened c.pending → IsOpened (after_write c answer).pending
+write_opened : {Hall : Type 0} (c : ConnCoreState Hall) (answer : LinkWrite) → IsOpened c.pending → IsOpened (after_write c answer).pending
 write_opened c (write.Wrote count) is = part_opened (record c { parts = after_sending count c.parts; written = c.written + count; waits = 0 }) (is_sent (after_sending count c.parts)) c.closes is
 write_opened c write.NotReady is = waiting_opened c (nat_le wait_limit (c.waits + 1)) is
 write_opened c write.Failed is = tt
 write_opened c write.Memory is = tt
 
-step_opened : (pending : Next) (c : Scripted) → c.standing.pending ≡ pending → IsOpened pending → IsOpened (scripted_at pending c).standing.pending
-step_opened next.Open c e is = absurd is
-step_opened next.Read c e is = read_opened c.standing (read_of (room_of c.standing) c.script.items).answer (read_of (room_of c.standing) c.script.items).bytes (subst IsOpened (sym e) is)
-step_opened next.Parse c e is = parse_opened c.standing (cut_of c.standing.buffer)
-step_opened next.Look c e is = look_opened c.standing (cut_of c.standing.buffer) (subst IsOpened (sym e) is)
-step_opened next.Write c e is = write_opened c.standing (write_of c.script (length (front_of c.standing.parts))).answer (subst IsOpened (sym e) is)
-step_opened next.Wait c e is = subst IsOpened (sym e) is
-step_opened next.Close c e is = tt
-step_opened next.Nothing c e is = subst IsOpened (sym e) is
+module _ {Hall Answer : Type 0} (p : Protocol Hall Answer) where
+  parse_opened : (c : ConnCoreState Hall) (cut : Cut) → IsOpened (after_parse p c cut).pending
+  parse_opened c (Whole len) = tt
+  parse_opened c TooLong = tt
+  parse_opened c NotYet = elim (has_all_input p c) as (λ b. IsOpened (cond b (ending_as c ending.Done) (going_to c next.Read)).pending) [ true ↦ tt | false ↦ tt ]
+
+  answer_opened : (c : ConnCoreState Hall) (answer : Answer) (rest : List ℕ) → IsOpened (after_answer p c answer rest).pending
+  answer_opened c answer rest = part_opened (with_answer p c answer rest) (p.is_empty answer) (p.closes answer) tt
+
+  look_opened : (c : ConnCoreState Hall) (cut : Cut) → IsOpened c.pending → IsOpened (after_look p c cut).pending
+  look_opened c (Whole len) is = answer_opened c (p.answer c.hall (request (take len c.buffer)) (is_last p c)) (drop len c.buffer)
+  look_opened c TooLong is = answer_opened c (p.answer c.hall too_long (is_last p c)) []
+  look_opened c NotYet is = is
+
+  step_opened : (pending : Next) (c : Scripted Hall) → c.standing.pending ≡ pending → IsOpened pending → IsOpened (scripted_at p pending c).standing.pending
+  step_opened next.Open c e is = absurd is
+  step_opened next.Read c e is = read_opened c.standing (read_of (room_of p c.standing) c.script.items).answer (read_of (room_of p c.standing) c.script.items).bytes (subst IsOpened (sym e) is)
+  step_opened next.Parse c e is = parse_opened c.standing (p.cut c.standing.buffer)
+  step_opened next.Look c e is = look_opened c.standing (p.cut c.standing.buffer) (subst IsOpened (sym e) is)
+  step_opened next.Write c e is = write_opened c.standing (write_of c.script (length (front_of c.standing.parts))).answer (subst IsOpened (sym e) is)
+  step_opened next.Wait c e is = subst IsOpened (sym e) is
+  step_opened next.Close c e is = tt
+  step_opened next.Nothing c e is = subst IsOpened (sym e) is
 
 -- the event of a step that isn't the opening
 other : (is event : Handler) → is ∷ [] ≡ event ∷ [] → number_of is ≢ 3 → number_of event ≢ 3
@@ -92,34 +91,35 @@ handler_opened next.Wait event is e = let no_event : [] ≡ event ∷ [] = e in 
 handler_opened next.Close event is e = other close event e (λ k. omega (arith, k))
 handler_opened next.Nothing event is e = let no_event : [] ≡ event ∷ [] = e in cc
 
-waiting_event : (b : Bool) (c : ConnCoreState) (event : Handler) → IsOpened c.pending → cond b (resume ∷ []) (handler_of c.pending) ≡ event ∷ [] → number_of event ≢ 3
+waiting_event : {Hall : Type 0} (b : Bool) (c : ConnCoreState Hall) (event : Handler) → IsOpened c.pending → cond b (resume ∷ []) (handler_of c.pending) ≡ event ∷ [] → number_of event ≢ 3
 waiting_event true c event is e = other resume event e (λ k. omega (arith, k))
 waiting_event false c event is e = handler_opened c.pending event is e
 
-path_opened : (c : Scripted) (path : List Handler) → IsOpened c.standing.pending → IsPathFrom c path → HasNoOpening path
-unfolding IsPathBy
-path_opened c [] is from = tt
-path_opened c (event ∷ later) is from = (
-  waiting_event (is_waiting c.standing) c.standing event is from.0,
-  path_opened (scripted_step c) later (step_opened c.standing.pending c refl is) from.1,
-)
+module _ {Hall Answer : Type 0} (p : Protocol Hall Answer) (orderly : IsOrderly p) where
+  path_opened : (c : Scripted Hall) (path : List Handler) → IsOpened c.standing.pending → IsPathFrom p c path → HasNoOpening path
+  unfolding IsPathFrom
+  path_opened c [] is from = tt
+  path_opened c (event ∷ later) is from = (
+    waiting_event (is_waiting c.standing) c.standing event is from.0,
+    path_opened (scripted_step p c) later (step_opened p c.standing.pending c refl is) from.1,
+  )
 
-path_opens : (site : SiteState) (script : Script) → IsWithinLimits site.files → (later : List Handler) × (path_of site script ≡ open_link ∷ later) × HasNoOpening later
-unfolding IsPathBy
-path_opens site script limits = by_path (path_of site script) (path_of-path site script limits)
-  where
-    by_path : (path : List Handler) → IsPathFrom (record { standing = core_before_open site; script = script }) path → (later : List Handler) × (path ≡ open_link ∷ later) × HasNoOpening later
-    by_path [] from = let never : open_link ∷ [] ≡ [] = from in cc
-    by_path (event ∷ later) from = (
-      later,
-      ap (λ (h : Handler). h ∷ later) (let e : open_link ∷ [] ≡ event ∷ [] = from.0 in let same : event ≡ open_link = cc in same),
-      path_opened (scripted_step (record { standing = core_before_open site; script = script })) later tt from.1,
-    )
+  path_opens : (hall : Hall) (script : Script) → p.IsHall hall → (later : List Handler) × (path_of p hall script ≡ open_link ∷ later) × HasNoOpening later
+  unfolding IsPathFrom
+  path_opens hall script known = by_path (path_of p hall script) (path_of-path p orderly hall script known)
+    where
+      by_path : (path : List Handler) → IsPathFrom p (record { standing = core_before_open hall; script = script }) path → (later : List Handler) × (path ≡ open_link ∷ later) × HasNoOpening later
+      by_path [] from = let never : open_link ∷ [] ≡ [] = from in cc
+      by_path (event ∷ later) from = (
+        later,
+        ap (λ (h : Handler). h ∷ later) (let e : open_link ∷ [] ≡ event ∷ [] = from.0 in let same : event ≡ open_link = cc in same),
+        path_opened (scripted_step p (record { standing = core_before_open hall; script = script })) later tt from.1,
+      )
 
--- the paths of scripts do
-pub paths_open : (site : SiteState) (scripts : List Script) → IsWithinLimits site.files → AreOpened (map (path_of site) scripts)
-paths_open site [] limits i path there = absurd (none-some path there)
-paths_open site (script ∷ scripts) limits zero path there =
-    let o = path_opens site script limits in
-    (o.0, sym (same_Some (path_of site script) path there) ∙ o.1, o.2)
-paths_open site (script ∷ scripts) limits (suc i) path there = paths_open site scripts limits i path there
+  -- the paths of scripts do
+  pub paths_open : (hall : Hall) (scripts : List Script) → p.IsHall hall → AreOpened (map (path_of p hall) scripts)
+  paths_open hall [] known i path there = absurd (none-some path there)
+  paths_open hall (script ∷ scripts) known zero path there =
+      let o = path_opens hall script known in
+      (o.0, sym (same_Some (path_of p hall script) path there) ∙ o.1, o.2)
+  paths_open hall (script ∷ scripts) known (suc i) path there = paths_open hall scripts known i path there

@@ -11,7 +11,7 @@ use Rattle.sws_link.specs.declared.Accepted.{Accepted}
 use Rattle.sws_link.specs.declared.Accepted.TheVariants as accepted
 use Rattle.sws_link.specs.Links.{LinkContents}
 use Rattle.sws_link.specs.Worlds.{Coming, initial_contents, TakesNext, Accepts, IsLink}
-use Rattle.sws_conn.specs.declared.talk.Talk.{Ghosts as TalkWords}
+use Rattle.sws_steps.specs.declared.talk.Talk.{Ghosts as TalkWords}
 use Rattle.sws_conn.specs.Path.{Handler, open_link, resume}
 use Rattle.sws_conn.specs.Talks.{path_to_come}
 use Rattle.sws_engine.specs.declared.load.WorldLoad.{WorldLoad}

@@ -11,7 +11,7 @@ use Rattle.sws_link.specs.Worlds.{Coming}
 use Rattle.sws_steps.specs.declared.End.{End}
 use Rattle.sws_steps.specs.declared.End.TheVariants as ending
 use Rattle.sws_steps.specs.declared.Next.TheVariants as next
-use Rattle.sws_conn.specs.declared.talk.Talk.{Ghosts as TalkWords}
+use Rattle.sws_steps.specs.declared.talk.Talk.{Ghosts as TalkWords}
 use Rattle.sws_conn.specs.Outcome.{Outcome, UnlessMemory}
 use Rattle.sws_conn.specs.Path.{Handler, open_link, TakesOff, answers_to_come}
 use Rattle.sws_conn.specs.Conn.{end_at}

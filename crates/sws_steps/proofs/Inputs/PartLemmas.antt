@@ -1,6 +1,6 @@
 -- What is left of an answer's parts.
 use Rattle.std.specs.Prelude.{◌==◌}
-use Rattle.std.proofs.Common.{◌≡◌, ℕ, zero, suc, ◌-◌, ◌<◌, ◌≤◌, true, false, List, [], ◌∷◌, ◌++◌, length, take, drop, refl, sym, ap, ◌∙◌, arith, append_assoc, take-append-drop, append-nil}
+use Rattle.std.proofs.Common.{◌≡◌, ℕ, zero, suc, ◌-◌, ◌<◌, ◌≤◌, true, false, List, [], ◌∷◌, ◌++◌, length, take, drop, refl, sym, ap, ◌∙◌, arith, append_assoc, take-append-drop, append-nil, length-append}
 use Rattle.std.proofs.lemmas.Bool.{eqb-true}
 use Rattle.sws_parts.specs.Parts.{PartsState, unsent_bytes, front_of, head_or_body, after_sending}
 use Rattle.sws_steps.specs.ConnCore.{is_sent}
@@ -25,9 +25,14 @@ sent-rest parts count fits = by_head parts.head parts.body fits
         ∙ ap (λ h. h ++ drop (count - length (byte ∷ head)) body) (take-append-drop count (byte ∷ head))
         ∙ ap (λ n. (byte ∷ head) ++ drop n body) (let none : count - length (byte ∷ head) ≡ 0 = omega arith in none)
 
-nil_of : (bytes : List ℕ) → length bytes ≡ 0 → bytes ≡ []
+pub nil_of : (bytes : List ℕ) → length bytes ≡ 0 → bytes ≡ []
 nil_of [] e = refl
 nil_of (byte ∷ bytes) e = absurd (omega arith)
+
+-- no more is left than before
+pub fewer-left : (parts : PartsState) (count : ℕ) → count ≤ length (front_of parts) → length (unsent_bytes (after_sending count parts)) ≤ length (unsent_bytes parts)
+fewer-left parts count fits =
+    omega (arith, ap length (sent-rest parts count fits), length-append (take count (front_of parts)) (unsent_bytes (after_sending count parts)))
 
 -- nothing is left
 pub nothing-rest : (parts : PartsState) → is_sent parts ≡ true → unsent_bytes parts ≡ []

@@ -71,7 +71,7 @@ untold-written (Some before) now answer bytes puts none =
     let to_come : puts.after.to_come ≡ None = subst (λ o. WritesAs o (length bytes) answer puts.after.to_come) none puts.to_come in
     ap answers_to_come puts.is ∙ to_come
 
-unless : (end : Option End) (Fact : Type 0) → Fact → UnlessMemory end Fact
+pub unless : (end : Option End) (Fact : Type 0) → Fact → UnlessMemory end Fact
 unless None Fact fact = fact
 unless (Some ending.Done) Fact fact = fact
 unless (Some ending.Idle) Fact fact = fact

@@ -1,6 +1,6 @@
 -- What holds along a run of a connection, and at its end.
 use Rattle.std.specs.Prelude.{IsSome, is_some, if◌then◌else◌}
-use Rattle.std.proofs.Common.{◌≡◌, ◌≢◌, ◌-◌, Bool, true, false, List, [], ◌∷◌, ◌++◌, Option, Some, None, refl, sym, ap, ◌∙◌, subst, arith, append_assoc, append-nil}
+use Rattle.std.proofs.Common.{inl, ◌≡◌, ◌≢◌, ◌-◌, Bool, true, false, List, [], ◌∷◌, ◌++◌, Option, Some, None, refl, sym, ap, ◌∙◌, subst, arith, append_assoc, append-nil}
 use Rattle.sws_link.specs.declared.Link.{Ghosts as LinkWords}
 use Rattle.sws_link.specs.Links.{LinkContents, IsInitialLink}
 use Rattle.sws_link.specs.Scripts.{Script}
@@ -50,6 +50,8 @@ module _ {Hall Answer : Type 0} (p : Protocol Hall Answer) (orderly : IsOrderly 
       given = [];
       taken_is = refl;
       sent_is = refl;
+      count = refl;
+      last = inl (record { given_is = refl; nothing = refl });
       given_first = λ more. ap (λ n. p.answers n hall more) (let whole : p.answer_limit ≡ p.answer_limit - 0 = omega arith in whole);
       closed_is = λ closes. absurd (let no : false ≡ true = closes in cc);
       read_is = refl;
@@ -129,7 +131,7 @@ module _ {Hall Answer : Type 0} (p : Protocol Hall Answer) (orderly : IsOrderly 
     module _ (hall : Hall) (first : L) where
       -- ---- the opened connection
 
-      opened-sound : p.IsHall hall → IsInitialLink (x.tells first) → x.is_shut first ≡ false → IsSound p x (conn_at_open hall first)
+      pub opened-sound : p.IsHall hall → IsInitialLink (x.tells first) → x.is_shut first ≡ false → IsSound p x (conn_at_open hall first)
       opened-sound limits initial not_shut = record {
         taken = [];
         sent = [];
@@ -141,6 +143,8 @@ module _ {Hall Answer : Type 0} (p : Protocol Hall Answer) (orderly : IsOrderly 
           given = [];
           taken_is = refl;
           sent_is = refl;
+          count = refl;
+          last = inl (record { given_is = refl; nothing = refl });
           given_first = λ more. ap (λ n. p.answers n hall more) (let whole : p.answer_limit ≡ p.answer_limit - 0 = omega arith in whole);
           closed_is = λ closes. absurd (let no : false ≡ true = closes in cc);
           read_is = refl;
@@ -201,7 +205,7 @@ module _ {Hall Answer : Type 0} (p : Protocol Hall Answer) (orderly : IsOrderly 
 
       -- ---- at the end
 
-      keeps : (before after : ConnState Hall L) → Steps p x before after → Kept p x hall first before → Kept p x hall first after
+      pub keeps : (before after : ConnState Hall L) → Steps p x before after → Kept p x hall first before → Kept p x hall first after
       keeps before after steps kept = record {
         sound = step_sound p orderly x before.standing after.standing before.link after.link kept.sound steps;
         linked = step_linked p orderly x before.standing after.standing before.link after.link kept.linked steps;
@@ -211,15 +215,18 @@ module _ {Hall Answer : Type 0} (p : Protocol Hall Answer) (orderly : IsOrderly 
         hall_is = step_hall p x before.standing after.standing before.link after.link steps ∙ kept.hall_is;
       }
 
-      pub run-kept : (trail : List Handler) (conn : ConnState Hall L) → HasRun p x hall first trail conn → Kept p x hall first conn
-      run-kept trail conn run = runs-keep (Kept p x hall first) keeps trail (conn_at_open hall first) conn run.runs (record {
-        sound = opened-sound run.limits run.initial run.not_shut;
+      pub opened-kept : p.IsHall hall → IsInitialLink (x.tells first) → x.is_shut first ≡ false → Kept p x hall first (conn_at_open hall first)
+      opened-kept limits initial not_shut = record {
+        sound = opened-sound limits initial not_shut;
         linked = refl;
         heads = λ o h. h;
         since = since-opened x first (going_to (core_before_open hall) next.Read) refl refl;
         exchanged = exchanged-opened x first (going_to (core_before_open hall) next.Read) refl refl;
         hall_is = refl;
-      })
+      }
+
+      pub run-kept : (trail : List Handler) (conn : ConnState Hall L) → HasRun p x hall first trail conn → Kept p x hall first conn
+      run-kept trail conn run = runs-keep (Kept p x hall first) keeps trail (conn_at_open hall first) conn run.runs (opened-kept run.limits run.initial run.not_shut)
 
       pub run-ends : (trail : List Handler) (conn : ConnState Hall L) (now : L) (end : End) → HasRun p x hall first trail conn
           → conn.standing.pending ≡ next.Nothing → conn.link ≡ Some now → conn.standing.end ≡ Some end → EndsRun p x hall first trail now end

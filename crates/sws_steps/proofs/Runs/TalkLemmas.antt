@@ -13,14 +13,14 @@ use Rattle.sws_steps.specs.declared.End.TheVariants as ending
 use Rattle.sws_steps.specs.declared.Next.{Next}
 use Rattle.sws_steps.specs.declared.Next.TheVariants as next
 use Rattle.sws_steps.specs.ConnCore.{ConnCoreState, ConnState, reported_by, end_at, is_waiting}
-use Rattle.sws_steps.specs.Step.{Steps, Opens, OpensAt}
-use Rattle.sws_steps.specs.Sound.{IsSound, IsReadyTo, IsEnded, IsTold}
+use Rattle.sws_steps.specs.Step.{Steps, Opens, OpensAt, going_to}
+use Rattle.sws_steps.specs.Sound.{core_before_open, IsSound, IsReadyTo, IsEnded, IsTold}
 use Rattle.sws_steps.specs.Outcome.{outcome_of, UnlessMemory}
 use Rattle.sws_steps.specs.Path.{Handler, open_link, read_piece, parse, look, write_part, resume, close, handler_of, event_of, path_of, path_by, known_path, rest_by, known_rest, rest_of_path, answers_to_come, told_by_link, TakesOff, HasNoEvents, scripted_step}
 use Rattle.sws_steps.specs.Run.{HasRun, RunsBy}
 use Rattle.sws_steps.specs.RestOutcome.{HeadsForLink}
 use Rattle.sws_steps.specs.Serving.{EndsAs, EndsByScript, RoseBy}
-use Rattle.sws_steps.specs.Talks.{OpensTalk, OpensBy, due, due_after, Consumes, ServesTold, ComesTo, HasServed, ServesNow, path_to_come, BeginsWith, IsDue}
+use Rattle.sws_steps.specs.Talks.{TalkView, unopened_view, opened_view, OpensTalk, OpensBy, due, due_after, Consumes, ServesTold, ComesTo, HasServed, ServesNow, path_to_come, BeginsWith, IsDue}
 use Rattle.sws_steps.specs.Talks.{talk_view, HasRunOpen}
 use Rattle.sws_steps.proofs.Steps.HallLemmas.{step_hall}
 use Rattle.sws_steps.proofs.Inputs.SinceLemmas.{Since, SinceLink, SameInput}
@@ -35,6 +35,17 @@ abbrev DueBy : Bool → Next → Type 0
 DueBy waiting pending = ((event : Handler) × (due_after (reported_by waiting pending) ≡ Some event)
     × ((if waiting then resume ∷ [] else handler_of pending) ≡ event ∷ []))
     ⊎ ((due_after (reported_by waiting pending) ≡ None) × (pending ≡ next.Nothing))
+
+-- no line is given before the first answer
+pub unopened-view : {Hall Answer : Type 0} (p : Protocol Hall Answer) (hall : Hall) → talk_view p (core_before_open hall) ≡ unopened_view
+unopened-view p hall = by_logs p.logs
+  where
+    by_logs : (logs : Bool) → record unopened_view { lines = if logs then 0 else 0 } ≡ unopened_view
+    by_logs true = refl
+    by_logs false = refl
+
+pub opened-view : {Hall Answer : Type 0} (p : Protocol Hall Answer) (hall : Hall) → talk_view p (going_to (core_before_open hall) next.Read) ≡ opened_view
+opened-view p hall = ap (λ (view : TalkView). record view { pending = next.Read }) (unopened-view p hall)
 
 -- an end that is told is known
 end-known : (pending : Next) (known : Option End) (end : End) → end_at pending known ≡ Some end → known ≡ Some end
@@ -67,7 +78,7 @@ module _ {Hall Answer : Type 0} (p : Protocol Hall Answer) (orderly : IsOrderly 
       by_waiting true = inl (resume, refl, refl)
       by_waiting false = by_pending c.pending ready
 
-  due-event : (c : ConnCoreState Hall) (event : Handler) → IsReadyTo p c.pending c → due (talk_view c) ≡ Some event → event_of c ≡ event ∷ []
+  pub due-event : (c : ConnCoreState Hall) (event : Handler) → IsReadyTo p c.pending c → due (talk_view p c) ≡ Some event → event_of c ≡ event ∷ []
   due-event c event ready e = by_cases (due-cases c ready)
     where
       by_cases : DueBy (is_waiting c) c.pending → event_of c ≡ event ∷ []
@@ -98,22 +109,22 @@ module _ {Hall Answer : Type 0} (p : Protocol Hall Answer) (orderly : IsOrderly 
 
     pub opens-talk : (before after : ConnState Hall L) (link : L) (answer : Result Next L) → Opens before link answer after
         → IfOk answer (λ _. HasRun p x before.standing.hall link [] after)
-        → OpensTalk (λ (conn : ConnState Hall L). conn.link) (λ conn. talk_view conn.standing) before link answer after
+        → OpensTalk (λ (conn : ConnState Hall L). conn.link) (λ conn. talk_view p conn.standing) before link answer after
     unfolding RunsBy
     opens-talk before after link answer opens run = by_link before.link opens
       where
         by_link : (there : Option L) → OpensAt there before link answer after
-            → OpensBy (λ (conn : ConnState Hall L). conn.link) (λ conn. talk_view conn.standing) there before link answer after
+            → OpensBy (λ (conn : ConnState Hall L). conn.link) (λ conn. talk_view p conn.standing) there before link answer after
         by_link None (answer_is, after_is) =
             let has_run : HasRun p x before.standing.hall link [] after =
             subst (λ a. IfOk a (λ _. HasRun p x before.standing.hall link [] after)) answer_is run in
-            (answer_is, ap (λ (conn : ConnState Hall L). conn.link) after_is, ap (λ (conn : ConnState Hall L). talk_view conn.standing) has_run.runs)
+            (answer_is, ap (λ (conn : ConnState Hall L). conn.link) after_is, ap (λ (conn : ConnState Hall L). talk_view p conn.standing) has_run.runs ∙ opened-view p before.standing.hall)
         by_link (Some there) kept = kept
 
     -- ---- a step
 
     pub open-run-on : (first : L) (trail : List Handler) (event : Handler) (before after : ConnState Hall L) → HasRunOpen p x first trail before
-        → due (talk_view before.standing) ≡ Some event → Steps p x before after → HasRunOpen p x first (trail ++ event ∷ []) after
+        → due (talk_view p before.standing) ≡ Some event → Steps p x before after → HasRunOpen p x first (trail ++ event ∷ []) after
     open-run-on first trail event before after (later, trail_is, run) e steps =
         let hall = before.standing.hall in
         let sound = run-sound p orderly x hall first later before run in (
@@ -127,12 +138,12 @@ module _ {Hall Answer : Type 0} (p : Protocol Hall Answer) (orderly : IsOrderly 
     -- ---- what the link was served
 
     serves-link : (hall : Hall) (first now : L) (c : ConnCoreState Hall) → c.hall ≡ hall → IsSound p x (record { standing = c; link = Some now }) → Since x first c now
-        → IsInitialLink (x.tells first) → Exchanged x first c now → ServesTold (p.responses_of hall) (x.tells first) (x.tells now) (talk_view c)
+        → IsInitialLink (x.tells first) → Exchanged x first c now → ServesTold (p.responses_of hall) (x.tells first) (x.tells now) (talk_view p c)
     unfolding SameInput
     serves-link hall first now c same sound since initial exchanged = by_tells (x.tells first) (x.tells now) refl refl initial since.input sound.told
       where
         by_tells : (before after : Option LinkContents) → x.tells first ≡ before → x.tells now ≡ after → IsInitialLink before → SameInput before after
-            → IsTold c after sound.taken sound.sent → ServesTold (p.responses_of hall) before after (talk_view c)
+            → IsTold c after sound.taken sound.sent → ServesTold (p.responses_of hall) before after (talk_view p c)
         by_tells None after before_is after_is initial input told = input
         by_tells (Some before) after before_is after_is initial (tells, is, input) told =
             let says : IsTold c (Some tells) sound.taken sound.sent = subst (λ o. IsTold c o sound.taken sound.sent) is told in (
@@ -181,7 +192,7 @@ module _ {Hall Answer : Type 0} (p : Protocol Hall Answer) (orderly : IsOrderly 
         by_script (Some script) ends = ends
 
     run-serves : (hall : Hall) (first : L) (trail : List Handler) (conn : ConnState Hall L) → HasRun p x hall first trail conn
-        → ServesNow (HasServed x (p.responses_of hall) (outcome_of p hall) first) conn.link (talk_view conn.standing)
+        → ServesNow (HasServed x (p.responses_of hall) (outcome_of p hall) first) conn.link (talk_view p conn.standing)
     unfolding SinceLink ExchangedLink
     run-serves hall first trail conn run = by_link conn.link kept.linked kept.since kept.exchanged refl
       where
@@ -192,7 +203,7 @@ module _ {Hall Answer : Type 0} (p : Protocol Hall Answer) (orderly : IsOrderly 
         c = conn.standing
 
         by_link : (link : Option L) → IsSome link → SinceLink x first c link → ExchangedLink x first c link → link ≡ conn.link
-            → ServesNow (HasServed x (p.responses_of hall) (outcome_of p hall) first) link (talk_view c)
+            → ServesNow (HasServed x (p.responses_of hall) (outcome_of p hall) first) link (talk_view p c)
         by_link None linked since exchanged is = absurd (let no : false ≡ true = linked in cc)
         by_link (Some now) linked since exchanged is =
             let sound : IsSound p x (record { standing = c; link = Some now }) =
@@ -211,7 +222,7 @@ module _ {Hall Answer : Type 0} (p : Protocol Hall Answer) (orderly : IsOrderly 
             }
 
     pub open-run-serves : (first : L) (trail : List Handler) (conn : ConnState Hall L) → HasRunOpen p x first trail conn
-        → ServesNow (HasServed x (p.responses_of conn.standing.hall) (outcome_of p conn.standing.hall) first) conn.link (talk_view conn.standing)
+        → ServesNow (HasServed x (p.responses_of conn.standing.hall) (outcome_of p conn.standing.hall) first) conn.link (talk_view p conn.standing)
     open-run-serves first trail conn (later, trail_is, run) = run-serves conn.standing.hall first later conn run
 
     -- ---- the path
@@ -232,7 +243,7 @@ module _ {Hall Answer : Type 0} (p : Protocol Hall Answer) (orderly : IsOrderly 
         (subst (Off (open_link ∷ later)) (path-same hall (x.tells first)) (run-path p orderly x hall first later conn run))
 
     pub open-run-due : (first : L) (trail : List Handler) (conn : ConnState Hall L) → HasRunOpen p x first trail conn
-        → IsDue (due (talk_view conn.standing)) (known_rest p x conn)
+        → IsDue (due (talk_view p conn.standing)) (known_rest p x conn)
     open-run-due first trail conn (later, trail_is, run) = by_script (answers_to_come (told_by_link x conn.link)) refl
       where
         c : ConnCoreState Hall
@@ -241,11 +252,11 @@ module _ {Hall Answer : Type 0} (p : Protocol Hall Answer) (orderly : IsOrderly 
         sound : IsSound p x conn
         sound = run-sound p orderly x c.hall first later conn run
 
-        by_script : (script : Option Script) → script ≡ answers_to_come (told_by_link x conn.link) → IsDue (due (talk_view c)) (rest_by p c script)
+        by_script : (script : Option Script) → script ≡ answers_to_come (told_by_link x conn.link) → IsDue (due (talk_view p c)) (rest_by p c script)
         by_script None is = tt
         by_script (Some script) is = by_cases (due-cases c sound.ready)
           where
-            by_cases : DueBy (is_waiting c) c.pending → BeginsWith (due (talk_view c)) (rest_of_path p c script)
+            by_cases : DueBy (is_waiting c) c.pending → BeginsWith (due (talk_view p c)) (rest_of_path p c script)
             by_cases (inl (event, due_is, event_is)) =
                 let after = scripted_step p (record { standing = c; script = script }) in
                 subst (λ d. BeginsWith d (rest_of_path p c script)) (sym due_is) (

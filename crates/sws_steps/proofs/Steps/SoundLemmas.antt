@@ -1,6 +1,6 @@
 -- Each step keeps a connection sound.
 use Rattle.std.specs.Prelude.{IsSome, is_some, ◌||◌, if◌then◌else◌}
-use Rattle.std.proofs.Common.{◌≡◌, ◌≢◌, ℕ, suc, ◌+◌, ◌-◌, ◌*◌, ◌≤◌, Bool, true, false, nat_le, List, [], ◌∷◌, ◌++◌, length, take, drop, Option, Some, None, refl, sym, ap, ◌∙◌, subst, arith, append_assoc, append-nil, length-append, length-take, take-append-drop}
+use Rattle.std.proofs.Common.{inl, inr, ◌⊎◌, ◌≡◌, ◌≢◌, ℕ, suc, ◌+◌, ◌-◌, ◌*◌, ◌≤◌, Bool, true, false, nat_le, List, [], ◌∷◌, ◌++◌, length, take, drop, Option, Some, None, refl, sym, ap, ◌∙◌, subst, arith, append_assoc, append-nil, length-append, length-take, take-append-drop}
 use native.Mathlib.Nat.{suc-mul}
 use Rattle.sws_link.specs.declared.Link.{Ghosts as LinkWords}
 use Rattle.sws_link.specs.declared.LinkRead.{LinkRead}
@@ -9,16 +9,17 @@ use Rattle.sws_link.specs.declared.LinkWrite.{LinkWrite}
 use Rattle.sws_link.specs.declared.LinkWrite.TheVariants as write
 use Rattle.sws_link.specs.Contents.{IsPrefix}
 use Rattle.sws_link.specs.Links.{LinkContents, LinkTakes, LinkPuts, Reads, Writes, given_by, IsWritten}
-use Rattle.sws_parts.specs.Parts.{front_of, unsent_bytes, after_sending}
+use Rattle.sws_parts.specs.Parts.{PartsState, front_of, unsent_bytes, after_sending}
 use Rattle.sws_steps.specs.Protocol.{Protocol, IsOrderly, Cut, Whole, TooLong, NotYet, Asked, request, too_long, later_unless, text_of, texts_of, answers_from, is_closed}
+use Rattle.sws_steps.specs.declared.note.Note.{Note}
 use Rattle.sws_steps.specs.ConnCore.{is_sent, ConnCoreState}
 use Rattle.sws_steps.specs.declared.End.{End}
 use Rattle.sws_steps.specs.declared.End.TheVariants as ending
 use Rattle.sws_steps.specs.declared.Next.{Next}
 use Rattle.sws_steps.specs.declared.Next.TheVariants as next
 use Rattle.sws_steps.specs.Step.{StepsFrom, ReadsOnce, WritesOnce, ShutsOnce, OverLink, going_to, ending_as, still_waiting, room_of, wait_limit, has_all_input, after_read, after_parse, after_answer, with_answer, is_last, after_look, after_part, after_write}
-use Rattle.sws_steps.specs.Sound.{IsSound, IsShutAtEnd, is_over, IsEnded, Progress, IsToldBy, IsTold, IsUncut, IsReadyTo, IsLinked, IsBetween, IsToRead, IsToLook, IsToWrite}
-use Rattle.sws_steps.proofs.Inputs.PartLemmas.{sent-rest, nothing-rest}
+use Rattle.sws_steps.specs.Sound.{IsSound, IsShutAtEnd, is_over, IsEnded, IsUnanswered, IsWriting, Progress, IsToldBy, IsTold, IsUncut, IsReadyTo, IsLinked, IsBetween, IsToRead, IsToLook, IsToWrite}
+use Rattle.sws_steps.proofs.Inputs.PartLemmas.{sent-rest, nothing-rest, nil_of, fewer-left}
 use Rattle.sws_steps.proofs.Inputs.AnswerLemmas.{first-whole, first-refused}
 use Rattle.sws_steps.proofs.Steps.ReadyLemmas.{Ready, to_look-ready, done-ready, to_read-ready, answering-ready, read_waits-ready, read-ready, write_waits-ready, wrote-ready, write-ready, close-ready}
 
@@ -38,6 +39,8 @@ module _ {Hall Answer : Type 0} (p : Protocol Hall Answer) (orderly : IsOrderly 
     given = k.given;
     taken_is = k.taken_is;
     sent_is = k.sent_is;
+    count = k.count;
+    last = k.last;
     given_first = k.given_first;
     closed_is = k.closed_is;
     read_is = k.read_is;
@@ -57,6 +60,8 @@ module _ {Hall Answer : Type 0} (p : Protocol Hall Answer) (orderly : IsOrderly 
     given = k.given;
     taken_is = ap (λ t. t ++ piece) k.taken_is ∙ append_assoc k.consumed c.buffer piece;
     sent_is = k.sent_is;
+    count = k.count;
+    last = k.last;
     given_first = k.given_first;
     closed_is = k.closed_is;
     read_is = let r = k.read_is in omega (arith, length-append taken piece);
@@ -66,6 +71,18 @@ module _ {Hall Answer : Type 0} (p : Protocol Hall Answer) (orderly : IsOrderly 
     given_few = k.given_few;
     texts_few = k.texts_few;
   }
+
+  -- what is left of the last answer becomes less
+  still_writing : (parts now : PartsState) (note : Note) (given : List Answer) → length (unsent_bytes now) ≤ length (unsent_bytes parts)
+      → IsUnanswered p parts given ⊎ IsWriting p parts note given → IsUnanswered p now given ⊎ IsWriting p now note given
+  still_writing parts now note given less (inl none) = inl (record { given_is = none.given_is; nothing = nil_of (unsent_bytes now) (omega (arith, ap length none.nothing)) })
+  still_writing parts now note given less (inr last) = inr (record {
+    earlier = last.earlier;
+    answer = last.answer;
+    given_is = last.given_is;
+    note_is = last.note_is;
+    left = let most = last.left in omega arith;
+  })
 
   -- some of the parts was sent
   progress_wrote : (c : ConnCoreState Hall) (taken sent : List ℕ) (count waits : ℕ) (pending : Next) (end : Option End) → count ≤ length (front_of c.parts)
@@ -77,6 +94,8 @@ module _ {Hall Answer : Type 0} (p : Protocol Hall Answer) (orderly : IsOrderly 
     given = k.given;
     taken_is = k.taken_is;
     sent_is = append_assoc sent (take count (front_of c.parts)) (unsent_bytes (after_sending count c.parts)) ∙ ap (λ r. sent ++ r) (sent-rest c.parts count fits) ∙ k.sent_is;
+    count = k.count;
+    last = still_writing c.parts (after_sending count c.parts) c.note k.given (fewer-left c.parts count fits) k.last;
     given_first = k.given_first;
     closed_is = k.closed_is;
     read_is = k.read_is;
@@ -111,6 +130,8 @@ module _ {Hall Answer : Type 0} (p : Protocol Hall Answer) (orderly : IsOrderly 
     given = k.given ++ answer ∷ [];
     taken_is = k.taken_is ∙ ap (λ b. k.consumed ++ b) split ∙ sym (append_assoc k.consumed head rest);
     sent_is = ap (λ s. s ++ text_of p answer) all_sent ∙ sym (texts-snoc k.given answer);
+    count = let many = k.count in omega (arith, length-append k.given (answer ∷ []));
+    last = inr (record { earlier = k.given; answer = answer; given_is = refl; note_is = refl; left = omega arith });
     given_first = λ more. ap (p.answers p.answer_limit c.hall) (append_assoc k.consumed head more) ∙ k.given_first (head ++ more)
         ∙ ap (λ t. k.given ++ later_unless t (p.answers (p.answer_limit - c.answered) c.hall (head ++ more))) between.goes_on
         ∙ ap (λ l. k.given ++ l) (first more)

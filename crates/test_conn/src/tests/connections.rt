@@ -1,6 +1,7 @@
 //! Connections over links in memory, and what they write.
 ghost use Rattle.std.specs.Prelude.{◌≡◌, false};
 
+mod lines;
 mod talks;
 
 use std::process::Abort;

@@ -45,3 +45,23 @@ returns-clause-outside g c =
 
 pub returns-clause-room : goal.returns-clause-room
 returns-clause-room g c = (c.in_ok-room.ensures.setup, c.in_ok-room.ensures.passes)
+
+pub returns-clause-fresh : goal.returns-clause-fresh
+returns-clause-fresh g c = c.in_ok-seats.ensures.fresh
+
+pub returns-clause-numbered : goal.returns-clause-numbered
+returns-clause-numbered g c =
+    let rest = c.pop.new.self.items in
+    let outside = c.in-Some.outside in
+    let own = c.in_ok-fleet.ensures.each (length rest) outside (ap (λ l. slice_get l (length rest)) c.in-Some.ensures.items ∙ push_at rest outside) in
+    let many = ap length c.in-Some.ensures.items in
+    let all = c.in_ok-fleet.ensures.many in
+    let numbered = own.numbered in
+    let cores = ap (λ (k : Setup). (shape_of k).cores) c.in_ok-fleet.ensures.of_setup in
+    omega (arith, many, all, numbered, cores, length-append rest (outside ∷ []))
+
+pub returns-clause-unseen : goal.returns-clause-unseen
+returns-clause-unseen g c =
+    let rest = c.pop.new.self.items in
+    let outside = c.in-Some.outside in
+    (c.in_ok-fleet.ensures.each (length rest) outside (ap (λ l. slice_get l (length rest)) c.in-Some.ensures.items ∙ push_at rest outside)).unseen

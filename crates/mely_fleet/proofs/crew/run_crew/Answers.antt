@@ -1,4 +1,4 @@
-use Rattle.std.proofs.Common.{◌≡◌, ◌≤◌, ◌++◌, ◌∷◌, [], Some, length, take, drop, ap, ◌∙◌, sym, subst, arith}
+use Rattle.std.proofs.Common.{◌≡◌, ◌≤◌, ◌+◌, ◌++◌, ◌∷◌, [], Some, map, length, take, drop, ap, ◌∙◌, sym, subst, arith}
 use Rattle.std.specs.Prelude.{slice_get}
 use Rattle.mely_history.specs.declared.setup.Setup.{Setup}
 use Rattle.mely_history.specs.Setup.{shape_of, colours_of}
@@ -8,10 +8,13 @@ use Rattle.mely_fleet.specs.Fleets.{frame_in}
 use Rattle.mely_fleet.specs.Frames.{shard_frame}
 use Rattle.mely_fleet.specs.Seats.{IsOutsider}
 use Rattle.mely_weave.specs.Side.{shard_of}
-use Rattle.mely_fleet.specs.Calls.{front_in}
+use Rattle.mely_tally.specs.Account.{IsAccounted}
+use Rattle.mely_tally.proofs.AccountLemmas.{account_drain}
+use Rattle.mely_fleet.specs.Calls.{SeesAt, front_in}
 use Rattle.mely_fleet.specs.Rows.{fronts}
 use Rattle.mely_weave.proofs.Runs.WeaveRunLemmas.{run_grows}
 use Rattle.mely_fleet.proofs.BegunLemmas.{registered_after, first_of}
+use Rattle.mely_fleet.proofs.CrewAccountLemmas.{Enters, closed_account}
 use Rattle.mely_fleet.proofs.CrewLemmas.{there_of, the_only, refilled, gathered_frame}
 use Rattle.mely_fleet.proofs.crew.run_crew.Goals as goal
 use Rattle.mely_fleet.proofs.crew.run_crew.Goals.{In-Ok, After-push_reserved, After-close_home-weave}
@@ -51,7 +54,7 @@ close_home-weave-requires-clause-home g c =
       of_passes = c.in-Ok.ensures.room.1 ∙ sym c.in-Ok.ensures.callers;
       cores = many ∙ ap (λ (k : Setup). (shape_of k).cores) (sym c.in-Ok.ensures.of_setup);
       all = let single = ap length one in let callers = c.in-Ok.ensures.callers in omega (arith, many, single, callers);
-      seats = λ place seat at. c.work_all.ensures place seat (ap (λ l. slice_get l place) (sym (seats_are g c)) ∙ at);
+      seats = λ place seat at. c.work_all.ensures.seats place seat (ap (λ l. slice_get l place) (sym (seats_are g c)) ∙ at);
       outsiders = λ place own at.
           let is = the_only c.post.new.passes own place (ap (λ l. slice_get l place) (sym one) ∙ at) in
           let same = c.in_default-post.ensures.same in
@@ -114,3 +117,55 @@ returns-clause-begun g c =
     let since = (closed.histories (shard_of weave.setup c.args.begin.0) has at).seen 0 c.post.new.passes (first_of _ _ _ one) in
     (since.0, subst (λ (s : Setup). has.history ≡ front_in seen (shard_of s c.args.begin.0) ++ since.0) closed.setup since.1))
     (run_grows g.S.Trail g.S.Fits.fits_under g.A.App c.drain-drained.ensures.calls.0 weave c.drain-drained.new.self c.drain-drained.ensures.calls.1)
+
+-- what runs before the closing put and ran is accounted for by the weave that it gives
+closed_accounted : (g : _) (c : After-close_home-weave g) → take c.in-Ok.crew.seats.len (c.work_all.new.seats ++ drop (length c.work_all.new.seats) c.in-Ok.crew.seats.items) ≡ c.work_all.new.seats → length (take c.in-Ok.crew.seats.len (c.work_all.new.seats ++ drop (length c.work_all.new.seats) c.in-Ok.crew.seats.items)) ≡ (shape_of c.args.setup.now).cores
+    → IsAccounted g.S.Trail g.S.Fits.fits_under g.A.App c.args.app.now (c.args.begin ∷ []) c.close_home-weave.result
+closed_accounted g c back many =
+    let fleet = c.in-Ok.crew.fleet in
+    let weave = c.close_home-weave.result in
+    let home = c.close_home-weave.ensures.home in
+    let closed = home.closed in
+    let one = c.push_reserved.ensures.items ∙ ap (λ l. l ++ c.post.new.passes ∷ []) c.in-Ok.ensures.outsiders.0 in
+    let seats = take c.in-Ok.crew.seats.len (c.work_all.new.seats ++ drop (length c.work_all.new.seats) c.in-Ok.crew.seats.items) in
+    let sees = c.in_default-post.ensures.sees in
+    let cores = ap (λ (k : Setup). (shape_of k).cores) (sym (closed.setup ∙ c.in-Ok.ensures.of_setup)) in
+    closed_account g.S.Trail g.S.Fits.fits_under g.A.App c.args.app.now fleet (λ seat. seat.passes) (λ seat. seat.worker) c.args.begin.0 c.args.begin.1 c.args.begin.2 seats weave (record {
+      callers = _;
+      count = fleet.passes;
+      outside = c.post.new.passes;
+      unseen = fronts c.in-Ok.crew.outside.shards.items;
+      well = closed.stands;
+      of_setup = sym closed.setup;
+      of_frame = sym (weave_framed g c);
+      closed = closed.histories;
+      counted = c.in-Ok.ensures.callers ∙ ap (λ n. n + 1) cores;
+      are = ap (λ l. l ++ map (λ seat. seat.passes) seats) one;
+      many = many ∙ cores;
+      workers = home.workers;
+      seats = λ i seat at.
+          let there = ap (λ l. slice_get l i) (sym back) ∙ at in
+          let made = c.work_all.ensures.made i seat there in
+          let was = ap (λ l. slice_get l i) (sym c.deref_mut.ensures.value) ∙ made.1 in
+          record {
+            before = made.0.passes;
+            worker = made.0.worker;
+            numbered = (c.in-Ok.ensures.seats i made.0 was).numbered;
+            number = (c.work_all.ensures.seats i seat there).numbered;
+            fresh = c.in-Ok.ensures.fresh i made.0 was;
+            made = made.2;
+          };
+      outside_number = c.in_default-post.ensures.same ∙ c.in-Ok.ensures.numbered ∙ cores;
+      nothing = c.in-Ok.ensures.unseen;
+      posted = subst (λ n. SeesAt fleet.setup n (shard_of fleet.setup c.args.begin.0) (fronts c.in-Ok.crew.outside.shards.items) (fronts c.post.new.passes.shards.items) (Enters c.args.begin.0 c.args.begin.1 n)) (sym c.in_default-post.ensures.same) (record {
+        seen = record { point = sees.seen.point; others = sees.seen.others; does = sees.seen.does.0; legal = sees.seen.legal };
+        others = sees.others;
+      });
+    })
+
+pub returns-clause-accounted : goal.returns-clause-accounted
+returns-clause-accounted g c =
+    let weave = c.close_home-weave.result in
+    let at = goal.at.returns-clause-accounted g c in
+    account_drain g.S.Trail g.S.Fits.fits_under g.A.App c.args.app.now (c.args.begin ∷ []) weave c.drain-drained.new.self c.drain-drained.result
+    c.close_home-weave.ensures.home.closed.stands c.drain-drained.ensures.drains (closed_accounted g at.After-close_home-weave (seats_are g at.After-push_reserved) (seat_count g at.After-push_reserved))

@@ -24,4 +24,4 @@ returns-in-Ok-run_threads-clause-leaves g c =
     let from = c.from.ensures in
     let count = setup.colours in
     inr (has_run_threads g.W.World g.W.Link.Link g.T.Talk c.args.shape.now c.in-Ok-new.setup _ c.args.world c.in-Ok-run_threads.drained c.in-Ok-run_threads.parts c.conclude.result (rules_are c.in-Ok-new.setup c.args.shape.now setup.shape (ap (λ handlers. rows_of handlers) setup.handlers ∙ c.handler_table.ensures.rows) setup.pinned) (omega (arith, count, from, same)) c.in-Ok-run_threads.ensures.kept c.in-Ok-run_threads.ensures.fits
-    (subst (λ n. IsConcluded g.T.Talk n c.in-Ok-run_threads.drained c.in-Ok-run_threads.parts c.conclude.result) same c.conclude.ensures.concluded) c.conclude.ensures.tell)
+    (subst (λ n. IsConcluded g.T.Talk n c.in-Ok-run_threads.drained c.in-Ok-run_threads.parts c.conclude.result) same c.conclude.ensures.concluded) c.conclude.ensures.tell c.ended_is_unkept.ensures)

@@ -7,4 +7,4 @@ unreachable-requires g c = threads_keep_the_world _ _ _ _ _ _ c.args.conns.now _
 
 pub returns-in-Ok-clause-ran : goal.returns-in-Ok-clause-ran
 returns-in-Ok-clause-ran g c =
-    threads_run_well _ _ _ _ _ _ c.args.conns.now _ c.serve_all-ended.ensures.leaves c.serve_all-ended.ensures.unkept c.in_ok-world.ensures.tells (λ link. refl) (λ script. refl) (λ script. refl) c.in-Ok.is
+    threads_run_well _ _ _ _ _ _ c.args.conns.now _ c.serve_all-ended.ensures.leaves c.in_ok-world.ensures.tells (λ link. refl) (λ script. refl) (λ script. refl) c.in-Ok.is

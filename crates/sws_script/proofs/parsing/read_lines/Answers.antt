@@ -2,9 +2,9 @@ use Rattle.std.proofs.Common.{◌≡◌, ◌≤◌, [], length, false, refl, sym
 use Rattle.std.proofs.lemmas.Result.{err_from_is_err_and}
 use Rattle.sws_script.specs.declared.input.Input.{Input}
 use Rattle.sws_script.specs.Order.{in_script}
-use Rattle.sws_script.specs.Splits.{IsFirstLine}
+use Rattle.sws_text.specs.Lines.{IsFirstLine}
 use Rattle.sws_script.specs.Grammar.{Spells}
-use Rattle.sws_script.proofs.SplitLemmas.{first-goes}
+use Rattle.sws_text.proofs.LineLemmas.{first-goes}
 use Rattle.sws_script.proofs.StandingLemmas.{Stands-none, Stands-more, outside, too_long, few_conns, cause, too_early, whole_read}
 use Rattle.sws_script.proofs.parsing.read_lines.Goals as goal
 use Rattle.sws_script.proofs.parsing.read_lines.Goals.{In-Some, In_ok-input}

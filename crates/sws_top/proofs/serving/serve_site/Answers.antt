@@ -22,4 +22,4 @@ returns-clause-served g c =
     (subst (λ (served : List (Served _)). EndsBy o c.args.out.now c.write_end-fault.new.out c.write_end-fault.result served ended.verdict) c.deref.ensures.value c.write_end-fault.ensures) in
     inr (served_by x g.W.Link.Link _ c.args.how.now.shape c.args.site.now c.open.new.self ended o c.args.out.now c.write_end-fault.new.out
     c.args.world c.of_run.result c.args.how.now.port c.args.how.now.connections c.in-Ready.ensures
-    c.serve_all-ended.ensures.leaves c.serve_all-ended.ensures.unkept c.serve_all-ended.ensures.alone c.of_run.ensures.there c.of_run.ensures.gone ends)
+    c.serve_all-ended.ensures.leaves c.serve_all-ended.ensures.alone c.of_run.ensures.there c.of_run.ensures.gone ends)

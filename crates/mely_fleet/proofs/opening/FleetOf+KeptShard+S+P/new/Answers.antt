@@ -82,5 +82,6 @@ returns g c =
             };
             numbered = number;
             unseen = all_unseen passes.shards.items first.unseen;
+            unchanged = all_unseen passes.chains.items first_chain.unseen;
           };
     }

@@ -1,0 +1,5 @@
+mod MenuLemmas
+mod HallLemmas
+mod KeyLemmas
+mod ReplyLemmas
+mod CutLemmas
