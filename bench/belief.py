@@ -226,12 +226,14 @@ TEXTS = {
               "of the journal is determined too.",
     "check": "A journal is accepted exactly where its bytes are those of a legal run of the setup that has come to its end; else the first line "
              "that is wrong is named.",
+    "gopher": "What is said of `replay` and `serve` holds with Gopher in the place of HTTP: a connection is sent the answer to its first line, out "
+              "of the folder.",
 }
 
 
 # the definitions at the core of each promise, to which the page shows the way
 CORES = {"run_app": ["IsAllowed"], "answer": ["responses_of"], "serve": ["responses_of", "IsAllowed"], "replay": ["transcript_of", "step"],
-         "check": ["IsAllowed"]}
+         "check": ["IsAllowed"], "gopher": ["reply_of"]}
 
 
 def impls_of_http(repository):
@@ -261,6 +263,7 @@ def promises_of(repository):
             (BY_SCHEDULE, "ensures", "The call below it, by a schedule"), (REPLAY, "requires", CALLER), (BY_SCHEDULE, "requires", CALLER))
     promise("check", "a journal is accepted exactly where it is that of a legal run", of_order(repository, "check"),
             (CHECK, "ensures", "The call below it"))
+    promise("gopher", "the same folder by another protocol", of_order(repository, "gopher"))
     return found
 
 

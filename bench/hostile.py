@@ -466,8 +466,64 @@ def sends_on_behind_the_end(site):
     yield status == 0, f"50 clients that send 200,000 bytes more behind a request that closes got {seen} ({told})"
 
 
+def reads_slowly(site):
+    """A client that takes a large body in small pieces with pauses."""
+    given = request(b"/large.bin", b"Connection: close")
+    with large_site(site) as large, Server(large, 1) as server:
+        owed = answer(large, given)
+        with server.connect(room=1 << 16) as it:
+            it.sendall(given)
+            got = bytearray()
+            while piece := it.recv(1 << 16):
+                got += piece
+                time.sleep(0.002)
+        status, told = server.end()
+        yield bytes(got) == owed and status == 0, f"a client that takes {LARGE >> 20} MB in small pieces got {len(got)} of {len(owed)} bytes ({told})"
+
+
+def sends_while_it_reads_nothing(site):
+    """A client that asks for much, reads nothing for a moment and sends small segments meanwhile."""
+    given = request(b"/large.bin")
+    with large_site(site) as large, Server(large, 1) as server:
+        owed = answer(large, given)
+        with server.connect() as it:
+            it.sendall(given)
+            time.sleep(0.3)
+            for _ in range(40):
+                it.sendall(b"G")
+                time.sleep(0.02)
+            time.sleep(1)
+            it.shutdown(socket.SHUT_WR)
+            got, was_reset = read_all(it)
+        status, told = server.end()
+        yield got.startswith(owed) and not was_reset and status == 0, f"a client that sent 40 segments while it read nothing got {len(got)} of {len(owed)} bytes ({told})"
+
+
+def posts_much(site):
+    """Clients that are refused while they send a megabyte, and end their side behind it."""
+    given = b"POST /a.txt HTTP/1.1\r\nHost: x\r\nContent-Length: 1048576\r\n\r\n"
+    owed, count = answer(site, given), 50
+    with Server(site, count) as server:
+        whole = 0
+        for _ in range(count):
+            got, was_reset = talk(server, given + b"x" * (1 << 20))
+            whole += got == owed and not was_reset
+        status, told = server.end()
+    yield whole == count and status == 0, f"{whole} of {count} clients whose POST of a megabyte was refused got the whole answer ({told})"
+
+
+def no_folder(site):
+    """A FIFO, a socket and a device in the place of the folder."""
+    for name in (os.path.join(site, "pipe"), os.path.join(site, "socket"), "/dev/null", "/dev/tty"):
+        try:
+            status = subprocess.run([SWS, "answer", name], input=HEAD, capture_output=True, timeout=10).returncode
+        except subprocess.TimeoutExpired:
+            status = "none in ten seconds"
+        yield status == 4, f"{os.path.basename(name)} as the folder: status {status}"
+
+
 CASES = [
-    targets, header_bombs, pipelined, input_limit, half_closed, slow_heads, resets, urgent_bytes, sends_on_behind_the_end, few_descriptors,
+    targets, no_folder, reads_slowly, sends_while_it_reads_nothing, posts_much, header_bombs, pipelined, input_limit, half_closed, slow_heads, resets, urgent_bytes, sends_on_behind_the_end, few_descriptors,
     more_than_are_served, changing_folder, silent_clients, dripping_client, stopped_client, takes_nothing,
 ]
 

@@ -1,13 +1,18 @@
 #!/usr/bin/env python3
 """Measures `sws serve` beside nginx, lighttpd, h2o and the same sockets without the runtime, in one run, and prints a table.
 
-    bench/serve.py [--runs N] [--connections N] [--requests N] [--at-once N] [--sizes BYTES,..] [--workers N,..]
+    bench/serve.py [--runs N] [--connections N] [--requests N] [--at-once N] [--in-flight N,..] [--sizes BYTES,..] [--workers N,..]
+                   [--server CPUS] [--client CPUS] [--only WORD] [--program FILE] [--calls]
 
-It wants the program (`./sws`) and net_loop (`rt run` in crates/net_loop) built, and cargo for the client; a server that isn't installed is
-left out. Each server serves one folder to `load` of bench/peer, which makes so many connections on this machine's loopback, each with so
-many requests, one after another and 16 at a time. A figure is processor time of the server for each request (user and system), the least
-of all runs; beside it the requests a second by the clock, which wants a machine that does nothing else. Every server and every run
-of the client ends, and all that was made stands in a new folder below the system's temporary one, removed at the end.
+It wants the program (`./sws`, or --program), net_loop (`rt run` in crates/net_loop), and a C compiler for the client; a server that isn't
+installed is left out. Each server serves one folder to bench/load.c, which makes so many connections on this machine's loopback, so many
+of them at once, each with so many requests, one after another and 16 at a time. `sws` with several workers is run in the shape that the
+documents advise (64 shards, cost 9) and in the default one. A figure is processor time of the server for each request (user and system),
+the least of all runs; beside it are the requests a second by the clock, the client's processor time a request and the median of a
+request's time, each of the run with the most requests a second, which want a machine that does nothing else. --server and --client name
+the processors of each, as taskset has them. With --calls the calls of futex a request are counted too, in a run of their own under
+strace. Every server and every run of the client ends, and all that was made stands in a new folder below the system's temporary one,
+removed at the end.
 """
 import argparse
 import os
@@ -18,12 +23,12 @@ import subprocess
 import sys
 import tempfile
 import time
+from typing import NamedTuple
 
 TOP = os.path.dirname(os.path.dirname(os.path.abspath(__file__)))
 SWS = os.path.join(TOP, "crates", "sws_main", "out", "sws_main")
 NET = os.path.join(TOP, "crates", "net_loop", "out", "net_loop")
-PEER = os.path.join(TOP, "bench", "peer")
-LOAD = os.path.join(PEER, "target", "release", "load")
+LOAD = os.path.join(TOP, "bench", "load.c")
 
 NGINX = """
 daemon off; user root; worker_processes {workers}; error_log {folder}/nginx.log; pid {folder}/nginx.pid;
@@ -102,54 +107,95 @@ def spent(pid):
     return total / 1e9
 
 
-def load(port, path, order):
-    """Runs the client: seconds by the clock."""
-    words = [LOAD, str(port), path] + [str(number) for number in order]
-    began = time.monotonic()
-    said = subprocess.run(words, capture_output=True, text=True, check=True).stdout.split()
-    wanted = order[0] * order[1]
-    if int(said[0]) != wanted or int(said[4]) != 0:
-        print(f"serve: {said} where {wanted} responses were asked for", file=sys.stderr)
-    return time.monotonic() - began
+class Order(NamedTuple):
+    """What the client does."""
+
+    connections: int
+    requests: int
+    at_once: int
+    in_flight: int
+
+    @property
+    def all_requests(self):
+        return self.connections * self.requests
 
 
-def ending(words, path, order, port):
-    """A server that ends by itself after so many connections: seconds on a processor in all, and seconds of the client by the clock."""
+class Run(NamedTuple):
+    """What a run showed: the server's and the client's microseconds of a processor a request, requests a second, the median in microseconds."""
+
+    server: float
+    client: float
+    rate: float
+    median: int
+
+
+def load(client, port, path, order):
+    """Runs the client: its seconds on a processor, seconds by the clock, and the median of a request's time in microseconds."""
+    before = os.times()
+    words = [*client, str(port), path, *map(str, order), "2"]
+    said = subprocess.run(words, capture_output=True, text=True).stdout.split()
+    after = os.times()
+    if len(said) != 6 or int(said[0]) != order.all_requests or int(said[1]) != 0:
+        print(f"serve: {said} where {order.all_requests} responses were asked for", file=sys.stderr)
+    return after.children_user + after.children_system - before.children_user - before.children_system, float(said[3]), int(said[4])
+
+
+def ending(words, client, path, order, port):
+    """A server that ends by itself after so many connections: seconds on a processor in all, and what the client showed."""
     child = subprocess.Popen(words, stdin=subprocess.DEVNULL, stdout=subprocess.DEVNULL, stderr=subprocess.DEVNULL)
     if not wait_for(port, child):
         sys.exit(f"serve: {words} doesn't listen")
-    took = load(port, path, order)
+    seen = load(client, port, path, order)
     _, status, usage = os.wait4(child.pid, 0)
     child.returncode = status
     if status != 0:
         print(f"serve: {words} ended with {status}", file=sys.stderr)
-    return usage.ru_utime + usage.ru_stime, took
+    return usage.ru_utime + usage.ru_stime, seen
 
 
-def own(words_of, path, order):
-    """Microseconds a request, and requests a second, of a server that ends by itself."""
+def shown(seconds, seen, order):
+    """A run, by the server's seconds and what the client showed."""
+    asked = order.all_requests
+    return Run(seconds / asked * 1e6, seen[0] / asked * 1e6, asked / seen[1], seen[2])
+
+
+def own(words_of, client, path, order):
+    """A run of a server that ends by itself."""
     port = free_port()
-    little, _ = ending(words_of(port, 1), path, (1, 1, 1, 1), port)
+    little, _ = ending(words_of(port, 1), client, path, Order(1, 1, 1, 1), port)
     port = free_port()
-    much, took = ending(words_of(port, order[0]), path, order, port)
-    requests = order[0] * order[1]
-    return (much - little) / requests * 1e6, requests / took
+    much, seen = ending(words_of(port, order.connections), client, path, order, port)
+    return shown(much - little, seen, order)
 
 
-def other(words, port, path, order):
-    """The same of a server that goes on until it is ended."""
+def other(words, client, port, path, order):
+    """A run of a server that goes on until it is ended."""
     child = subprocess.Popen(words, stdin=subprocess.DEVNULL, stdout=subprocess.DEVNULL, stderr=subprocess.DEVNULL)
     try:
         if not wait_for(port, child):
             return None
-        load(port, path, (4, 4, 2, 1))
+        load(client, port, path, Order(4, 2, 4, 1))
         before = spent(child.pid)
-        took = load(port, path, order)
-        requests = order[0] * order[1]
-        return (spent(child.pid) - before) / requests * 1e6, requests / took
+        seen = load(client, port, path, order)
+        return shown(spent(child.pid) - before, seen, order)
     finally:
         child.send_signal(signal.SIGTERM)
         child.wait()
+
+
+def calls(words_of, client, path, order):
+    """Calls of futex a request, or None where strace isn't there."""
+    if not shutil.which("strace"):
+        return None
+    port = free_port()
+    words = ["strace", "-f", "-c", "-e", "trace=futex", *words_of(port, order.connections)]
+    child = subprocess.Popen(words, stdin=subprocess.DEVNULL, stdout=subprocess.DEVNULL, stderr=subprocess.PIPE, text=True)
+    if not wait_for(port, child):
+        return None
+    load(client, port, path, order)
+    said = child.communicate()[1]
+    found = [line.split() for line in said.splitlines() if line.endswith(" futex")]
+    return int(found[0][3]) / order.all_requests if found else 0.0
 
 
 def write(path, text):
@@ -158,41 +204,88 @@ def write(path, text):
     return path
 
 
-def servers(folder, site, workers):
+class Shape(NamedTuple):
+    """How `sws` is run: workers, shards, and the steal cost."""
+
+    workers: int
+    shards: int
+    cost: int
+
+    @property
+    def name(self):
+        many = f"{self.workers} workers" if self.workers > 1 else "1 worker"
+        return f"sws, {many}, {self.shards} shards, cost {self.cost}" if self.workers > 1 else f"sws, {many}"
+
+
+def shapes(workers):
+    """The advised shape and the default one of several workers, and the one of one."""
+    for count in workers:
+        if count > 1:
+            yield Shape(count, 64, 9)
+        yield Shape(count, count, 20)
+
+
+def sws(program, pinned, site, shape):
+    """The words of a run of `sws`, by port and connections."""
+    fixed = ["--workers", str(shape.workers), "--shards", str(shape.shards), "--cost", str(shape.cost)]
+    return lambda port, connections: [*pinned, program, "serve", site, "--port", str(port), "--connections", str(connections), *fixed]
+
+
+def servers(folder, site, program, pinned, client, workers):
     """What is measured, by name: for each a function that runs it once."""
-    def sws(count, shards):
-        def words(port, connections):
-            return [SWS, "serve", site, "--port", str(port), "--connections", str(connections), "--workers", str(count), "--shards", str(shards)]
-        return lambda path, order: own(words, path, order)
-
     def net(path, order):
-        return own(lambda port, connections: [NET, site, str(port), str(connections)], path, order)
+        return own(lambda port, connections: [*pinned, NET, site, str(port), str(connections)], client, path, order)
 
-    def nginx(cache):
+    def nginx(cache, count):
         def once(path, order):
             port = free_port()
-            text = NGINX.format(workers=1, folder=folder, cache=cache, port=port, site=site)
-            return other(["nginx", "-p", folder, "-c", write(f"{folder}/nginx.conf", text)], port, path, order)
+            text = NGINX.format(workers=count, folder=folder, cache=cache, port=port, site=site)
+            return other([*pinned, "nginx", "-p", folder, "-c", write(f"{folder}/nginx.conf", text)], client, port, path, order)
         return once
 
     def lighttpd(path, order):
         port = free_port()
-        return other(["lighttpd", "-D", "-f", write(f"{folder}/lighttpd.conf", LIGHTTPD.format(port=port, site=site))], port, path, order)
+        text = LIGHTTPD.format(port=port, site=site)
+        return other([*pinned, "lighttpd", "-D", "-f", write(f"{folder}/lighttpd.conf", text)], client, port, path, order)
 
-    def h2o(path, order):
-        port = free_port()
-        text = H2O.format(workers=1, folder=folder, port=port, site=site)
-        return other(["h2o", "-c", write(f"{folder}/h2o.conf", text)], port, path, order)
+    def h2o(count):
+        def once(path, order):
+            port = free_port()
+            text = H2O.format(workers=count, folder=folder, port=port, site=site)
+            return other([*pinned, "h2o", "-c", write(f"{folder}/h2o.conf", text)], client, port, path, order)
+        return once
 
     named = {}
-    for count in workers:
-        named[f"sws, {count} workers" if count > 1 else "sws, 1 worker"] = sws(count, count)
+    for shape in shapes(workers):
+        words = sws(program, pinned, site, shape)
+        named[shape.name] = lambda path, order, words=words: own(words, client, path, order)
     if os.access(NET, os.X_OK):
         named["the same sockets without the runtime"] = net
-    for program, what in (("nginx", {"nginx": nginx(""), "nginx, with its file cache": nginx(CACHE)}), ("lighttpd", {"lighttpd": lighttpd}), ("h2o", {"h2o": h2o})):
-        if shutil.which(program) or os.path.exists(f"/usr/sbin/{program}"):
-            named.update(what)
+    if shutil.which("nginx"):
+        named["nginx"] = nginx("", 1)
+        named.update({f"nginx, with its file cache, {count} workers": nginx(CACHE, count) for count in workers})
+    if shutil.which("lighttpd"):
+        named["lighttpd"] = lighttpd
+    if shutil.which("h2o"):
+        named.update({f"h2o, {count} threads": h2o(count) for count in workers})
     return named
+
+
+def measure(named, given, path, connections):
+    """Prints a row for each server and each number of requests under way."""
+    for in_flight in map(int, given.in_flight.split(",")):
+        order = Order(connections, given.requests, given.at_once, in_flight)
+        seen = {name: [] for name in named if given.only in name}
+        for _ in range(given.runs):
+            for name in seen:
+                once = named[name](path, order)
+                if once is not None:
+                    seen[name].append(once)
+        for name, runs in seen.items():
+            if runs:
+                best = max(runs, key=lambda run: run.rate)
+                least = min(run.server for run in runs)
+                print(f"| {path} | {in_flight} | {name} | {least:.1f} | {best.rate:,.0f} | {best.client:.1f} | {best.median} |", flush=True)
 
 
 def main():
@@ -201,37 +294,39 @@ def main():
     words.add_argument("--connections", type=int, default=1024)
     words.add_argument("--requests", type=int, default=64)
     words.add_argument("--at-once", type=int, default=64)
+    words.add_argument("--in-flight", default="1,16")
     words.add_argument("--sizes", default="3,64,1024,65536")
     words.add_argument("--workers", default="1,2,4")
+    words.add_argument("--server", default="")
+    words.add_argument("--client", default="")
     words.add_argument("--only", default="")
+    words.add_argument("--program", default=SWS)
+    words.add_argument("--calls", action="store_true")
     given = words.parse_args()
     os.environ["PATH"] += ":/usr/sbin"
-    if not os.access(SWS, os.X_OK):
+    if not os.access(given.program, os.X_OK):
         sys.exit("serve: the program isn't built")
-    subprocess.run(["cargo", "build", "--release", "--offline", "--quiet", "--bin", "load"], cwd=PEER, check=True)
     folder = tempfile.mkdtemp(prefix="sws-serve-")
     os.chmod(folder, 0o755)
     try:
+        subprocess.run(["cc", "-O2", "-pthread", LOAD, "-o", f"{folder}/load"], check=True)
+        pinned = ["taskset", "-c", given.server] if given.server else []
+        client = [*(["taskset", "-c", given.client] if given.client else []), f"{folder}/load"]
         site = os.path.join(folder, "site")
         os.mkdir(site)
         sizes = [int(size) for size in given.sizes.split(",")]
         for size in sizes:
             write(os.path.join(site, f"f{size}.txt"), "x" * size)
-        named = servers(folder, site, [int(count) for count in given.workers.split(",")])
-        print("| file | at a time | server | us a request | requests a second |\n|---|---|---|---|---|")
+        workers = [int(count) for count in given.workers.split(",")]
+        named = servers(folder, site, given.program, pinned, client, workers)
+        print("| file | under way | server | us a request | requests a second | client's us | median us |\n|---|---|---|---|---|---|---|")
         for size in sizes:
-            for in_flight in (1, 16):
-                connections = max(given.connections // 8, 1) if size >= 65536 else given.connections
-                order = (connections, given.requests, given.at_once, in_flight)
-                seen = {name: [] for name in named if given.only in name}
-                for _ in range(given.runs):
-                    for name in seen:
-                        once = named[name](f"/f{size}.txt", order)
-                        if once is not None:
-                            seen[name].append(once)
-                for name, runs in seen.items():
-                    if runs:
-                        print(f"| {size:,} bytes | {in_flight} | {name} | {min(run[0] for run in runs):.1f} | {max(run[1] for run in runs):,.0f} |", flush=True)
+            connections = max(given.connections // 8, 1) if size >= 65536 else given.connections
+            measure(named, given, f"/f{size}.txt", connections)
+        for shape in shapes(workers) if given.calls else ():
+            order = Order(given.connections // 8, given.requests, given.at_once, 1)
+            counted = calls(sws(given.program, pinned, site, shape), client, f"/f{sizes[0]}.txt", order)
+            print(f"{shape.name}: {counted:.3f} calls of futex a request")
     finally:
         shutil.rmtree(folder)
 

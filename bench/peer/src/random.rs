@@ -4,7 +4,8 @@
 //! It draws scripts of up to 1,024 connections, with heads good and bad and bytes that are no heads, in pieces, with pauses,
 //! faults, cuts and steps, and runs each with its own number of workers and shards, batch, cost and group. What `replay`
 //! prints must be, byte by byte, what `answer` writes for the bytes of each connection, up to where its link fails, with the
-//! end that follows from its lines; and what `answer` writes must be what the definition in `random/model.rs` says. A journal
+//! end that follows from its lines; and what `answer` writes must be what the definition in `random/model.rs` says. With the log
+//! the lines of each connection must be those that the definition gives, in order. A journal
 //! must be one of legal and drained histories. Each run must end with status 0 and print nothing on standard error.
 //!
 //! A script follows from the seed and its number, so `--only` makes one again. What went wrong is kept in a folder that is named at
@@ -155,20 +156,52 @@ fn answers(all: &All, script: &Script, input: &Path) -> Result<Vec<Vec<u8>>, Str
     Ok(written)
 }
 
-/// The transcript that is owed, and how often each end comes in it.
-fn transcript(script: &Script, answers: &[Vec<u8>]) -> (String, BTreeMap<String, usize>) {
-    let (mut owed, mut ends) = (String::new(), BTreeMap::new());
+/// What a run owes: the transcript, how often each end comes in it, and the lines of the log of each connection.
+struct Owed {
+    transcript: String,
+    ends: BTreeMap<String, usize>,
+    logs: Vec<Vec<String>>,
+}
+
+/// What the run of a script owes.
+fn owed_of(script: &Script, answers: &[Vec<u8>]) -> Owed {
+    let (mut owed, mut ends, mut logs) = (String::new(), BTreeMap::new(), Vec::new());
     for (number, connection) in script.connections.iter().enumerate() {
         let (text, full) = &script.texts[connection.text];
         let (sent, end) = model::outcome(connection, text, &answers[connection.text], full.closes);
         script::write_sent(&mut owed, number, &end, sent);
         *ends.entry(end.to_string()).or_insert(0) += 1;
+        logs.push(if script.log { model::log(number, full, sent.len()) } else { Vec::new() });
     }
-    (owed, ends)
+    Owed { transcript: owed, ends, logs }
+}
+
+/// Takes the lines of a log off the front of a text: the connections that they are of, in order, and the rest; or what is
+/// wrong with them.
+fn take_log<'t>(owed: &Owed, text: &'t str) -> Result<(Vec<usize>, &'t str), String> {
+    let mut rest = text;
+    let mut shown = vec![Vec::new(); owed.logs.len()];
+    let mut order = Vec::new();
+    while let Some((line, later)) = rest.split_once('\n').filter(|(line, _)| line.starts_with("log ")) {
+        let number = line.split(' ').nth(1).and_then(|number| number.parse::<usize>().ok());
+        let Some(lines) = number.and_then(|number| shown.get_mut(number)) else {
+            return Err(format!("`{line}` in the log"));
+        };
+        lines.push(line.to_string());
+        order.extend(number);
+        rest = later;
+    }
+    match owed.logs.iter().zip(&shown).position(|(owed, shown)| owed != shown) {
+        Some(number) => {
+            Err(format!("the log of connection {number} is {:?}, owed is {:?}", shown[number], owed.logs[number]))
+        }
+        None => Ok((order, rest)),
+    }
 }
 
 /// What is wrong with the text of a replay, if anything is.
-fn fault_of(script: &Script, owed: &str, written: &[u8]) -> Option<String> {
+fn fault_of(script: &Script, all_owed: &Owed, written: &[u8]) -> Option<String> {
+    let owed = all_owed.transcript.as_str();
     let Ok(written) = std::str::from_utf8(written) else {
         return Some("a byte over 0x7E is printed".to_string());
     };
@@ -181,9 +214,16 @@ fn fault_of(script: &Script, owed: &str, written: &[u8]) -> Option<String> {
             owed.lines().nth(same)
         ));
     };
+    let (logged, rest) = match take_log(all_owed, rest) {
+        Ok(log) => log,
+        Err(wrong) => return Some(wrong),
+    };
     match script.kind {
-        Kind::Plain => (!rest.is_empty()).then(|| "more than the transcript is printed".to_string()),
-        Kind::Journal | Kind::Schedule => journal::fault_of(rest, &script.shape, script.connections.len()),
+        Kind::Plain => (!rest.is_empty()).then(|| "more than the transcript and the log is printed".to_string()),
+        Kind::Journal | Kind::Schedule => {
+            let logged = script.log.then_some(logged.as_slice());
+            journal::fault_of(rest, &script.shape, script.connections.len(), logged)
+        }
     }
 }
 
@@ -191,7 +231,7 @@ fn fault_of(script: &Script, owed: &str, written: &[u8]) -> Option<String> {
 fn try_script(all: &All, number: u64, input: &Path) -> Result<(Script, BTreeMap<String, usize>), String> {
     let script = scripts::draw_script(all.order.seed, number, all.order.uses, &mut all.site.clone());
     let answers = answers(all, &script, input)?;
-    let (owed, ends) = transcript(&script, &answers);
+    let owed = owed_of(&script, &answers);
     fs::write(input, &script.source).map_err(|error| format!("{error}"))?;
     let mut words = vec!["replay".to_string()];
     words.extend(script.words());
@@ -201,11 +241,11 @@ fn try_script(all: &All, number: u64, input: &Path) -> Result<(Script, BTreeMap<
         Err(wrong) => Some(wrong.clone()),
     };
     let Some(wrong) = wrong else {
-        return Ok((script, ends));
+        return Ok((script, owed.ends));
     };
     let kept = |what: &str, bytes: &[u8]| fs::write(all.folder.join(format!("{number}.{what}")), bytes);
     let _ = kept("script", script.source.as_bytes())
-        .and(kept("owed", owed.as_bytes()))
+        .and(kept("owed", owed.transcript.as_bytes()))
         .and(kept("written", &written.unwrap_or_default()));
     Err(format!("{}: {wrong}", words.join(" ")))
 }

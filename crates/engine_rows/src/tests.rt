@@ -2,6 +2,7 @@
 
 mod counted;
 mod failing;
+mod logged;
 mod replaying;
 mod starving;
 mod threading;

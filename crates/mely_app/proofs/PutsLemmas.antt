@@ -17,7 +17,7 @@ use Rattle.mely_weave.specs.Side.{shard_of}
 use Rattle.mely_worker.specs.declared.app.App.{Ghosts as AppWords}
 use Rattle.mely_app.specs.Puts.{PutsAre, TellsPuts, sum_colours}
 
-colours_both : (n : ℕ) (f h : Colour → ℕ) → sum_colours n (λ c. f c + h c) ≡ sum_colours n f + sum_colours n h
+pub colours_both : (n : ℕ) (f h : Colour → ℕ) → sum_colours n (λ c. f c + h c) ≡ sum_colours n f + sum_colours n h
 colours_both zero f h = refl
 colours_both (suc n) f h = let rest = colours_both n f h in omega (arith, rest)
 
@@ -53,19 +53,14 @@ colours_one (suc n) c x low = elim (cases_eq c.0 n) [
       omega (arith, here, rest)
 ]
 
-module _ {R S P F : Type 0} (t : TrailWords S F) (fits : F → Colour → Event → Option P → Type 0) (y : AppWords R P S F) (app : R) (setup : Setup) (frame : F) (puts_of : Colour → List Event → Event → List (Colour × Event × Option P)) (tells : TellsPuts t fits y app setup frame puts_of)
-    (c : Colour) (number : Event → ℕ) where
-  -- what an event puts on the colour, run on this one
-  abbrev pub puts_at : Colour → List Event → Event → ℕ
-  puts_at d before event = count_puts c number (puts_of d before event)
-
-  -- what a run put is what its event says, of the one colour on which it was
+module _ {R S P F : Type 0} (t : TrailWords S F) (fits : F → Colour → Event → Option P → Type 0) (y : AppWords R P S F) (app : R) (setup : Setup) (frame : F) (c : Colour) (number : Event → ℕ) (puts_at : Colour → List Event → Event → ℕ)
+    (counts : (run : HandlerRun S P) → IsRunOf t fits y app setup frame run → count_puts c number run.puts ≡ puts_at run.colour (t.trail_of run.state) run.event) where
+  -- what a run put counts as its event says, of the one colour on which it was
   one_run : (run : HandlerRun S P) → IsRunOf t fits y app setup frame run → count_puts c number run.puts ≡ sum_colours (colours_of setup) (λ d. count_run t d (puts_at d) run)
   one_run run is =
       let x = puts_at run.colour (t.trail_of run.state) run.event in
-      let told : count_puts c number run.puts ≡ x = ap (λ l. count_puts c number l) (tells run is) in
       let each : sum_colours (colours_of setup) (λ d. count_run t d (puts_at d) run) ≡ sum_colours (colours_of setup) (λ d. if run.colour.0 == d.0 then x else 0) = colours_same (colours_of setup) _ _ (λ d low. own d) in
-      told ∙ sym (colours_one (colours_of setup) run.colour x is.there) ∙ sym each
+      counts run is ∙ sym (colours_one (colours_of setup) run.colour x is.there) ∙ sym each
     where
       own : (d : Colour) → count_run t d (puts_at d) run ≡ (if run.colour.0 == d.0 then puts_at run.colour (t.trail_of run.state) run.event else 0)
       own d = elim (cases_eq run.colour.0 d.0) [
@@ -86,12 +81,12 @@ module _ {R S P F : Type 0} (t : TrailWords S F) (fits : F → Colour → Event 
       colours_same (colours_of setup) _ _ (λ d low. sum_by-cons (count_run t d (puts_at d)) run runs) in
       omega (arith, one, rest, first, both, split)
 
-  -- what was registered on the colour is the first event and what the events registered say, of
-  -- each colour
-  pub put_as_told : (begin : Colour × Event × Option P) (histories : List (List Entry)) (runs : List (HandlerRun S P)) → PutsAre t fits y app setup frame begin histories runs → (of : Colour → List Event)
+  -- what was registered on the colour counts as the first event and what the events registered
+  -- say, of each colour
+  pub put_as_counted : (begin : Colour × Event × Option P) (histories : List (List Entry)) (runs : List (HandlerRun S P)) → PutsAre t fits y app setup frame begin histories runs → (of : Colour → List Event)
       → ((d : Colour) → (history : List Entry) × (slice_get histories (shard_of setup d) ≡ Some history) × (registered_of history d ≡ of d))
       → sum_by number (of c) ≡ count_put c number begin + sum_colours (colours_of setup) (λ d. sum_along (puts_at d) [] (of d))
-  put_as_told begin histories runs are of each =
+  put_as_counted begin histories runs are of each =
       let here = each c in
       let put = are.put c here.0 here.1 number in
       let mine = ap (λ l. sum_by number l) here.2 in
@@ -99,3 +94,10 @@ module _ {R S P F : Type 0} (t : TrailWords S F) (fits : F → Colour → Event 
       let ran : sum_colours (colours_of setup) (λ d. sum_by (count_run t d (puts_at d)) runs) ≡ sum_colours (colours_of setup) (λ d. sum_along (puts_at d) [] (of d)) =
       colours_same (colours_of setup) _ _ (λ d low. (let there = each d in are.ran d there.0 there.1 (puts_at d) ∙ ap (λ l. sum_along (puts_at d) [] l) there.2)) in
       omega (arith, put, mine, all, ran)
+
+-- the same, where what a handler puts is told as a list
+pub put_as_told : {R S P F : Type 0} (t : TrailWords S F) (fits : F → Colour → Event → Option P → Type 0) (y : AppWords R P S F) (app : R) (setup : Setup) (frame : F) (puts_of : Colour → List Event → Event → List (Colour × Event × Option P)) (tells : TellsPuts t fits y app setup frame puts_of) (c : Colour) (number : Event → ℕ)
+    (begin : Colour × Event × Option P) (histories : List (List Entry)) (runs : List (HandlerRun S P)) → PutsAre t fits y app setup frame begin histories runs → (of : Colour → List Event)
+    → ((d : Colour) → (history : List Entry) × (slice_get histories (shard_of setup d) ≡ Some history) × (registered_of history d ≡ of d))
+    → sum_by number (of c) ≡ count_put c number begin + sum_colours (colours_of setup) (λ d. sum_along (λ before event. count_puts c number (puts_of d before event)) [] (of d))
+put_as_told t fits y app setup frame puts_of tells c number begin histories runs are of each = put_as_counted t fits y app setup frame c number (λ d before event. count_puts c number (puts_of d before event)) (λ run is. ap (λ l. count_puts c number l) (tells run is)) begin histories runs are of each

@@ -2,7 +2,7 @@
 use Rattle.std.proofs.Common.{◌≡◌, ℕ, List, [], ◌++◌, length, map, take, drop, sym, ◌∙◌, ap, subst}
 use Rattle.std.proofs.lemmas.List.{length-map, append-nil, take-append-drop}
 use Rattle.std.proofs.lemmas.Option.{slice_get-map}
-use Rattle.std.specs.Prelude.{Option, Some, slice_get, option_map}
+use Rattle.std.specs.Prelude.{Option, Some, Result, Ok, Err, IfOk, slice_get, option_map}
 use Rattle.mely_event.specs.declared.colour.Colour.{Colour}
 use Rattle.mely_event.specs.declared.event.Event.{Event}
 use Rattle.mely_event.specs.declared.trail.Trail.{Ghosts as TrailWords}
@@ -52,3 +52,8 @@ ran_all {S} {P} t setup colour event weave histories states queued lost of_setup
           apart.trailed c state history at there ∙ all_ran history c (apart.drained drained shard history there c);
     } in
     subst (λ (k : Setup). RanAll t k colour event histories states) of_setup whole
+
+-- what is so of the frame of the first state is so of a frame that is the same
+pub of_first : {A E F S : Type 0} (Holds : F → A → Type 0) (frame_of : S → F) (states : List S) (frame : F) (first : S) → slice_get states 0 ≡ Some first → frame_of first ≡ frame → (answer : Result A E) → IfOk answer (λ a. (s : S) → slice_get states 0 ≡ Some s → Holds (frame_of s) a) → IfOk answer (λ a. Holds frame a)
+of_first Holds frame_of states frame first at framed (Ok a) each = subst (λ f. Holds f a) framed (each first at)
+of_first Holds frame_of states frame first at framed (Err e) each = tt

@@ -29,3 +29,8 @@ pub record RanAll {S F : Type 0} (t : TrailWords S F) (setup : Setup) (colour : 
   pub ran : (c : Colour) (state : S) (history : List Entry) → slice_get states c.0 ≡ Some state
       → slice_get histories (shard_of setup c) ≡ Some history
       → t.trail_of state ≡ registered_of history c
+
+-- the states that a run left have this frame
+abbrev pub AllFramed : {S F : Type 0} → TrailWords S F → F → List S → Type 0
+AllFramed {S} t frame states = (c : Colour) (state : S) → slice_get states c.0 ≡ Some state
+    → t.frame_of state ≡ frame

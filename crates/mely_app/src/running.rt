@@ -1,9 +1,10 @@
 //! An app on threads, from its initial states to its end.
-ghost use Rattle.std.specs.Prelude.{IfOk, map};
+ghost use Rattle.std.specs.Prelude.{◌≡◌, IfOk, Some, map, slice_get};
+ghost use Rattle.mely_weave.specs.Making.{AreInitial};
 ghost use Rattle.mely_worker.specs.Access.{FitsSetup};
 ghost use Rattle.mely_worker.specs.Conditions.{AppServes};
 ghost use Rattle.mely_app.specs.Puts.{HasPutAll};
-ghost use Rattle.mely_app.specs.RanAll.{RanAll};
+ghost use Rattle.mely_app.specs.RanAll.{AllFramed, RanAll};
 
 use crate::initial::{Initial, initial_states};
 use mely_event::{Colour, Event, Fits, Memory, Trail};
@@ -56,6 +57,44 @@ pub fn run_app<
         (map (λ history. history.items) ended.histories.items)) }
 {
     let states = initial_states::<S, P>(alloc, setup)?;
+    run_states(rt, alloc, setup, states, app, colour, event, load)
+}
+
+/// Runs an app as [`run_app`] does, on initial states that the caller has made: so what they begin
+/// with may be the app's own.
+///
+/// # Errors
+///
+/// There was no memory, to begin or for an event on the way: what was done is dropped.
+pub fn run_states<
+    R: Threads + Wait + Sync,
+    S: Fits<P> + Drop + Send,
+    P: Drop + Send,
+    A: App<State = S, Load = P> + Sync,
+>(
+    rt: &R,
+    alloc: Global,
+    setup: &Setup,
+    states: Vec<S>,
+    app: &A,
+    colour: Colour,
+    event: Event,
+    load: Option<P>,
+) -> Result<Ended<S>, Memory>
+    requires first { AreInitial S.Trail setup.now states.items }
+    requires served { (state : _) → slice_get states.items 0 ≡ Some state
+        → AppServes A.App setup.now (S.frame_of state) app.now }
+    requires fits { (state : _) → slice_get states.items 0 ≡ Some state
+        → FitsSetup S.fits_under setup.now (S.frame_of state) (colour, event, load) }
+    ensures ran { IfOk result (λ ended. RanAll S.Trail setup.now colour event
+        (map (λ history. history.items) ended.histories.items) ended.states.items) }
+    ensures framed { IfOk result (λ ended. (first : _) → slice_get states.items 0 ≡ Some first
+        → AllFramed S.Trail (S.frame_of first) ended.states.items) }
+    ensures puts { IfOk result (λ ended. (first : _) → slice_get states.items 0 ≡ Some first
+        → HasPutAll S.Trail S.fits_under A.App app.now
+        setup.now (S.frame_of first) (colour, event, load)
+        (map (λ history. history.items) ended.histories.items)) }
+{
     let Ok((weave, drained)) = run_crew(
         rt,
         alloc,

@@ -6,7 +6,8 @@ use Rattle.mely_history.specs.declared.entry.Entry.{Entry}
 use Rattle.mely_history.specs.declared.entry.Entry.TheVariants.{Fin}
 use Rattle.sws_report.specs.Journal.{entry_line, shard_line, journal_from, journal}
 use Rattle.mely_check.specs.Journals.{IsFit, IsFitHistory, BeginsJournal, join_lines}
-use Rattle.mely_check.specs.Walks.{Walk, start, within, walk_text, begun_in, IsFitWalk, IsAt}
+use Rattle.mely_check.specs.Hearing.{Walk, start, within, begun_in}
+use Rattle.mely_check.specs.Walks.{walk_text, IsFitWalk, IsAt}
 use Rattle.mely_check.specs.declared.place.Place.{Place}
 use Rattle.mely_check.proofs.WalkLemmas.{all_append, journal_from-append}
 

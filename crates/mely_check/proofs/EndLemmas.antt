@@ -20,11 +20,13 @@ use Rattle.mely_history.proofs.LegalAccountLemmas.{begun_within, ended_within}
 use Rattle.mely_history.proofs.BeyondLemmas.{none_registered}
 use Rattle.sws_report.proofs.UniqueJournalLemmas.{journal-unique}
 use Rattle.mely_check.specs.Journals.{IsFirstOutside, join_lines, entries_in}
+use Rattle.sws_link.specs.declared.Got.TheVariants.{End}
+use Rattle.sws_link.specs.Contents.{Takes}
 use Rattle.mely_check.specs.Reports.{all_entries, AreReports}
-use Rattle.mely_check.specs.Verdicts.{IsFirstIllegal, IsLeastLeft, IsJournalOf, IsDrainedRun, IsNotLegal, IsNotDrained, Says, Finds, IsAcceptance, Accepts, AgreesWith, IsExact}
-use Rattle.mely_check.specs.Walks.{histories_in}
+use Rattle.mely_check.specs.Verdicts.{IsFirstIllegal, IsLeastLeft, IsJournalOf, IsDrainedRun, IsNotLegal, IsNotDrained, IsAccepted, Says, Finds, IsAcceptance, Accepts, AgreesWith, IsExact}
+use Rattle.mely_check.specs.Hearing.{Walk, histories_in, IsRunHeard, HearsRun}
 use Rattle.mely_check.specs.Judges.{Judges, own_of, IsWatched, AreDrainedBelow, IsOpenAt}
-use Rattle.mely_check.specs.Readers.{Knows, Ends}
+use Rattle.mely_check.specs.Readers.{Knows, HasRead, Ends, IsEnded}
 use Rattle.mely_check.specs.declared.fault.CheckFault.{CheckFault}
 use Rattle.mely_check.specs.declared.fault.CheckFault.TheVariants.{Read, BadJournal, NotLegal, NotDrained, Memory}
 use Rattle.mely_check.specs.declared.judge.Judge.{Judge}
@@ -126,7 +128,7 @@ module _ (setup : Setup) (histories : List (List Entry)) (judge : Judge) (w : Is
 
 -- ---- all was read
 
-module _ (setup : Setup) (text : List ℕ) (reader : Reader) (k : Knows setup text reader) (same : reader.place.shards ≡ (shape_of setup).shards) (none : reader.place.left ≡ 0) (all : reader.place.begun ≡ reader.place.shards) (empty : reader.line.items ≡ []) where
+module _ (Heard : Walk → Type 0) (setup : Setup) (text : List ℕ) (reader : Reader) (k : Knows Heard setup text reader) (same : reader.place.shards ≡ (shape_of setup).shards) (none : reader.place.left ≡ 0) (all : reader.place.begun ≡ reader.place.shards) (empty : reader.line.items ≡ []) where
   whole : IsWhole (shape_of setup).shards k.heard.at.walk
   whole = walk_whole (shape_of setup).shards k.heard.at.walk k.heard.at.fit (sym k.heard.at.left ∙ none) (sym k.heard.at.begun ∙ all ∙ same)
 
@@ -182,15 +184,39 @@ module _ (setup : Setup) (text : List ℕ) (reader : Reader) (k : Knows setup te
   ends (Err Memory) judges = tt
 
 -- a line isn't ended, or there are too few
-pub ends_short : (setup : Setup) (text : List ℕ) (reader : Reader) (fault : CheckFault) → Knows setup text reader → reader.place.shards ≡ (shape_of setup).shards → (reader.place.left ≡ 0 → reader.place.begun ≡ reader.place.shards → reader.line.items ≡ [] → ⊥) → fault ≡ BadJournal reader.place.number
+pub ends_short : (Heard : Walk → Type 0) (setup : Setup) (text : List ℕ) (reader : Reader) (fault : CheckFault) → Knows Heard setup text reader → reader.place.shards ≡ (shape_of setup).shards → (reader.place.left ≡ 0 → reader.place.begun ≡ reader.place.shards → reader.line.items ≡ [] → ⊥) → fault ≡ BadJournal reader.place.number
     → Says setup text (Err fault)
-ends_short setup text reader fault k same not_whole is =
-    subst (λ f. Says setup text (Err f)) (sym is) (subst (λ n. IsFirstOutside n text reader.place.number) same (text_short text reader (stands_of setup text reader k) not_whole))
+ends_short Heard setup text reader fault k same not_whole is =
+    subst (λ f. Says setup text (Err f)) (sym is) (subst (λ n. IsFirstOutside n text reader.place.number) same (text_short text reader (stands_of Heard setup text reader k) not_whole))
 
 -- ---- what is accepted
 
 same_histories : (setup : Setup) (one other : List (List Entry)) (text : List ℕ) → IsJournalOf setup one text → IsJournalOf setup other text → one ≡ other
 same_histories setup one other text a b = journal-unique one other (small_histories one a.fit.fit) (small_histories other b.fit.fit) (sym a.is ∙ b.is)
+
+-- what was accepted was heard
+pub run_heard : (Heard : Walk → Type 0) (setup : Setup) (text : List ℕ) (reader : Reader) (report : Report) → Knows Heard setup text reader → reader.place.shards ≡ (shape_of setup).shards → IsEnded reader → IsAccepted setup text report → IsRunHeard setup text Heard
+run_heard Heard setup text reader report k same ended accepted =
+    let walk = k.heard.at.walk in
+    record {
+      histories = accepted.histories;
+      run = accepted.run;
+      heard = record {
+        walk = walk;
+        is = same_histories setup (histories_in walk) accepted.histories text (journal_of Heard setup text reader k same ended.left ended.begun ended.ended) accepted.run.journal_of;
+        whole = sym k.heard.at.left ∙ ended.left;
+        heard = k.heard.told;
+      };
+    }
+
+-- the text has ended, and was accepted
+pub end_heard : (Heard : Walk → Type 0) (setup : Setup) (told left now : Option (List ℕ)) (room : List ℕ) (reader : Reader) (report : Report) → HasRead Heard setup told left reader → Takes left now End room → reader.place.shards ≡ (shape_of setup).shards
+    → IsEnded reader → ((text : List ℕ) → Knows Heard setup text reader → IsAccepted setup text report) → HearsRun setup told Heard (Ok report)
+end_heard Heard setup None left now room reader report read takes same ended accepts = tt
+end_heard Heard setup (Some told) None now room reader report read takes same ended accepts = absurd read
+end_heard Heard setup (Some told) (Some left) now room reader report read takes same ended accepts =
+    let text_is : told ≡ read.0 = read.1 ∙ ap (λ t. read.0 ++ t) takes.0 ∙ append-nil read.0 in
+    subst (λ t. IsRunHeard setup t Heard) (sym text_is) (run_heard Heard setup read.0 reader report read.2 same ended (accepts read.0 read.2))
 
 legal_not : (setup : Setup) (histories : List (List Entry)) (line : ℕ) → AreLegal setup histories → IsFirstIllegal setup histories line → ⊥
 legal_not setup histories line legal f =

@@ -16,8 +16,9 @@ use Rattle.mely_check.specs.declared.place.Place.{Place}
 use Rattle.mely_check.specs.declared.report.Report.{Report}
 use Rattle.mely_check.specs.declared.reading.Line.{Line}
 use Rattle.mely_check.specs.declared.reading.Line.TheVariants as said_line
-use Rattle.mely_check.specs.Walks.{Walk, start, within, walk_text, begun_in, left_in, count_in, histories_in, IsFitWalk, IsFitLine, IsAt, GoesOn, MayStand}
-use Rattle.mely_check.specs.Readers.{Stands, Refuses, Stops, IsHeard, Knows, HasRead}
+use Rattle.mely_check.specs.Hearing.{Walk, start, within, begun_in, left_in, histories_in, MayCome, with_line}
+use Rattle.mely_check.specs.Walks.{walk_text, count_in, IsFitWalk, IsAt, MayStand}
+use Rattle.mely_check.specs.Readers.{Stands, Refuses, Stops, IsHeard, Knows, HasRead, nobody}
 use Rattle.mely_check.specs.declared.fault.CheckFault.{CheckFault}
 use Rattle.mely_check.specs.declared.fault.CheckFault.TheVariants.{Read, BadJournal, NotLegal, NotDrained, Memory}
 use Rattle.mely_check.specs.declared.reader.Reader.{Reader}
@@ -77,32 +78,61 @@ pub on_ok : {A E : Type 0} (P : Type 0) (r : Result A E) → false ≡ is_err r 
 on_ok P (Ok a) fine is = is
 on_ok P (Err e) fine is = absurd (cc)
 
-pub stands_of : (setup : Setup) (text : List ℕ) (reader : Reader) → Knows setup text reader → Stands text reader
-stands_of setup text reader k = record { lines = k.lines; at = k.heard.at; is = k.is; unended = k.unended; short = k.short }
+pub stands_of : (Heard : Walk → Type 0) (setup : Setup) (text : List ℕ) (reader : Reader) → Knows Heard setup text reader → Stands text reader
+stands_of Heard setup text reader k = record { lines = k.lines; at = k.heard.at; is = k.is; unended = k.unended; short = k.short }
+
+-- no line of a journal is empty
+nothing_read : (walk : Walk) → [] ≡ walk_text walk → walk ≡ start
+nothing_read start is = refl
+nothing_read (within done last left) is = absurd (
+    let long = ap (λ t. length t) is in
+    let a = length-append (journal done) (shard_line (length done) (length last + left) ++ flat_map entry_line last) in
+    let b = length-append (shard_line (length done) (length last + left)) (flat_map entry_line last) in omega (arith, long, a, b)
+    )
+
+-- what is known, whoever has heard it
+pub unheard : (Heard : Walk → Type 0) (setup : Setup) (text : List ℕ) (reader : Reader) → Knows Heard setup text reader → Knows nobody setup text reader
+unheard Heard setup text reader k = record {
+  lines = k.lines;
+  heard = record { at = k.heard.at; judged = k.heard.judged; told = tt };
+  is = k.is;
+  unended = k.unended;
+  short = k.short;
+}
+
+-- nothing was read, and a listener has heard nothing
+pub silent_new : (Heard : Walk → Type 0) (setup : Setup) (reader : Reader) → Heard start → Knows nobody setup [] reader → Knows Heard setup [] reader
+silent_new Heard setup reader silent k = record {
+  lines = k.lines;
+  heard = record { at = k.heard.at; judged = k.heard.judged; told = subst Heard (sym (nothing_read k.heard.at.walk (nothing_in (join_lines k.lines) reader.line.items k.is ∙ k.heard.at.is))) silent };
+  is = k.is;
+  unended = k.unended;
+  short = k.short;
+}
+  where
+    nothing_in : (a b : List ℕ) → [] ≡ a ++ b → [] ≡ a
+    nothing_in [] b is = refl
+    nothing_in (x ∷ a) b is = absurd (cc)
 
 -- before the first byte
-pub knows_new : (setup : Setup) (reader : Reader) → IsAt [] reader.place → reader.line.items ≡ [] → reader.judge.setup ≡ setup → reader.judge.fault ≡ None → AreInitialWatches setup (colours_of setup) reader.judge.watches.items
-    → reader.judge.cores.items ≡ replicate (shape_of setup).cores (record { ran = 0; stolen_in = 0; stolen_out = 0 }) → Knows setup [] reader
-knows_new setup reader at empty same none blank cores = record {
+pub knows_new : (Heard : Walk → Type 0) (setup : Setup) (reader : Reader) → Heard start → IsAt [] reader.place → reader.line.items ≡ [] → reader.judge.setup ≡ setup → reader.judge.fault ≡ None → AreInitialWatches setup (colours_of setup) reader.judge.watches.items
+    → reader.judge.cores.items ≡ replicate (shape_of setup).cores (record { ran = 0; stolen_in = 0; stolen_out = 0 }) → Knows Heard setup [] reader
+knows_new Heard setup reader silent at empty same none blank cores = record {
   lines = [];
-  heard = record { at = at; judged = subst (λ h. IsJudged setup h reader.judge) (sym (nothing_read at.walk (at.is))) (judged_new setup reader.judge same none blank cores) };
+  heard = record {
+    at = at;
+    judged = subst (λ w. IsJudged setup (histories_in w) reader.judge) (sym (nothing_read at.walk (at.is))) (judged_new setup reader.judge same none blank cores);
+    told = subst Heard (sym (nothing_read at.walk (at.is))) silent;
+  };
   is = sym empty;
   unended = subst HasNoFeed (sym empty) tt;
   short = (let none = ap (λ t. length t) empty in omega (arith, none));
 }
-  where
-    nothing_read : (walk : Walk) → [] ≡ walk_text walk → histories_in walk ≡ []
-    nothing_read start is = refl
-    nothing_read (within done last left) is = absurd (
-        let long = ap (λ t. length t) is in
-        let a = length-append (journal done) (shard_line (length done) (length last + left) ++ flat_map entry_line last) in
-        let b = length-append (shard_line (length done) (length last + left)) (flat_map entry_line last) in omega (arith, long, a, b)
-        )
 
 -- a byte more, which ends no line
-pub knows_byte : (setup : Setup) (text : List ℕ) (before after : Reader) (byte : ℕ) → Knows setup text before → ((lines : List (List ℕ)) → IsHeard setup lines before.place before.judge → IsHeard setup lines after.place after.judge)
-    → after.line.items ≡ before.line.items ++ byte ∷ [] → byte ≢ 10 → length before.line.items + 1 < 64 → Knows setup (text ++ byte ∷ []) after
-knows_byte setup text before after byte k same is other short = record {
+pub knows_byte : (Heard : Walk → Type 0) (setup : Setup) (text : List ℕ) (before after : Reader) (byte : ℕ) → Knows Heard setup text before → ((lines : List (List ℕ)) → IsHeard Heard setup lines before.place before.judge → IsHeard Heard setup lines after.place after.judge)
+    → after.line.items ≡ before.line.items ++ byte ∷ [] → byte ≢ 10 → length before.line.items + 1 < 64 → Knows Heard setup (text ++ byte ∷ []) after
+knows_byte Heard setup text before after byte k same is other short = record {
   lines = k.lines;
   heard = same k.lines k.heard;
   is = more_text text before.line.items k.lines byte k.is ∙ ap (λ t. join_lines k.lines ++ t) (sym is);
@@ -111,9 +141,9 @@ knows_byte setup text before after byte k same is other short = record {
 }
 
 -- a line was ended
-pub knows_line : {A : Type 0} (setup : Setup) (text : List ℕ) (before after : Reader) (byte : ℕ) (line : List ℕ) (result : Result A CheckFault) → (k : Knows setup text before) → line ≡ before.line.items ++ byte ∷ []
-    → OnOk result (IsHeard setup (k.lines ++ line ∷ []) after.place after.judge) → OnOk result (after.line.items ≡ []) → OnOk result (Knows setup (text ++ byte ∷ []) after)
-knows_line setup text before after byte line (Ok a) k says heard empty = record {
+pub knows_line : {A : Type 0} (Heard Now : Walk → Type 0) (setup : Setup) (text : List ℕ) (before after : Reader) (byte : ℕ) (line : List ℕ) (result : Result A CheckFault) → (k : Knows Heard setup text before) → line ≡ before.line.items ++ byte ∷ []
+    → OnOk result (IsHeard Now setup (k.lines ++ line ∷ []) after.place after.judge) → OnOk result (after.line.items ≡ []) → OnOk result (Knows Now setup (text ++ byte ∷ []) after)
+knows_line Heard Now setup text before after byte line (Ok a) k says heard empty = record {
   lines = k.lines ++ line ∷ [];
   heard = heard;
   is = more_text text before.line.items k.lines byte k.is ∙ ap (λ t. join_lines k.lines ++ t) (sym says) ∙ sym (joined-push k.lines line)
@@ -121,25 +151,20 @@ knows_line setup text before after byte line (Ok a) k says heard empty = record 
   unended = subst HasNoFeed (sym empty) tt;
   short = let none = ap (λ t. length t) empty in omega (arith, none);
 }
-knows_line setup text before after byte line (Err fault) k says heard empty = tt
+knows_line Heard Now setup text before after byte line (Err fault) k says heard empty = tt
 
-begun_is : (walk : Walk) → begun_in walk ≡ length (histories_in walk)
-begun_is start = refl
-begun_is (within done last left) = sym (length-append done (last ∷ []))
-
-judged_line : (setup : Setup) (walk next : Walk) (said : Line) (judge after : Judge) (begun line : ℕ) → GoesOn walk said next → IsFitLine said → begun ≡ begun_in next → line ≡ begun_in walk + count_in walk + 1 → count_in walk < 4294967295
-    → IsJudged setup (histories_in walk) judge → HearsLine judge begun line said after → IsJudged setup (histories_in next) after
-judged_line setup walk next (said_line.Shard shard count) judge after begun line goes fit is number few judged hears =
-    subst (λ h. IsJudged setup h after) (sym goes) (judged_shard setup (histories_in walk) after (subst (IsJudged setup (histories_in walk)) (sym hears) judged))
-judged_line setup start next (said_line.Entry e) judge after begun line goes fit is number few judged hears = absurd goes
-judged_line setup (within done last left) next (said_line.Entry e) judge after begun line goes fit is number few judged hears =
-    let many : begun ≡ length done + 1 = is ∙ begun_is next ∙ ap (λ h. length h) goes ∙ length-append done ((last ++ e ∷ []) ∷ []) in
-    subst (λ h. IsJudged setup h after) (sym goes) (judged_entry setup done last e judge after begun line many (omega arith) few fit judged hears)
+judged_line : (setup : Setup) (walk : Walk) (said : Line) (judge after : Judge) (begun line : ℕ) → MayCome walk said → begun ≡ begun_in (with_line walk said) → line ≡ begun_in walk + count_in walk + 1 → count_in walk < 4294967295
+    → IsJudged setup (histories_in walk) judge → HearsLine judge begun line said after → IsJudged setup (histories_in (with_line walk said)) after
+judged_line setup start (said_line.Shard shard count) judge after begun line may is number few judged hears = judged_shard setup [] after (subst (IsJudged setup []) (sym hears) judged)
+judged_line setup (within done last left) (said_line.Shard shard count) judge after begun line may is number few judged hears =
+    judged_shard setup (done ++ last ∷ []) after (subst (IsJudged setup (done ++ last ∷ [])) (sym hears) judged)
+judged_line setup start (said_line.Entry e) judge after begun line may is number few judged hears = (let some = may.0 in absurd (omega arith))
+judged_line setup (within done last left) (said_line.Entry e) judge after begun line may is number few judged hears = judged_entry setup done last e judge after begun line is (omega arith) few may.1 judged hears
 
 -- a line was read and heard
-pub heard_line : (setup : Setup) (lines : List (List ℕ)) (line : List ℕ) (before after : Place) (said : Line) (judge next : Judge) → (heard : IsHeard setup lines before judge) → MayStand lines line before heard.at after said → HearsLine judge after.begun before.number said next
-    → IsHeard setup (lines ++ line ∷ []) after next
-heard_line setup lines line before after said judge next heard may hears =
+pub heard_line : (Heard Now : Walk → Type 0) (setup : Setup) (lines : List (List ℕ)) (line : List ℕ) (before after : Place) (said : Line) (judge next : Judge) → (heard : IsHeard Heard setup lines before judge) → MayStand lines line before heard.at after said
+    → HearsLine judge after.begun before.number said next → ((walk : Walk) → MayCome walk said → Heard walk → Now (with_line walk said)) → IsHeard Now setup (lines ++ line ∷ []) after next
+heard_line Heard Now setup lines line before after said judge next heard may hears listens =
     let at = heard.at in
     let number = at.number in
     let lines_are = at.counted in
@@ -148,7 +173,9 @@ heard_line setup lines line before after said judge next heard may hears =
     let high = before.number_in in
     record {
       at = may.next;
-      judged = judged_line setup at.walk may.next.walk said judge next after.begun before.number may.goes may.fit may.next.begun (omega (arith, number, lines_are)) (omega (arith, entries, few, high)) heard.judged hears;
+      judged = subst (λ w. IsJudged setup (histories_in w) next) (sym may.goes)
+          (judged_line setup at.walk said judge next after.begun before.number may.may (may.next.begun ∙ ap begun_in may.goes) (omega (arith, number, lines_are)) (omega (arith, entries, few, high)) heard.judged hears);
+      told = subst Now (sym may.goes) (listens at.walk may.may heard.told);
     }
 
 -- ---- where the text has ended
@@ -188,25 +215,25 @@ walk_whole shards (within done last left) fit none all =
 -- ---- a piece more
 
 -- what was read of the whole with a piece more
-pub piece_read : (setup : Setup) (whole left now : Option (List ℕ)) (count : ℕ) (room : List ℕ) (before : Reader) → HasRead setup whole left before → Takes left now (Took count) room → (after : Reader)
-    → ((text : List ℕ) → Knows setup text before → Knows setup (text ++ take count room) after) → HasRead setup whole now after
-piece_read setup None left now count room before read takes after goes = nothing left read takes
+pub piece_read : (Heard Now : Walk → Type 0) (setup : Setup) (whole left now : Option (List ℕ)) (count : ℕ) (room : List ℕ) (before : Reader) → HasRead Heard setup whole left before → Takes left now (Took count) room → (after : Reader)
+    → ((text : List ℕ) → Knows Heard setup text before → Knows Now setup (text ++ take count room) after) → HasRead Now setup whole now after
+piece_read Heard Now setup None left now count room before read takes after goes = nothing left read takes
   where
     nothing : (left : Option (List ℕ)) → left ≡ None → Takes left now (Took count) room → now ≡ None
     nothing None e takes = takes
     nothing (Some l) e takes = absurd (cc)
-piece_read setup (Some whole) None now count room before read takes after goes = absurd read
-piece_read setup (Some whole) (Some left) now count room before read takes after goes =
-    subst (λ n. HasRead setup (Some whole) n after) (sym takes.1)
+piece_read Heard Now setup (Some whole) None now count room before read takes after goes = absurd read
+piece_read Heard Now setup (Some whole) (Some left) now count room before read takes after goes =
+    subst (λ n. HasRead Now setup (Some whole) n after) (sym takes.1)
     (read.0 ++ take count room, read.1 ∙ ap (λ t. read.0 ++ t) takes.2 ∙ sym (append_assoc read.0 (take count room) takes.0), goes read.0 read.2)
 
 -- a piece that may not stand
-pub piece_refused : (setup : Setup) (shards : ℕ) (whole left now : Option (List ℕ)) (count : ℕ) (room : List ℕ) (before : Reader) (fault : CheckFault) → shards ≡ (shape_of setup).shards → HasRead setup whole left before → Takes left now (Took count) room
+pub piece_refused : (Heard : Walk → Type 0) (setup : Setup) (shards : ℕ) (whole left now : Option (List ℕ)) (count : ℕ) (room : List ℕ) (before : Reader) (fault : CheckFault) → shards ≡ (shape_of setup).shards → HasRead Heard setup whole left before → Takes left now (Took count) room
     → ((text : List ℕ) → Stands text before → Refuses shards (text ++ take count room) fault) → Finds setup whole (Err fault)
-piece_refused setup shards None left now count room before fault same read takes refuses = tt
-piece_refused setup shards (Some whole) None now count room before fault same read takes refuses = absurd read
-piece_refused setup shards (Some whole) (Some left) now count room before fault same read takes refuses =
-    found fault (refused_more shards (read.0 ++ take count room) takes.0 whole fault (refuses read.0 (stands_of setup read.0 before read.2)) (read.1 ∙ ap (λ t. read.0 ++ t) takes.2 ∙ sym (append_assoc read.0 (take count room) takes.0)))
+piece_refused Heard setup shards None left now count room before fault same read takes refuses = tt
+piece_refused Heard setup shards (Some whole) None now count room before fault same read takes refuses = absurd read
+piece_refused Heard setup shards (Some whole) (Some left) now count room before fault same read takes refuses =
+    found fault (refused_more shards (read.0 ++ take count room) takes.0 whole fault (refuses read.0 (stands_of Heard setup read.0 before read.2)) (read.1 ∙ ap (λ t. read.0 ++ t) takes.2 ∙ sym (append_assoc read.0 (take count room) takes.0)))
   where
     found : (fault : CheckFault) → Refuses shards whole fault → Finds setup (Some whole) (Err fault)
     found Read refuses = tt
@@ -216,11 +243,11 @@ piece_refused setup shards (Some whole) (Some left) now count room before fault 
     found Memory refuses = tt
 
 -- the text has ended
-pub text_ended : (setup : Setup) (whole left now : Option (List ℕ)) (room : List ℕ) (reader : Reader) (result : Result Report CheckFault) → HasRead setup whole left reader → Takes left now End room
-    → ((text : List ℕ) → Knows setup text reader → Says setup text result) → Finds setup whole result
-text_ended setup None left now room reader result read takes says = tt
-text_ended setup (Some whole) None now room reader result read takes says = absurd read
-text_ended setup (Some whole) (Some left) now room reader result read takes says =
+pub text_ended : (Heard : Walk → Type 0) (setup : Setup) (whole left now : Option (List ℕ)) (room : List ℕ) (reader : Reader) (result : Result Report CheckFault) → HasRead Heard setup whole left reader → Takes left now End room
+    → ((text : List ℕ) → Knows Heard setup text reader → Says setup text result) → Finds setup whole result
+text_ended Heard setup None left now room reader result read takes says = tt
+text_ended Heard setup (Some whole) None now room reader result read takes says = absurd read
+text_ended Heard setup (Some whole) (Some left) now room reader result read takes says =
     subst (λ t. Says setup t result) (sym (read.1 ∙ ap (λ t. read.0 ++ t) takes.0 ∙ append-nil read.0)) (says read.0 read.2)
 
 -- ---- many bytes
@@ -232,6 +259,9 @@ bytes_refused shards text bytes k fault below refuses =
     ∙ sym (append_assoc text (take k bytes ++ get_or bytes k 0 ∷ []) (drop (k + 1) bytes))
     ∙ ap (λ t. t ++ drop (k + 1) bytes) (sym (append_assoc text (take k bytes) (get_or bytes k 0 ∷ []))))
 
+pub byte_more : (text bytes : List ℕ) (k : ℕ) → k < length bytes → (text ++ take k bytes) ++ get_or bytes k 0 ∷ [] ≡ text ++ take (k + 1) bytes
+byte_more text bytes k below = append_assoc text (take k bytes) (get_or bytes k 0 ∷ []) ∙ ap (λ t. text ++ t) (sym (take_more bytes k 0 below))
+
 -- ---- no bytes
 
 pub some_items : (n : ℕ) (items : List ℕ) → length items ≡ n → false ≡ eqb n 0 → items ≡ [] → ⊥
@@ -239,3 +269,13 @@ some_items n items long told empty = let zero_is : n ≡ 0 = sym long ∙ ap (λ
 
 pub no_items : (n : ℕ) (items : List ℕ) → length items ≡ n → true ≡ eqb n 0 → items ≡ []
 no_items n items long told = nil_from_length items (long ∙ true-eqb n 0 told)
+
+-- what holds holds at an answer
+pub if_ok : {A E P : Type 0} (r : Result A E) → P → OnOk r P
+if_ok (Ok a) p = p
+if_ok (Err e) p = tt
+
+-- before the first piece
+pub first_read : (Heard : Walk → Type 0) (setup : Setup) (told : Option (List ℕ)) (reader : Reader) → Heard start → Knows nobody setup [] reader → HasRead Heard setup told told reader
+first_read Heard setup None reader silent k = refl
+first_read Heard setup (Some text) reader silent k = ([], refl, silent_new Heard setup reader silent k)

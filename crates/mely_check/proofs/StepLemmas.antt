@@ -8,7 +8,8 @@ use Rattle.mely_history.specs.declared.entry.Entry.{Entry}
 use Rattle.mely_history.specs.declared.entry.Entry.TheVariants.{Reg, Take, Fin, Steal}
 use Rattle.sws_report.specs.Journal.{entry_line, shard_line, journal}
 use Rattle.mely_check.specs.Journals.{IsFit, IsFitHistory, IsLine, IsJournal, BeginsJournal, join_lines, entries_in}
-use Rattle.mely_check.specs.Walks.{Walk, start, within, walk_text, begun_in, left_in, count_in, IsFitWalk, IsAt, GoesOn, MayStand, Moves, MayNotStand}
+use Rattle.mely_check.specs.Hearing.{Walk, start, within, begun_in, left_in, MayCome, with_line}
+use Rattle.mely_check.specs.Walks.{walk_text, count_in, IsFitWalk, IsAt, MayStand, Moves, MayNotStand}
 use Rattle.mely_check.specs.Reading.{Says as SaysLine}
 use Rattle.mely_check.specs.declared.reading.Line.{Line}
 use Rattle.mely_check.specs.declared.reading.Line.TheVariants as says_
@@ -98,7 +99,7 @@ unfolding shard_walk
 shard_walk-count start count = refl
 shard_walk-count (within done last left) count = let more = entries_in-push done last in omega (arith, more)
 
-shard_walk-goes : (walk : Walk) (number count : ℕ) → GoesOn walk (says_.Shard number count) (shard_walk walk count)
+shard_walk-goes : (walk : Walk) (number count : ℕ) → shard_walk walk count ≡ with_line walk (says_.Shard number count)
 unfolding shard_walk
 shard_walk-goes start number count = refl
 shard_walk-goes (within done last left) number count = refl
@@ -112,8 +113,8 @@ at_shard lines line before after count at is says small none moves =
     let counted = at.number in
     let long = length-append lines (line ∷ []) in
     record {
+      may = (sym at.left ∙ none, at.begun, small);
       goes = shard_walk-goes at.walk before.begun count;
-      fit = tt;
       next = record {
         walk = shard_walk walk count;
         is = joined-push lines line ∙ ap (λ t. t ++ line) at.is ∙ ap (λ t. walk_text walk ++ t) (says ∙ ap (λ n. shard_line n count) at.begun) ∙ sym (shard_walk-text walk count (sym at.left ∙ none));
@@ -162,10 +163,10 @@ unfolding entry_walk
 entry_walk-count start e left some = absurd (omega arith)
 entry_walk-count (within done last before) e left some = let long = length-append last (e ∷ []) in omega (arith, long)
 
-entry_walk-goes : (walk : Walk) (e : Entry) (left : ℕ) → 0 < left_in walk → GoesOn walk (says_.Entry e) (entry_walk walk e left)
+entry_walk-goes : (walk : Walk) (e : Entry) (left : ℕ) → left ≡ left_in walk - 1 → entry_walk walk e left ≡ with_line walk (says_.Entry e)
 unfolding entry_walk
-entry_walk-goes start e left some = absurd (omega arith)
-entry_walk-goes (within done last before) e left some = refl
+entry_walk-goes start e left less = refl
+entry_walk-goes (within done last before) e left less = ap (λ n. within done (last ++ e ∷ []) n) less
 
 -- the line of an entry
 at_entry : (lines : List (List ℕ)) (line : List ℕ) (before after : Place) (e : Entry) → (at : IsAt lines before) → IsLine line → line ≡ entry_line e → IsFit e → 0 < before.left → Moves before after before.begun (before.left - 1) (before.entries + 1)
@@ -179,8 +180,8 @@ at_entry lines line before after e at is says fit some moves =
     let some' : 0 < left_in walk = omega arith in
     let less : before.left - 1 ≡ left_in walk - 1 = omega arith in
     record {
-      goes = entry_walk-goes at.walk e (before.left - 1) some';
-      fit = fit;
+      may = (some', fit);
+      goes = entry_walk-goes at.walk e (before.left - 1) less;
       next = record {
         walk = entry_walk walk e (before.left - 1);
         is = joined-push lines line ∙ ap (λ t. t ++ line) at.is ∙ ap (λ t. walk_text walk ++ t) says ∙ sym (entry_walk-text walk e (before.left - 1) some' less);

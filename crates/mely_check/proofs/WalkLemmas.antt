@@ -8,7 +8,8 @@ use Rattle.sws_text.specs.Numbers.{space_number}
 use Rattle.sws_report.proofs.UniqueJournalLemmas.{entry_split, shard_split, nil_is, cancel}
 use Rattle.mely_check.proofs.ReadingLemmas.{spaced_split, tail_is}
 use Rattle.mely_check.specs.Journals.{IsFit, IsFitHistory, AreFit}
-use Rattle.mely_check.specs.Walks.{Walk, start, within, walk_text, begun_in, left_in, IsFitWalk}
+use Rattle.mely_check.specs.Hearing.{Walk, start, within, begun_in, left_in}
+use Rattle.mely_check.specs.Walks.{walk_text, IsFitWalk}
 
 -- ---- numbers
 

@@ -2,6 +2,7 @@ pub mod Journals
 pub mod Reports
 pub mod Verdicts
 pub mod Reading
+pub mod Hearing
 pub mod Walks
 pub mod Watches
 pub mod Judges

@@ -1,9 +1,10 @@
 -- Within the crate: what of a text was read.
-use Rattle.std.specs.Prelude.{◌≡◌, ℕ, ◌+◌, ◌*◌, ◌<◌, List, ◌++◌, length, Option, Some, None, Result, Ok, Err, ⊤}
+use Rattle.std.specs.Prelude.{◌≡◌, ℕ, ◌+◌, ◌*◌, ◌<◌, List, [], ◌++◌, length, Option, Some, None, Result, Ok, Err, ⊤}
 use Rattle.mely_check.specs.Journals.{HasNoFeed, IsFirstOutside, join_lines}
 use Rattle.mely_history.specs.declared.setup.Setup.{Setup}
 use Rattle.mely_check.specs.Verdicts.{IsAccepted, Says}
-use Rattle.mely_check.specs.Walks.{IsAt, MayNotStand, histories_in}
+use Rattle.mely_check.specs.Hearing.{histories_in, Walk}
+use Rattle.mely_check.specs.Walks.{IsAt, MayNotStand}
 use Rattle.mely_check.specs.Judges.{IsJudged}
 use Rattle.mely_check.specs.declared.judge.Judge.{Judge}
 use Rattle.mely_check.specs.declared.place.Place.{Place}
@@ -47,26 +48,38 @@ Stops lines line place (NotLegal number) = ⊥
 Stops lines line place (NotDrained colour) = ⊥
 Stops lines line place Memory = ⊤
 
--- the whole lines were read and judged
-pub record IsHeard (setup : Setup) (lines : List (List ℕ)) (place : Place)
+-- the whole lines were read and judged, and a listener has heard them
+pub record IsHeard (Heard : Walk → Type 0) (setup : Setup) (lines : List (List ℕ)) (place : Place)
     (judge : Judge) : Type 0 where
   pub at : IsAt lines place
   pub judged : IsJudged setup (histories_in at.walk) judge
+  pub told : Heard at.walk
 
--- so much of the text was read and judged
-pub record Knows (setup : Setup) (text : List ℕ) (reader : Reader) : Type 0 where
+-- so much of the text was read and judged, and a listener has heard its whole lines
+pub record Knows (Heard : Walk → Type 0) (setup : Setup) (text : List ℕ)
+    (reader : Reader) : Type 0 where
   pub lines : List (List ℕ)
-  pub heard : IsHeard setup lines reader.place reader.judge
+  pub heard : IsHeard Heard setup lines reader.place reader.judge
   pub is : text ≡ join_lines lines ++ reader.line.items
   pub unended : HasNoFeed reader.line.items
   pub short : length reader.line.items < 64
 
 -- what was read of the whole text is told, where the text is
-abbrev pub HasRead : Setup → Option (List ℕ) → Option (List ℕ) → Reader → Type 0
-HasRead setup None left reader = left ≡ None
-HasRead setup (Some whole) None reader = ⊥
-HasRead setup (Some whole) (Some left) reader = (text : List ℕ) × (whole ≡ text ++ left)
-    × Knows setup text reader
+abbrev pub HasRead : (Walk → Type 0) → Setup → Option (List ℕ) → Option (List ℕ) → Reader → Type 0
+HasRead Heard setup None left reader = left ≡ None
+HasRead Heard setup (Some whole) None reader = ⊥
+HasRead Heard setup (Some whole) (Some left) reader = (text : List ℕ) × (whole ≡ text ++ left)
+    × Knows Heard setup text reader
+
+-- nobody listens
+abbrev pub nobody : Walk → Type 0
+nobody walk = ⊤
+
+-- all was read: no line is unended, and no entry and no shard is still to come
+pub record IsEnded (reader : Reader) : Type 0 where
+  pub left : reader.place.left ≡ 0
+  pub begun : reader.place.begun ≡ reader.place.shards
+  pub ended : reader.line.items ≡ []
 
 -- what is said of a text that ends here: it is accepted with the sums that were counted, or what
 -- is wrong

@@ -4,15 +4,9 @@ use Rattle.std.specs.List.{flat_map, AllByRecursion}
 use Rattle.mely_history.specs.declared.entry.Entry.{Entry}
 use Rattle.sws_report.specs.Journal.{entry_line, shard_line, journal}
 use Rattle.mely_check.specs.Journals.{IsFit, IsFitHistory, IsLine, BeginsJournal, join_lines, entries_in, line_limit}
+use Rattle.mely_check.specs.Hearing.{Walk, start, within, begun_in, left_in, MayCome, with_line}
 use Rattle.mely_check.specs.declared.place.Place.{Place}
 use Rattle.mely_check.specs.declared.reading.Line.{Line}
-use Rattle.mely_check.specs.declared.reading.Line.TheVariants as said_line
-
--- no shard has begun; or these were read whole, and of the last one these entries, with so many
--- still to come
-pub data Walk : Type 0 where
-  start : Walk
-  within : List (List Entry) → List Entry → ℕ → Walk
 
 -- the text that was walked over
 abbrev pub walk_text : Walk → List ℕ
@@ -20,36 +14,16 @@ walk_text start = []
 walk_text (within done last left) =
     journal done ++ (shard_line (length done) (length last + left) ++ flat_map entry_line last)
 
--- how many histories were begun
-abbrev pub begun_in : Walk → ℕ
-begun_in start = 0
-begun_in (within done last left) = length done + 1
-
--- how many entries of the current history are left
-abbrev pub left_in : Walk → ℕ
-left_in start = 0
-left_in (within done last left) = left
-
 -- how many entries were walked over
 abbrev pub count_in : Walk → ℕ
 count_in start = 0
 count_in (within done last left) = entries_in done + length last
-
--- the histories so far
-abbrev pub histories_in : Walk → List (List Entry)
-histories_in start = []
-histories_in (within done last left) = done ++ last ∷ []
 
 -- the numbers of what was walked over are within their ranges
 abbrev pub IsFitWalk : Walk → Type 0
 IsFitWalk start = ⊤
 IsFitWalk (within done last left) = AllByRecursion IsFitHistory done × AllByRecursion IsFit last
     × (length last + left < 2 ^ 64)
-
--- the numbers of a line's entry are within their ranges
-abbrev pub IsFitLine : Line → Type 0
-IsFitLine (said_line.Shard number count) = ⊤
-IsFitLine (said_line.Entry entry) = IsFit entry
 
 -- the whole lines of the text were read, as the place says
 pub record IsAt (lines : List (List ℕ)) (place : Place) : Type 0 where
@@ -68,21 +42,13 @@ abbrev pub MayNotStand : List (List ℕ) → List ℕ → Place → Type 0
 MayNotStand lines line place = place.number < line_limit
     → BeginsJournal place.shards (join_lines lines ++ line) → ⊥
 
--- what a line says was read: the histories go on by it
-abbrev pub GoesOn : Walk → Line → Walk → Type 0
-GoesOn before (said_line.Shard number count) after = histories_in after
-    ≡ histories_in before ++ [] ∷ []
-GoesOn start (said_line.Entry entry) after = ⊥
-GoesOn (within done last left) (said_line.Entry entry) after = histories_in after
-    ≡ done ++ (last ++ entry ∷ []) ∷ []
-
--- the line may stand next: with it the lines are read up to a place again, and the histories go on
--- by what it says
+-- the line may stand next: with it the lines are read up to a place again, and what was walked over
+-- goes on by what it says
 pub record MayStand (lines : List (List ℕ)) (line : List ℕ) (before : Place)
     (at : IsAt lines before) (after : Place) (said : Line) : Type 0 where
   pub next : IsAt (lines ++ line ∷ []) after
-  pub goes : GoesOn at.walk said next.walk
-  pub fit : IsFitLine said
+  pub may : MayCome at.walk said
+  pub goes : next.walk ≡ with_line at.walk said
 
 -- a line was counted: then so many shards have begun, so many entries are left, and so many there
 -- were

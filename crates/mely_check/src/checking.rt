@@ -3,9 +3,11 @@ ghost use Rattle.std.specs.Prelude.{◌≡◌, ◌≢◌, ◌+◌, ◌≤◌, �
 ghost use Rattle.sws_link.specs.Counts.{HasCause};
 ghost use Rattle.mely_history.specs.declared.setup.Setup.{Setup as SetupValue};
 ghost use Rattle.mely_check.specs.Verdicts.{Finds, Accepts, IsExact};
+ghost use Rattle.mely_check.specs.Hearing.{Walk, start, HearsRun};
 ghost use Rattle.mely_check.specs.Readers.{Stands, IsOpen, Refuses, Knows, reach};
 
 use crate::fault::CheckFault;
+use crate::listener::{Deaf, Listener};
 use crate::reader::Reader;
 use crate::report::Report;
 use mely_history::Setup;
@@ -40,12 +42,46 @@ pub fn check_journal<R: Source>(
     ensures cause { HasCause (R.faults source.old) (R.faults source.new)
         (result ≡ Err CheckFault.Read) }
 {
-    find(alloc, setup, source)
+    hear_journal(alloc, setup, source, &mut Deaf)
 }
 
-/// What is found of a journal.
-fn find<R: Source>(alloc: Global, setup: &Setup, source: &mut R) -> Result<Report, CheckFault>
+/// Reads a journal as [`check_journal`] does, and lets a listener that has heard nothing hear it,
+/// line by line. Of a journal that is accepted it has then heard the histories, and nothing else.
+///
+/// # Errors
+///
+/// Those of [`check_journal`], and `Memory` where the listener was refused an allocation.
+pub fn hear_journal<R: Source, L: Listener>(
+    alloc: Global,
+    setup: &Setup,
+    source: &mut R,
+    listener: &mut L,
+) -> Result<Report, CheckFault>
+    requires silent { L.Heard start listener.old }
     ensures finds { Finds setup.now (R.left source.old) result }
+    ensures accepts { Accepts setup.now (R.left source.old) result }
+    ensures exact { IsExact setup.now (R.left source.old) result }
+    ensures heard { HearsRun setup.now (R.left source.old) (λ walk. L.Heard walk listener.new)
+        result }
+    ensures frame { L.frame_of listener.new ≡ L.frame_of listener.old }
+    ensures cause { HasCause (R.faults source.old) (R.faults source.new)
+        (result ≡ Err CheckFault.Read) }
+{
+    find(alloc, setup, source, listener)
+}
+
+/// What is found of a journal, and heard.
+fn find<R: Source, L: Listener>(
+    alloc: Global,
+    setup: &Setup,
+    source: &mut R,
+    listener: &mut L,
+) -> Result<Report, CheckFault>
+    requires silent { L.Heard start listener.old }
+    ensures finds { Finds setup.now (R.left source.old) result }
+    ensures heard { HearsRun setup.now (R.left source.old) (λ walk. L.Heard walk listener.new)
+        result }
+    ensures frame { L.frame_of listener.new ≡ L.frame_of listener.old }
     ensures cause { HasCause (R.faults source.old) (R.faults source.new)
         (result ≡ Err CheckFault.Read) }
 {
@@ -55,7 +91,7 @@ fn find<R: Source>(alloc: Global, setup: &Setup, source: &mut R) -> Result<Repor
     let mut room = [0; PIECE];
     'pieces: loop {
         match source.read(&mut room) {
-            Got::Took(count) => match take_all(&mut reader, &room[..count]) {
+            Got::Took(count) => match take_all(&mut reader, listener, &room[..count]) {
                 Ok(()) => {}
                 Err(fault) => return Err(fault),
             },
@@ -71,20 +107,27 @@ fn find<R: Source>(alloc: Global, setup: &Setup, source: &mut R) -> Result<Repor
 }
 
 /// Goes on behind all these bytes.
-fn take_all(reader: &mut Reader, bytes: &[u8]) -> Result<(), CheckFault>
+fn take_all<L: Listener>(
+    reader: &mut Reader,
+    listener: &mut L,
+    bytes: &[u8],
+) -> Result<(), CheckFault>
     requires { IsOpen reader.old }
     ensures goes { (text : List ℕ) → Stands text reader.old
         → MatchResult result (λ _. Stands (text ++ bytes.now) reader.new)
         (Refuses reader.old.place.shards (text ++ bytes.now)) }
-    ensures knows { (setup : SetupValue) (text : List ℕ) → Knows setup text reader.old
-        → OnOk result (Knows setup (text ++ bytes.now) reader.new) }
+    ensures knows { (setup : SetupValue) (text : List ℕ)
+        → Knows (λ walk. L.Heard walk listener.old) setup text reader.old
+        → OnOk result (Knows (λ walk. L.Heard walk listener.new) setup (text ++ bytes.now)
+        reader.new) }
+    ensures frame { L.frame_of listener.new ≡ L.frame_of listener.old }
     ensures open_line { OnOk result (IsOpen reader.new) }
     ensures further { OnOk result (reach reader.old + length bytes.now ≤ reach reader.new) }
     ensures shards { reader.new.place.shards ≡ reader.old.place.shards }
     ensures sound { IfErr result (λ fault. fault ≢ CheckFault.Read) }
 {
     for byte in bytes {
-        match reader.take(*byte) {
+        match reader.take(listener, *byte) {
             Ok(()) => {}
             Err(fault) => return Err(fault),
         }

@@ -6,7 +6,8 @@
 //! was left running or waiting. It holds one line at a time, and of each colour its owner, its
 //! take and its queued weights.
 //!
-//! [`read_line`] says what one line of a journal says, for whoever goes on with an accepted one.
+//! [`hear_journal`] does the same, and lets a [`Listener`] hear each line as it is read, for whoever
+//! makes something of a journal that is too long to be kept. [`read_line`] says what one line says.
 //!
 //! ```text
 //! let report = check_journal(alloc, &setup, &mut source)?;
@@ -17,13 +18,15 @@ mod checking;
 mod fault;
 mod judge;
 pub mod laws;
+mod listener;
 mod place;
 mod reader;
 mod reading;
 mod report;
 mod watch;
 
-pub use checking::check_journal;
+pub use checking::{check_journal, hear_journal};
 pub use fault::CheckFault;
+pub use listener::Listener;
 pub use reading::{Line, read_line};
 pub use report::{CoreReport, Report};

@@ -1,4 +1,4 @@
-//! `mely_view --connections N [--workers N] [--shards N] [--batch N] [--group N] [--cost N]
+//! `mely_view --connections N [--workers N] [--shards N] [--batch N] [--group N] [--cost N] [--log]
 //! < JOURNAL > RUN.svg`: the picture of a run of the server.
 //!
 //! The words are those of `sws check`, and a journal that `check` refuses is refused here with its
@@ -57,8 +57,15 @@ fn words(rt: &HostRuntime) -> Result<Vec<String>, WordFault> {
 /// The setup of the run that the words tell of.
 fn setup_of(alloc: Global, words: &[String]) -> Result<Setup, WordFault> {
     match read_words(alloc, words) {
-        Ok(Order::Check { connections, shape }) => {
-            match Setup::new(&shape, 2 + u32::from(connections), handler_table(), 1) {
+        Ok(
+            Order::Check {
+                connections,
+                shape,
+                log,
+            },
+        ) => {
+            let colours = u32::from(connections) + 2 + u32::from(log);
+            match Setup::new(&shape, colours, handler_table(), 1) {
                 Ok(setup) => Ok(setup),
                 Err(_) => Err(WordFault::Usage),
             }

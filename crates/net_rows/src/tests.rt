@@ -28,7 +28,10 @@ const RESPONSE: &[u8] =
 fn free_port(rt: &HostRuntime) -> Option<u16> {
     for place in 0..PORTS {
         let port = FIRST_PORT + place;
-        if TcpWorld::new(rt).open(port, 1) == Opened::Ready {
+        let Ok(mut world) = TcpWorld::new(rt) else {
+            return None;
+        };
+        if world.open(port, 1) == Opened::Ready {
             return Some(port);
         }
     }
@@ -91,12 +94,10 @@ fn two_clients_are_served_over_sockets(rt: HostRuntime) -> Result<(), Fail> {
     let mut folder = small_site(alloc)?;
     let mut source = SureSource::new(Vec::new(alloc));
     let mut sink = SureSink::new(alloc);
+    let world = TcpWorld::new(&rt)?;
     let (outcome, answers) = thread::join(
         &rt,
-        || {
-            let world = TcpWorld::new(&rt);
-            sws(&rt, &words, &mut folder, &mut source, world, &mut sink)
-        },
+        || sws(&rt, &words, &mut folder, &mut source, world, &mut sink),
         || (ask(&rt, port), ask(&rt, port)),
     );
     assert_eq!(rt; answers.0?.as_slice(), RESPONSE);

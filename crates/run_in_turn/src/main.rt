@@ -1,7 +1,7 @@
-//! Several commands in turn, since a program has one stored run: `sws answer` with words that
-//! aren't in its grammar; `sws replay` by a schedule of two workers, which is a connection that
-//! sends nothing, its transcript and every entry of the run; and last the program's own words,
-//! `sws answer` on a folder that isn't there, by which it ends.
+//! Several commands in turn, since a program has one stored run: `sws answer` and `sws gopher` with
+//! words that aren't in their grammar; `sws replay` by a schedule of two workers, which is a
+//! connection that sends nothing, its transcript and every entry of the run; and last the program's
+//! own words, `sws answer` on a folder that isn't there, by which it ends.
 //!
 //! Of a command that ends with a fault the status and the text are printed.
 #![tactic(auto)]
@@ -13,6 +13,8 @@ use std::thread::Threads;
 use sws_command::{command, fault_of};
 
 const BAD_WORDS: [&str; 4] = ["answer", "site", "--date", "soon"];
+
+const BAD_HOST: [&str; 6] = ["gopher", "site", "--host", "-x", "--port", "70"];
 
 const BY_A_SCHEDULE: [&str; 7] = [
     "replay",
@@ -26,6 +28,7 @@ const BY_A_SCHEDULE: [&str; 7] = [
 
 fn main(rt: HostRuntime) -> io::Result<ExitCode> {
     tell(&rt, &rt, &BAD_WORDS)?;
+    tell(&rt, &rt, &BAD_HOST)?;
     tell(&rt, &rt, &BY_A_SCHEDULE)?;
     Ok(command(&rt, &rt))
 }

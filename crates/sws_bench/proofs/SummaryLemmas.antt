@@ -11,12 +11,14 @@ use Rattle.std.proofs.lemmas.List.Sums.{sum-map, sum_by-le}
 use Rattle.std.proofs.lemmas.Simd.{map-map}
 use Rattle.sws_steps.specs.declared.End.{End}
 use Rattle.sws_steps.specs.declared.End.TheVariants.{Done, Memory}
+use Rattle.sws_engine.specs.Counting.{colours_over}
 use Rattle.sws_engine.specs.declared.ended.Ended.{Ended}
 use Rattle.sws_engine.specs.declared.ended.Served.{Served}
 use Rattle.sws_link.specs.MemLink.{MemLinkState}
 use Rattle.sws_link.specs.MemWorld.{MemWorldState}
 use Rattle.sws_script.specs.declared.input.ScriptConn.{ScriptConn}
 use Rattle.sws_site.specs.Site.{SiteState}
+use Rattle.sws_replay.specs.Expected.{by_http}
 use Rattle.sws_replay.specs.Transcripts.{alone}
 use Rattle.sws_replay.specs.Runs.{ServesAll}
 use Rattle.sws_bench.specs.BenchSite.{bench_site}
@@ -53,19 +55,19 @@ some_same (a ∷ xs) (b ∷ ys) same =
     let tail : xs ≡ ys = some_same xs ys rest in
     λ i. head i ∷ tail i
 
-module _ (site : SiteState) (conns : List ScriptConn) (ended : Ended MemWorldState MemLinkState) (serves : ServesAll site conns ended) where
+module _ (site : SiteState) (conns : List ScriptConn) (ended : Ended MemWorldState MemLinkState) (serves : ServesAll (by_http site) conns ended) where
   all_ended : AllByRecursion (λ s. IsSome s.end) ended.served.items
   all_ended = all_have (λ (s : Served MemLinkState). IsSome s.end) ended.served.items conns serves.many (λ i conn s at there. subst (λ (e : Option End). IsSome e) (sym (serves.each i conn s at there).end) refl)
 
   have_ended : All (λ s. IsSome s.end) ended.served.items
   have_ended = All-from_recursion (λ (s : Served MemLinkState). IsSome s.end) ended.served.items all_ended
 
-  ends_are : (ends : List End) → map (λ end. Some end) ends ≡ map (λ s. s.end) ended.served.items → ends ≡ map (λ conn. (alone site conn).end) conns
+  ends_are : (ends : List End) → map (λ end. Some end) ends ≡ map (λ s. s.end) ended.served.items → ends ≡ map (λ conn. (alone (by_http site) conn).end) conns
   ends_are ends same =
-      some_same ends (map (λ conn. (alone site conn).end) conns)
+      some_same ends (map (λ conn. (alone (by_http site) conn).end) conns)
       (same
-      ∙ maps_same (λ (s : Served MemLinkState). s.end) (λ conn. Some (alone site conn).end) ended.served.items conns serves.many (λ i conn s at there. (serves.each i conn s at there).end)
-      ∙ sym (map-map (λ (end : End). Some end) (λ conn. (alone site conn).end) conns))
+      ∙ maps_same (λ (s : Served MemLinkState). s.end) (λ conn. Some (alone (by_http site) conn).end) ended.served.items conns serves.many (λ i conn s at there. (serves.each i conn s at there).end)
+      ∙ sym (map-map (λ (end : End). Some end) (λ conn. (alone (by_http site) conn).end) conns))
 
   few_written : All (λ s. s.written ≤ 2 ^ 40) ended.served.items
   few_written =
@@ -78,18 +80,18 @@ module _ (site : SiteState) (conns : List ScriptConn) (ended : Ended MemWorldSta
       let many = serves.many in
       omega (arith, all, many)
 
-  pub written_is : sum_by (λ s. s.written) ended.served.items ≡ sum (map (λ conn. length (alone site conn).bytes) conns)
+  pub written_is : sum_by (λ s. s.written) ended.served.items ≡ sum (map (λ conn. length (alone (by_http site) conn).bytes) conns)
   written_is =
       sym (sum-map (λ (s : Served MemLinkState). s.written) ended.served.items)
-      ∙ ap sum (maps_same (λ (s : Served MemLinkState). s.written) (λ conn. length (alone site conn).bytes) ended.served.items conns serves.many
+      ∙ ap sum (maps_same (λ (s : Served MemLinkState). s.written) (λ conn. length (alone (by_http site) conn).bytes) ended.served.items conns serves.many
       (λ i conn s at there. let one = serves.each i conn s at there in one.written ∙ ap (λ (b : List ℕ). length b) one.bytes))
 
 -- ---- no end is want of memory
 
-fine : (number from count : ℕ) → AllByRecursion (λ end. end ≢ Memory) (map (λ conn. (alone bench_site conn).end) (map (λ i. conn_from (conn_state number i)) (range_with_len from count)))
+fine : (number from count : ℕ) → AllByRecursion (λ end. end ≢ Memory) (map (λ conn. (alone (by_http bench_site) conn).end) (map (λ i. conn_from (conn_state number i)) (range_with_len from count)))
 fine number from zero = tt
 fine number from (suc count) =
-    (λ memory. (let done : (alone bench_site (conn_from (conn_state number from))).end ≡ Done = ends_done bench_site (conn_state number from) in cc), fine number (from + 1) count)
+    (λ memory. (let done : (alone (by_http bench_site) (conn_from (conn_state number from))).end ≡ Done = ends_done bench_site (conn_state number from) in cc), fine number (from + 1) count)
 
 pub bench_ends-fine : (number count : ℕ) → AllByRecursion (λ end. end ≢ Memory) (bench_ends number count)
 unfolding bench_ends bench_conns
@@ -101,8 +103,11 @@ pub many : (number count : ℕ) (conns : List ScriptConn) → conns ≡ bench_co
 unfolding bench_conns
 many number count conns are = ap (λ cs. length cs) are ∙ length-map-range_with_len (λ (i : ℕ). conn_from (conn_state number i)) 0 count
 
-pub in_range : (shape : Shape) (number count : ℕ) (conns : List ScriptConn) → conns ≡ bench_conns number count → first_out_of_range shape (count + 2) 1 ≡ None → first_out_of_range shape (length conns + 2) 1 ≡ None
-in_range shape number count conns are range = ap (λ (n : ℕ). first_out_of_range shape (n + 2) 1) (many number count conns are) ∙ range
+pub in_range : (shape : Shape) (number count : ℕ) (conns : List ScriptConn) → conns ≡ bench_conns number count → first_out_of_range shape (count + 2) 1 ≡ None → first_out_of_range shape (colours_over (length conns) false) 1 ≡ None
+in_range shape number count conns are range =
+    let same = many number count conns are in
+    let colours : length conns + 2 + 0 ≡ count + 2 = omega (arith, same) in
+    ap (λ (n : ℕ). first_out_of_range shape n 1) colours ∙ range
 
 pub of_input : (number count : ℕ) (conns : List ScriptConn) → conns ≡ bench_conns number count → AreOfInput conns
 of_input number count conns are =
@@ -110,7 +115,7 @@ of_input number count conns are =
     subst AreOfInput (sym are) this
 
 module _ (number count : ℕ) (site : SiteState) (conns : List ScriptConn) (ended : Ended MemWorldState MemLinkState) (served : List (Served MemLinkState)) (of_site : site ≡ bench_site) (of_conns : conns ≡ bench_conns number count)
-    (serves : ServesAll site conns ended) (shown : served ≡ ended.served.items) where
+    (serves : ServesAll (by_http site) conns ended) (shown : served ≡ ended.served.items) where
   pub bench_ended : All (λ s. IsSome s.end) served
   bench_ended = subst (λ (ss : List (Served MemLinkState)). All (λ s. IsSome s.end) ss) (sym shown) (have_ended site conns ended serves)
 
@@ -125,11 +130,11 @@ module _ (number count : ℕ) (site : SiteState) (conns : List ScriptConn) (ende
   unfolding bench_ends
   bench_ends_are ends same =
       ends_are site conns ended serves ends (same ∙ ap (λ (ss : List (Served MemLinkState)). map (λ s. s.end) ss) shown)
-      ∙ (λ i. map (λ conn. (alone (of_site i) conn).end) (of_conns i))
+      ∙ (λ i. map (λ conn. (alone (by_http (of_site i)) conn).end) (of_conns i))
 
   pub bench_written_is : (written : ℕ) → written ≡ sum_by (λ s. s.written) served → written ≡ bench_written number count
   unfolding bench_written
   bench_written_is written same =
       same ∙ ap (λ (ss : List (Served MemLinkState)). sum_by (λ s. s.written) ss) shown
       ∙ written_is site conns ended serves
-      ∙ (λ i. sum (map (λ conn. length (alone (of_site i) conn).bytes) (of_conns i)))
+      ∙ (λ i. sum (map (λ conn. length (alone (by_http (of_site i)) conn).bytes) (of_conns i)))

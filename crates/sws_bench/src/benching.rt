@@ -79,7 +79,7 @@ fn run_bench<R: Threads + Wait + Sync>(
 {
     let site = bench_site(alloc)?;
     let made = generate(alloc, connections, number)?;
-    match run_script(rt, alloc, &site, shape, &made.conns) {
+    match run_script(rt, alloc, &site, shape, &made.conns, false) {
         Ok(ended) => tally_of(alloc, &ended.served, made.bytes),
         Err(_) => Err(Memory),
     }

@@ -55,18 +55,32 @@ impl<'r, W: World + Drop> World for Announced<'r, W> {
 /// What a server says of itself once it listens: its folder, its address, and what it was given.
 /// Nothing for an order that isn't to serve, or where there was no memory.
 pub fn line_of(alloc: Global, order: &Order) -> Option<String> {
-    let Order::Serve {
-        folder,
-        port,
-        connections,
-        shape,
-        ..
-    } = order
-    else {
-        return None;
-    };
-    let (workers, shards) = (shape.cores, shape.shards);
-    format!(in alloc;
-        "sws: serving {folder} at 0.0.0.0:{port} (connections {connections}, workers {workers}, shards {shards})"
-    ).ok()
+    match order {
+        Order::Serve {
+            folder,
+            port,
+            connections,
+            shape,
+            ..
+        } => {
+            let (workers, shards) = (shape.cores, shape.shards);
+            format!(in alloc;
+                "sws: serving {folder} at 0.0.0.0:{port} (connections {connections}, workers {workers}, shards {shards})"
+            ).ok()
+        }
+        Order::Gopher {
+            folder,
+            host,
+            port,
+            connections: Some(connections),
+            shape,
+            ..
+        } => {
+            let (workers, shards) = (shape.cores, shape.shards);
+            format!(in alloc;
+                "sws: serving gopher {folder} at 0.0.0.0:{port} (host {host}, connections {connections}, workers {workers}, shards {shards})"
+            ).ok()
+        }
+        _ => None,
+    }
 }

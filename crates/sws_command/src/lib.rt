@@ -10,19 +10,23 @@
 //! sws serve FOLDER --port P --connections N [..]  so many connections to a TCP port, and then a summary
 //! sws bench N NUMBER [..]                         so many connections of a generated script, and then a summary
 //! sws check --connections N [..]                  the journal of a run on standard input, and what is wrong with it
+//! sws gopher FOLDER --host H --port P [..]        the same folder by Gopher: a script on standard input, or
+//!     [--connections N | --journal]               so many connections to the port
 //! ```
 #![tactic(auto)]
 
 mod announced;
+mod ending;
 
 use crate::announced::{Announced, line_of};
+use crate::ending::{run_to_end, say, status_at_last};
 use std::io::ErrorKind;
 use std::process::ExitCode;
 use std::sync::Wait;
 use std::thread::Threads;
 use std::{env, io};
 use sws_net::{FileFolder, Output, StdSink, StdSource, TcpWorld};
-use sws_top::{TopFault, sws};
+use sws_top::TopFault;
 use sws_words::{WordFault, read_words};
 
 /// Runs the command on the machine, with threads of the second handle, which is the same runtime:
@@ -33,13 +37,11 @@ pub fn command<T: AllocGlobal + Threads + Wait + Sync>(rt: &HostRuntime, threads
         Ok(words) => fault_of(rt, threads, &words),
         Err(fault) => Some(fault),
     };
-    match fault {
-        None => ExitCode::SUCCESS,
-        Some(fault) => {
-            let _ = eprintln!(rt; "{fault}");
-            ExitCode::from(fault.status())
-        }
+    if let Some(fault) = fault {
+        // Nobody is left to hear of an error.
+        let _ = say(&mut rt.stderr(), fault);
     }
+    ExitCode::from(status_at_last(fault))
 }
 
 /// The words behind the program's name. A word that is not UTF-8 is part of no command line.
@@ -60,7 +62,7 @@ fn words(rt: &HostRuntime) -> Result<Vec<String>, TopFault> {
 
 /// Runs the command of these words, those behind the program's name, on the machine's files, streams
 /// and sockets, and answers its fault, if it has one. Nothing is said on standard error but the line
-/// of `serve`.
+/// of `serve`, and of `gopher` with connections.
 ///
 /// The words are read here for that line alone; `sws` reads them again.
 pub fn fault_of<T: AllocGlobal + Threads + Wait + Sync>(
@@ -76,13 +78,12 @@ pub fn fault_of<T: AllocGlobal + Threads + Wait + Sync>(
     let Ok(output) = Output::new(rt.alloc(), io::writer(rt)) else {
         return Some(TopFault::Memory);
     };
-    let world = Announced::new(rt, TcpWorld::new(rt), line);
+    let Ok(sockets) = TcpWorld::new(rt) else {
+        return Some(TopFault::Memory);
+    };
+    let world = Announced::new(rt, sockets, line);
     let mut folder = FileFolder::new(rt);
     let mut source = StdSource::new(rt.reader(), &output);
     let mut sink = StdSink::new(&output);
-    let outcome = sws(threads, words, &mut folder, &mut source, world, &mut sink);
-    if !sink.finish() && outcome.fault.is_none() {
-        return Some(TopFault::WriteFault);
-    }
-    outcome.fault
+    run_to_end(threads, words, &mut folder, &mut source, world, &mut sink)
 }

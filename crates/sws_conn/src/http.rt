@@ -1,6 +1,9 @@
 //! What a connection of HTTP says.
-ghost use Rattle.std.specs.Prelude.{◌≡◌, IfOk, length};
+ghost use Rattle.std.specs.Prelude.{◌≡◌, [], IfOk, length, take};
 ghost use Rattle.sws_parts.specs.Parts.{PartsState, unsent_bytes};
+ghost use Rattle.sws_steps.specs.Protocol.{TooLong};
+ghost use Rattle.sws_steps.specs.Speaking.{AnswersFirst};
+ghost use Rattle.sws_conn.specs.Http.{http, shown_limit};
 
 use crate::buffer::Buffer;
 use std::alloc::Global;
@@ -97,15 +100,19 @@ impl<'s> Speech for Http<'s> {
             Cut::Head { len } => {
                 let asked = ask(&self.buffer.bytes()[..len]);
                 let given = answer(self.site, &asked, last, &mut self.room);
-                self.note = note(&given, Brief::of(target(&asked)));
+                let closes = send(&mut self.parts, &mut self.note, given, target(&asked));
                 self.buffer.drop_front(len);
-                send(&mut self.parts, given)
+                closes
             }
             Cut::TooLong => {
-                let given = answer(self.site, &Asked::TooLong, last, &mut self.room);
-                self.note = note(&given, Brief::of(target(&Asked::TooLong)));
                 self.buffer.clear();
-                send(&mut self.parts, given)
+                refuse(
+                    self.site,
+                    last,
+                    &mut self.room,
+                    &mut self.parts,
+                    &mut self.note,
+                )
             }
             Cut::NotYet => false,
         }
@@ -132,31 +139,38 @@ impl<'s> Speech for Http<'s> {
     ghost orderly = { http-orderly };
 }
 
-/// What a log says of an answer, with the beginning of its target.
-fn note(given: &Answer<'_>, target: Brief) -> Note
-    ensures { result ≡ record {
-      code = given.now.code;
-      length = length (unsent_bytes given.now.parts);
-      target = target;
-    } }
-{
-    Note {
-        code: given.code,
-        length: given.parts.left() as u64,
-        target,
-    }
-}
-
-/// An answer is written next. Whether the connection ends with it.
-fn send<'s>(parts: &mut Parts<'s>, given: Answer<'s>) -> bool
+/// An answer to this target is written next, and noted for a log. Whether the connection ends with
+/// it.
+fn send<'s>(parts: &mut Parts<'s>, note: &mut Note, given: Answer<'s>, target: &[u8]) -> bool
     ensures parts { parts.new ≡ given.entry.parts }
+    ensures note { note.new ≡ record {
+      code = given.entry.code;
+      length = length (unsent_bytes given.entry.parts);
+      target = take shown_limit target.now;
+    } }
     ensures closes { result ≡ given.entry.closes }
 {
-    let Answer {
-        parts: all,
-        closes,
-        code: _,
-    } = given;
-    *parts = all;
-    closes
+    note.code = given.code;
+    note.length = given.parts.left() as u64;
+    note.target = Brief::of(target);
+    *parts = given.parts;
+    given.closes
+}
+
+/// Answers a head that is too long, like `send`. It stands apart, so that the room that it takes on
+/// the stack is not paid for where a head is short enough.
+#[cold]
+#[inline(never)]
+fn refuse<'s>(
+    site: &'s Site,
+    last: bool,
+    room: &mut PathRoom,
+    parts: &mut Parts<'s>,
+    note: &mut Note,
+) -> bool
+    ensures { AnswersFirst http site.now [] last TooLong [] parts.new note.new result }
+{
+    let asked = Asked::TooLong;
+    let given = answer(site, &asked, last, room);
+    send(parts, note, given, target(&asked))
 }

@@ -4,6 +4,7 @@ pub mod HandingLemmas
 pub mod ConcludeLemmas
 pub mod SeatsOfRunLemmas
 pub mod ConcludedLemmas
+pub mod LogTurnsLemmas
 pub mod RunLeftLemmas
 pub mod NeverApartLemmas
 pub mod ThreadLemmas

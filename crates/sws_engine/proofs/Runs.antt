@@ -4,3 +4,4 @@ pub mod WeaveKeepsLemmas
 pub mod ThroughLemmas
 pub mod StartLemmas
 pub mod BeginLemmas
+pub mod LogOrderLemmas

@@ -1,24 +1,32 @@
 -- The server in a weave agrees with the server as a function.
-use Rattle.std.specs.Prelude.{◌≡◌, ◌≢◌, ◌<◌, ◌≤◌, ℕ, zero, suc, ◌-◌, ◌==◌, Bool, false, List, ◌∷◌, Option, None, Some, All, length, drop, sum_by, count_by, slice_get, is_some}
+use Rattle.std.specs.Prelude.{◌≡◌, ◌≢◌, ◌<◌, ◌≤◌, ℕ, zero, suc, ◌+◌, ◌-◌, ◌==◌, Bool, false, List, ◌∷◌, Option, None, Some, All, length, drop, sum_by, count_by, slice_get, is_some}
 use Rattle.std.proofs.Common.{inl, inr}
 use Rattle.std.specs.List.{AllByRecursion}
 use Rattle.mely_event.specs.declared.colour.Colour.{Colour}
-use Rattle.sws_conn.specs.Path.{Handler, open_link}
+use Rattle.sws_steps.specs.Logs.{Step}
+use Rattle.sws_conn.specs.Path.{open_link}
 use Rattle.mely_run.specs.Pieces.{Piece}
 use Rattle.sws_engine.specs.Handling.{number_of}
 use Rattle.sws_engine.specs.Server.{Server}
-use Rattle.sws_engine.specs.PathPlaces.{World, Load, world, link, Desk, Place, polling, accepting, talking}
+use Rattle.sws_engine.specs.PathPlaces.{World, Load, world, link, line, Desk, Place, polling, accepting, talking, logging}
 use Rattle.sws_engine.specs.PathStates.{AreLoads}
 
 -- no opening
-abbrev pub HasNoOpening : List Handler → Type 0
-HasNoOpening path = AllByRecursion (λ h. number_of h ≢ 3) path
+abbrev pub HasNoOpening : List Step → Type 0
+HasNoOpening path = AllByRecursion (λ step. number_of step.handler ≢ 3) path
 
-module _ (whole : List (List Handler)) where
-  -- each path begins with the opening, and has no other
+-- the path begins with the opening, and has no other
+pub record IsOpened (path : List Step) : Type 0 where
+  pub first : Step
+  pub later : List Step
+  pub path_is : path ≡ first ∷ later
+  pub opens : first.handler ≡ open_link
+  pub once : HasNoOpening later
+
+module _ (whole : List (List Step)) where
+  -- each path does
   abbrev pub AreOpened : Type 0
-  AreOpened = (i : ℕ) (path : List Handler) → slice_get whole i ≡ Some path → (later : List Handler)
-      × (path ≡ open_link ∷ later) × HasNoOpening later
+  AreOpened = (i : ℕ) (path : List Step) → slice_get whole i ≡ Some path → IsOpened path
 
   -- the world has accepted so many links, and has the others to come
   pub record WorldStands (s : Server) (w : World) : Type 0 where
@@ -38,15 +46,18 @@ module _ (whole : List (List Handler)) where
     pub world : RestStands s desk.resting
 
   -- a connection has the rest of its path, and the whole of it before it is open
-  abbrev pub SeatStands : Server → ℕ → Option (List Handler) → Type 0
+  abbrev pub SeatStands : Server → ℕ → Option (List Step) → Type 0
   SeatStands s i None = slice_get s.paths i ≡ slice_get whole i
   SeatStands s i (Some path) = (slice_get s.paths i ≡ Some path) × HasNoOpening path
 
-  -- colour 0 has the desk, colour 1 accepts, and each later colour has its connection's seat
+  -- colour 0 has the desk, colour 1 accepts, and each later colour has its connection's seat, but
+  -- for the last one, which is that of the log
   abbrev pub PlaceStands : Server → Colour → Place → Type 0
   PlaceStands s c (polling desk) = (c.0 ≡ 0) × DeskStands s desk
   PlaceStands s c accepting = c.0 ≡ 1
-  PlaceStands s c (talking seat) = (2 ≤ c.0) × SeatStands s (c.0 - 2) seat
+  PlaceStands s c (talking seat) = ((2 ≤ c.0) × (c.0 < length whole + 2))
+      × SeatStands s (c.0 - 2) seat
+  PlaceStands s c logging = c.0 ≡ length whole + 2
 
   -- an event is on its colour with its load, by the handler
   abbrev pub ComingStands : Server → Colour → ℕ → ℕ → Option Load → Type 0
@@ -58,6 +69,7 @@ module _ (whole : List (List Handler)) where
   ComingStands s c (suc (suc (suc zero))) arg (Some (link path)) = (2 ≤ c.0)
       × (slice_get whole (c.0 - 2) ≡ Some path)
   ComingStands s c (suc (suc (suc (suc more)))) arg None = 2 ≤ c.0
+  ComingStands s c (suc (suc (suc (suc more)))) arg (Some line) = c.0 ≡ length whole + 2
   ComingStands s c handler arg load = ⊥
 
 -- the state of a colour
@@ -76,16 +88,18 @@ worlds_of holds carries (c, inl state) = holds state
 worlds_of holds carries (c, inr (event, load)) = worlds_in_load carries load
 
 module _ {S P : Type 0} (IsPlace : S → Place → Type 0) (IsLoad : P → Load → Type 0) (holds : S → ℕ)
-    (carries : P → ℕ) (whole : List (List Handler)) where
+    (carries : P → ℕ) (whole : List (List Step)) where
   -- a state is at its colour as the server has it, and an event under way has its load
   abbrev pub PieceStands : Server → Piece S P → Type 0
   PieceStands s (c, inl state) = (place : Place) × IsPlace state place × PlaceStands whole s c place
   PieceStands s (c, inr (event, load)) = (l : Option Load) × AreLoads IsLoad load l
       × ComingStands whole s c event.handler event.arg l
 
-  -- each piece has what the function has, there is one world, and a colour has one state
-  pub record Agrees (s : Server) (pieces : List (Piece S P)) : Type 0 where
+  -- each piece has what the function has, with the log or without it, there is one world, and a
+  -- colour has one state
+  pub record Agrees (log : Bool) (s : Server) (pieces : List (Piece S P)) : Type 0 where
     pub many : length s.paths ≡ length whole
+    pub logs : s.log ≡ log
     pub each : All (PieceStands s) pieces
     pub one_world : sum_by (worlds_of holds carries) pieces ≤ 1
     pub one_state : (c : ℕ) → count_by (is_state_of c) pieces ≤ 1

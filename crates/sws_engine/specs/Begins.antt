@@ -1,5 +1,5 @@
 -- What a run of the server needs before it begins, and how it comes to rest.
-use Rattle.std.specs.Prelude.{◌≡◌, ◌≤◌, ◌<◌, ◌+◌, ◌^◌, ℕ, All, List, None, length, sum_by}
+use Rattle.std.specs.Prelude.{◌≡◌, ◌≤◌, ◌<◌, ◌^◌, ℕ, Bool, All, List, None, length, sum_by}
 use Rattle.mely_event.specs.HandlerTable.{rows_of}
 use Rattle.mely_history.specs.Setup.{first_out_of_range, colours_of, handlers_of}
 use Rattle.mely_history.specs.declared.setup.Setup.{Setup}
@@ -11,22 +11,24 @@ use Rattle.mely_weave.specs.Weave.{WeaveState}
 use Rattle.sws_link.specs.declared.world.World.{Ghosts as WorldWords}
 use Rattle.sws_steps.specs.declared.talk.Talk.{Ghosts as TalkWords}
 use Rattle.sws_engine.specs.Initial.{AreInitialPlacesOver}
+use Rattle.sws_engine.specs.Counting.{colours_over}
 use Rattle.sws_engine.specs.Place.{PlaceState}
 use Rattle.sws_engine.specs.Limits.{conn_limit}
 
--- the setup has the server's handlers, and a colour for polling, for accepting and for each link of
--- a world that has begun nothing
-pub record IsSetFor {W L : Type 0} (x : WorldWords W L) (setup : Setup) (world : W) : Type 0 where
-  pub colours : colours_of setup ≡ (x.tells world).total + 2
-  pub handlers : 10 ≤ length (rows_of (handlers_of setup))
+-- the setup has the server's handlers, and a colour for polling, for accepting, for each link of a
+-- world that has begun nothing, and for a log
+pub record IsSetFor {W L : Type 0} (x : WorldWords W L) (setup : Setup) (world : W)
+    (log : Bool) : Type 0 where
+  pub colours : colours_of setup ≡ colours_over (x.tells world).total log
+  pub handlers : 11 ≤ length (rows_of (handlers_of setup))
   pub few : (x.tells world).total ≤ conn_limit
   pub none : (x.tells world).accepted ≡ 0
 
 -- a setup can be made of the shape for a world that has begun nothing: no
 -- number is out of its range
 pub record IsShapedFor {W L : Type 0} (x : WorldWords W L) (shape : Shape)
-    (world : W) : Type 0 where
-  pub in_range : first_out_of_range shape ((x.tells world).total + 2) 1 ≡ None
+    (world : W) (log : Bool) : Type 0 where
+  pub in_range : first_out_of_range shape (colours_over (x.tells world).total log) 1 ≡ None
   pub few : (x.tells world).total ≤ conn_limit
   pub none : (x.tells world).accepted ≡ 0
 
@@ -37,12 +39,12 @@ pub record IsScheduleOf (cores : ℕ) (schedule : List (ℕ × ℕ)) : Type 0 wh
 
 -- setup, world and states are those of so many links, before the first event
 pub record AreInitialFor {W L T G H : Type 0} (x : WorldWords W L) (y : TalkWords T L G H)
-    (setup : Setup) (world : W) (links : ℕ) (states : List (PlaceState H W T)) : Type 0 where
-  pub colours : colours_of setup ≡ links + 2
-  pub handlers : 10 ≤ length (rows_of (handlers_of setup))
+    (setup : Setup) (world : W) (links : ℕ) (log : Bool) (states : List (PlaceState H W T)) : Type 0 where
+  pub colours : colours_of setup ≡ colours_over links log
+  pub handlers : 11 ≤ length (rows_of (handlers_of setup))
   pub total : (x.tells world).total ≡ links
   pub none : (x.tells world).accepted ≡ 0
-  pub first : (hall : H) × AreInitialPlacesOver y world hall (links + 2) states
+  pub first : (hall : H) × AreInitialPlacesOver y world hall links (colours_over links log) states
 
 -- the weave that a run leaves is of its setup, its workers are free, and where nothing was left to
 -- do its histories are drained

@@ -11,7 +11,7 @@ use Rattle.sws_engine.specs.declared.ended.Ended.{Ended}
 use Rattle.sws_engine.specs.declared.load.WorldLoad.{WorldLoad}
 use Rattle.sws_engine.specs.declared.load.Load.{Load}
 use Rattle.sws_engine.specs.Place.{PlaceState}
-use Rattle.sws_engine.specs.RunLeaves.{talkers, resting_in, ShowAll, VerdictIs}
+use Rattle.sws_engine.specs.RunLeaves.{talkers, resting_in, lines_in, lines_kept, ShowAll, VerdictIs}
 use Rattle.sws_engine.specs.Handing.{served_with_loads, world_with_loads}
 
 -- there is none
@@ -34,7 +34,7 @@ abbrev pub failed_of : {W : Type 0} → Option (WorldLoad W) → Bool
 failed_of None = false
 failed_of (Some held) = held.failed
 
-module _ {W L T G H : Type 0} (y : TalkWords T L G H) (total : ℕ) (how : Drained)
+module _ {W L T G H : Type 0} (y : TalkWords T L G H) (total : ℕ) (log : Bool) (how : Drained)
     (parts : WeaveParts (PlaceState H W T) (Load W L)) (ended : Ended W L) where
   -- what is still under way: queued, or refused for memory
   abbrev pub ways_of : List (Event × Option (Load W L))
@@ -57,5 +57,7 @@ module _ {W L T G H : Type 0} (y : TalkWords T L G H) (total : ℕ) (how : Drain
     pub histories : ended.histories ≡ parts.histories
     pub trails : map (λ trail. trail.items) ended.trails.items
         ≡ map (λ place. place.trail) parts.states.items
-    pub verdict : VerdictIs ended.served.items (is_whole how parts.lost.items) total
-        (is_some ended.world) ended.accepted ended.failed ended.verdict
+    pub kept : ended.log.items ≡ lines_in [] parts.states.items
+    pub verdict : VerdictIs (lines_kept log ended.log.items) ended.served.items
+        (is_whole how parts.lost.items) total (is_some ended.world) ended.accepted ended.failed
+        ended.verdict

@@ -37,6 +37,8 @@ module _ {W L T G H : Type 0} (x : WorldWords W L) (l : LinkWords L) (y : TalkWo
     pub few_read : s.read ≤ input_limit
     pub written : s.written ≡ (y.view_of seat.talk).written
     pub few_written : s.written < 2 ^ 40
+    -- how many lines it has given, whether or not they are in the log
+    pub answered : s.answered ≡ (y.view_of seat.talk).lines
     -- the first event that wasn't due; without one the trail is the steps that were run,
     -- which come first on the path
     pub stray : s.stray ≡ seat.stray

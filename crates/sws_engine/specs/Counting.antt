@@ -1,9 +1,11 @@
--- How often a number stands in a list, and a test as a number.
-use Rattle.std.specs.Prelude.{ℕ, Bool, ◌==◌, if◌then◌else◌, List, count_by}
+-- How often a number stands in a list, and how many colours there are.
+use Rattle.std.specs.Prelude.{ℕ, Bool, ◌+◌, ◌==◌, List, count_by}
+use Rattle.sws_steps.specs.Logs.{bit as bit_of}
+pub use Rattle.sws_steps.specs.Logs.{bit}
 
--- one for true
-abbrev pub bit : Bool → ℕ
-bit b = if b then 1 else 0
+-- a colour for polling, for accepting and for each link, and with the log one more
+abbrev pub colours_over : ℕ → Bool → ℕ
+colours_over total log = total + 2 + bit_of log
 
 -- how often the number stands in the list
 abbrev pub times : ℕ → List ℕ → ℕ

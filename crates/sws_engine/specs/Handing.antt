@@ -26,12 +26,14 @@ module _ {W L : Type 0} where
   served_with_load i None served = served
   served_with_load i (Some (load.World held)) served = served
   served_with_load i (Some (load.Link link)) served = place_link link i served
+  served_with_load i (Some (load.Line line)) served = served
 
   -- the world, where this event has it, or as it was found before
   abbrev pub world_with_load : Option (Load W L) → Option (WorldLoad W) → Option (WorldLoad W)
   world_with_load None world = world
   world_with_load (Some (load.World held)) world = Some held
   world_with_load (Some (load.Link link)) world = world
+  world_with_load (Some (load.Line line)) world = world
 
   -- the connections, with the links of all these events
   abbrev pub served_with_loads : List (Event × Option (Load W L)) → List (Served L)
@@ -46,9 +48,10 @@ module _ {W L : Type 0} where
   world_with_loads [] world = world
   world_with_loads (e ∷ events) world = world_with_loads events (world_with_load e.1 world)
 
-  -- the events hand out their links and their world, and the trails stay as they are
+  -- the events hand out their links and their world, and the trails and the log stay as they are
   pub record HandsOut (events : List (Event × Option (Load W L)))
       (before after : Left W L) : Type 0 where
     pub served : after.served.items ≡ served_with_loads events before.served.items
     pub world : after.world ≡ world_with_loads events before.world
     pub trails : after.trails ≡ before.trails
+    pub log : after.log ≡ before.log

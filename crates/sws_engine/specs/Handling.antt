@@ -1,5 +1,5 @@
 -- What each handler does, and what it puts.
-use Rattle.std.specs.Prelude.{◌≡◌, ℕ, ◌+◌, ◌-◌, ◌==◌, ◌||◌, ◌&&◌, not, Bool, true, false, if◌then◌else◌, List, [], ◌∷◌, ◌++◌, map, Option, Some, None}
+use Rattle.std.specs.Prelude.{◌≡◌, ℕ, ◌+◌, ◌-◌, ◌==◌, ◌||◌, ◌&&◌, not, Bool, true, false, if◌then◌else◌, List, [], ◌∷◌, ◌++◌, map, Option, Some, None, is_some as is_there, IfSome}
 use Rattle.mely_event.specs.declared.colour.Colour.{Colour}
 use Rattle.mely_event.specs.declared.event.Event.{Event}
 use Rattle.sws_link.specs.declared.Link.{Ghosts as LinkWords}
@@ -9,8 +9,10 @@ use Rattle.sws_link.specs.declared.Polled.TheVariants as polled
 use Rattle.sws_link.specs.declared.Accepted.{Accepted}
 use Rattle.sws_link.specs.declared.Accepted.TheVariants as accepted
 use Rattle.sws_link.specs.Worlds.{Polls, Accepts}
+use Rattle.sws_log.specs.declared.line.LogLine.{LogLine}
 use Rattle.sws_steps.specs.declared.End.{End}
 use Rattle.sws_steps.specs.declared.talk.Talk.{Ghosts as TalkWords}
+use Rattle.sws_steps.specs.Logs.{bit}
 use Rattle.sws_conn.specs.Path.{Handler}
 use Rattle.sws_conn.specs.Path.{open_link, read_piece, parse, look, write_part, resume, close}
 use Rattle.sws_conn.specs.Talks.{opened_view, due}
@@ -20,7 +22,7 @@ use Rattle.sws_engine.specs.declared.load.Load.TheVariants as load
 use Rattle.sws_engine.specs.declared.place.Desk.{Desk}
 use Rattle.sws_engine.specs.declared.place.Seat.{Seat}
 use Rattle.sws_engine.specs.declared.place.Role.{Role}
-use Rattle.sws_engine.specs.declared.place.Role.TheVariants.{Polling, Accepting, Talking}
+use Rattle.sws_engine.specs.declared.place.Role.TheVariants.{Polling, Accepting, Talking, Logging}
 use Rattle.sws_engine.specs.declared.task.Task.{Task}
 use Rattle.sws_engine.specs.declared.task.Task.TheVariants as task
 use Rattle.sws_engine.specs.Tasks.{task_of}
@@ -73,6 +75,11 @@ next_put i look = step_put i look
 next_put i write_part = step_put i write_part
 next_put i close = step_put i close
 next_put i resume = wait_put i
+
+-- a line of connection i goes to the last colour of so many links
+abbrev pub log_put : {W L : Type 0} → ℕ → ℕ → LogLine → Put W L
+log_put total i line =
+    (record { 0 = total + 2 }, record { handler = 10; arg = i }, Some (load.Line line))
 
 -- ---- polling
 
@@ -162,6 +169,12 @@ abbrev pub next_puts : {W L : Type 0} → ℕ → Option Handler → List (Put W
 next_puts i None = []
 next_puts i (Some step) = next_put i step ∷ []
 
+-- a line that was given is put where there is a log
+abbrev pub line_puts : {W L : Type 0} → Bool → ℕ → ℕ → Option LogLine → List (Put W L)
+line_puts log total i None = []
+line_puts true total i (Some line) = log_put total i line ∷ []
+line_puts false total i (Some line) = []
+
 -- the event is the due one: its handler and its argument are
 abbrev pub is_due : ℕ → Option Handler → Event → Bool
 is_due i None event = false
@@ -247,21 +260,47 @@ module _ {W L T G H : Type 0} (y : TalkWords T L G H) where
   Stepped before (Some step) carried after = (first : L) (ran : List Handler)
       → y.has_run first ran before → y.has_run first (ran ++ step ∷ []) after
 
+  -- the step gave a line or none; the next step is put, and behind it the line
+  pub record PutsNext (log : Bool) (total i : ℕ) (before after : T)
+      (puts : List (Put W L)) : Type 0 where
+    pub line : Option LogLine
+    pub told : is_there line ≡ y.told after
+    pub lines : (y.view_of after).lines ≡ (y.view_of before).lines + bit (is_there line)
+    pub numbered : IfSome line (λ line.
+        (line.conn ≡ i) × (line.turn ≡ (y.view_of after).lines))
+    pub puts_are : puts ≡ next_puts i (due (y.view_of after)) ++ line_puts log total i line
+
   -- the due event does its step, and the next one is put; any other event is stray,
   -- of which the first is kept
-  abbrev pub RunsSeat : Bool → ℕ → Seat T → Event → Option (Load W L) → Seat T
+  abbrev pub RunsSeat : Bool → ℕ → Bool → ℕ → Seat T → Event → Option (Load W L) → Seat T
       → List (Put W L) → Type 0
-  RunsSeat true i seat event carried after puts =
+  RunsSeat log total true i seat event carried after puts =
       Stepped seat.talk (due (y.view_of seat.talk)) carried after.talk × (after.stray ≡ seat.stray)
       × (y.hall_of after.talk ≡ y.hall_of seat.talk)
       × (is_due i (due (y.view_of after.talk)) (record { handler = 3; arg = i }) ≡ false)
-      × (puts ≡ next_puts i (due (y.view_of after.talk)))
+      × PutsNext log total i seat.talk after.talk puts
       × KeepsEnd y seat.talk after.talk
-  RunsSeat false i seat event carried after puts = (after.talk ≡ seat.talk)
+  RunsSeat log total false i seat event carried after puts = (after.talk ≡ seat.talk)
       × (after.stray ≡ stray_of seat.stray event) × (puts ≡ [])
 
-module _ {W L T G H : Type 0} (x : WorldWords W L) (l : LinkWords L) (y : TalkWords T L G H) where
-  -- a role does its own events, of polling, of accepting or of talking, and stays of its kind
+-- the line of a load
+abbrev pub line_in : {W L : Type 0} → Option (Load W L) → List LogLine
+line_in None = []
+line_in (Some (load.World held)) = []
+line_in (Some (load.Link link)) = []
+line_in (Some (load.Line line)) = line ∷ []
+
+-- what joins the lines of a state, by its role
+abbrev pub logged : {W L T : Type 0} → Role W T → Option (Load W L) → List LogLine
+logged (Polling desk) carried = []
+logged Accepting carried = []
+logged (Talking seat) carried = []
+logged Logging carried = line_in carried
+
+module _ {W L T G H : Type 0} (x : WorldWords W L) (l : LinkWords L) (y : TalkWords T L G H)
+    (log : Bool) where
+  -- a role does its own events, of polling, of accepting, of talking or of the log, and stays of
+  -- its kind
   abbrev pub RunsRole : Colour → Role W T → Event → Option (Load W L) → Role W T
       → List (Put W L) → ℕ → Type 0
   RunsRole c (Polling desk) event carried (Polling after) puts total =
@@ -269,11 +308,13 @@ module _ {W L T G H : Type 0} (x : WorldWords W L) (l : LinkWords L) (y : TalkWo
   RunsRole c Accepting event carried Accepting puts total =
       RunsAccepting x l total (task_of event.handler) carried puts
   RunsRole c (Talking seat) event carried (Talking after) puts total =
-      RunsSeat y (is_due (conn_of c) (due (y.view_of seat.talk)) event) (conn_of c) seat
+      RunsSeat y log total (is_due (conn_of c) (due (y.view_of seat.talk)) event) (conn_of c) seat
       event carried after puts
+  RunsRole c Logging event carried Logging puts total = puts ≡ []
   RunsRole c role event carried after puts total = ⊥
 
-  -- what the handler of an event does: the event joins the trail, and all but the role stays
+  -- what the handler of an event does: the event joins the trail, at the log its line joins the
+  -- lines, and all else but the role stays
   pub record Runs (total : ℕ) (before : PlaceState H W T) (event : Event)
       (carried : Option (Load W L)) (after : PlaceState H W T)
       (puts : List (Put W L)) : Type 0 where
@@ -281,4 +322,5 @@ module _ {W L T G H : Type 0} (x : WorldWords W L) (l : LinkWords L) (y : TalkWo
     pub hall : after.hall ≡ before.hall
     pub first : after.first ≡ before.first
     pub trail : after.trail ≡ before.trail ++ event ∷ []
+    pub lines : after.lines ≡ before.lines ++ logged before.role carried
     pub does : RunsRole before.colour before.role event carried after.role puts total

@@ -1,33 +1,36 @@
 -- The initial states, and the event that begins a run.
-use Rattle.std.specs.Prelude.{◌≡◌, ℕ, ◌+◌, ◌≤◌, ◌==◌, false, if◌then◌else◌, List, [], length, Some, None, slice_get}
+use Rattle.std.specs.Prelude.{◌≡◌, ℕ, ◌+◌, ◌≤◌, ◌<◌, ◌==◌, Bool, false, if◌then◌else◌, List, [], length, Some, None, slice_get}
 use Rattle.mely_event.specs.declared.event.Event.{Event}
 use Rattle.sws_steps.specs.declared.talk.Talk.{Ghosts as TalkWords}
 use Rattle.sws_conn.specs.Talks.{unopened_view}
 use Rattle.sws_engine.specs.declared.load.WorldLoad.{WorldLoad}
 use Rattle.sws_engine.specs.declared.place.Seat.{Seat}
 use Rattle.sws_engine.specs.declared.place.Role.{Role}
-use Rattle.sws_engine.specs.declared.place.Role.TheVariants.{Polling, Accepting, Talking}
+use Rattle.sws_engine.specs.declared.place.Role.TheVariants.{Polling, Accepting, Talking, Logging}
+use Rattle.sws_engine.specs.Counting.{colours_over}
 use Rattle.sws_engine.specs.Place.{PlaceState}
 
 module _ {W L T G H : Type 0} (y : TalkWords T L G H) (first : W) where
-  -- nobody waits at colour 0, and no connection has its link
-  abbrev pub IsInitialRole : ℕ → Role W T → Type 0
-  IsInitialRole c (Polling desk) = (c ≡ 0) × (desk.waiting.items ≡ []) × (desk.last ≡ false)
+  -- nobody waits at colour 0, and none of so many connections has its link
+  abbrev pub IsInitialRole : ℕ → ℕ → Role W T → Type 0
+  IsInitialRole total c (Polling desk) = (c ≡ 0) × (desk.waiting.items ≡ []) × (desk.last ≡ false)
       × (desk.resting ≡ None)
-  IsInitialRole c Accepting = c ≡ 1
-  IsInitialRole c (Talking seat) = (2 ≤ c) × (y.view_of seat.talk ≡ unopened_view)
+  IsInitialRole total c Accepting = c ≡ 1
+  IsInitialRole total c (Talking seat) = ((2 ≤ c) × (c < total + 2)) × (y.view_of seat.talk ≡ unopened_view)
       × (seat.stray ≡ None)
+  IsInitialRole total c Logging = c ≡ total + 2
 
   -- a state of colour c, over the first world, with the initial role of that colour
-  pub record IsInitialPlace (c : ℕ) (s : PlaceState H W T) : Type 0 where
+  pub record IsInitialPlace (total c : ℕ) (s : PlaceState H W T) : Type 0 where
     pub colour : s.colour.0 ≡ c
     pub world : s.first ≡ first
-    pub role : IsInitialRole c s.role
+    pub role : IsInitialRole total c s.role
 
-  -- a state for colours 0 and 1, and one for each connection
-  pub record AreInitialPlaces (total : ℕ) (states : List (PlaceState H W T)) : Type 0 where
-    pub many : length states ≡ total + 2
-    pub each : (i : ℕ) (s : PlaceState H W T) → slice_get states i ≡ Some s → IsInitialPlace i s
+  -- a state for colours 0 and 1, and one for each connection, and with the log one more
+  pub record AreInitialPlaces (total : ℕ) (log : Bool)
+      (states : List (PlaceState H W T)) : Type 0 where
+    pub many : length states ≡ colours_over total log
+    pub each : (i : ℕ) (s : PlaceState H W T) → slice_get states i ≡ Some s → IsInitialPlace total i s
 
 -- the first poll: 1 where no link is to come
 abbrev pub first_poll : ℕ → Event
@@ -39,15 +42,16 @@ initial_load world = record { world = world; accepted = 0; failed = false }
 
 -- an initial state as it is made, over the hall
 pub record IsInitialPlaceOver {W L T G H : Type 0} (y : TalkWords T L G H) (first : W) (hall : H)
-    (c : ℕ) (s : PlaceState H W T) : Type 0 where
-  pub initial : IsInitialPlace y first c s
+    (total c : ℕ) (s : PlaceState H W T) : Type 0 where
+  pub initial : IsInitialPlace y first total c s
   pub untouched : s.trail ≡ []
+  pub unlogged : s.lines ≡ []
   pub hall_is : s.hall ≡ hall
   pub own_hall : (seat : Seat T) → s.role ≡ Talking seat → y.hall_of seat.talk ≡ hall
 
 -- so many of them, in ascending order
 pub record AreInitialPlacesOver {W L T G H : Type 0} (y : TalkWords T L G H) (first : W) (hall : H)
-    (count : ℕ) (states : List (PlaceState H W T)) : Type 0 where
+    (total count : ℕ) (states : List (PlaceState H W T)) : Type 0 where
   pub many : length states ≡ count
   pub each : (i : ℕ) (s : PlaceState H W T) → slice_get states i ≡ Some s
-      → IsInitialPlaceOver y first hall i s
+      → IsInitialPlaceOver y first hall total i s

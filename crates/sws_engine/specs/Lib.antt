@@ -38,4 +38,6 @@ pub mod Modelled
 pub mod Scripted
 pub mod ConnFollows
 pub mod Begins
+pub mod LogTurns
+pub mod LogStream
 pub mod Limits

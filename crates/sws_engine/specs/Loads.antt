@@ -1,5 +1,5 @@
 -- What an event may carry, and which event and load fit each other.
-use Rattle.std.specs.Prelude.{◌≡◌, ℕ, ◌+◌, ◌≤◌, ◌<◌, false, IsTrue, List, drop, Option, Some, None, slice_get, option_map}
+use Rattle.std.specs.Prelude.{◌≡◌, ℕ, ◌+◌, ◌≤◌, ◌<◌, false, IsTrue, List, drop, Option, Some, None, ⊤, slice_get, option_map}
 use Rattle.mely_event.specs.declared.colour.Colour.{Colour}
 use Rattle.mely_event.specs.declared.event.Event.{Event}
 use Rattle.sws_link.specs.declared.Link.{Ghosts as LinkWords}
@@ -7,6 +7,9 @@ use Rattle.sws_link.specs.declared.world.World.{Ghosts as WorldWords}
 use Rattle.sws_link.specs.Counts.{Rose, IsLater, no_faults}
 use Rattle.sws_link.specs.Links.{LinkContents, IsInitialLink}
 use Rattle.sws_link.specs.Worlds.{WorldContents, Coming, initial_contents}
+use Rattle.sws_log.specs.declared.line.LogLine.{LogLine}
+use Rattle.sws_steps.specs.declared.talk.Talk.{Ghosts as TalkWords}
+use Rattle.sws_steps.specs.Logs.{IsLineOf}
 use Rattle.sws_engine.specs.declared.load.WorldLoad.{WorldLoad}
 use Rattle.sws_engine.specs.declared.load.Load.{Load}
 use Rattle.sws_engine.specs.declared.load.Load.TheVariants as load
@@ -19,12 +22,27 @@ abbrev pub world_of : {W L : Type 0} → Option (Load W L) → Option (WorldLoad
 world_of None = None
 world_of (Some (load.World held)) = Some held
 world_of (Some (load.Link link)) = None
+world_of (Some (load.Line line)) = None
 
 -- the link is the i-th of those to come, where these are known: nothing was taken or written
 abbrev pub IsComing : Option (List Coming) → ℕ → Option LinkContents → Type 0
 IsComing None i told = IsInitialLink told
 IsComing (Some coming) i told = (first : Coming) × (slice_get coming i ≡ Some first)
     × (told ≡ Some (initial_contents first))
+
+-- a line is the one of its turn in the log of its connection's input, where the inputs are known
+abbrev pub IsLineIn : (ℕ → List ℕ → List LogLine) → Option (List Coming) → LogLine → Type 0
+IsLineIn log None line = ⊤
+IsLineIn log (Some coming) line = (one : Coming) → slice_get coming line.conn ≡ Some one
+    → IsLineOf (log line.conn) (Some (initial_contents one)) line
+
+-- the line of a load is such a one
+abbrev pub TellsLine : {W L : Type 0} → (ℕ → List ℕ → List LogLine) → Option (List Coming)
+    → Option (Load W L) → Type 0
+TellsLine log coming None = ⊤
+TellsLine log coming (Some (load.World held)) = ⊤
+TellsLine log coming (Some (load.Link link)) = ⊤
+TellsLine log coming (Some (load.Line line)) = IsLineIn log coming line
 
 module _ {W L : Type 0} (x : WorldWords W L) (l : LinkWords L) (first : W) where
   -- what the world told at first
@@ -82,11 +100,19 @@ module _ {W L : Type 0} (x : WorldWords W L) (l : LinkWords L) (first : W) where
     pub step : StepFits c i
     pub initial : LinkStands i link
 
+  -- a line: on the last colour, of a connection of the run, with a turn from 1 on
+  pub record LogFits (c : Colour) (i : ℕ) (line : LogLine) : Type 0 where
+    pub colour : c.0 ≡ at_first.total + 2
+    pub conn : i < at_first.total
+    pub own : line.conn ≡ i
+    pub numbered : 1 ≤ line.turn
+
   -- what fits a task: its colour, its argument, and the load it takes, or none
   abbrev pub TaskFits : Colour → ℕ → Option Task → Option (Load W L) → Type 0
   TaskFits c arg (Some task.Poll) (Some (load.World held)) = PollFits c arg held
   TaskFits c arg (Some task.Accept) (Some (load.World held)) = AcceptFits c arg held
   TaskFits c arg (Some task.Open) (Some (load.Link link)) = OpenFits c arg link
+  TaskFits c arg (Some task.Log) (Some (load.Line line)) = LogFits c arg line
   TaskFits c arg (Some task.Wait) None = WaitFits c arg
   TaskFits c arg (Some task.Read) None = StepFits c arg
   TaskFits c arg (Some task.Parse) None = StepFits c arg
@@ -99,3 +125,9 @@ module _ {W L : Type 0} (x : WorldWords W L) (l : LinkWords L) (first : W) where
   -- the event and the load fit each other on the colour
   abbrev pub Fit : Colour → Event → Option (Load W L) → Type 0
   Fit c event carried = TaskFits c event.arg (task_of event.handler) carried
+
+-- they do, and the line of a load is one of its connection's log, by what the world told at first
+abbrev pub FitsTold : {W L T G H : Type 0} → WorldWords W L → LinkWords L → TalkWords T L G H → H
+    → W → Colour → Event → Option (Load W L) → Type 0
+FitsTold x l y hall first c event carried = Fit x l first c event carried
+    × TellsLine (y.log hall) (x.tells first).coming carried

@@ -1,5 +1,5 @@
 -- What the parts keep of a weave that was run and taken apart.
-use Rattle.std.specs.Prelude.{◌≡◌, ℕ, ◌+◌, List, [], Option, Some, length, flat_map, slice_get}
+use Rattle.std.specs.Prelude.{◌≡◌, ℕ, Bool, List, [], Option, Some, length, flat_map, slice_get}
 use Rattle.mely_event.specs.declared.colour.Colour.{Colour}
 use Rattle.mely_event.specs.declared.event.Event.{Event}
 use Rattle.mely_history.specs.History.{ran_of}
@@ -13,6 +13,7 @@ use Rattle.mely_weave.specs.declared.draining.Drained.TheVariants.{Empty}
 use Rattle.sws_link.specs.declared.world.World.{Ghosts as WorldWords}
 use Rattle.sws_steps.specs.declared.talk.Talk.{Ghosts as TalkWords}
 use Rattle.sws_engine.specs.declared.load.Load.{Load}
+use Rattle.sws_engine.specs.Counting.{colours_over}
 use Rattle.sws_engine.specs.Place.{PlaceState}
 use Rattle.sws_engine.specs.RunEnds.{IsPlacedAs}
 
@@ -20,7 +21,7 @@ use Rattle.sws_engine.specs.RunEnds.{IsPlacedAs}
 -- nothing is queued. There is a state for each colour, of its role, over the world that was handed
 -- in, and its trail is what was run of it.
 pub record PartsKept {W L T G H : Type 0} (x : WorldWords W L) (y : TalkWords T L G H)
-    (setup : Setup) (first : W) (how : Drained) (histories : List (List Entry))
+    (setup : Setup) (first : W) (log : Bool) (how : Drained) (histories : List (List Entry))
     (states : List (PlaceState H W T))
     (queued : List (List (Event × Option (Load W L)))) : Type 0 where
   pub legal : AreLegal setup histories
@@ -28,9 +29,9 @@ pub record PartsKept {W L T G H : Type 0} (x : WorldWords W L) (y : TalkWords T 
   pub drained : how ≡ Empty → (shard : ℕ) (history : List Entry) → slice_get histories shard
       ≡ Some history → IsDrained history
   pub emptied : how ≡ Empty → flat_map (λ events. events) queued ≡ []
-  pub many : length states ≡ (x.tells first).total + 2
+  pub many : length states ≡ colours_over (x.tells first).total log
   pub placed : (i : ℕ) (place : PlaceState H W T)
-      → slice_get states i ≡ Some place → IsPlacedAs i place
+      → slice_get states i ≡ Some place → IsPlacedAs (x.tells first).total i place
   pub of_world : (i : ℕ) (place : PlaceState H W T)
       → slice_get states i ≡ Some place → place.first ≡ first
   pub trailed : (c : Colour) (place : PlaceState H W T) (history : List Entry)

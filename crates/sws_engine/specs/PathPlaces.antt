@@ -1,8 +1,10 @@
--- The server on a scripted world, where nothing is known of a connection but the rest of its path:
+-- The server on a scripted world, where nothing is known of a connection but the steps of the rest
+-- of its path, and which of them give a line of the log:
 -- what each colour's state and each load has, and what a handler makes of them.
-use Rattle.std.specs.Prelude.{ℕ, zero, suc, ◌+◌, ◌-◌, ◌==◌, ◌||◌, Bool, true, false, not, List, [], ◌∷◌, Option, None, Some, map, if◌then◌else◌}
+use Rattle.std.specs.Prelude.{ℕ, zero, suc, ◌+◌, ◌-◌, ◌==◌, ◌||◌, Bool, true, false, not, List, [], ◌∷◌, ◌++◌, Option, None, Some, map, if◌then◌else◌}
 use Rattle.mely_event.specs.declared.colour.Colour.{Colour}
 use Rattle.mely_event.specs.declared.event.Event.{Event}
+use Rattle.sws_steps.specs.Logs.{Step}
 use Rattle.sws_conn.specs.Path.{Handler, open_link, read_piece, parse, look, write_part, resume, close}
 use Rattle.sws_engine.specs.Handling.{number_of}
 use Rattle.sws_engine.specs.Waiting.{waiting_with}
@@ -33,29 +35,44 @@ accept = put 1 2 0
 abbrev pub talk : ℕ → Handler → Colour × Event
 talk i handler = put (talk_colour i) (number_of handler) i
 
--- what follows a connection's step, by the rest of its path: where the event that comes is a resume
--- the connection waits for it, else its next event is registered
-abbrev pub follows : ℕ → List Handler → List (Colour × Event)
+-- the event that brings connection i on to a step: where that is a resume the connection waits for
+-- it, else it is the event of the step
+abbrev pub next_event : ℕ → Handler → Colour × Event
+next_event i resume = wait_for i
+next_event i open_link = talk i open_link
+next_event i read_piece = talk i read_piece
+next_event i parse = talk i parse
+next_event i look = talk i look
+next_event i write_part = talk i write_part
+next_event i close = talk i close
+
+-- what follows a connection's step: the event of its next one, where the path has one left
+abbrev pub follows : ℕ → List Step → List (Colour × Event)
 follows i [] = []
-follows i (resume ∷ later) = wait_for i ∷ []
-follows i (open_link ∷ later) = talk i open_link ∷ []
-follows i (read_piece ∷ later) = talk i read_piece ∷ []
-follows i (parse ∷ later) = talk i parse ∷ []
-follows i (look ∷ later) = talk i look ∷ []
-follows i (write_part ∷ later) = talk i write_part ∷ []
-follows i (close ∷ later) = talk i close ∷ []
+follows i (next ∷ later) = next_event i next.handler ∷ []
+
+-- the event of a line of connection i, on the last colour of so many links
+abbrev pub log_event : ℕ → ℕ → Colour × Event
+log_event total i = put (total + 2) 10 i
+
+-- a step that gave a line is followed by the event of it too, where there is a log
+abbrev pub logs : Bool → ℕ → ℕ → Bool → List (Colour × Event)
+logs log total i false = []
+logs true total i true = log_event total i ∷ []
+logs false total i true = []
 
 -- ---- what there is
 
 -- a world: how many links were accepted, and the paths of the links to come
 pub record World : Type 0 where
   pub accepted : ℕ
-  pub coming : List (List Handler)
+  pub coming : List (List Step)
 
--- a load: the world, or a link with its path
+-- a load: the world, a link with the steps of its path, or a line of the log
 pub data Load : Type 0 where
   world : World → Load
-  link : List Handler → Load
+  link : List Step → Load
+  line : Load
 
 -- who waits, whether no more links are to come, and the world where it rests
 pub record Desk : Type 0 where
@@ -63,11 +80,13 @@ pub record Desk : Type 0 where
   pub last : Bool
   pub resting : Option World
 
--- what a colour has: the desk, nothing, or a connection with the rest of its path, once it is open
+-- what a colour has: the desk, nothing, a connection with the rest of its path, once it is open, or
+-- the log
 pub data Place : Type 0 where
   polling : Desk → Place
   accepting : Place
-  talking : Option (List Handler) → Place
+  talking : Option (List Step) → Place
+  logging : Place
 
 -- what a handler puts: a colour, an event, and its load
 abbrev pub Put : Type 0
@@ -80,6 +99,10 @@ with_world w p = (p.0, p.1, Some (world w))
 -- an event that carries nothing
 abbrev pub with_nothing : Colour × Event → Put
 with_nothing p = (p.0, p.1, None)
+
+-- an event that carries a line
+abbrev pub with_line : Colour × Event → Put
+with_line p = (p.0, p.1, Some line)
 
 -- what a handler leaves, and what it puts
 pub record Ran : Type 0 where
@@ -145,7 +168,7 @@ runs_desk desk handler arg load = stays (polling desk)
 -- ---- accepting
 
 -- the next link is that of the next connection, which opens
-abbrev pub accepts : ℕ → ℕ → List (List Handler) → Ran
+abbrev pub accepts : ℕ → ℕ → List (List Step) → Ran
 accepts total n [] = stays accepting
 accepts total n (path ∷ coming) = record {
   place = accepting;
@@ -161,27 +184,36 @@ runs_accepting total handler load = stays accepting
 
 -- ---- a connection
 
--- the event that is next on the path is taken off it; any other does nothing
-abbrev pub takes_off : ℕ → ℕ → Option (List Handler) → List Handler → Ran
-takes_off i handler seat [] = stays (talking seat)
-takes_off i handler seat (next ∷ later) =
-    if number_of next == handler then record {
-      place = talking (Some later);
-      puts = map with_nothing (follows i later);
-    } else stays (talking seat)
+-- a step was taken off the path: the next one follows, and behind it the line that the step gave
+abbrev pub goes_along : Bool → ℕ → ℕ → Step → List Step → Ran
+goes_along log total i step later = record {
+  place = talking (Some later);
+  puts = map with_nothing (follows i later) ++ map with_line (logs log total i step.line);
+}
+
+-- the step that is next on the path is taken off it by its event; any other does nothing
+abbrev pub takes_off : Bool → ℕ → ℕ → ℕ → Option (List Step) → List Step → Ran
+takes_off log total i handler seat [] = stays (talking seat)
+takes_off log total i handler seat (next ∷ later) =
+    if number_of next.handler == handler then goes_along log total i next later
+    else stays (talking seat)
 
 -- what the colour of connection i does with an event
-abbrev pub runs_talk : ℕ → ℕ → Option (List Handler) → Option Load → Ran
-runs_talk i handler None (Some (link path)) = takes_off i handler None path
-runs_talk i handler None None = stays (talking None)
-runs_talk i handler None (Some (world w)) = stays (talking None)
-runs_talk i handler (Some path) load = takes_off i handler (Some path) path
+abbrev pub runs_talk : Bool → ℕ → ℕ → ℕ → Option (List Step) → Option Load → Ran
+runs_talk log total i handler None (Some (link path)) = takes_off log total i handler None path
+runs_talk log total i handler None None = stays (talking None)
+runs_talk log total i handler None (Some (world w)) = stays (talking None)
+runs_talk log total i handler None (Some line) = stays (talking None)
+runs_talk log total i handler (Some path) load = takes_off log total i handler (Some path) path
 
--- what a colour does with an event, by its place
-abbrev pub runs_place : ℕ → Colour → Place → Event → Option Load → Ran
-runs_place total c (polling desk) event load = runs_desk desk event.handler event.arg load
-runs_place total c accepting event load = runs_accepting total event.handler load
-runs_place total c (talking seat) event load = runs_talk (c.0 - 2) event.handler seat load
+-- what a colour does with an event, by its place, with the log or without it; the log keeps its
+-- line, and nothing comes of that
+abbrev pub runs_place : Bool → ℕ → Colour → Place → Event → Option Load → Ran
+runs_place log total c (polling desk) event load = runs_desk desk event.handler event.arg load
+runs_place log total c accepting event load = runs_accepting total event.handler load
+runs_place log total c (talking seat) event load =
+    runs_talk log total (c.0 - 2) event.handler seat load
+runs_place log total c logging event load = stays logging
 
 -- ---- how many worlds there are
 
@@ -195,9 +227,11 @@ abbrev pub worlds_of_place : Place → ℕ
 worlds_of_place (polling desk) = worlds_of_rest desk.resting
 worlds_of_place accepting = 0
 worlds_of_place (talking seat) = 0
+worlds_of_place logging = 0
 
 -- how many worlds a load has
 abbrev pub worlds_of_load : Option Load → ℕ
 worlds_of_load None = 0
 worlds_of_load (Some (world w)) = 1
 worlds_of_load (Some (link path)) = 0
+worlds_of_load (Some line) = 0

@@ -38,3 +38,4 @@ abbrev pub MayAccept : {W L : Type 0} → (W → WorldContents) → ℕ → Load
 MayAccept tells total (load.World held) = ((tells held.world).accepted < (tells held.world).total)
     × (held.accepted < total)
 MayAccept tells total (load.Link link) = Unit {0}
+MayAccept tells total (load.Line line) = Unit {0}

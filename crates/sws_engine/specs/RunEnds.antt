@@ -5,17 +5,18 @@ use Rattle.sws_conn.specs.Talks.{due}
 use Rattle.sws_engine.specs.declared.load.WorldLoad.{WorldLoad}
 use Rattle.sws_engine.specs.declared.place.Desk.{Desk}
 use Rattle.sws_engine.specs.declared.place.Seat.{Seat}
-use Rattle.sws_engine.specs.declared.place.Role.TheVariants.{Polling, Accepting, Talking}
+use Rattle.sws_engine.specs.declared.place.Role.TheVariants.{Polling, Accepting, Talking, Logging}
 use Rattle.sws_engine.specs.Place.{PlaceState}
 use Rattle.sws_engine.specs.RunStands.{is_unended, due_number}
 
--- the state is of the colour, and has its role: the first polls, the second
--- accepts, the others talk
-pub record IsPlacedAs {H W T : Type 0} (i : ℕ) (place : PlaceState H W T) : Type 0 where
+-- the state is of the colour, and has its role: the first polls, the second accepts, so many more
+-- talk, and one behind these keeps the log
+pub record IsPlacedAs {H W T : Type 0} (total i : ℕ) (place : PlaceState H W T) : Type 0 where
   pub colour : place.colour.0 ≡ i
   pub polls : i ≡ 0 → (desk : Desk W) × (place.role ≡ Polling desk)
   pub accepts : i ≡ 1 → place.role ≡ Accepting
-  pub talks : 2 ≤ i → (seat : Seat T) × (place.role ≡ Talking seat)
+  pub talks : 2 ≤ i → i < total + 2 → (seat : Seat T) × (place.role ≡ Talking seat)
+  pub logs : i ≡ total + 2 → place.role ≡ Logging
 
 -- no event of the connection was stray; where its link was accepted it was served to its close, and
 -- else it was never opened

@@ -28,3 +28,4 @@ module _ {W L : Type 0} (x : WorldWords W L) (l : LinkWords L) (first : W) where
   CarriesStanding i None = Unit {0}
   CarriesStanding i (Some (load.World held)) = WorldStands x l first held
   CarriesStanding i (Some (load.Link link)) = LinkStands x l first i link
+  CarriesStanding i (Some (load.Line line)) = Unit {0}

@@ -1,5 +1,6 @@
 -- What every run of the server leaves, over a weave or on threads.
-use Rattle.std.specs.Prelude.{◌≡◌, ◌≢◌, ◌+◌, ℕ, false, true, List, map, Some, IsSome, length, slice_get}
+use Rattle.std.specs.Prelude.{◌≡◌, ◌≢◌, ◌+◌, ◌<◌, ◌⊎◌, ℕ, Bool, false, true, List, [], map, Some, IsSome, length, slice_get}
+use Rattle.std.specs.List.{AllByRecursion}
 use Rattle.mely_event.specs.declared.colour.Colour.{Colour}
 use Rattle.mely_event.specs.declared.event.Event.{Event}
 use Rattle.mely_history.specs.History.{ran_of}
@@ -15,7 +16,9 @@ use Rattle.mely_weave.specs.declared.parts.WeaveParts.{WeaveParts}
 use Rattle.sws_link.specs.declared.Link.{Ghosts as LinkWords}
 use Rattle.sws_link.specs.declared.world.World.{Ghosts as WorldWords}
 use Rattle.sws_link.specs.Scripts.{Script}
-use Rattle.sws_link.specs.Worlds.{Coming}
+use Rattle.sws_link.specs.Links.{input_of}
+use Rattle.sws_link.specs.Worlds.{Coming, initial_contents}
+use Rattle.sws_log.specs.Lines.{lines_within}
 use Rattle.sws_steps.specs.declared.talk.Talk.{Ghosts as TalkWords}
 use Rattle.sws_engine.specs.declared.ended.Served.{Served}
 use Rattle.sws_engine.specs.declared.ended.Ended.{Ended}
@@ -23,9 +26,11 @@ use Rattle.sws_engine.specs.declared.ended.Verdict.TheVariants as verdict
 use Rattle.sws_engine.specs.declared.load.Load.{Load}
 use Rattle.sws_engine.specs.ConnFollows.{ConnFollows}
 use Rattle.sws_engine.specs.ConnLeft.{ConnLeft}
-use Rattle.sws_engine.specs.Loads.{WorldStands}
+use Rattle.sws_engine.specs.Counting.{colours_over}
+use Rattle.sws_engine.specs.LogTurns.{lines_for}
+use Rattle.sws_engine.specs.Loads.{WorldStands, IsLineIn}
 use Rattle.sws_engine.specs.Place.{PlaceState}
-use Rattle.sws_engine.specs.RunLeaves.{AreWhole, NoneOutOfMemory}
+use Rattle.sws_engine.specs.RunLeaves.{AreWhole, lines_kept, links_owed, NoneOutOfMemory}
 use Rattle.sws_engine.specs.ServerRun.{server_rules}
 use Rattle.sws_engine.specs.RunFits.{RunFits}
 use Rattle.sws_engine.specs.Conclusion.{IsConcluded}
@@ -42,7 +47,7 @@ module _ {W L T G H : Type 0} (x : WorldWords W L) (l : LinkWords L) (y : TalkWo
       → ConnFollows l y hall i script trail s
 
 module _ {W L T G H : Type 0} (x : WorldWords W L) (l : LinkWords L) (y : TalkWords T L G H)
-    (shape : Shape) (hall : H) (first : W) (ended : Ended W L) where
+    (shape : Shape) (hall : H) (first : W) (log : Bool) (ended : Ended W L) where
   -- the histories that the run left, as lists of entries
   abbrev pub histories_in : List (List Entry)
   histories_in = map (λ history. history.items) ended.histories.items
@@ -52,14 +57,14 @@ module _ {W L T G H : Type 0} (x : WorldWords W L) (l : LinkWords L) (y : TalkWo
     pub setup : Setup
     -- of the shape, with the server's handlers, and its first colour pinned
     pub rules : rules_of setup ≡ server_rules shape
-    pub colours : colours_of setup ≡ (x.tells first).total + 2
+    pub colours : colours_of setup ≡ colours_over (x.tells first).total log
     -- what the weave came to, and its parts
     pub how : Drained
     pub parts : WeaveParts (PlaceState H W T) (Load W L)
     pub fits : RunFits x l first hall parts.states.items
         (map (λ events. events.items) parts.queued.items) parts.lost.items
     -- the verdict is exactly what these show
-    pub concluded : IsConcluded y (x.tells first).total how parts ended
+    pub concluded : IsConcluded y (x.tells first).total log how parts ended
     -- the histories, one for each shard, are legal, and drained unless memory was refused; each
     -- colour's trail is what was run of it
     pub legal : AreLegal setup histories_in
@@ -69,14 +74,33 @@ module _ {W L T G H : Type 0} (x : WorldWords W L) (l : LinkWords L) (y : TalkWo
     pub trailed : (c : Colour) (history trail : List _)
         → slice_get (map (λ t. t.items) ended.trails.items) c.0 ≡ Some trail
         → slice_get histories_in (shard_of setup c) ≡ Some history → trail ≡ ran_of history c
-    pub many_trails : length ended.trails.items ≡ (x.tells first).total + 2
+    pub many_trails : length ended.trails.items ≡ colours_over (x.tells first).total log
+    -- the lines of the log are of the connections that the trail of its colour names, in this
+    -- order, each is one of its connection's log, and without the log there is none
+    pub log_runs : (trail : List Event)
+        → slice_get (map (λ t. t.items) ended.trails.items) ((x.tells first).total + 2) ≡ Some trail
+        → map (λ line. line.conn) ended.log.items ≡ map (λ event. event.arg) trail
+    pub lines_told : AllByRecursion (λ line. (line.conn < (x.tells first).total)
+        × IsLineIn (y.log hall) (x.tells first).coming line) ended.log.items
+    pub unlogged : log ≡ false → ended.log.items ≡ []
+    -- at Ok and at World, the lines of each connection that was to be served, whose input the world
+    -- told, are those of its answers that were written whole, in order
+    pub lines : log ≡ true → ended.verdict ≡ verdict.Ok ⊎ ended.verdict ≡ verdict.World
+        → (coming : List Coming) (one : Coming) (i : ℕ) (s : Served L)
+        → (x.tells first).coming ≡ Some coming → slice_get coming i ≡ Some one
+        → i < links_owed ended.failed ended.accepted (x.tells first).total
+        → slice_get ended.served.items i ≡ Some s
+        → lines_for i ended.log.items
+        ≡ lines_within s.written (y.log hall i (input_of (initial_contents one)))
     -- there is a member for each link; at Ok the world is there and each has its link, an end, and
     -- no stray event, and at World so have those that were accepted
     pub many_served : length ended.served.items ≡ (x.tells first).total
     pub ok : ended.verdict ≡ verdict.Ok → IsSome ended.world × (ended.failed ≡ false)
-        × AreWhole ended.served.items (x.tells first).total × NoneOutOfMemory ended.served.items
+        × AreWhole (lines_kept log ended.log.items) ended.served.items (x.tells first).total
+        × NoneOutOfMemory ended.served.items
     pub world : ended.verdict ≡ verdict.World → IsSome ended.world × (ended.failed ≡ true)
-        × AreWhole ended.served.items ended.accepted × NoneOutOfMemory ended.served.items
+        × AreWhole (lines_kept log ended.log.items) ended.served.items ended.accepted
+        × NoneOutOfMemory ended.served.items
     -- a connection has the link of its number, as it was served
     pub conn : (i : ℕ) (s : Served L) (trail : List Event) → slice_get ended.served.items i ≡ Some s
         → slice_get (map (λ t. t.items) ended.trails.items) (i + 2) ≡ Some trail

@@ -1,5 +1,5 @@
 -- What a run on a weave leaves, once the weave was taken apart.
-use Rattle.std.specs.Prelude.{◌≡◌, ◌++◌, List, [], Option, Some, flat_map, slice_get}
+use Rattle.std.specs.Prelude.{◌≡◌, ◌++◌, Bool, List, [], Option, Some, flat_map, length, slice_get}
 use Rattle.mely_event.specs.declared.colour.Colour.{Colour}
 use Rattle.mely_event.specs.declared.event.Event.{Event}
 use Rattle.mely_history.specs.declared.entry.Entry.{Entry}
@@ -12,17 +12,19 @@ use Rattle.sws_steps.specs.declared.talk.Talk.{Ghosts as TalkWords}
 use Rattle.sws_engine.specs.declared.load.Load.{Load}
 use Rattle.sws_engine.specs.declared.place.Desk.{Desk}
 use Rattle.sws_engine.specs.declared.place.Role.TheVariants.{Polling}
+use Rattle.sws_engine.specs.Counting.{colours_over}
+use Rattle.sws_engine.specs.LogStream.{LogsEndInOrder}
 use Rattle.sws_engine.specs.Place.{PlaceState}
 use Rattle.sws_engine.specs.PartsKept.{PartsKept}
 use Rattle.sws_engine.specs.RunEnds.{RunEnds}
 use Rattle.sws_engine.specs.RunStands.{Way, RunStands}
 
 module _ {W L T G H : Type 0} (x : WorldWords W L) (y : TalkWords T L G H) (setup : Setup)
-    (first : W) (ended : Drained) (histories : List (List Entry)) (states : List (PlaceState H W T))
+    (first : W) (log : Bool) (ended : Drained) (histories : List (List Entry)) (states : List (PlaceState H W T))
     (queued : List (List (Way W L))) (lost : List (Colour × Event × Option (Load W L))) where
   -- what the parts keep, the sums of the run over them, and the end of a run that was drained
   pub record RunParts : Type 0 where
-    pub kept : PartsKept x y setup first ended histories states queued
+    pub kept : PartsKept x y setup first log ended histories states queued
     pub open kept use *
     -- what stands of a run stands of the states, with what is queued and what was lost
     pub stands : RunStands y (x.tells first).total states (flat_map (λ events.
@@ -31,3 +33,7 @@ module _ {W L T G H : Type 0} (x : WorldWords W L) (y : TalkWords T L G H) (setu
     pub ends : ended ≡ Empty → lost ≡ [] → (place : PlaceState H W T) (desk : Desk W)
         → slice_get states 0 ≡ Some place → place.role ≡ Polling desk
         → RunEnds y (x.tells first).total states desk
+    -- there is a list of what is queued for each colour; with the log, each connection's lines came
+    -- in order
+    pub many_queued : length queued ≡ colours_over (x.tells first).total log
+    pub ordered : LogsEndInOrder y (x.tells first).total log states queued lost

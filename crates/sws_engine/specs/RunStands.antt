@@ -1,5 +1,5 @@
 -- What holds of a run across its colours, as sums over all states and all events under way.
-use Rattle.std.specs.Prelude.{◌≡◌, ℕ, ◌+◌, ◌≤◌, ◌<◌, ◌==◌, ◌&&◌, not, nat_lt, Bool, true, List, Option, Some, None, sum_by}
+use Rattle.std.specs.Prelude.{◌≡◌, ℕ, ◌+◌, ◌≤◌, ◌<◌, ◌==◌, ◌&&◌, ◌||◌, not, nat_lt, Bool, true, List, Option, Some, None, sum_by}
 use Rattle.mely_event.specs.declared.event.Event.{Event}
 use Rattle.sws_steps.specs.declared.talk.Talk.{Ghosts as TalkWords}
 use Rattle.sws_conn.specs.Path.{Handler}
@@ -9,7 +9,7 @@ use Rattle.sws_engine.specs.declared.load.Load.{Load}
 use Rattle.sws_engine.specs.declared.place.Desk.{Desk}
 use Rattle.sws_engine.specs.declared.place.Seat.{Seat}
 use Rattle.sws_engine.specs.declared.place.Role.{Role}
-use Rattle.sws_engine.specs.declared.place.Role.TheVariants.{Polling, Accepting, Talking}
+use Rattle.sws_engine.specs.declared.place.Role.TheVariants.{Polling, Accepting, Talking, Logging}
 use Rattle.sws_engine.specs.Handling.{number_of, is_some}
 use Rattle.sws_engine.specs.Counting.{bit, times}
 use Rattle.sws_engine.specs.Loads.{world_of}
@@ -70,18 +70,21 @@ module _ {W T : Type 0} where
   at_desk of (Polling desk) = of desk
   at_desk of Accepting = 0
   at_desk of (Talking seat) = 0
+  at_desk of Logging = 0
 
   -- a number of the seat, and 0 where the role isn't to talk
   abbrev pub at_seat : (Seat T → ℕ) → Role W T → ℕ
   at_seat of (Polling desk) = 0
   at_seat of Accepting = 0
   at_seat of (Talking seat) = of seat
+  at_seat of Logging = 0
 
-  -- the role isn't that of the colour
-  abbrev pub misplaced_at : ℕ → Role W T → ℕ
-  misplaced_at c (Polling desk) = bit (not (c == 0))
-  misplaced_at c Accepting = bit (not (c == 1))
-  misplaced_at c (Talking seat) = bit (nat_lt c 2)
+  -- the role isn't that of the colour, of so many links
+  abbrev pub misplaced_at : ℕ → ℕ → Role W T → ℕ
+  misplaced_at total c (Polling desk) = bit (not (c == 0))
+  misplaced_at total c Accepting = bit (not (c == 1))
+  misplaced_at total c (Talking seat) = bit (nat_lt c 2 || not (nat_lt c (total + 2)))
+  misplaced_at total c Logging = bit (not (c == total + 2))
 
 -- the number of the handler that is due, and 0 where none is
 abbrev pub first_number : Option Handler → ℕ
@@ -95,8 +98,8 @@ is_stray (Some event) = 1
 
 module _ {H W T : Type 0} where
   -- a state whose role isn't that of its colour
-  abbrev pub misplaced_count : PlaceState H W T → ℕ
-  misplaced_count s = misplaced_at s.colour.0 s.role
+  abbrev pub misplaced_count : ℕ → PlaceState H W T → ℕ
+  misplaced_count total s = misplaced_at total s.colour.0 s.role
 
   -- a state that polls
   abbrev pub desks : PlaceState H W T → ℕ
@@ -155,7 +158,7 @@ module _ {W L T G H : Type 0} (y : TalkWords T L G H) where
       (ways : List (Way W L)) : Type 0 where
     -- each colour has the role that is its own, there is one state that polls,
     -- and one for each connection
-    pub placed : sum_by misplaced_count states ≡ 0
+    pub placed : sum_by (misplaced_count total) states ≡ 0
     pub one_desk : sum_by desks states ≡ 1
     pub one_seat : (i : ℕ) → i < total → sum_by (seats i) states ≡ 1
     -- there is one world: in an event, or at rest in the state that polls

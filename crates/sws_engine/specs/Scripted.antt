@@ -1,5 +1,5 @@
 -- A world whose links answer by scripts.
-use Rattle.std.specs.Prelude.{◌≡◌, ℕ, IsTrue, List, Some, length, map, slice_get}
+use Rattle.std.specs.Prelude.{◌≡◌, ℕ, Bool, IsTrue, List, Some, length, map, slice_get}
 use Rattle.mely_history.specs.declared.shape.Shape.{Shape}
 use Rattle.sws_link.specs.Scripts.{Script}
 use Rattle.sws_link.specs.Worlds.{Coming}
@@ -23,8 +23,8 @@ pub record TellsScripts {W L : Type 0} (x : WorldWords W L) (first : W)
 -- over such a world the histories at Ok are those of the server on these scripts, by the definition
 -- of a run, and so no others
 abbrev pub IsScheduled : {W L : Type 0} → WorldWords W L → SiteState → Shape → W
-    → List (ℕ × ℕ) → Ended W L → Type 0
-IsScheduled x site shape first schedule ended =
+    → Bool → List (ℕ × ℕ) → Ended W L → Type 0
+IsScheduled x site shape first log schedule ended =
     (scripts : List Script) → TellsScripts x first scripts → ended.verdict ≡ verdict.Ok
-    → IsServerRun shape site scripts schedule
+    → IsServerRun shape log site scripts schedule
     (map (λ history. history.items) ended.histories.items)

@@ -7,6 +7,7 @@ use Rattle.sws_steps.specs.declared.talk.Talk.{Ghosts as TalkWords}
 use Rattle.sws_conn.specs.Outcome.{UnlessMemory}
 use Rattle.sws_conn.specs.Path.{Handler, TakesOff}
 use Rattle.sws_conn.specs.Talks.{unopened_view, due, HasServed, path_to_come, IsDue}
+use Rattle.sws_steps.specs.Talks.{LinesServed}
 use Rattle.sws_engine.specs.declared.place.Seat.{Seat}
 use Rattle.sws_engine.specs.Place.{PlaceState}
 use Rattle.sws_engine.specs.Loads.{LinkStands}
@@ -20,11 +21,12 @@ module _ {W L T G H : Type 0} (x : WorldWords W L) (l : LinkWords L) (y : TalkWo
   conn = conn_of place.colour
 
   -- a connection without a link is unopened; one with a link was given the link of its number,
-  -- and has served it so far
+  -- has served it so far, and gave the lines of what it served
   abbrev pub ServedBy : Option L → Type 0
   ServedBy None = y.view_of seat.talk ≡ unopened_view
   ServedBy (Some now) = (first : L) × LinkStands x l place.first conn first
       × HasServed l (y.responses place.hall) (y.outcome place.hall) first now (y.view_of seat.talk)
+      × LinesServed (y.log place.hall conn) (l.tells first) (y.view_of seat.talk)
 
   -- the steps that were run come first on the path of a link that told its answers to come, whose
   -- rest begins with the due one
@@ -39,6 +41,8 @@ module _ {W L T G H : Type 0} (x : WorldWords W L) (l : LinkWords L) (y : TalkWo
   -- the connection was served so far; unless an event was stray, its trail is the steps it ran
   pub record SeatServes : Type 0 where
     pub served : ServedBy (y.link_of seat.talk)
+    -- its lines were counted
+    pub answered : seat.answered ≡ (y.view_of seat.talk).lines
     -- without a stray event the trail is the steps that were run
     pub trailed : seat.stray ≡ None → (ran : List Handler)
         × (place.trail ≡ map (event_for conn) ran) × OnPath ran

@@ -1,31 +1,34 @@
 -- The server on a scripted world as a function: what each handler does, on what the world and its
--- connections are. Nothing is known of a connection but the rest of its path.
-use Rattle.std.specs.Prelude.{ℕ, zero, suc, ◌+◌, ◌-◌, ◌==◌, ◌&&◌, ◌||◌, Bool, true, false, not, List, [], ◌∷◌, Option, None, Some, length, slice_get, slice_set, if◌then◌else◌}
+-- connections are. Nothing is known of a connection but the steps of the rest of its path.
+use Rattle.std.specs.Prelude.{ℕ, zero, suc, ◌+◌, ◌-◌, ◌==◌, ◌&&◌, ◌||◌, Bool, true, false, not, List, [], ◌∷◌, ◌++◌, Option, None, Some, length, slice_get, slice_set, if◌then◌else◌}
 use Rattle.mely_event.specs.declared.colour.Colour.{Colour}
 use Rattle.mely_event.specs.declared.event.Event.{Event}
-use Rattle.sws_conn.specs.Path.{Handler, open_link, resume}
+use Rattle.sws_steps.specs.Logs.{Step}
+use Rattle.sws_conn.specs.Path.{open_link, resume}
 use Rattle.mely_machine.specs.Machine.{Acted}
 use Rattle.sws_engine.specs.Handling.{number_of}
 use Rattle.sws_engine.specs.Waiting.{waiting_with}
-use Rattle.sws_engine.specs.PathPlaces.{poll, accept, talk, follows}
+use Rattle.sws_engine.specs.PathPlaces.{poll, accept, talk, follows, logs}
 
 -- who waits, whether no more links are to come, whether the world rests, how many links were
--- accepted, and of each connection the rest of its path
+-- accepted, of each connection the steps of the rest of its path, and whether there is a log
 pub record Server : Type 0 where
   pub waiting : List ℕ
   pub last : Bool
   pub rests : Bool
   pub accepted : ℕ
-  pub paths : List (List Handler)
+  pub paths : List (List Step)
+  pub log : Bool
 
 -- nothing was accepted, and no connection is open
-abbrev pub initial_server : List (List Handler) → Server
-initial_server paths = record {
+abbrev pub initial_server : Bool → List (List Step) → Server
+initial_server log paths = record {
   waiting = [];
   last = false;
   rests = false;
   accepted = 0;
   paths = paths;
+  log = log;
 }
 
 -- the world goes on, by whether no more links are to come: the next is accepted; or where somebody
@@ -62,18 +65,22 @@ after_accept s i = record {
   becomes = record s { accepted = i + 1 };
 }
 
--- a connection's event: where it is the next of the path, it is taken off the path, and what
--- follows is registered; any other does nothing
-abbrev pub after_talk : Server → ℕ → Bool → List Handler → Acted Server
-after_talk s i false later = record { puts = []; becomes = s }
-after_talk s i true later =
-    record { puts = follows i later; becomes = record s { paths = slice_set s.paths i later } }
+-- a connection's event: where it is that of the next step, that is taken off the path, and what
+-- follows is registered, behind it the line that the step gave; any other does nothing
+abbrev pub after_talk : Server → ℕ → Bool → Step → List Step → Acted Server
+after_talk s i false step later = record { puts = []; becomes = s }
+after_talk s i true step later = record {
+  puts = follows i later ++ logs s.log (length s.paths) i step.line;
+  becomes = record s { paths = slice_set s.paths i later };
+}
 
--- what connection i does with an event of this handler, by the rest of its path, where one is left
-abbrev pub after_event : Server → ℕ → ℕ → Option (List Handler) → Acted Server
+-- what connection i does with an event of this handler, by the rest of its path, where one is left;
+-- the colour of the log is that of no connection, and nothing comes of its events
+abbrev pub after_event : Server → ℕ → ℕ → Option (List Step) → Acted Server
 after_event s i handler None = record { puts = []; becomes = s }
 after_event s i handler (Some []) = record { puts = []; becomes = s }
-after_event s i handler (Some (next ∷ later)) = after_talk s i (number_of next == handler) later
+after_event s i handler (Some (next ∷ later)) =
+    after_talk s i (number_of next.handler == handler) next later
 
 -- by the number of the handler
 abbrev pub after_handler : Server → ℕ → ℕ → ℕ → Acted Server

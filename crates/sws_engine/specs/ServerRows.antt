@@ -1,5 +1,5 @@
 -- Worked schedules of the server on two cores.
-use Rattle.std.specs.Prelude.{ℕ, List, [], ◌∷◌, None}
+use Rattle.std.specs.Prelude.{ℕ, Bool, true, false, List, [], ◌∷◌, None}
 use Rattle.mely_event.specs.declared.colour.Colour.{Colour}
 use Rattle.mely_event.specs.declared.event.Event.{Event}
 use Rattle.mely_history.specs.declared.shape.Shape.{Shape}
@@ -7,7 +7,9 @@ use Rattle.mely_history.specs.declared.entry.Entry.{Entry}
 use Rattle.mely_history.specs.declared.entry.Entry.TheVariants.{Reg, Take, Fin, Steal}
 use Rattle.sws_link.specs.Scripts.{Script}
 use Rattle.sws_site.specs.Site.{SiteState}
-use Rattle.sws_engine.specs.ServerRun.{IsServerRun}
+use Rattle.sws_steps.specs.Logs.{Step}
+use Rattle.sws_conn.specs.Path.{Handler, open_link, read_piece, parse, look, write_part, close}
+use Rattle.sws_engine.specs.ServerRun.{IsRunOfPaths, IsServerRun}
 
 -- the colour of this number
 abbrev pub col : ℕ → Colour
@@ -41,7 +43,32 @@ worked_histories = ((
 abbrev pub polled_histories : List (List Entry)
 polled_histories = (Reg (col 0) (event 0 1) 2 ∷ Take (col 0) 0 1 ∷ Fin (col 0) 0 1 ∷ []) ∷ []
 
+-- a step that gives a line, or none
+abbrev pub step : Handler → Bool → Step
+step handler line = record { handler = handler; line = line }
+
+-- the steps of a connection with one answer, which closes it: the second write ends the answer, and
+-- so gives its line
+abbrev pub answered : List Step
+answered = step open_link false ∷ step read_piece false ∷ step parse false ∷ step look false
+    ∷ step write_part false ∷ step write_part true ∷ step close false ∷ []
+
+-- the histories of one such connection with the log, six steps of core 0 and twelve of core 1: the
+-- line is registered behind the close that comes next, on the last colour
+abbrev pub logged_histories : List (List Entry)
+logged_histories = ((
+    Reg (col 0) (event 0 0) 2 ∷ Take (col 0) 0 1 ∷ Reg (col 1) (event 2 0) 0 ∷ Fin (col 0) 0 1
+    ∷ Take (col 1) 1 1 ∷ Reg (col 0) (event 0 1) 1 ∷ Reg (col 2) (event 3 0) 1 ∷ Fin (col 1) 1 1
+    ∷ Steal (col 2) 0 1 ∷ Take (col 0) 0 1 ∷ Take (col 2) 1 1 ∷ Fin (col 0) 0 1
+    ∷ Reg (col 2) (event 4 0) 1 ∷ Fin (col 2) 1 1 ∷ Take (col 2) 1 1 ∷ Reg (col 2) (event 5 0) 1
+    ∷ Fin (col 2) 1 1 ∷ Take (col 2) 1 1 ∷ Reg (col 2) (event 6 0) 1 ∷ Fin (col 2) 1 1
+    ∷ Take (col 2) 1 1 ∷ Reg (col 2) (event 7 0) 1 ∷ Fin (col 2) 1 1 ∷ Take (col 2) 1 1
+    ∷ Reg (col 2) (event 7 0) 1 ∷ Fin (col 2) 1 1 ∷ Take (col 2) 1 1 ∷ Reg (col 2) (event 8 0) 1
+    ∷ Reg (col 3) (event 10 0) 1 ∷ Fin (col 2) 1 1 ∷ Steal (col 3) 1 0 ∷ Take (col 2) 1 1
+    ∷ Take (col 3) 0 1 ∷ Fin (col 2) 1 1 ∷ Fin (col 3) 0 1 ∷ []) ∷ [])
+
 -- whatever the site is
 pub record WorkedSchedules (site : SiteState) : Type 0 where
-  pub worked : IsServerRun two_cores site (no_input ∷ []) ((0, 6) ∷ (1, 12) ∷ []) worked_histories
-  pub polled : IsServerRun two_cores site [] ((1, 2) ∷ []) polled_histories
+  pub worked : IsServerRun two_cores false site (no_input ∷ []) ((0, 6) ∷ (1, 12) ∷ []) worked_histories
+  pub logged : IsRunOfPaths two_cores true (answered ∷ []) ((0, 6) ∷ (1, 12) ∷ []) logged_histories
+  pub polled : IsServerRun two_cores false site [] ((1, 2) ∷ []) polled_histories

@@ -1,5 +1,5 @@
 -- What a run of the server over a weave leaves.
-use Rattle.std.specs.Prelude.{◌≡◌, ◌≢◌, ◌⊎◌, ℕ, false, [], map, Some}
+use Rattle.std.specs.Prelude.{◌≡◌, ◌≢◌, ◌⊎◌, ℕ, Bool, false, [], map, Some}
 use Rattle.mely_history.specs.declared.shape.Shape.{Shape}
 use Rattle.sws_link.specs.declared.Link.{Ghosts as LinkWords}
 use Rattle.sws_link.specs.declared.world.World.{Ghosts as WorldWords}
@@ -18,14 +18,15 @@ pub record HasNotBegun {W L : Type 0} (world : W) (ended : Ended W L) : Type 0 w
   pub none_served : ended.served.items ≡ []
   pub no_history : ended.histories.items ≡ []
   pub no_trail : ended.trails.items ≡ []
+  pub no_line : ended.log.items ≡ []
 
 module _ {W L T G H : Type 0} (x : WorldWords W L) (l : LinkWords L) (y : TalkWords T L G H)
-    (shape : Shape) (hall : H) (first : W) (ended : Ended W L) where
+    (shape : Shape) (hall : H) (first : W) (log : Bool) (ended : Ended W L) where
   -- a run by the shape, over the world that was handed in
   pub record HasRun : Type 0 where
-    pub left : RunLeft x l y shape hall first ended
+    pub left : RunLeft x l y shape hall first log ended
     pub open left use *
-    pub ran : RunParts x y setup first how (map (λ history. history.items) parts.histories.items)
+    pub ran : RunParts x y setup first log how (map (λ history. history.items) parts.histories.items)
         parts.states.items (map (λ events. events.items) parts.queued.items) parts.lost.items
     -- at Ok each connection follows the script that its link is known to answer by
     pub follows : ended.verdict ≡ verdict.Ok → AllFollow x l y hall first ended

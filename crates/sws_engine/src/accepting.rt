@@ -106,6 +106,7 @@ pub(crate) fn run_accepting<W: World + Drop>(
         Some(Task::Accept) => match load {
             Some(Load::World(held)) => accept(total, held, outs),
             Some(Load::Link(_)) => {}
+            Some(Load::Line(_)) => {}
             None => {}
         },
         Some(Task::Poll) => {}
@@ -117,6 +118,7 @@ pub(crate) fn run_accepting<W: World + Drop>(
         Some(Task::Write) => {}
         Some(Task::Close) => {}
         Some(Task::Resume) => {}
+        Some(Task::Log) => {}
         None => {}
     }
 }

@@ -2,11 +2,13 @@
 ghost use Rattle.std.specs.Prelude.{◌≡◌, ◌<◌, ◌≤◌, ◌+◌, ◌-◌, ◌++◌, ◌∷◌, [], ℕ, List, Option, length};
 ghost use Rattle.std.specs.List.{AllByRecursion};
 ghost use Rattle.mely_worker.specs.Access.{FitsIn};
-ghost use Rattle.sws_engine.specs.Loads.{Fit};
+ghost use Rattle.sws_engine.specs.Counting.{colours_over};
+ghost use Rattle.sws_engine.specs.Loads.{FitsTold};
 
 use crate::accepting::run_accepting;
 use crate::desk::run_desk;
 use crate::load::Load;
+use crate::logging::run_logging;
 use crate::place::{Place, Role};
 use crate::seating::serve;
 use mely_event::{Colour, Event, Fits, Trail};
@@ -17,20 +19,24 @@ use sws_conn::Talk;
 use sws_link::{Link, World};
 
 /// The web server, over so many links: colour 0 asks which of the waiting connections is ready,
-/// colour 1 accepts, and colour `2 + i` is connection `i`.
+/// colour 1 accepts, and colour `2 + i` is connection `i`. With the access log, colour `2 + total`
+/// keeps its lines.
 #[derive(Drop)]
 pub struct Sws<W, T> {
     pub(crate) total: u16,
+    pub(crate) log: bool,
     of: PhantomData<Mutex<(W, T)>>,
 }
 
 impl<W, T> Sws<W, T> {
-    /// The server over so many links.
-    pub fn new(total: u16) -> Sws<W, T>
-        ensures { result.total ≡ total }
+    /// The server over so many links, with the access log or without.
+    pub fn new(total: u16, log: bool) -> Sws<W, T>
+        ensures total { result.total ≡ total }
+        ensures log { result.log ≡ log }
     {
         Sws {
             total,
+            log,
             of: PhantomData,
         }
     }
@@ -43,18 +49,19 @@ impl<W: World + Drop, T: Talk<W::Link> + Drop> App for Sws<W, T> {
 
     ghost use Rattle.std.specs.Prelude.{◌≡◌, ◌≤◌, ◌+◌};
     ghost use Rattle.sws_engine.specs.Handling.{Runs};
+    ghost use Rattle.sws_engine.specs.Counting.{colours_over};
     ghost use Rattle.sws_engine.specs.Limits.{conn_limit};
     ghost use Rattle.sws_engine.specs.PlaceFields.{frame_in};
 
-    ghost colours_of = { λ app. app.total + 2 };
+    ghost colours_of = { λ app. colours_over app.total app.log };
 
-    ghost handlers_of = { λ app. 10 };
+    ghost handlers_of = { λ app. 11 };
 
     ghost serves = { λ app frame.
         ((W.tells frame.first).total ≡ app.total) × (app.total ≤ conn_limit) };
 
     ghost runs = { λ app before event load after puts.
-        Runs W.World W.Link.Link T.Talk app.total before event load after puts };
+        Runs W.World W.Link.Link T.Talk app.log app.total before event load after puts };
 
     fn run(
         &self,
@@ -67,25 +74,29 @@ impl<W: World + Drop, T: Talk<W::Link> + Drop> App for Sws<W, T> {
             × (self.now.total ≤ conn_limit) }
         requires room { 1 ≤ state.old.spare }
         requires empty { outs.old ≡ [] }
-        requires fits { Fit W.World W.Link.Link state.old.first state.old.colour event load }
-        ensures ran { Runs W.World W.Link.Link T.Talk self.now.total state.old event
+        requires fits { FitsTold W.World W.Link.Link T.Talk state.old.hall state.old.first
+            state.old.colour event load }
+        ensures ran { Runs W.World W.Link.Link T.Talk self.now.log self.now.total state.old event
             load state.new outs.new }
         ensures colour { state.new.colour ≡ state.old.colour }
         ensures frame { frame_in state.new ≡ frame_in state.old }
         ensures trail { state.new.trail ≡ state.old.trail ++ event ∷ [] }
         ensures spare { state.old.spare ≡ state.new.spare + 1 }
         ensures puts { AllByRecursion
-            (FitsIn (self.now.total + 2) 10 (Fit W.World W.Link.Link state.old.first)) outs.new }
+            (FitsIn (colours_over self.now.total self.now.log) 11
+            (FitsTold W.World W.Link.Link T.Talk state.old.hall state.old.first)) outs.new }
         ensures few { length outs.new ≤ 2 }
     {
         // What holds of a run: a connection that has run isn't to be opened again.
         T::a_run_serves();
         let total = self.total;
+        let log = self.log;
         state.trail.push_reserved(event);
         match &mut *state.role {
             Role::Polling(desk) => run_desk(desk, event, load, outs),
             Role::Accepting => run_accepting(total, event, load, outs),
-            Role::Talking(seat) => serve(seat, state.colour.0 - 2, event, load, outs),
+            Role::Talking(seat) => serve(seat, state.colour.0 - 2, total, log, event, load, outs),
+            Role::Logging => run_logging(&mut state.lines, load),
         }
     }
 }

@@ -42,17 +42,20 @@ fn split_world<W: Drop>(found: Option<WorldLoad<W>>) -> (Option<W>, u16, bool)
 /// rest. It takes no memory.
 ///
 /// The verdict is [`Memory`](crate::Verdict::Memory) exactly where memory was refused: the weave
-/// wasn't drained, a registration was lost, or a link met want of memory.
+/// wasn't drained, a registration was lost, or a link met want of memory. With the log, the lines of
+/// each connection that was to be served are numbered too, or the verdict is
+/// [`Apart`](crate::Verdict::Apart).
 pub fn conclude<W: World + Drop, T: Talk<W::Link> + Drop>(
     room: EndRoom<W::Link>,
     total: u16,
     parts: WeaveParts<Place<W, T>, Load<W, W::Link>>,
     drained: Drained,
+    log: bool,
 ) -> Ended<W>
     requires room { HasEndRoom total room }
-    requires states { length parts.states.items ≤ total + 2 }
+    requires states { length parts.states.items ≤ total + 3 }
     requires seats { length (talkers parts.states.items) ≤ total }
-    ensures concluded { IsConcluded T.Talk total drained parts result }
+    ensures concluded { IsConcluded T.Talk total log drained parts result }
     ensures tell { AllByRecursion (StateTells W.World W.Link.Link T.Talk) parts.states.items }
 {
     let whole = ran_all(drained, &parts.lost);
@@ -62,11 +65,17 @@ pub fn conclude<W: World + Drop, T: Talk<W::Link> + Drop>(
         queued,
         lost,
     } = parts;
-    let EndRoom { served, trails } = room;
+    let EndRoom {
+        served,
+        trails,
+        no_line,
+        mut turns,
+    } = room;
     let mut left = Left {
         world: None,
         served,
         trails,
+        log: no_line,
     };
     keep_states(states, &mut left);
     keep_queued(queued, &mut left);
@@ -75,9 +84,20 @@ pub fn conclude<W: World + Drop, T: Talk<W::Link> + Drop>(
         world,
         served,
         trails,
+        log: lines,
     } = left;
     let (world, accepted, failed) = split_world(world);
-    let verdict = judge(whole, total, world.is_some(), accepted, failed, &served);
+    let verdict = judge(
+        log,
+        &lines,
+        &mut turns,
+        whole,
+        total,
+        world.is_some(),
+        accepted,
+        failed,
+        &served,
+    );
     Ended {
         verdict,
         world,
@@ -86,5 +106,6 @@ pub fn conclude<W: World + Drop, T: Talk<W::Link> + Drop>(
         served,
         histories,
         trails,
+        log: lines,
     }
 }

@@ -184,11 +184,13 @@ pub(crate) fn run_desk<W: World + Drop>(
         Some(Task::Poll) => match load {
             Some(Load::World(held)) => poll(desk, event.arg, held, outs),
             Some(Load::Link(_)) => {}
+            Some(Load::Line(_)) => {}
             None => {}
         },
         Some(Task::Wait) => match load {
             Some(Load::World(_)) => {}
             Some(Load::Link(_)) => {}
+            Some(Load::Line(_)) => {}
             None => wait(desk, event.arg, outs),
         },
         Some(Task::Accept) => {}
@@ -199,6 +201,7 @@ pub(crate) fn run_desk<W: World + Drop>(
         Some(Task::Write) => {}
         Some(Task::Close) => {}
         Some(Task::Resume) => {}
+        Some(Task::Log) => {}
         None => {}
     }
 }

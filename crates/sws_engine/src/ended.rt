@@ -8,6 +8,7 @@ use mely_history::Entry;
 use std::alloc::Global;
 use sws_conn::End;
 use sws_link::{Link, Memory, World};
+use sws_log::LogLine;
 
 /// How a run is judged.
 #[derive(Clone, Copy, Debug, PartialEq, Eq)]
@@ -18,8 +19,8 @@ pub enum Verdict {
     /// The world failed; all was run, and each link that was accepted was served.
     World,
 
-    /// All was run, but something is amiss: with the link of this number, or with the world where
-    /// this is the number of all links.
+    /// All was run, but something is amiss: with the link of this number, or its lines in the access
+    /// log, or with the world where this is the number of all links.
     Apart { conn: u16 },
 
     /// Memory was refused.
@@ -40,6 +41,9 @@ pub struct Served<L> {
 
     /// How many bytes were written.
     pub written: u64,
+
+    /// How many lines it gave for the access log, whether or not they were kept.
+    pub answered: u16,
 
     /// The first event of the connection that wasn't due.
     pub stray: Option<Event>,
@@ -65,6 +69,9 @@ pub struct Ended<W: World> {
 
     /// The events that were run of each colour, in order.
     pub trails: Vec<Vec<Event>>,
+
+    /// The lines of the access log, in the order in which they were kept; none without the log.
+    pub log: Vec<LogLine>,
 }
 
 /// Room for what a run leaves, made before it begins.
@@ -72,6 +79,12 @@ pub struct Ended<W: World> {
 pub struct EndRoom<L> {
     pub(crate) served: Vec<Served<L>>,
     pub(crate) trails: Vec<Vec<Event>>,
+
+    /// It takes the lines of the log as they come, and has none itself.
+    pub(crate) no_line: Vec<LogLine>,
+
+    /// For each connection the last turn of its lines, before the first.
+    pub(crate) turns: Vec<Option<u16>>,
 }
 
 impl<L> EndRoom<L> {
@@ -87,7 +100,12 @@ impl<L> EndRoom<L> {
         ensures { IfOk result (HasEndRoom total) }
     {
         let served = Vec::with_capacity(alloc, usize::from(total))?;
-        let trails = Vec::with_capacity(alloc, usize::from(total) + 2)?;
-        Ok(EndRoom { served, trails })
+        let trails = Vec::with_capacity(alloc, usize::from(total) + 3)?;
+        Ok(EndRoom {
+            served,
+            trails,
+            no_line: Vec::new(alloc),
+            turns: vec![in alloc; Some(0); usize::from(total)]?,
+        })
     }
 }

@@ -2,7 +2,8 @@
 ghost use Rattle.std.specs.Prelude.{◌≡◌, ◌≤◌, ◌+◌, ◌++◌, ◌∷◌, [], ℕ, List, Option, length};
 ghost use Rattle.std.specs.List.{AllByRecursion};
 ghost use Rattle.mely_worker.specs.Access.{FitsIn};
-ghost use Rattle.sws_engine.specs.Loads.{Fit};
+ghost use Rattle.sws_engine.specs.Counting.{colours_over};
+ghost use Rattle.sws_engine.specs.Loads.{FitsTold};
 
 use crate::app::Sws;
 use crate::load::Load;
@@ -25,12 +26,13 @@ pub struct Gated<'g, W, T, G> {
 impl<'g, W, T, G> Gated<'g, W, T, G> {
     ghost use Rattle.std.specs.Prelude.{◌≡◌};
 
-    /// The server over so many links, behind a gate.
-    pub fn new(total: u16, gate: &'g G) -> Gated<'g, W, T, G>
-        ensures { result.app.total ≡ total }
+    /// The server over so many links, with the access log or without, behind a gate.
+    pub fn new(total: u16, log: bool, gate: &'g G) -> Gated<'g, W, T, G>
+        ensures total { result.app.total ≡ total }
+        ensures log { result.app.log ≡ log }
     {
         Gated {
-            app: Sws::new(total),
+            app: Sws::new(total, log),
             gate,
         }
     }
@@ -43,18 +45,20 @@ impl<'g, W: World + Drop, T: Talk<W::Link> + Drop, G: Gate> App for Gated<'g, W,
 
     ghost use Rattle.std.specs.Prelude.{◌≡◌, ◌≤◌, ◌+◌};
     ghost use Rattle.sws_engine.specs.Handling.{Runs};
+    ghost use Rattle.sws_engine.specs.Counting.{colours_over};
     ghost use Rattle.sws_engine.specs.Limits.{conn_limit};
     ghost use Rattle.sws_engine.specs.PlaceFields.{frame_in};
 
-    ghost colours_of = { λ gated. gated.app.total + 2 };
+    ghost colours_of = { λ gated. colours_over gated.app.total gated.app.log };
 
-    ghost handlers_of = { λ gated. 10 };
+    ghost handlers_of = { λ gated. 11 };
 
     ghost serves = { λ gated frame.
         ((W.tells frame.first).total ≡ gated.app.total) × (gated.app.total ≤ conn_limit) };
 
     ghost runs = { λ gated before event load after puts.
-        Runs W.World W.Link.Link T.Talk gated.app.total before event load after puts };
+        Runs W.World W.Link.Link T.Talk gated.app.log gated.app.total before event load after
+        puts };
 
     fn run(
         &self,
@@ -67,15 +71,17 @@ impl<'g, W: World + Drop, T: Talk<W::Link> + Drop, G: Gate> App for Gated<'g, W,
             × (self.now.app.total ≤ conn_limit) }
         requires room { 1 ≤ state.old.spare }
         requires empty { outs.old ≡ [] }
-        requires fits { Fit W.World W.Link.Link state.old.first state.old.colour event load }
-        ensures ran { Runs W.World W.Link.Link T.Talk self.now.app.total state.old event
-            load state.new outs.new }
+        requires fits { FitsTold W.World W.Link.Link T.Talk state.old.hall state.old.first
+            state.old.colour event load }
+        ensures ran { Runs W.World W.Link.Link T.Talk self.now.app.log self.now.app.total state.old
+            event load state.new outs.new }
         ensures colour { state.new.colour ≡ state.old.colour }
         ensures frame { frame_in state.new ≡ frame_in state.old }
         ensures trail { state.new.trail ≡ state.old.trail ++ event ∷ [] }
         ensures spare { state.old.spare ≡ state.new.spare + 1 }
         ensures puts { AllByRecursion
-            (FitsIn (self.now.app.total + 2) 10 (Fit W.World W.Link.Link state.old.first)) outs.new }
+            (FitsIn (colours_over self.now.app.total self.now.app.log) 11
+            (FitsTold W.World W.Link.Link T.Talk state.old.hall state.old.first)) outs.new }
         ensures few { length outs.new ≤ 2 }
     {
         self.gate.pass(0, state.colour, event);

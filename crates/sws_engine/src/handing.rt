@@ -28,6 +28,7 @@ fn keep_load<W: Drop, L: Drop>(event: Event, load: Option<Load<W, L>>, left: &mu
     match load {
         Some(Load::World(held)) => left.world = Some(held),
         Some(Load::Link(link)) => give_link(link, event.arg, &mut left.served),
+        Some(Load::Line(_)) => {}
         None => {}
     }
 }

@@ -1,14 +1,14 @@
 //! Laws, for contracts alone: what a state tells of its connection, and what the handlers make of a
 //! scripted world.
-ghost use Rattle.std.specs.Prelude.{◌≡◌, ℕ, List, map};
+ghost use Rattle.std.specs.Prelude.{◌≡◌, ℕ, Bool, List, map};
 ghost use Rattle.sws_engine.specs.declared.place.Role.TheVariants.{Talking};
 ghost use Rattle.sws_engine.specs.Served.{SeatServes};
-ghost use Rattle.sws_conn.specs.Path.{Handler};
+ghost use Rattle.sws_steps.specs.Logs.{Step};
 ghost use Rattle.sws_engine.specs.PathStates.{TellsPaths, FollowsPaths, StaysSpoilt};
 ghost use Rattle.sws_link.specs.Scripts.{Script};
 ghost use Rattle.sws_site.specs.Site.{SiteState};
 ghost use Rattle.sws_site.specs.Limits.{IsWithinLimits};
-ghost use Rattle.sws_conn.specs.Path.{path_of};
+ghost use Rattle.sws_conn.specs.Logs.{steps_of};
 ghost use Rattle.sws_engine.specs.Agrees.{AreOpened};
 ghost use Rattle.sws_engine.specs.ServerRows.{WorkedSchedules};
 
@@ -29,12 +29,12 @@ pub fn a_state_tells_what_was_served<W: World, T: Talk<W::Link>>(place: &Place<W
 }
 
 /// The law of a scripted world, for contracts alone. There the handlers are a function of what is
-/// left of the connections' paths: each leaves and puts what the paths say, unless its connection
+/// left of the connections' paths, with the log or without it: each leaves and puts what the paths say, unless its connection
 /// met want of memory, which then stays so. A call does nothing.
 pub fn the_handlers_follow_the_paths<W: World, T: Talk<W::Link>>()
-    ensures follows { (hall : T.Contents) (first : W) (paths : List (List Handler)) (total : ℕ)
+    ensures follows { (hall : T.Contents) (first : W) (log : Bool) (paths : List (List Step)) (total : ℕ)
         → TellsPaths W.World W.Link.Link T.Talk hall first paths
-        → FollowsPaths W.World W.Link.Link T.Talk hall first paths total }
+        → FollowsPaths W.World W.Link.Link T.Talk hall first log paths total }
     ensures spoilt { (total : ℕ) → StaysSpoilt W.World W.Link.Link T.Talk total }
 {
     T::a_run_serves();
@@ -43,11 +43,11 @@ pub fn the_handlers_follow_the_paths<W: World, T: Talk<W::Link>>()
 /// The path of each script begins with the opening and has no other. A call does nothing.
 pub fn each_path_opens_once()
     ensures { (site : SiteState) (scripts : List Script) → IsWithinLimits site.files
-        → AreOpened (map (path_of site) scripts) }
+        → AreOpened (map (steps_of site) scripts) }
 {}
 
-/// Two schedules of two cores, worked out by hand, write these histories by the definition of a
-/// run, whatever the site is. A call does nothing.
+/// Three schedules of two cores, one of them with the log, write by the definition of a run the
+/// histories that were worked out apart from it, whatever the site is. A call does nothing.
 pub fn worked_schedules_hold()
     ensures { (site : SiteState) → IsWithinLimits site.files → WorkedSchedules site }
 {}

@@ -11,13 +11,15 @@ use crate::place::{Desk, Place, Role, Seat};
 use mely_event::Event;
 use sws_conn::Talk;
 use sws_link::{Link, World};
+use sws_log::LogLine;
 
-/// What is found of a run: the world, the connections, and the trails.
+/// What is found of a run: the world, the connections, the trails, and the lines of the log.
 #[derive(Drop)]
 pub(crate) struct Left<W, L> {
     pub(crate) world: Option<WorldLoad<W>>,
     pub(crate) served: Vec<Served<L>>,
     pub(crate) trails: Vec<Vec<Event>>,
+    pub(crate) log: Vec<LogLine>,
 }
 
 /// What has become of a connection; its talk is given up.
@@ -27,6 +29,7 @@ fn served_by<L: Link, T: Talk<L>>(seat: Seat<T>) -> Served<L>
     let Seat {
         talk,
         next: _,
+        answered,
         stray,
     } = seat;
     let end = talk.end();
@@ -38,11 +41,13 @@ fn served_by<L: Link, T: Talk<L>>(seat: Seat<T>) -> Served<L>
         end,
         read,
         written,
+        answered,
         stray,
     }
 }
 
-/// Keeps what a state has: its trail, and a world that rests there, or a connection.
+/// Keeps what a state has: its trail, and a world that rests there, a connection, or the lines of
+/// the log.
 fn keep_state<W: World + Drop, T: Talk<W::Link> + Drop>(
     place: Place<W, T>,
     left: &mut Left<W, W::Link>,
@@ -57,6 +62,7 @@ fn keep_state<W: World + Drop, T: Talk<W::Link> + Drop>(
     let Place {
         colour: _,
         trail,
+        lines,
         hall: _,
         first: _,
         role,
@@ -76,6 +82,7 @@ fn keep_state<W: World + Drop, T: Talk<W::Link> + Drop>(
         }
         Role::Accepting => {}
         Role::Talking(seat) => left.served.push_reserved(served_by(seat)),
+        Role::Logging => left.log = lines,
     }
 }
 

@@ -1,7 +1,8 @@
 //! The web server as an app of coloured events.
 //!
 //! Colour 0 asks the world which of the waiting connections is ready, colour 1 accepts links, and
-//! colour `2 + i` is the connection of the `i`-th link. There is one world; it lies in an event of
+//! colour `2 + i` is the connection of the `i`-th link. With the access log there is one colour more,
+//! behind all these, which keeps a line of each response that was written whole. There is one world; it lies in an event of
 //! colour 0 or 1, or rests in the state of colour 0.
 //!
 //! [`serve_all`] serves all links of a world out of a site, with a thread for each worker, and
@@ -22,6 +23,7 @@ mod judging;
 mod laws;
 mod left;
 mod load;
+mod logging;
 mod place;
 mod running;
 mod seating;

@@ -8,6 +8,7 @@ use std::marker::Model;
 use std::snapshot::Snapshot;
 use sws_conn::{Next, Talk};
 use sws_link::{Link, World};
+use sws_log::LogLine;
 
 /// What stays the same over a run: the hall, and the world as it was at first.
 /// It is for contracts alone.
@@ -33,6 +34,9 @@ pub struct Seat<T> {
 
     /// What its last step answered.
     pub(crate) next: Next,
+
+    /// How many lines it has given, whether or not they are kept.
+    pub(crate) answered: u16,
     pub(crate) stray: Option<Event>,
 }
 
@@ -42,6 +46,9 @@ pub enum Role<W, T> {
     Polling(Desk<W>),
     Accepting,
     Talking(Seat<T>),
+
+    /// The access log is kept in the lines of the state.
+    Logging,
 }
 
 /// The state of a colour.
@@ -49,6 +56,9 @@ pub enum Role<W, T> {
 pub struct Place<W: World, T: Talk<W::Link>> {
     pub(crate) colour: Colour,
     pub(crate) trail: Vec<Event>,
+
+    /// The lines of the access log, at the colour that keeps it.
+    pub(crate) lines: Vec<LogLine>,
     pub(crate) hall: T::Hall,
     pub(crate) first: Snapshot<W>,
 
@@ -91,6 +101,9 @@ impl<W: World, T: Talk<W::Link>> Trail for Place<W, T> {
 
     fn reserve(&mut self, n: usize) -> Result<(), Memory> {
         self.trail.reserve(n)?;
+        if let Role::Logging = *self.role {
+            self.lines.reserve(n)?;
+        }
         Ok(())
     }
 
@@ -110,8 +123,8 @@ impl<W: World, T: Talk<W::Link>> Trail for Place<W, T> {
 }
 
 impl<W: World, T: Talk<W::Link>> Fits<Load<W, W::Link>> for Place<W, T> {
-    ghost use Rattle.sws_engine.specs.Loads.{Fit};
+    ghost use Rattle.sws_engine.specs.Loads.{FitsTold};
 
     ghost fits_under = { λ frame colour event load.
-        Fit W.World W.Link.Link frame.first colour event load };
+        FitsTold W.World W.Link.Link T.Talk frame.hall frame.first colour event load };
 }

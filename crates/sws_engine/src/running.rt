@@ -5,6 +5,8 @@ ghost use Rattle.mely_history.specs.Setup.{shape_of, colours_of, handlers_of};
 ghost use Rattle.mely_weave.specs.Drains.{AllFree, HistoriesAreDrained};
 ghost use Rattle.mely_weave.specs.Runs.{KeepsSetup};
 ghost use Rattle.mely_run.specs.WholeRuns.{IsRunOut};
+ghost use Rattle.sws_engine.specs.Counting.{colours_over};
+ghost use Rattle.sws_engine.specs.LogStream.{LogsInOrder};
 ghost use Rattle.sws_engine.specs.RunFact.{RunFact};
 ghost use Rattle.sws_engine.specs.Limits.{conn_limit};
 
@@ -12,6 +14,7 @@ use crate::gated::Gated;
 use crate::load::Load;
 use crate::place::Place;
 use mely_event::{Fits, Trail};
+use mely_order::what_is_sent_in_order_is_received_in_order;
 use mely_weave::{Drained, Weave, Went};
 use mely_worker::{App, Gate};
 use std::sync::Wait;
@@ -19,7 +22,7 @@ use sws_conn::Talk;
 use sws_link::{Link, World};
 
 /// Runs the schedule, and then rounds until nothing is left. What stands of the
-/// run stands afterwards too.
+/// run stands afterwards too, and the lines of the log stay in order.
 pub fn run_through<'g, R: Wait, W: World + Drop, T: Talk<W::Link> + Drop, G: Gate>(
     rt: &R,
     weave: &mut Weave<Place<W, T>, Load<W, W::Link>>,
@@ -28,12 +31,15 @@ pub fn run_through<'g, R: Wait, W: World + Drop, T: Talk<W::Link> + Drop, G: Gat
 ) -> Drained
     requires cores { All (λ part. part.0 < (shape_of weave.old.setup).cores) schedule.now }
     requires count { sum_by (λ part. part.1) schedule.now < 2 ^ 64 }
-    requires colours { app.now.app.total + 2 ≤ colours_of weave.old.setup }
-    requires handlers { 10 ≤ length (rows_of (handlers_of weave.old.setup)) }
+    requires colours { colours_over app.now.app.total app.now.app.log
+        ≤ colours_of weave.old.setup }
+    requires handlers { 11 ≤ length (rows_of (handlers_of weave.old.setup)) }
     requires total { (W.tells weave.old.given.first).total ≡ app.now.app.total }
     requires few { app.now.app.total ≤ conn_limit }
     requires stands { RunFact W.World T.Talk weave.old.given.first weave.old }
+    requires ordered { LogsInOrder T.Talk app.now.app.total app.now.app.log weave.old }
     ensures stands { RunFact W.World T.Talk weave.old.given.first weave.new }
+    ensures ordered { LogsInOrder T.Talk app.now.app.total app.now.app.log weave.new }
     ensures free { AllFree weave.new }
     ensures drained { result ≡ Drained.Empty → HistoriesAreDrained weave.new }
     ensures out { result ≡ Drained.Empty → IsRunOut ⟦<Place<W, T> as Trail>⟧
@@ -42,6 +48,11 @@ pub fn run_through<'g, R: Wait, W: World + Drop, T: Talk<W::Link> + Drop, G: Gat
     ensures same { KeepsSetup weave.old weave.new }
 {
     weave.stands_well();
+    what_is_sent_in_order_is_received_in_order::<
+        Place<W, T>,
+        Load<W, W::Link>,
+        Gated<'g, W, T, G>,
+    >();
     match weave.run(schedule, app) {
         Went::All => weave.drain(rt, app),
         Went::Memory { steps: _ } => {

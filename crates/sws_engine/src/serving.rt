@@ -16,8 +16,8 @@ use sws_site::Site;
 /// Serves all links of a world out of a site, over a weave: the schedule's steps of each core, and
 /// then rounds of one step a core until nothing is left.
 ///
-/// Where the world's links answer by scripts, the histories at [`Verdict::Ok`](crate::Verdict::Ok)
-/// are those of the definition of a run, and no others.
+/// Where the world's links answer by scripts, the histories at
+/// [`Verdict::Ok`](crate::Verdict::Ok) are those of the definition of a run, and no others.
 pub fn serve_steps<'s, R: Wait, W: World + Drop>(
     rt: &R,
     alloc: Global,
@@ -25,14 +25,15 @@ pub fn serve_steps<'s, R: Wait, W: World + Drop>(
     shape: &Shape,
     world: W,
     schedule: &[(u16, u32)],
+    log: bool,
 ) -> Ended<W>
-    requires shape { IsShapedFor W.World shape.now world }
+    requires shape { IsShapedFor W.World shape.now world log }
     requires schedule { IsScheduleOf shape.now.cores schedule.now }
     ensures leaves { StepsLeave W.World W.Link.Link ⟦<Conn<'s, W::Link> as Talk<W::Link>>⟧ shape.now
-        site.now world result }
-    ensures scheduled { IsScheduled W.World site.now shape.now world schedule.now result }
+        site.now world log result }
+    ensures scheduled { IsScheduled W.World site.now shape.now world log schedule.now result }
 {
     site.limits();
     each_path_opens_once();
-    talk_steps::<R, W, Conn<'s, W::Link>>(rt, alloc, site, shape, world, schedule)
+    talk_steps::<R, W, Conn<'s, W::Link>>(rt, alloc, site, shape, world, schedule, log)
 }

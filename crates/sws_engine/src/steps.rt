@@ -8,6 +8,7 @@ ghost use Rattle.sws_engine.specs.Modelled.{IsModelled};
 
 use crate::concluding::conclude;
 use crate::ended::{EndRoom, Ended, Verdict};
+use crate::starting::colour_count;
 use crate::whole::run_apart;
 use mely_event::Handlers;
 use mely_history::{Setup, Shape};
@@ -18,8 +19,8 @@ use sws_conn::Talk;
 use sws_link::{Link, World};
 
 /// The time and the penalty of each handler, in the order of their numbers: Poll, Wait, Accept,
-/// Open, Read, Parse, Look, Write, Close, Resume.
-const HANDLERS: [(u32, u32); 10] = [
+/// Open, Read, Parse, Look, Write, Close, Resume, Log.
+const HANDLERS: [(u32, u32); 11] = [
     (40, 4),
     (10, 1),
     (40, 4),
@@ -30,12 +31,13 @@ const HANDLERS: [(u32, u32); 10] = [
     (100, 2),
     (30, 1),
     (60, 2),
+    (10, 1),
 ];
 
-/// The handlers of the server: ten, as every run of it and every journal of one has them.
+/// The handlers of the server: eleven, as every run of it and every journal of one has them.
 pub fn handler_table() -> Handlers
     ensures rows { rows_of result ≡ handler_rows }
-    ensures ten { length (rows_of result) ≡ 10 }
+    ensures eleven { length (rows_of result) ≡ 11 }
 {
     match Handlers::new(&HANDLERS) {
         Ok(handlers) => handlers,
@@ -55,6 +57,7 @@ pub(crate) fn unbegun<W: World>(alloc: Global, world: W) -> Ended<W>
         served: Vec::new(alloc),
         histories: Vec::new(alloc),
         trails: Vec::new(alloc),
+        log: Vec::new(alloc),
     }
 }
 
@@ -69,23 +72,25 @@ pub(crate) fn talk_gated<R: Wait, W: World + Drop, T: Talk<W::Link> + Drop, G: G
     world: W,
     schedule: &[(u16, u32)],
     gate: &G,
+    log: bool,
 ) -> Ended<W>
-    requires shape { IsShapedFor W.World shape.now world }
+    requires shape { IsShapedFor W.World shape.now world log }
     requires schedule { IsScheduleOf shape.now.cores schedule.now }
     ensures leaves { StepsLeave W.World W.Link.Link T.Talk shape.now
-        (T.contents_of hall) world result }
+        (T.contents_of hall) world log result }
     ensures model { IsModelled W.World W.Link.Link T.Talk (T.contents_of hall) shape.now
-        world schedule.now result }
+        world log schedule.now result }
 {
     let total = world.total();
     let Ok(room) = EndRoom::new(alloc, total) else {
         return unbegun(alloc, world);
     };
-    let Ok(setup) = Setup::new(shape, u32::from(total) + 2, handler_table(), 1) else {
+    let colours = colour_count(total, log);
+    let Ok(setup) = Setup::new(shape, u32::from(colours), handler_table(), 1) else {
         unreachable!()
     };
-    match run_apart::<R, W, T, G>(rt, alloc, &setup, hall, world, schedule, gate) {
-        Ok((parts, drained)) => conclude(room, total, parts, drained),
+    match run_apart::<R, W, T, G>(rt, alloc, &setup, hall, world, schedule, gate, log) {
+        Ok((parts, drained)) => conclude(room, total, parts, drained, log),
         Err(world) => unbegun(alloc, world),
     }
 }
@@ -94,8 +99,8 @@ pub(crate) fn talk_gated<R: Wait, W: World + Drop, T: Talk<W::Link> + Drop, G: G
 /// then rounds of one step a core until nothing is left. All room for what the run leaves is
 /// made before its first event.
 ///
-/// Where the world is scripted, the histories at [`Verdict::Ok`] are those of the definition
-/// of a run, and no others.
+/// Where the world is scripted, the histories at [`Verdict::Ok`] are those of the definition of a
+/// run, and no others.
 pub fn talk_steps<R: Wait, W: World + Drop, T: Talk<W::Link> + Drop>(
     rt: &R,
     alloc: Global,
@@ -103,13 +108,14 @@ pub fn talk_steps<R: Wait, W: World + Drop, T: Talk<W::Link> + Drop>(
     shape: &Shape,
     world: W,
     schedule: &[(u16, u32)],
+    log: bool,
 ) -> Ended<W>
-    requires shape { IsShapedFor W.World shape.now world }
+    requires shape { IsShapedFor W.World shape.now world log }
     requires schedule { IsScheduleOf shape.now.cores schedule.now }
     ensures leaves { StepsLeave W.World W.Link.Link T.Talk shape.now
-        (T.contents_of hall) world result }
+        (T.contents_of hall) world log result }
     ensures model { IsModelled W.World W.Link.Link T.Talk (T.contents_of hall) shape.now
-        world schedule.now result }
+        world log schedule.now result }
 {
-    talk_gated::<R, W, T, OpenGate>(rt, alloc, hall, shape, world, schedule, &OpenGate)
+    talk_gated::<R, W, T, OpenGate>(rt, alloc, hall, shape, world, schedule, &OpenGate, log)
 }

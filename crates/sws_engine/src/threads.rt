@@ -6,6 +6,7 @@ ghost use Rattle.mely_weave.specs.Making.{AreInitial};
 ghost use Rattle.mely_worker.specs.Access.{FitsSetup};
 ghost use Rattle.mely_worker.specs.Conditions.{AppServes};
 ghost use Rattle.sws_engine.specs.Begins.{AreInitialFor, IsAtRest, IsSetFor, IsShapedFor};
+ghost use Rattle.sws_engine.specs.Counting.{colours_over};
 ghost use Rattle.sws_engine.specs.Initial.{AreInitialPlacesOver};
 ghost use Rattle.sws_engine.specs.Invariant.{IsConsistent};
 ghost use Rattle.sws_engine.specs.RunFits.{RunFits};
@@ -22,7 +23,7 @@ use crate::ended::{EndRoom, Ended};
 use crate::laws::each_path_opens_once;
 use crate::load::{Load, WorldLoad};
 use crate::place::Place;
-use crate::starting::{first_event, initial_places};
+use crate::starting::{colour_count, first_event, initial_places};
 use crate::steps::{handler_table, talk_gated, unbegun};
 use mely_event::{Colour, Event, Fits, Trail, Unregistered};
 use mely_fleet::run_crew;
@@ -111,20 +112,21 @@ fn run_places<
     world: W,
     total: u16,
     gate: &G,
+    log: bool,
 ) -> Result<(Weave<Place<W, T>, Load<W, W::Link>>, Drained), W>
 where
     W::Link: Send,
     T::Hall: Send,
-    requires set { AreInitialFor W.World T.Talk setup.now world total states.old.items }
+    requires set { AreInitialFor W.World T.Talk setup.now world total log states.old.items }
     requires few { total ≤ conn_limit }
     ensures of_world { IfOk result (λ ran. ran.0.given.first ≡ world) }
     ensures of_hall { (hall : _)
-        → AreInitialPlacesOver T.Talk world hall (total + 2) states.old.items
+        → AreInitialPlacesOver T.Talk world hall total (colours_over total log) states.old.items
         → IfOk result (λ ran. ran.0.given.hall ≡ hall) }
     ensures rests { IfOk result (λ ran. IsAtRest setup.now ran.0 ran.1) }
     ensures back { IfErr result (λ back. back ≡ world) }
 {
-    let app = Sws::new(total);
+    let app = Sws::new(total, log);
     let load = Load::World(WorldLoad {
         world,
         accepted: 0,
@@ -136,6 +138,7 @@ where
         Err(refused) => match refused.load {
             Some(Load::World(held)) => Err(held.world),
             Some(Load::Link(_)) => unreachable!(),
+            Some(Load::Line(_)) => unreachable!(),
             None => unreachable!(),
         },
     }
@@ -159,12 +162,13 @@ fn run_threads<
     hall: T::Hall,
     world: W,
     gate: &G,
+    log: bool,
 ) -> Result<(WeaveParts<Place<W, T>, Load<W, W::Link>>, Drained), W>
 where
     W::Link: Send,
     T::Hall: Send,
-    requires { IsSetFor W.World setup.now world }
-    ensures kept { IfOk result (λ ran. PartsKept W.World T.Talk setup.now world ran.1
+    requires { IsSetFor W.World setup.now world log }
+    ensures kept { IfOk result (λ ran. PartsKept W.World T.Talk setup.now world log ran.1
         (map (λ history. history.items) ran.0.histories.items) ran.0.states.items
         (map (λ queue. queue.items) ran.0.queued.items)) }
     ensures fits { IfOk result (λ ran. RunFits W.World W.Link.Link world (T.contents_of hall)
@@ -172,7 +176,7 @@ where
     ensures back { IfErr result (λ back. back ≡ world) }
 {
     let total = world.total();
-    let Ok(mut states) = initial_places(alloc, hall, &world, total) else {
+    let Ok(mut states) = initial_places(alloc, hall, &world, total, log) else {
         return Err(world);
     };
     let (weave, drained) = run_places::<R, W, T, G>(
@@ -183,6 +187,7 @@ where
         world,
         total,
         gate,
+        log,
     )?;
     weave.stands_well();
     the_parts_are_what_the_weave_had::<Place<W, T>, Load<W, W::Link>>();
@@ -207,31 +212,32 @@ pub fn talk_all<
     W: World + Drop + Send,
     T: Talk<W::Link> + Drop + Send,
     G: Gate + Sync,
->(rt: &R, alloc: Global, hall: T::Hall, shape: &Shape, world: W, gate: &G) -> Ended<W>
+>(rt: &R, alloc: Global, hall: T::Hall, shape: &Shape, world: W, gate: &G, log: bool) -> Ended<W>
 where
     W::Link: Send,
     T::Hall: Send,
-    requires { IsShapedFor W.World shape.now world }
+    requires { IsShapedFor W.World shape.now world log }
     ensures leaves { ThreadsLeave W.World W.Link.Link T.Talk shape.now (T.contents_of hall)
-        world result }
+        world log result }
     ensures alone { shape.now.cores ≡ 1 → StepsLeave W.World W.Link.Link T.Talk shape.now
-        (T.contents_of hall) world result }
+        (T.contents_of hall) world log result }
     ensures model { shape.now.cores ≡ 1 → IsModelled W.World W.Link.Link T.Talk
-        (T.contents_of hall) shape.now world [] result }
+        (T.contents_of hall) shape.now world log [] result }
 {
     if shape.cores == 1 {
-        return talk_gated::<R, W, T, G>(rt, alloc, hall, shape, world, &[], gate);
+        return talk_gated::<R, W, T, G>(rt, alloc, hall, shape, world, &[], gate, log);
     }
     let total = world.total();
     let Ok(room) = EndRoom::new(alloc, total) else {
         return unbegun(alloc, world);
     };
-    let Ok(setup) = Setup::new(shape, u32::from(total) + 2, handler_table(), 1) else {
+    let colours = colour_count(total, log);
+    let Ok(setup) = Setup::new(shape, u32::from(colours), handler_table(), 1) else {
         unreachable!()
     };
     ended_is_unkept::<W::Link, T>();
-    match run_threads::<R, W, T, G>(rt, alloc, &setup, hall, world, gate) {
-        Ok((parts, drained)) => conclude(room, total, parts, drained),
+    match run_threads::<R, W, T, G>(rt, alloc, &setup, hall, world, gate, log) {
+        Ok((parts, drained)) => conclude(room, total, parts, drained, log),
         Err(world) => unbegun(alloc, world),
     }
 }
@@ -253,19 +259,20 @@ pub fn serve_all<'s, R: Threads + Wait + Sync, W: World + Drop + Send, G: Gate +
     shape: &Shape,
     world: W,
     gate: &G,
+    log: bool,
 ) -> Ended<W>
 where
     W::Link: Send,
-    requires { IsShapedFor W.World shape.now world }
+    requires { IsShapedFor W.World shape.now world log }
     ensures leaves { ThreadsLeave W.World W.Link.Link ⟦<Conn<'s, W::Link> as Talk<W::Link>>⟧
-        shape.now site.now world result }
+        shape.now site.now world log result }
     ensures alone { shape.now.cores ≡ 1
         → StepsLeave W.World W.Link.Link ⟦<Conn<'s, W::Link> as Talk<W::Link>>⟧
-        shape.now site.now world result }
+        shape.now site.now world log result }
     ensures scheduled { shape.now.cores ≡ 1
-        → IsScheduled W.World site.now shape.now world [] result }
+        → IsScheduled W.World site.now shape.now world log [] result }
 {
     site.limits();
     each_path_opens_once();
-    talk_all::<R, W, Conn<'s, W::Link>, G>(rt, alloc, site, shape, world, gate)
+    talk_all::<R, W, Conn<'s, W::Link>, G>(rt, alloc, site, shape, world, gate, log)
 }

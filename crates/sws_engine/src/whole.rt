@@ -2,6 +2,7 @@
 ghost use Rattle.std.specs.Prelude.{◌≡◌, ◌++◌, IfOk, IfErr, [], map};
 ghost use Rattle.mely_history.specs.Setup.{shape_of};
 ghost use Rattle.sws_engine.specs.Begins.{IsAtRest, IsScheduleOf, IsSetFor};
+ghost use Rattle.sws_engine.specs.LogStream.{LogsInOrder};
 ghost use Rattle.sws_engine.specs.RunFact.{RunFact};
 ghost use Rattle.sws_engine.specs.RunFits.{RunFits};
 ghost use Rattle.sws_engine.specs.RunParts.{RunParts};
@@ -14,6 +15,7 @@ use crate::running::run_through;
 use crate::starting::{initial_places, start};
 use mely_event::{Fits, Trail};
 use mely_history::Setup;
+use mely_order::what_is_left_of_a_stream_is_in_order;
 use mely_tally::{the_parts_are_what_the_weave_had, what_is_left_in_the_parts_fits};
 use mely_weave::{Drained, Weave, WeaveParts};
 use mely_worker::{App, Gate};
@@ -36,25 +38,28 @@ pub fn run_whole<'g, R: Wait, W: World + Drop, T: Talk<W::Link> + Drop, G: Gate>
     world: W,
     schedule: &[(u16, u32)],
     gate: &'g G,
+    log: bool,
 ) -> Result<(Weave<Place<W, T>, Load<W, W::Link>>, Drained), W>
-    requires set { IsSetFor W.World setup.now world }
+    requires set { IsSetFor W.World setup.now world log }
     requires schedule { IsScheduleOf (shape_of setup.now).cores schedule.now }
     ensures stands { IfOk result (λ ran. RunFact W.World T.Talk world ran.0) }
+    ensures ordered { IfOk result (λ ran.
+        LogsInOrder T.Talk (W.tells world).total log ran.0) }
     ensures of_hall { IfOk result (λ ran. ran.0.given.hall ≡ T.contents_of hall) }
     ensures rests { IfOk result (λ ran. IsAtRest setup.now ran.0 ran.1) }
     ensures out { IfOk result (λ ran. ran.1 ≡ Drained.Empty
         → HasRunOut W.World T.Talk ⟦<Place<W, T> as Trail>⟧
         ⟦<Place<W, T> as Fits<Load<W, W::Link>>>⟧.fits_under
-        ⟦<Gated<'g, W, T, G> as App>⟧ (λ gated. gated.app.total) setup.now world
+        ⟦<Gated<'g, W, T, G> as App>⟧ (λ gated. gated.app.total) (λ gated. gated.app.log) log setup.now world
         (T.contents_of hall) schedule.now ran.0) }
     ensures back { IfErr result (λ back. back ≡ world) }
 {
     let total = world.total();
-    let Ok(states) = initial_places(alloc, hall, &world, total) else {
+    let Ok(states) = initial_places(alloc, hall, &world, total, log) else {
         return Err(world);
     };
-    let mut weave = start(alloc, setup, states, world, total)?;
-    let app = Gated::new(total, gate);
+    let mut weave = start(alloc, setup, states, world, total, log)?;
+    let app = Gated::new(total, log, gate);
     let drained = run_through(rt, &mut weave, &app, schedule);
     Ok((weave, drained))
 }
@@ -73,25 +78,27 @@ pub fn run_apart<R: Wait, W: World + Drop, T: Talk<W::Link> + Drop, G: Gate>(
     world: W,
     schedule: &[(u16, u32)],
     gate: &G,
+    log: bool,
 ) -> Result<(WeaveParts<Place<W, T>, Load<W, W::Link>>, Drained), W>
-    requires set { IsSetFor W.World setup.now world }
+    requires set { IsSetFor W.World setup.now world log }
     requires schedule { IsScheduleOf (shape_of setup.now).cores schedule.now }
-    ensures ran { IfOk result (λ ran. RunParts W.World T.Talk setup.now world ran.1
+    ensures ran { IfOk result (λ ran. RunParts W.World T.Talk setup.now world log ran.1
         (map (λ history. history.items) ran.0.histories.items) ran.0.states.items
         (map (λ queue. queue.items) ran.0.queued.items) ran.0.lost.items) }
     ensures fits { IfOk result (λ ran.
         RunFits W.World W.Link.Link world (T.contents_of hall) ran.0.states.items
         (map (λ queue. queue.items) ran.0.queued.items) ran.0.lost.items) }
     ensures model { IfOk result (λ ran.
-        IsOfPaths W.World T.Talk W.Link.Link (T.contents_of hall) setup.now world
+        IsOfPaths W.World T.Talk W.Link.Link (T.contents_of hall) setup.now world log
         schedule.now ran.1 (map (λ history. history.items) ran.0.histories.items)
         ran.0.states.items) }
     ensures back { IfErr result (λ back. back ≡ world) }
 {
-    let (weave, drained) = run_whole(rt, alloc, setup, hall, world, schedule, gate)?;
+    let (weave, drained) = run_whole(rt, alloc, setup, hall, world, schedule, gate, log)?;
     weave.stands_well();
     T::a_run_serves();
     the_parts_are_what_the_weave_had::<Place<W, T>, Load<W, W::Link>>();
     what_is_left_in_the_parts_fits::<Place<W, T>, Load<W, W::Link>>();
+    what_is_left_of_a_stream_is_in_order::<Place<W, T>, Load<W, W::Link>>();
     Ok((weave.into_parts(), drained))
 }

@@ -1,5 +1,5 @@
 -- What is kept by names, after an insert, and the texts of files from an index on.
-use Rattle.std.proofs.Common.{◌≡◌, ℕ, zero, suc, ◌<◌, ◌&&◌, Bool, true, false, cond, List, [], ◌∷◌, length, drop, refl, sym, ap, subst, ◌∙◌, Option, Some, None, Vec, arith, inl, inr, ◌⊎◌}
+use Rattle.std.proofs.Common.{◌≡◌, ℕ, zero, suc, ◌<◌, ◌&&◌, Bool, true, false, cond, List, [], ◌∷◌, length, drop, refl, sym, ap, subst, ◌∙◌, Some, None, Vec, arith}
 use Rattle.std.specs.Prelude.{option_map, slice_get, IfSome}
 use Rattle.std.specs.declared.alloc.Global.{Global}
 use Rattle.std.specs.Str.{bytes_eq}
@@ -10,7 +10,7 @@ use Rattle.sws_site.proofs.NameLemmas.{compare_keys, has_name, has_name-bytes, l
 use Rattle.sws_site.specs.Files.{File, file_named}
 use Rattle.sws_gopher.specs.Texts.{text_of}
 use Rattle.sws_gopher.specs.Menus.{is_text}
-use Rattle.sws_gopher.specs.Halls.{Prepared, kept, text_named, KeepsTexts, AddsText}
+use Rattle.sws_gopher.specs.Halls.{Prepared, kept, KeepsTexts, AddsText}
 
 some_same : {X : Type 0} {x y : X} → Some x ≡ Some y → x ≡ y
 some_same e = cc

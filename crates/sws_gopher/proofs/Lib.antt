@@ -1,4 +1,5 @@
 mod MenuLemmas
+mod ItemLemmas
 mod HallLemmas
 mod KeyLemmas
 mod ReplyLemmas

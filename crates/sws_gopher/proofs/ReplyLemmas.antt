@@ -1,14 +1,14 @@
 -- A folder's answer by the key of its menu.
-use Rattle.std.proofs.Common.{◌≡◌, ◌≢◌, ℕ, ◌+◌, ◌-◌, ◌<◌, ◌&&◌, Bool, true, false, not, cond, List, [], ◌∷◌, ◌++◌, length, take, drop, refl, sym, ap, subst, ◌∙◌, Option, Some, None, arith, length-append}
+use Rattle.std.proofs.Common.{◌≡◌, ◌≢◌, ℕ, ◌-◌, ◌&&◌, Bool, true, false, not, cond, List, [], ◌∷◌, ◌++◌, length, take, refl, sym, ap, ◌∙◌, Option, Some, None, arith, length-append}
 use Rattle.std.specs.Prelude.{nat_eq}
-use Rattle.std.specs.List.{ends_with, list_any}
+use Rattle.std.specs.List.{ends_with}
 use Rattle.std.specs.Str.{bytes_eq}
 use Rattle.std.proofs.lemmas.Bool.Decides.{Decides-eqb}
 use Rattle.std.proofs.lemmas.Slice.Eq.{bytes_eq-Decides, ends_is}
 use Rattle.sws_gopher.specs.Texts.{without_last}
 use Rattle.sws_gopher.specs.Menus.{Place, menu_of}
-use Rattle.sws_gopher.specs.Replies.{as_folder, is_folder, begins_name, reply_to_folder, not_found}
-use Rattle.sws_gopher.specs.Halls.{has_menu, path_of_key, menu_at, menu_of_key}
+use Rattle.sws_gopher.specs.Replies.{is_folder, begins_name, reply_to_folder, not_found}
+use Rattle.sws_gopher.specs.Halls.{menu_of_key}
 
 -- what is kept, or the answer that there is nothing
 abbrev pub or_not_found : Option (List ℕ) → List ℕ

@@ -4,16 +4,12 @@ use Rattle.std.specs.List.{before_first, flat_map}
 use Rattle.sws_steps.specs.Protocol.{Protocol, Cut, Whole, TooLong, NotYet, Asked, request, too_long, no_note}
 use Rattle.sws_gopher.specs.Texts.{without_last}
 use Rattle.sws_gopher.specs.Menus.{Place}
-use Rattle.sws_gopher.specs.Replies.{reply_of, not_found}
+use Rattle.sws_gopher.specs.Replies.{reply_of, not_found, text_limit}
 use Rattle.sws_gopher.specs.Halls.{IsHall}
 
 -- so many bytes of a connection count
 abbrev pub input_limit : ℕ
 input_limit = 1024
-
--- no answer has more bytes
-abbrev pub text_limit : ℕ
-text_limit = 540000000
 
 -- the byte ends a line: LF
 abbrev pub is_feed : ℕ → Bool

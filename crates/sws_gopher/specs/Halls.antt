@@ -1,4 +1,5 @@
--- What is prepared of a site: its texts by their names, and its menus by the paths of their folders.
+-- What is prepared of a site: its texts by their names, and its menus by the paths of their
+-- folders.
 use Rattle.std.specs.Prelude.{◌≡◌, ℕ, ◌<◌, ◌≤◌, nat_eq, ◌&&◌, Bool, true, false, List, [], ◌∷◌, ◌++◌, length, if◌then◌else◌, Option, Some, None, option_map, IfSome, Vec}
 use Rattle.std.specs.Ordering.{nat_cmp}
 use Rattle.std.specs.Cmp.Lexicographic.{slice_cmp}
@@ -56,7 +57,8 @@ KeepsTexts files texts = (name : List ℕ) → kept texts name ≡ text_named fi
 -- the menus of the folders in which these files lie are prepared, and that of the whole site
 abbrev pub KeepsMenusOf : Place → List File → Prepared → Type 0
 KeepsMenusOf place files menus =
-    (key : List ℕ) → kept menus key ≡ (if has_menu files key then Some (menu_at place key) else None)
+    (key : List ℕ) → kept menus key
+    ≡ (if has_menu files key then Some (menu_at place key) else None)
 
 -- the menu of the folder of this key, if there is that folder
 abbrev pub menu_of_key : Place → List ℕ → Option (List ℕ)

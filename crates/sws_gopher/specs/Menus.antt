@@ -104,7 +104,8 @@ tabbed bytes = 9 ∷ bytes
 abbrev pub menu_line : Place → List ℕ → Item → List ℕ
 menu_line place folder item =
     (sign item.1 ∷ item.0)
-    ++ (tabbed (selector_to folder item) ++ (tabbed place.host ++ (tabbed (decimal place.port) ++ line_end)))
+    ++ (tabbed (selector_to folder item)
+    ++ (tabbed place.host ++ (tabbed (decimal place.port) ++ line_end)))
 
 -- the menu of the folder of this path
 unfoldable pub menu_of : Place → List ℕ → List ℕ

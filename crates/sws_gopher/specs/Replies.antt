@@ -49,3 +49,7 @@ without_first_slash selector =
 -- the answer to a selector
 unfoldable pub reply_of : Place → List ℕ → List ℕ
 reply_of place selector = reply_to place (without_first_slash selector)
+
+-- no answer has more bytes
+abbrev pub text_limit : ℕ
+text_limit = 540000000

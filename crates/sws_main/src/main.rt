@@ -1,4 +1,4 @@
-//! The command `sws`: `answer`, `replay`, `serve`, `bench` and `check`, as
+//! The command `sws`: `answer`, `replay`, `serve`, `bench`, `check` and `gopher`, as
 //! [`sws_command`] lists them.
 //!
 //! The program is [`sws_command::command`]: the top call on the machine's folder, standard input,

@@ -8,6 +8,16 @@ use std::os::unix::fs::MetadataExt;
 /// How many folders deep a folder may lie.
 const MAX_DEPTH: usize = 32;
 
+/// Opens a folder. The path ends in a dot, so that the machine refuses what is no folder before it
+/// opens it: a FIFO would wait for a writer.
+fn open_folder(rt: &HostRuntime, path: &str) -> io::Result<File> {
+    if path.is_empty() {
+        return Err(io::Error::from(ErrorKind::NotFound));
+    }
+    let path = format!(in rt.alloc(); "{path}/.")?;
+    fs::open(rt, path.as_str())
+}
+
 /// An entry of a folder, and which file of the machine it was when it was listed.
 #[derive(Drop)]
 struct Listed {
@@ -29,6 +39,17 @@ impl Listed {
     /// a link, that is an error.
     fn open(&self, rt: &HostRuntime) -> io::Result<File> {
         let file = fs::open(rt, self.entry.path())?;
+        self.check(file)
+    }
+
+    /// Opens it as a folder.
+    fn open_folder(&self, rt: &HostRuntime) -> io::Result<File> {
+        let file = open_folder(rt, self.entry.path().as_str())?;
+        self.check(file)
+    }
+
+    /// The file, if it is the one that was listed.
+    fn check(&self, file: File) -> io::Result<File> {
         let opened = file.metadata()?;
         if opened.dev() == self.device && opened.ino() == self.inode {
             return Ok(file);
@@ -86,7 +107,7 @@ pub struct FileWalk<'r> {
 impl<'r> FileWalk<'r> {
     /// A walk that begins in the folder of this path.
     pub fn new(rt: &'r HostRuntime, path: &str) -> io::Result<FileWalk<'r>> {
-        let folder = fs::open(rt, path)?;
+        let folder = open_folder(rt, path)?;
         let mut levels = Vec::new(rt.alloc());
         levels.push(Level::new(rt, folder, String::new(rt.alloc()))?)?;
         Ok(FileWalk {
@@ -131,7 +152,7 @@ impl<'r> FileWalk<'r> {
             if self.levels.len() > MAX_DEPTH {
                 return Err(io::Error::from(ErrorKind::Other));
             }
-            let folder = Listed::new(entry, &kind).open(self.rt)?;
+            let folder = Listed::new(entry, &kind).open_folder(self.rt)?;
             let mut name = name;
             name.push('/')?;
             self.levels.push(Level::new(self.rt, folder, name)?)?;

@@ -1,8 +1,8 @@
 //! The machine as the outside of the server: files, standard input and output, and TCP.
 //!
-//! Each type implements a trait of `sws_link` by an object of the machine. It has no ghost model of
-//! contents, and counts the machine's errors. What a file, a terminal or a socket carries is
-//! trusted, and no contract speaks of it.
+//! Each of these types implements a trait of `sws_link` by an object of the machine. It has no ghost
+//! model of contents, and counts the machine's errors. What a file, a terminal or a socket carries
+//! is trusted, and no contract speaks of it.
 //!
 //! | Type | Is | Over |
 //! |---|---|---|
@@ -10,10 +10,13 @@
 //! | [`StdSource`] | a source | a reader, such as standard input |
 //! | [`StdSink`] | a sink | a writer, such as standard output, by an [`Output`] that collects small pieces |
 //! | [`TcpWorld`] | a world | a socket that listens, and epoll |
-//! | [`TcpLink`] | a link | a socket |
+//! | [`TcpLink`] | a link | a socket, by a [`KeptLink`] |
+//!
+//! What a link keeps back of a response is proved over any [`Socket`] that tells what it carries, as
+//! [`MemSocket`] does: [`KeptLink`] meets the clauses of every link on contents too.
 //!
 //! ```text
-//! let mut world = TcpWorld::new(&rt);
+//! let mut world = TcpWorld::new(&rt)?;
 //! world.open(8080, 2);                         // listens on 0.0.0.0:8080 for two connections
 //! match world.accept() {
 //!     Accepted::Link(link) => links.push(link)?, // its reads and writes don't block
@@ -24,21 +27,30 @@
 //! ```
 #![tactic(auto)]
 
+mod departures;
 mod errors;
 mod file_folder;
 mod file_walk;
 mod kept;
+mod kept_link;
+mod leaving;
 mod lobby;
+mod mem_socket;
 mod output;
 mod server;
 mod signs;
+mod socket;
 mod std_sink;
 mod std_source;
 mod tcp_link;
+mod tcp_socket;
 mod tcp_world;
 
 pub use file_folder::FileFolder;
+pub use kept_link::KeptLink;
+pub use mem_socket::MemSocket;
 pub use output::Output;
+pub use socket::Socket;
 pub use std_sink::StdSink;
 pub use std_source::StdSource;
 pub use tcp_link::TcpLink;

@@ -1,8 +1,13 @@
 //! The output of the program, which collects small pieces.
+ghost use Rattle.std.specs.Prelude.{◌≡◌, [], true, false, not};
+ghost use Rattle.std.specs.Bool.{OnTrue};
+ghost use Rattle.std.specs.Io.KnownBytes.{Keeps};
+ghost use Rattle.std.specs.Io.Buffered.{writer_contents, writer_buffer};
+ghost use Rattle.sws_net.specs.Streams.{TookOf};
 
 use std::alloc::Global;
 use std::cell::RefCell;
-use std::io::{self, BufWriter, Write};
+use std::io::{self, BufWriter, ErrorKind, Write};
 
 /// A writer that collects small pieces, shared by the sink that writes to it and by the source that
 /// hands over what was collected before it waits for more input.
@@ -22,13 +27,60 @@ struct Collected<W: Write + Drop> {
     has_failed: bool,
 }
 
-impl<W: Write + Drop> Collected<W> {
-    /// Keeps whether the call of the writer failed, and says whether none has.
-    fn keep(&mut self, answer: io::Result<()>) -> bool {
-        if answer.is_err() {
-            self.has_failed = true;
+/// Writes all the bytes, or a front of them where the writer fails, and says which.
+fn write_whole<W: Write>(writer: &mut W, bytes: &[u8]) -> bool
+    ensures { TookOf (W.contents writer.old) (W.contents writer.new) result bytes.now }
+{
+    let mut at = 0;
+    'writes: for _ in 0..u64::MAX {
+        if at >= bytes.len() {
+            return true;
         }
-        !self.has_failed
+        match writer.write(&bytes[at..]) {
+            Ok(count) => {
+                if count == 0 {
+                    return false;
+                }
+                at += count;
+            }
+            Err(error) if error.kind() == ErrorKind::Interrupted => {}
+            Err(_) => return false,
+        }
+    }
+    false
+}
+
+impl<W: Write + Drop> Collected<W> {
+    /// Writes the bytes or collects them, and says whether no call has failed so far. Where one has
+    /// failed before, nothing is written.
+    fn put(&mut self, bytes: &[u8]) -> bool
+        ensures bytes { TookOf (writer_contents W.contents self.old.writer)
+            (writer_contents W.contents self.new.writer) result bytes.now }
+        ensures told { self.new.has_failed ≡ not result }
+        ensures once { self.old.has_failed ≡ true → result ≡ false }
+    {
+        if self.has_failed {
+            return false;
+        }
+        let is_whole = write_whole(&mut self.writer, bytes);
+        self.has_failed = !is_whole;
+        is_whole
+    }
+
+    /// Writes what was collected, and says whether no call has failed so far.
+    fn flush(&mut self) -> bool
+        ensures bytes { Keeps (writer_contents W.contents self.old.writer)
+            (writer_contents W.contents self.new.writer) }
+        ensures whole { OnTrue result (writer_buffer self.new.writer ≡ []) }
+        ensures told { self.new.has_failed ≡ not result }
+        ensures once { self.old.has_failed ≡ true → result ≡ false }
+    {
+        if self.has_failed {
+            return false;
+        }
+        let is_whole = self.writer.flush().is_ok();
+        self.has_failed = !is_whole;
+        is_whole
     }
 }
 
@@ -45,25 +97,17 @@ impl<W: Write + Drop> Output<W> {
 
     /// Writes the bytes or collects them, and says whether no call has failed so far.
     pub fn put(&self, bytes: &[u8]) -> bool {
-        let Ok(mut collected) = self.collected.try_borrow_mut() else {
-            return false;
-        };
-        if collected.has_failed {
-            return false;
+        match self.collected.try_borrow_mut() {
+            Ok(mut collected) => collected.put(bytes),
+            Err(_) => false,
         }
-        let answer = collected.writer.write_all(bytes);
-        collected.keep(answer)
     }
 
     /// Writes what was collected, and says whether no call has failed so far.
     pub fn flush(&self) -> bool {
-        let Ok(mut collected) = self.collected.try_borrow_mut() else {
-            return false;
-        };
-        if collected.has_failed {
-            return false;
+        match self.collected.try_borrow_mut() {
+            Ok(mut collected) => collected.flush(),
+            Err(_) => false,
         }
-        let answer = collected.writer.flush();
-        collected.keep(answer)
     }
 }

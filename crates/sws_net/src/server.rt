@@ -2,8 +2,9 @@
 ghost use Rattle.std.specs.Prelude.{IfOk, IfSome, Contains};
 ghost use Rattle.sws_net.specs.Initial.{IsInitialTcpLink, IsInitialIfCame};
 
+use crate::departures::Departures;
 use crate::errors::{has_no_room, is_of_one_connection};
-use crate::lobby::Lobby;
+use crate::lobby::{Lobby, Way};
 use crate::signs::Signs;
 use crate::tcp_link::TcpLink;
 use mio::net::{TcpListener, TcpStream};
@@ -13,11 +14,15 @@ use std::io::{self, ErrorKind};
 use std::net::{IpAddr, Ipv4Addr, SocketAddr};
 use std::time::{Clock, Duration};
 
-/// How many milliseconds a call waits at most.
+/// How many milliseconds go by at least between two looks for links that have shown nothing, where
+/// others do.
 const TICK: u64 = 250;
 
 /// How many events one wait brings at most.
 const EVENTS: usize = 256;
+
+/// How often the machine is waited for at most once no link is there any more.
+const LAST_WAITS: u32 = 100_000;
 
 /// The place of the listener among the events; link `i` has place `i + 1`.
 const LISTENER: usize = 0;
@@ -46,6 +51,10 @@ pub struct Server {
     events: Events,
     lobby: Lobby,
     signs: Signs,
+    departures: Departures,
+
+    /// How many connections were taken from the lobby's door.
+    taken: u64,
 
     /// Whether a connection may be waiting to be accepted.
     may_accept: bool,
@@ -86,6 +95,8 @@ impl Server {
             events,
             lobby,
             signs,
+            departures: Departures::new(alloc),
+            taken: 0,
             may_accept: true,
             is_to_retry: false,
             now,
@@ -94,8 +105,8 @@ impl Server {
     }
 
     /// Which of those that wait may be ready. Where none showed it, the machine is asked; that
-    /// waits for a moment where each link that is there waits and no connection may be waiting to
-    /// be accepted, and else not at all.
+    /// waits for one to be due where each link that is there waits and no connection may be waiting
+    /// to be accepted, and else not at all.
     pub fn look(
         &mut self,
         rt: &HostRuntime,
@@ -105,7 +116,7 @@ impl Server {
     ) -> io::Result<Option<u16>>
         ensures { IfOk result (λ named. IfSome named (λ conn. Contains waiting.now conn)) }
     {
-        if let Some(conn) = self.signs.take_ready(waiting) {
+        if let Some(conn) = self.signs.take_ready(&self.lobby, waiting, self.now) {
             return Ok(Some(conn));
         }
         if self.may_accept && !is_last {
@@ -113,24 +124,71 @@ impl Server {
         }
         let there = u64::from(accepted).saturating_sub(self.lobby.gone());
         self.wait(rt, waiting, waiting.len() as u64 >= there)?;
-        Ok(self.signs.take_ready(waiting))
+        Ok(self.signs.take_ready(&self.lobby, waiting, self.now))
     }
 
     /// Asks the machine what has happened, and waits for it where all wait.
     fn wait(&mut self, rt: &HostRuntime, waiting: &[u16], all_wait: bool) -> io::Result<()> {
-        let patience = Duration::from_millis(if all_wait { TICK } else { 0 });
-        self.poll.poll(&mut self.events, Some(patience))?;
-        self.now = time_of(rt)?;
-        let is_nothing = self.note();
+        self.take_departures(rt)?;
+        let patience = if all_wait { self.patience(waiting) } else { 0 };
+        let is_nothing = self.poll(rt, patience)?;
         if is_nothing && all_wait || self.now.saturating_sub(self.swept) >= TICK {
             self.swept = self.now;
-            self.signs.sweep(waiting, self.now);
+            self.signs.sweep(&self.lobby, waiting, self.now);
         }
         if self.is_to_retry {
             self.is_to_retry = false;
             self.may_accept = true;
         }
         Ok(())
+    }
+
+    /// For how many milliseconds the machine may be waited for.
+    fn patience(&self, waiting: &[u16]) -> u64 {
+        let until = self.signs.until_due(waiting, self.now);
+        let until = until.min(self.departures.until_due(self.now));
+        if self.is_to_retry {
+            until.min(TICK)
+        } else {
+            until
+        }
+    }
+
+    /// Waits for the machine for so long, notes what has happened, and answers whether that was
+    /// nothing.
+    fn poll(&mut self, rt: &HostRuntime, patience: u64) -> io::Result<bool> {
+        self.poll
+            .poll(&mut self.events, Some(Duration::from_millis(patience)))?;
+        self.now = time_of(rt)?;
+        let is_nothing = self.note();
+        self.departures.look(self.now);
+        Ok(is_nothing)
+    }
+
+    /// Takes over the connections that links have ended.
+    fn take_departures(&mut self, rt: &HostRuntime) -> io::Result<()> {
+        if self.lobby.left() == self.taken {
+            return Ok(());
+        }
+        self.now = time_of(rt)?;
+        for leaving in self.lobby.take_left() {
+            self.taken = self.taken.saturating_add(1);
+            self.departures.take(leaving, self.now);
+        }
+        Ok(())
+    }
+
+    /// Sees out the connections that links have ended, as far as the machine does its part.
+    pub fn see_out(&mut self, rt: &HostRuntime) {
+        for _ in 0..LAST_WAITS {
+            if self.take_departures(rt).is_err() || self.departures.is_empty() {
+                return;
+            }
+            let patience = self.departures.until_due(self.now);
+            if self.poll(rt, patience).is_err() {
+                return;
+            }
+        }
     }
 
     /// Notes what the last wait brought, and answers whether that was nothing.
@@ -142,10 +200,18 @@ impl Server {
             if place == LISTENER {
                 self.may_accept = true;
             } else {
-                self.signs.note(place - 1, self.now);
-                if event.is_read_closed() || event.is_error() {
-                    self.lobby.hang_up(place - 1);
+                let link = place - 1;
+                let is_broken = event.is_error();
+                if event.is_readable() || event.is_read_closed() || is_broken {
+                    self.signs.note(link, Way::Reading);
                 }
+                if event.is_writable() || event.is_write_closed() || is_broken {
+                    self.signs.note(link, Way::Writing);
+                }
+                if event.is_read_closed() || is_broken {
+                    self.lobby.hang_up(link);
+                }
+                self.departures.note(link, self.now);
             }
         }
         is_nothing
@@ -197,6 +263,6 @@ impl Server {
         let place = Token(number as usize + 1);
         self.poll.registry().register(&mut stream, place, Interest::READABLE | Interest::WRITABLE)?;
         self.signs.begin(number as usize, self.now);
-        Ok(TcpLink::new(self.alloc, stream, presence))
+        TcpLink::new(self.alloc, stream, presence)
     }
 }

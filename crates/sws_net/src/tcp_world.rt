@@ -5,7 +5,7 @@ ghost use Rattle.sws_link.specs.Counts.{kept_count};
 use crate::errors::is_want_of_memory;
 use crate::server::{Came, Server};
 use crate::tcp_link::TcpLink;
-use std::io;
+use std::alloc::AllocError;
 use sws_link::{Accepted, Opened, Polled, World};
 
 /// Gives the connections to a port of the machine as links; of what they bring nothing is known.
@@ -13,14 +13,23 @@ use sws_link::{Accepted, Opened, Polled, World};
 /// It counts the errors of the machine, and how often it had nobody to name, though somebody
 /// waited, or nothing to give.
 ///
-/// `poll` waits where each link that is there waits, for a quarter of a second at most, and looks
-/// without waiting else, so that a link that waits holds up no other. A link that has shown nothing
-/// for a second counts as ready.
+/// `poll` waits where each link that is there waits, until one of them is due and for a second at
+/// most, and looks without waiting else, so that a link that waits holds up no other. A link is due
+/// that wasn't named for a second.
+///
+/// Where the world is dropped, it sees out the connections whose last answers may still be on their
+/// way: each for at most a second in which it shows nothing, and ten in all.
+///
+/// It lies in a box, since a server moves its world from event to event.
 #[derive(Drop)]
 pub struct TcpWorld<'r> {
+    state: Box<Listening<'r>>,
+}
+
+/// A world that isn't in a box.
+struct Listening<'r> {
     rt: &'r HostRuntime,
-    /// In a box, since a server moves its world from event to event.
-    server: Option<Box<Server>>,
+    server: Option<Server>,
     port: u16,
     total: u16,
     accepted: u16,
@@ -28,16 +37,32 @@ pub struct TcpWorld<'r> {
     waits: u64,
 }
 
-/// Listens at the port for so many links.
-fn open_server(rt: &HostRuntime, port: u16, total: u16) -> io::Result<Box<Server>> {
-    let server = Server::new(rt, port, total)?;
-    Ok(Box::new(rt.alloc(), server)?)
+impl<'r> Drop for Listening<'r> {
+    fn drop(self) {
+        let Listening {
+            rt,
+            server,
+            port: _,
+            total: _,
+            accepted: _,
+            faults: _,
+            waits: _,
+        } = self;
+        if let Some(server) = server {
+            see_out(rt, server);
+        }
+    }
+}
+
+/// Sees out the connections that are still on their way.
+fn see_out(rt: &HostRuntime, mut server: Server) {
+    server.see_out(rt);
 }
 
 impl<'r> TcpWorld<'r> {
     /// A world that was not opened yet.
-    pub fn new(rt: &'r HostRuntime) -> TcpWorld<'r> {
-        TcpWorld {
+    pub fn new(rt: &'r HostRuntime) -> Result<TcpWorld<'r>, AllocError> {
+        let state = Listening {
             rt,
             server: None,
             port: 0,
@@ -45,18 +70,21 @@ impl<'r> TcpWorld<'r> {
             accepted: 0,
             faults: 0,
             waits: 0,
-        }
+        };
+        Ok(TcpWorld {
+            state: Box::new(rt.alloc(), state)?,
+        })
     }
 
     /// Whether more links are to come.
     pub fn has_more(&self) -> bool
-        ensures { result ≡ nat_lt self.now.accepted self.now.total }
+        ensures { result ≡ nat_lt self.now.state.value.accepted self.now.state.value.total }
     {
-        self.accepted < self.total
+        self.state.accepted < self.state.total
     }
 }
 
-impl<'r> World for TcpWorld<'r> {
+impl<'r> World for Listening<'r> {
     type Link = TcpLink;
 
     ghost tells = { λ world. record {
@@ -72,7 +100,7 @@ impl<'r> World for TcpWorld<'r> {
     ghost waits = { λ world. kept_count world.waits };
 
     fn open(&mut self, port: u16, total: u16) -> Opened {
-        match open_server(self.rt, port, total) {
+        match Server::new(self.rt, port, total) {
             Ok(server) => {
                 self.server = Some(server);
                 self.port = port;
@@ -132,5 +160,37 @@ impl<'r> World for TcpWorld<'r> {
                 Accepted::Failed
             }
         }
+    }
+}
+
+impl<'r> World for TcpWorld<'r> {
+    type Link = TcpLink;
+
+    ghost tells = { λ world. record {
+      coming = None;
+      total = world.state.value.total;
+      accepted = world.state.value.accepted;
+      port = world.state.value.port;
+      scripted = false;
+    } };
+
+    ghost faults = { λ world. kept_count world.state.value.faults };
+
+    ghost waits = { λ world. kept_count world.state.value.waits };
+
+    fn open(&mut self, port: u16, total: u16) -> Opened {
+        self.state.open(port, total)
+    }
+
+    fn total(&self) -> u16 {
+        self.state.total()
+    }
+
+    fn poll(&mut self, waiting: &[u16]) -> Polled {
+        self.state.poll(waiting)
+    }
+
+    fn accept(&mut self) -> Accepted<TcpLink> {
+        self.state.accept()
     }
 }

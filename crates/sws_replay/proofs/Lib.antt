@@ -2,4 +2,5 @@ mod GoingLemmas
 mod InputLemmas
 mod WorldLemmas
 mod RunLemmas
+mod LogLemmas
 mod TextLemmas

@@ -1,6 +1,7 @@
 -- What a run of a scripted world has served.
-use Rattle.std.proofs.Common.{◌≡◌, ◌≢◌, ℕ, ◌+◌, ◌<◌, true, false, true≢false, List, Option, None, Some, length, map, refl, sym, ap, ◌∙◌, subst, arith, inl, inr}
+use Rattle.std.proofs.Common.{◌≡◌, ◌≢◌, ℕ, ◌+◌, ◌<◌, Bool, true, false, true≢false, List, [], ◌∷◌, Option, None, Some, length, map, refl, sym, ap, ◌∙◌, subst, arith, inl, inr}
 use Rattle.std.specs.Prelude.{slice_get, option_map, IsSome, IsTrue}
+use Rattle.std.specs.List.{AllByRecursion}
 use Rattle.std.proofs.lemmas.Option.{same_Some, slice_get-map, slice_get_within}
 use Rattle.mely_event.specs.declared.colour.Colour.{Colour}
 use Rattle.mely_event.specs.declared.event.Event.{Event}
@@ -10,24 +11,24 @@ use Rattle.mely_history.specs.declared.setup.Setup.{Setup}
 use Rattle.mely_history.specs.declared.shape.Shape.{Shape}
 use Rattle.mely_weave.proofs.Wholes.GatherLemmas.{get_there}
 use Rattle.mely_weave.specs.Side.{shard_of}
-use Rattle.sws_conn.specs.Outcome.{Outcome, outcome_of}
-use Rattle.sws_conn.specs.Path.{Handler, path_of}
 use Rattle.sws_conn.specs.Talks.{TalkView, ServesLink, ServesTold}
 use Rattle.sws_steps.specs.declared.End.{End}
 use Rattle.sws_steps.specs.declared.End.TheVariants.{Memory}
 use Rattle.sws_steps.specs.declared.talk.Talk.{Ghosts as TalkWords}
 use Rattle.sws_engine.specs.ConnFollows.{ConnFollows}
 use Rattle.sws_engine.specs.ConnLeft.{LinkLeft, ConnLeft}
+use Rattle.sws_engine.specs.Counting.{colours_over}
 use Rattle.sws_engine.specs.Invariant.{event_for}
+use Rattle.sws_engine.specs.LogTurns.{lines_for}
 use Rattle.sws_engine.specs.Loads.{IsComing, LinkStands, WorldStands}
-use Rattle.sws_engine.specs.RunLeaves.{is_out_of_memory, NoneOutOfMemory}
+use Rattle.sws_engine.specs.RunLeaves.{is_out_of_memory, links_owed, NoneOutOfMemory}
 use Rattle.sws_engine.specs.RunLeft.{RunLeft, AllFollow}
 use Rattle.sws_engine.specs.StepsLeave.{StepsLeave}
 use Rattle.sws_engine.specs.ThreadsLeave.{ThreadsLeave}
 use Rattle.sws_engine.specs.declared.ended.Ended.{Ended}
 use Rattle.sws_engine.specs.declared.ended.Served.{Served}
 use Rattle.sws_engine.specs.declared.ended.Verdict.TheVariants as verdict
-use Rattle.sws_link.specs.Links.{LinkContents}
+use Rattle.sws_link.specs.Links.{LinkContents, input_of}
 use Rattle.sws_link.specs.MemLinks.{bytes_tell, mem_link_tells}
 use Rattle.sws_link.specs.MemLink.{MemLinkState}
 use Rattle.sws_link.specs.MemWorld.{MemWorldState}
@@ -35,10 +36,13 @@ use Rattle.sws_link.specs.Scripts.{Script}
 use Rattle.sws_link.specs.Worlds.{Coming, WorldContents, initial_contents}
 use Rattle.sws_link.specs.declared.Link.{Ghosts as LinkWords}
 use Rattle.sws_link.specs.declared.world.World.{Ghosts as WorldWords}
+use Rattle.sws_log.specs.Lines.{lines_within}
+use Rattle.sws_log.specs.declared.line.LogLine.{LogLine}
 use Rattle.sws_script.specs.Scripted.{coming_of, script_of, told_of}
 use Rattle.sws_script.specs.declared.input.ScriptConn.{ScriptConn}
-use Rattle.sws_site.specs.Site.{SiteState}
+use Rattle.sws_replay.specs.Expected.{of_talk}
 use Rattle.sws_replay.specs.Histories.{colour_for}
+use Rattle.sws_replay.specs.Logs.{IsLog, log_alone}
 use Rattle.sws_replay.specs.Runs.{IsServedAlone, ServesAll, histories_of, RunsWell}
 use Rattle.sws_replay.specs.Transcripts.{alone}
 
@@ -52,8 +56,8 @@ some_of (Some a) some = (a, refl)
 
 -- ---- one connection
 
-module _ {T G : Type 0} (x : WorldWords MemWorldState MemLinkState) (l : LinkWords MemLinkState) (y : TalkWords T MemLinkState G SiteState) (site : SiteState) (first : MemWorldState) (conns : List ScriptConn)
-    (told : x.tells first ≡ told_of conns) (link_told : (link : MemLinkState) → l.tells link ≡ mem_link_tells link) (outcome_is : (script : Script) → y.outcome site script ≡ outcome_of site script) where
+module _ {T G H : Type 0} (x : WorldWords MemWorldState MemLinkState) (l : LinkWords MemLinkState) (y : TalkWords T MemLinkState G H) (hall : H) (first : MemWorldState) (conns : List ScriptConn)
+    (told : x.tells first ≡ told_of conns) (link_told : (link : MemLinkState) → l.tells link ≡ mem_link_tells link) where
   tells_is : (link : MemLinkState) (tells : LinkContents) → l.tells link ≡ Some tells → tells ≡ bytes_tell link.calls.failing link.bytes
   tells_is link tells is = same_Some tells (bytes_tell link.calls.failing link.bytes) (sym is ∙ link_told link)
 
@@ -65,29 +69,29 @@ module _ {T G : Type 0} (x : WorldWords MemWorldState MemLinkState) (l : LinkWor
       coming.2 ∙ ap (λ (c : Coming). Some (initial_contents c)) same
 
   -- what was taken and written of it, by the counts
-  served_link : (i : ℕ) (conn : ScriptConn) (link : MemLinkState) (view : TalkView) → slice_get conns i ≡ Some conn → LinkLeft x l y site first i (Some link) view
-      → ServesLink (y.responses site) (initial_contents (coming_of conn)) (bytes_tell link.calls.failing link.bytes) view
+  served_link : (i : ℕ) (conn : ScriptConn) (link : MemLinkState) (view : TalkView) → slice_get conns i ≡ Some conn → LinkLeft x l y hall first i (Some link) view
+      → ServesLink (y.responses hall) (initial_contents (coming_of conn)) (bytes_tell link.calls.failing link.bytes) view
   served_link i conn link view at left =
-      let serves : ServesTold (y.responses site) (Some (initial_contents (coming_of conn))) (l.tells link) view =
-      subst (λ (t : Option LinkContents). ServesTold (y.responses site) t (l.tells link) view) (came i conn left.0 at left.1) left.2.told in
-      subst (λ (t : LinkContents). ServesLink (y.responses site) (initial_contents (coming_of conn)) t view) (tells_is link serves.0 serves.1) serves.2
+      let serves : ServesTold (y.responses hall) (Some (initial_contents (coming_of conn))) (l.tells link) view =
+      subst (λ (t : Option LinkContents). ServesTold (y.responses hall) t (l.tells link) view) (came i conn left.0 at left.1) left.2.told in
+      subst (λ (t : LinkContents). ServesLink (y.responses hall) (initial_contents (coming_of conn)) t view) (tells_is link serves.0 serves.1) serves.2
 
   not_memory : (end : End) → is_out_of_memory (Some end) ≡ false → end ≢ Memory
   not_memory end enough same = true≢false (ap (λ (e : End). is_out_of_memory (Some e)) (sym same) ∙ enough)
 
-  served_alone : (i : ℕ) (conn : ScriptConn) (s : Served MemLinkState) (trail : List Event) → slice_get conns i ≡ Some conn → ConnLeft x l y site first i trail s → ConnFollows l y site i (script_of conn) trail s
-      → is_out_of_memory s.end ≡ false → IsServedAlone site conn s
+  served_alone : (i : ℕ) (conn : ScriptConn) (s : Served MemLinkState) (trail : List Event) → slice_get conns i ≡ Some conn → ConnLeft x l y hall first i trail s → ConnFollows l y hall i (script_of conn) trail s
+      → is_out_of_memory s.end ≡ false → IsServedAlone (of_talk y hall) conn s
   served_alone i conn s trail at left follows enough =
       let view : TalkView = y.view_of left.seat.talk in
       let link : MemLinkState = follows.link in
-      let serves = served_link i conn link view at (subst (λ (o : Option MemLinkState). LinkLeft x l y site first i o view) follows.there left.link) in
-      let end_is : s.end ≡ Some (alone site conn).end = follows.end ∙ ap (λ (o : Outcome). Some o.end) (outcome_is (script_of conn)) in
+      let serves = served_link i conn link view at (subst (λ (o : Option MemLinkState). LinkLeft x l y hall first i o view) follows.there left.link) in
+      let end_is : s.end ≡ Some (alone (of_talk y hall) conn).end = follows.end in
       record {
         link = link;
         there = follows.there;
         end = end_is;
-        fine = not_memory (alone site conn).end (ap (λ (e : Option End). is_out_of_memory e) (sym end_is) ∙ enough);
-        bytes = ap (λ (t : LinkContents). t.written) (sym (tells_is link follows.tells follows.told)) ∙ follows.bytes ∙ ap (λ (o : Outcome). o.bytes) (outcome_is (script_of conn));
+        fine = not_memory (alone (of_talk y hall) conn).end (ap (λ (e : Option End). is_out_of_memory e) (sym end_is) ∙ enough);
+        bytes = ap (λ (t : LinkContents). t.written) (sym (tells_is link follows.tells follows.told)) ∙ follows.bytes;
         written = left.written ∙ serves.written (inr refl);
         few_written = left.few_written;
         read = left.read ∙ serves.read;
@@ -95,14 +99,18 @@ module _ {T G : Type 0} (x : WorldWords MemWorldState MemLinkState) (l : LinkWor
         input = serves.input;
       }
 
+are_known : (n : ℕ) (P : LogLine → Type 0) (lines : List LogLine) → AllByRecursion (λ line. (line.conn < n) × P line) lines → AllByRecursion (λ line. line.conn < n) lines
+are_known n P [] all = tt
+are_known n P (line ∷ lines) all = (all.0.0, are_known n P lines all.1)
+
 -- ---- all of them
 
-module _ {T G : Type 0} (x : WorldWords MemWorldState MemLinkState) (l : LinkWords MemLinkState) (y : TalkWords T MemLinkState G SiteState) (site : SiteState) (shape : Shape) (first : MemWorldState) (conns : List ScriptConn) (ended : Ended MemWorldState MemLinkState)
-    (told : x.tells first ≡ told_of conns) (link_told : (link : MemLinkState) → l.tells link ≡ mem_link_tells link) (outcome_is : (script : Script) → y.outcome site script ≡ outcome_of site script)
-    (path_is : (script : Script) → y.path site script ≡ path_of site script) (well : ended.verdict ≡ verdict.Ok) (many_served : length ended.served.items ≡ (x.tells first).total) (many_trails : length ended.trails.items ≡ (x.tells first).total + 2)
-    (enough : NoneOutOfMemory ended.served.items) (left : (i : ℕ) (s : Served MemLinkState) (trail : List Event) → slice_get ended.served.items i ≡ Some s → slice_get (map (λ t. t.items) ended.trails.items) (i + 2) ≡ Some trail → ConnLeft x l y site first i trail s)
+module _ {T G H : Type 0} (x : WorldWords MemWorldState MemLinkState) (l : LinkWords MemLinkState) (y : TalkWords T MemLinkState G H) (hall : H) (shape : Shape) (first : MemWorldState) (conns : List ScriptConn) (ended : Ended MemWorldState MemLinkState)
+    (told : x.tells first ≡ told_of conns) (link_told : (link : MemLinkState) → l.tells link ≡ mem_link_tells link)
+    (well : ended.verdict ≡ verdict.Ok) (many_served : length ended.served.items ≡ (x.tells first).total) (log : Bool) (many_trails : length ended.trails.items ≡ colours_over (x.tells first).total log)
+    (enough : NoneOutOfMemory ended.served.items) (left : (i : ℕ) (s : Served MemLinkState) (trail : List Event) → slice_get ended.served.items i ≡ Some s → slice_get (map (λ t. t.items) ended.trails.items) (i + 2) ≡ Some trail → ConnLeft x l y hall first i trail s)
     (follows : (coming : List Coming) (one : Coming) (script : Script) (i : ℕ) (s : Served MemLinkState) (trail : List Event) → (x.tells first).coming ≡ Some coming → slice_get coming i ≡ Some one → one.answers ≡ Some script
-    → slice_get ended.served.items i ≡ Some s → slice_get (map (λ t. t.items) ended.trails.items) (i + 2) ≡ Some trail → ConnFollows l y site i script trail s) where
+    → slice_get ended.served.items i ≡ Some s → slice_get (map (λ t. t.items) ended.trails.items) (i + 2) ≡ Some trail → ConnFollows l y hall i script trail s) where
   total_is : (x.tells first).total ≡ length conns
   total_is = ap (λ (t : WorldContents). t.total) told
 
@@ -115,28 +123,58 @@ module _ {T G : Type 0} (x : WorldWords MemWorldState MemLinkState) (l : LinkWor
   served_at i low = get_there ended.served.items i (omega (arith, low, many_served, total_is))
 
   followed : (i : ℕ) (conn : ScriptConn) (s : Served MemLinkState) (trail : List Event) → slice_get conns i ≡ Some conn → slice_get ended.served.items i ≡ Some s → slice_get (map (λ t. t.items) ended.trails.items) (i + 2) ≡ Some trail
-      → ConnFollows l y site i (script_of conn) trail s
+      → ConnFollows l y hall i (script_of conn) trail s
   followed i conn s trail at there ran = follows (map coming_of conns) (coming_of conn) (script_of conn) i s trail (ap (λ (t : WorldContents). t.coming) told) (map_at coming_of conns i conn at) refl there ran
 
-  serves_all : ServesAll site conns ended
+  serves_all : ServesAll (of_talk y hall) conns ended
   serves_all = record {
     well = well;
     many = many_served ∙ total_is;
     each = λ i conn s at there.
         let trail = trail_at i (slice_get_within conns i conn at) in
-        served_alone x l y site first conns told link_told outcome_is i conn s trail.0 at (left i s trail.0 there trail.1) (followed i conn s trail.0 at there trail.1) (enough i s there);
+        served_alone x l y hall first conns told link_told i conn s trail.0 at (left i s trail.0 there trail.1) (followed i conn s trail.0 at there trail.1) (enough i s there);
   }
+
+  -- ---- its log
+
+  -- the lines of each connection are its own
+  lines_are : (run : RunLeft x l y shape hall first log ended) → log ≡ true → (i : ℕ) (conn : ScriptConn) → slice_get conns i ≡ Some conn → lines_for i ended.log.items ≡ log_alone (of_talk y hall) i conn
+  lines_are run on i conn at =
+      let low = slice_get_within conns i conn at in
+      let s = served_at i low in
+      let one = serves_all.each i conn s.0 at s.1 in
+      let all : links_owed ended.failed ended.accepted (x.tells first).total ≡ (x.tells first).total = ap (λ (f : Bool). links_owed f ended.accepted (x.tells first).total) (run.ok well).1 in
+      let owed : i < links_owed ended.failed ended.accepted (x.tells first).total = omega (arith, low, all, total_is) in
+      run.lines on (inl well) (map coming_of conns) (coming_of conn) i s.0 (ap (λ (t : WorldContents). t.coming) told) (map_at coming_of conns i conn at) owed s.1
+      ∙ ap (λ (n : ℕ). lines_within n (y.log hall i (input_of (initial_contents (coming_of conn))))) (one.written ∙ ap (λ (b : List ℕ). length b) one.bytes)
+
+  log_is : (run : RunLeft x l y shape hall first log ended) (kept : Bool) → log ≡ kept → IsLog (of_talk y hall) conns kept ended.log.items
+  log_is run false is = run.unlogged is
+  log_is run true is = record {
+    known = subst (λ (n : ℕ). AllByRecursion (λ line. line.conn < n) ended.log.items) total_is (are_known _ _ ended.log.items run.lines_told);
+    each = lines_are run is;
+  }
+
+  -- the events of its colour are of the connections of its lines
+  log_ran : (run : RunLeft x l y shape hall first log ended) → log ≡ true → (history : List Entry) → slice_get (histories_of ended) (shard_of run.setup (colour_for (length conns))) ≡ Some history
+      → map (λ event. event.arg) (ran_of history (colour_for (length conns))) ≡ map (λ line. line.conn) ended.log.items
+  log_ran run on history there =
+      let many : length ended.trails.items ≡ (x.tells first).total + 2 + 1 = many_trails ∙ ap (colours_over (x.tells first).total) on in
+      let trail = get_there ended.trails.items (length conns + 2) (omega (arith, many, total_is)) in
+      let at : slice_get (map (λ t. t.items) ended.trails.items) (length conns + 2) ≡ Some trail.0.items = map_at (λ t. t.items) ended.trails.items (length conns + 2) trail.0 trail.1 in
+      ap (λ (events : List Event). map (λ event. event.arg) events) (sym (run.trailed (colour_for (length conns)) history trail.0.items at there))
+      ∙ sym (run.log_runs trail.0.items (ap (λ (n : ℕ). slice_get (map (λ t. t.items) ended.trails.items) (n + 2)) total_is ∙ at))
 
   -- what was run of a connection is its path
   path_ran : (setup : Setup)
       → ((c : Colour) (history : List Entry) (trail : List Event) → slice_get (map (λ t. t.items) ended.trails.items) c.0 ≡ Some trail → slice_get (histories_of ended) (shard_of setup c) ≡ Some history → trail ≡ ran_of history c)
       → (i : ℕ) (conn : ScriptConn) (history : List Entry) → slice_get conns i ≡ Some conn → slice_get (histories_of ended) (shard_of setup (colour_for i)) ≡ Some history
-      → ran_of history (colour_for i) ≡ map (event_for i) (path_of site (script_of conn))
+      → ran_of history (colour_for i) ≡ map (event_for i) (y.path hall (script_of conn))
   path_ran setup trailed i conn history at there =
       let low = slice_get_within conns i conn at in
       let trail = trail_at i low in
       let s = served_at i low in
-      sym (trailed (colour_for i) history trail.0 trail.1 there) ∙ (followed i conn s.0 trail.0 at s.1 trail.1).path ∙ ap (λ (p : List Handler). map (event_for i) p) (path_is (script_of conn))
+      sym (trailed (colour_for i) history trail.0 trail.1 there) ∙ (followed i conn s.0 trail.0 at s.1 trail.1).path
 
 -- ---- whole runs
 
@@ -144,37 +182,39 @@ ok≢memory : verdict.Ok ≢ verdict.Memory
 ok≢memory same = cc
 
 -- what both ways of running leave
-run_well : {T G : Type 0} (x : WorldWords MemWorldState MemLinkState) (l : LinkWords MemLinkState) (y : TalkWords T MemLinkState G SiteState) (site : SiteState) (shape : Shape) (first : MemWorldState) (conns : List ScriptConn) (ended : Ended MemWorldState MemLinkState)
-    → RunLeft x l y shape site first ended → AllFollow x l y site first ended → x.tells first ≡ told_of conns → ((link : MemLinkState) → l.tells link ≡ mem_link_tells link) → ((script : Script) → y.outcome site script ≡ outcome_of site script)
-    → ((script : Script) → y.path site script ≡ path_of site script) → ended.verdict ≡ verdict.Ok → RunsWell site shape conns ended
-run_well x l y site shape first conns ended run follow told link_told outcome_is path_is well =
+run_well : {T G H : Type 0} (x : WorldWords MemWorldState MemLinkState) (l : LinkWords MemLinkState) (y : TalkWords T MemLinkState G H) (hall : H) (shape : Shape) (first : MemWorldState) (conns : List ScriptConn) (log : Bool) (ended : Ended MemWorldState MemLinkState)
+    → RunLeft x l y shape hall first log ended → AllFollow x l y hall first ended → x.tells first ≡ told_of conns → ((link : MemLinkState) → l.tells link ≡ mem_link_tells link)
+    → ended.verdict ≡ verdict.Ok → RunsWell (of_talk y hall) shape conns log ended
+run_well x l y hall shape first conns log ended run follow told link_told well =
     let enough = (run.ok well).3 in
     record {
-      serves = serves_all x l y site shape first conns ended told link_told outcome_is path_is well run.many_served run.many_trails enough run.conn follow;
+      serves = serves_all x l y hall shape first conns ended told link_told well run.many_served log run.many_trails enough run.conn follow;
+      logged = log_is x l y hall shape first conns ended told link_told well run.many_served log run.many_trails enough run.conn follow run log refl;
       served = record {
         setup = run.setup;
         rules = run.rules;
-        colours = run.colours ∙ ap (λ (t : WorldContents). t.total + 2) told;
+        colours = run.colours ∙ ap (λ (t : WorldContents). colours_over t.total log) told;
         shards = run.shards;
         legal = run.legal;
         drained = run.drained (λ same. ok≢memory (sym well ∙ same));
-        paths = path_ran x l y site shape first conns ended told link_told outcome_is path_is well run.many_served run.many_trails enough run.conn follow run.setup run.trailed;
+        paths = path_ran x l y hall shape first conns ended told link_told well run.many_served log run.many_trails enough run.conn follow run.setup run.trailed;
+        logged = log_ran x l y hall shape first conns ended told link_told well run.many_served log run.many_trails enough run.conn follow run;
       };
     }
 
-pub threads_run_well : {T G : Type 0} (x : WorldWords MemWorldState MemLinkState) (l : LinkWords MemLinkState) (y : TalkWords T MemLinkState G SiteState) (site : SiteState) (shape : Shape) (first : MemWorldState) (conns : List ScriptConn) (ended : Ended MemWorldState MemLinkState)
-    → ThreadsLeave x l y shape site first ended → x.tells first ≡ told_of conns → ((link : MemLinkState) → l.tells link ≡ mem_link_tells link) → ((script : Script) → y.outcome site script ≡ outcome_of site script)
-    → ((script : Script) → y.path site script ≡ path_of site script) → ended.verdict ≡ verdict.Ok → RunsWell site shape conns ended
-threads_run_well x l y site shape first conns ended (inl refused) told link_told outcome_is path_is well = absurd (ok≢memory (sym well ∙ refused.refused))
-threads_run_well x l y site shape first conns ended (inr run) told link_told outcome_is path_is well =
-    run_well x l y site shape first conns ended run.left (run.follows well) told link_told outcome_is path_is well
+pub threads_run_well : {T G H : Type 0} (x : WorldWords MemWorldState MemLinkState) (l : LinkWords MemLinkState) (y : TalkWords T MemLinkState G H) (hall : H) (shape : Shape) (first : MemWorldState) (conns : List ScriptConn) (log : Bool) (ended : Ended MemWorldState MemLinkState)
+    → ThreadsLeave x l y shape hall first log ended → x.tells first ≡ told_of conns → ((link : MemLinkState) → l.tells link ≡ mem_link_tells link)
+    → ended.verdict ≡ verdict.Ok → RunsWell (of_talk y hall) shape conns log ended
+threads_run_well x l y hall shape first conns log ended (inl refused) told link_told well = absurd (ok≢memory (sym well ∙ refused.refused))
+threads_run_well x l y hall shape first conns log ended (inr run) told link_told well =
+    run_well x l y hall shape first conns log ended run.left (run.follows well) told link_told well
 
-pub steps_run_well : {T G : Type 0} (x : WorldWords MemWorldState MemLinkState) (l : LinkWords MemLinkState) (y : TalkWords T MemLinkState G SiteState) (site : SiteState) (shape : Shape) (first : MemWorldState) (conns : List ScriptConn) (ended : Ended MemWorldState MemLinkState)
-    → StepsLeave x l y shape site first ended → x.tells first ≡ told_of conns → ((link : MemLinkState) → l.tells link ≡ mem_link_tells link) → ((script : Script) → y.outcome site script ≡ outcome_of site script)
-    → ((script : Script) → y.path site script ≡ path_of site script) → ended.verdict ≡ verdict.Ok → RunsWell site shape conns ended
-steps_run_well x l y site shape first conns ended (inl refused) told link_told outcome_is path_is well = absurd (ok≢memory (sym well ∙ refused.refused))
-steps_run_well x l y site shape first conns ended (inr run) told link_told outcome_is path_is well =
-    run_well x l y site shape first conns ended run.left (run.follows well) told link_told outcome_is path_is well
+pub steps_run_well : {T G H : Type 0} (x : WorldWords MemWorldState MemLinkState) (l : LinkWords MemLinkState) (y : TalkWords T MemLinkState G H) (hall : H) (shape : Shape) (first : MemWorldState) (conns : List ScriptConn) (log : Bool) (ended : Ended MemWorldState MemLinkState)
+    → StepsLeave x l y shape hall first log ended → x.tells first ≡ told_of conns → ((link : MemLinkState) → l.tells link ≡ mem_link_tells link)
+    → ended.verdict ≡ verdict.Ok → RunsWell (of_talk y hall) shape conns log ended
+steps_run_well x l y hall shape first conns log ended (inl refused) told link_told well = absurd (ok≢memory (sym well ∙ refused.refused))
+steps_run_well x l y hall shape first conns log ended (inr run) told link_told well =
+    run_well x l y hall shape first conns log ended run.left (run.follows well) told link_told well
 
 -- a scripted world doesn't fail
 no_fault : (x : WorldWords MemWorldState MemLinkState) (l : LinkWords MemLinkState) (first : MemWorldState) (conns : List ScriptConn) (ended : Ended MemWorldState MemLinkState) → x.tells first ≡ told_of conns → IsSome ended.world → ended.failed ≡ true
@@ -189,18 +229,18 @@ world≢memory same = cc
 apart≢memory : (conn : ℕ) → verdict.Apart conn ≢ verdict.Memory
 apart≢memory conn same = cc
 
-pub threads_keep_the_world : {T G : Type 0} (x : WorldWords MemWorldState MemLinkState) (l : LinkWords MemLinkState) (y : TalkWords T MemLinkState G SiteState) (site : SiteState) (shape : Shape) (first : MemWorldState) (conns : List ScriptConn) (ended : Ended MemWorldState MemLinkState)
-    → ThreadsLeave x l y shape site first ended → x.tells first ≡ told_of conns → ended.verdict ≡ verdict.World → ⊥
-threads_keep_the_world x l y site shape first conns ended (inl refused) told gone = world≢memory (sym gone ∙ refused.refused)
-threads_keep_the_world x l y site shape first conns ended (inr run) told gone = no_fault x l first conns ended told (run.world gone).0 (run.world gone).1 run.stands
+pub threads_keep_the_world : {T G H : Type 0} (x : WorldWords MemWorldState MemLinkState) (l : LinkWords MemLinkState) (y : TalkWords T MemLinkState G H) (hall : H) (shape : Shape) (first : MemWorldState) (conns : List ScriptConn) (log : Bool) (ended : Ended MemWorldState MemLinkState)
+    → ThreadsLeave x l y shape hall first log ended → x.tells first ≡ told_of conns → ended.verdict ≡ verdict.World → ⊥
+threads_keep_the_world x l y hall shape first conns log ended (inl refused) told gone = world≢memory (sym gone ∙ refused.refused)
+threads_keep_the_world x l y hall shape first conns log ended (inr run) told gone = no_fault x l first conns ended told (run.world gone).0 (run.world gone).1 run.stands
 
-pub steps_keep_the_world : {T G : Type 0} (x : WorldWords MemWorldState MemLinkState) (l : LinkWords MemLinkState) (y : TalkWords T MemLinkState G SiteState) (site : SiteState) (shape : Shape) (first : MemWorldState) (conns : List ScriptConn) (ended : Ended MemWorldState MemLinkState)
-    → StepsLeave x l y shape site first ended → x.tells first ≡ told_of conns → ended.verdict ≡ verdict.World → ⊥
-steps_keep_the_world x l y site shape first conns ended (inl refused) told gone = world≢memory (sym gone ∙ refused.refused)
-steps_keep_the_world x l y site shape first conns ended (inr run) told gone = no_fault x l first conns ended told (run.world gone).0 (run.world gone).1 run.stands
+pub steps_keep_the_world : {T G H : Type 0} (x : WorldWords MemWorldState MemLinkState) (l : LinkWords MemLinkState) (y : TalkWords T MemLinkState G H) (hall : H) (shape : Shape) (first : MemWorldState) (conns : List ScriptConn) (log : Bool) (ended : Ended MemWorldState MemLinkState)
+    → StepsLeave x l y shape hall first log ended → x.tells first ≡ told_of conns → ended.verdict ≡ verdict.World → ⊥
+steps_keep_the_world x l y hall shape first conns log ended (inl refused) told gone = world≢memory (sym gone ∙ refused.refused)
+steps_keep_the_world x l y hall shape first conns log ended (inr run) told gone = no_fault x l first conns ended told (run.world gone).0 (run.world gone).1 run.stands
 
 -- a weave misses nothing
-pub steps_miss_nothing : {T G : Type 0} (x : WorldWords MemWorldState MemLinkState) (l : LinkWords MemLinkState) (y : TalkWords T MemLinkState G SiteState) (site : SiteState) (shape : Shape) (first : MemWorldState) (ended : Ended MemWorldState MemLinkState)
-    → StepsLeave x l y shape site first ended → (conn : ℕ) → ended.verdict ≡ verdict.Apart conn → ⊥
-steps_miss_nothing x l y site shape first ended (inl refused) conn apart = apart≢memory conn (sym apart ∙ refused.refused)
-steps_miss_nothing x l y site shape first ended (inr run) conn apart = run.never_apart conn apart
+pub steps_miss_nothing : {T G H : Type 0} (x : WorldWords MemWorldState MemLinkState) (l : LinkWords MemLinkState) (y : TalkWords T MemLinkState G H) (hall : H) (shape : Shape) (first : MemWorldState) (log : Bool) (ended : Ended MemWorldState MemLinkState)
+    → StepsLeave x l y shape hall first log ended → (conn : ℕ) → ended.verdict ≡ verdict.Apart conn → ⊥
+steps_miss_nothing x l y hall shape first log ended (inl refused) conn apart = apart≢memory conn (sym apart ∙ refused.refused)
+steps_miss_nothing x l y hall shape first log ended (inr run) conn apart = run.never_apart conn apart

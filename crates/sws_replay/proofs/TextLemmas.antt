@@ -1,5 +1,5 @@
 -- What is written of a run.
-use Rattle.std.proofs.Common.{◌≡◌, ◌≢◌, ℕ, zero, suc, ◌+◌, ◌<◌, Bool, true, false, true≢false, List, [], ◌∷◌, ◌++◌, Option, None, Some, Result, length, map, drop, get_or, drop-cons, refl, sym, ap, ◌∙◌, subst, arith, inr}
+use Rattle.std.proofs.Common.{◌≡◌, ◌≢◌, ℕ, zero, suc, ◌+◌, ◌<◌, Bool, true, false, true≢false, List, [], ◌∷◌, ◌++◌, Option, None, Some, Result, length, map, drop, get_or, drop-cons, append-nil, append_assoc, refl, sym, ap, ◌∙◌, subst, arith, inr}
 use Rattle.std.specs.Prelude.{slice_get}
 use Rattle.std.specs.List.{AllByRecursion}
 use Rattle.mely_history.specs.declared.shape.Shape.{Shape}
@@ -16,47 +16,51 @@ use Rattle.sws_link.specs.declared.Put.TheVariants as put
 use Rattle.sws_report.specs.Journal.{journal}
 use Rattle.sws_report.specs.Transcript.{transcript, transcript_from, conn_text}
 use Rattle.sws_replay.proofs.GoingLemmas.{Going, Going-moved, Going-written, Going-stopped, Going-cause}
+use Rattle.sws_log.specs.Lines.{log_text}
 use Rattle.sws_script.specs.Scripted.{script_of}
 use Rattle.sws_script.specs.declared.input.Input.{Input}
 use Rattle.sws_script.specs.declared.input.ScriptConn.{ScriptConn}
 use Rattle.sws_site.specs.Site.{SiteState}
 use Rattle.sws_replay.specs.declared.fault.RunFault.{RunFault}
+use Rattle.sws_replay.specs.Expected.{Expected, by_http}
+use Rattle.sws_replay.specs.Histories.{AreServed}
+use Rattle.sws_replay.specs.Logs.{IsLog}
 use Rattle.sws_replay.specs.Replays.{IsReplay, IsScheduledReplay, WritesOne, result_of}
 use Rattle.sws_replay.specs.Runs.{IsServedAlone, ServesAll, histories_of, RunsWell}
-use Rattle.sws_replay.specs.Showing.{IsShowable, shown_end, shown_bytes, shown_of}
+use Rattle.sws_replay.specs.Showing.{IsShowable, journal_part, shown_end, shown_bytes, shown_of}
 use Rattle.sws_replay.specs.Transcripts.{ended_alone, transcript_of}
 
 -- each connection was served as if it were alone
-abbrev AreAlone : SiteState → List ScriptConn → List (Served MemLinkState) → Type 0
-AreAlone site conns served = (i : ℕ) (conn : ScriptConn) (s : Served MemLinkState) → slice_get conns i ≡ Some conn → slice_get served i ≡ Some s → IsServedAlone site conn s
+abbrev AreAlone : Expected → List ScriptConn → List (Served MemLinkState) → Type 0
+AreAlone expected conns served = (i : ℕ) (conn : ScriptConn) (s : Served MemLinkState) → slice_get conns i ≡ Some conn → slice_get served i ≡ Some s → IsServedAlone expected conn s
 
-shown_alone : (site : SiteState) (conns : List ScriptConn) (served : List (Served MemLinkState)) → length served ≡ length conns → AreAlone site conns served → map shown_of served ≡ map (ended_alone site) conns
-shown_alone site [] [] many each = refl
-shown_alone site [] (s ∷ served) many each = absurd (omega (arith, many))
-shown_alone site (conn ∷ conns) [] many each = absurd (omega (arith, many))
-shown_alone site (conn ∷ conns) (s ∷ served) many each =
+shown_alone : (expected : Expected) (conns : List ScriptConn) (served : List (Served MemLinkState)) → length served ≡ length conns → AreAlone expected conns served → map shown_of served ≡ map (ended_alone expected) conns
+shown_alone expected [] [] many each = refl
+shown_alone expected [] (s ∷ served) many each = absurd (omega (arith, many))
+shown_alone expected (conn ∷ conns) [] many each = absurd (omega (arith, many))
+shown_alone expected (conn ∷ conns) (s ∷ served) many each =
     let one = each zero conn s refl refl in
     let end_is = ap shown_end one.end in
     let bytes_are = ap shown_bytes one.there ∙ one.bytes in
-    let same : shown_of s ≡ ended_alone site conn = λ i. (end_is i, bytes_are i) in
-    let rest = shown_alone site conns served (omega (arith, many)) (λ i. each (suc i)) in
+    let same : shown_of s ≡ ended_alone expected conn = λ i. (end_is i, bytes_are i) in
+    let rest = shown_alone expected conns served (omega (arith, many)) (λ i. each (suc i)) in
     λ i. same i ∷ rest i
 
 -- the transcript of what was served is the one-core transcript
-transcript_alone : (site : SiteState) (conns : List ScriptConn) (ended : Ended MemWorldState MemLinkState) → ServesAll site conns ended → transcript (map shown_of ended.served.items) ≡ transcript_of site conns
+transcript_alone : (expected : Expected) (conns : List ScriptConn) (ended : Ended MemWorldState MemLinkState) → ServesAll expected conns ended → transcript (map shown_of ended.served.items) ≡ transcript_of expected conns
 unfolding transcript_of
-transcript_alone site conns ended all = ap (λ (t : List (End × List ℕ)). transcript t) (shown_alone site conns ended.served.items all.many all.each)
+transcript_alone expected conns ended all = ap (λ (t : List (End × List ℕ)). transcript t) (shown_alone expected conns ended.served.items all.many all.each)
 
-showable : (site : SiteState) (conns : List ScriptConn) (served : List (Served MemLinkState)) → length served ≡ length conns → AreAlone site conns served → AllByRecursion IsShowable served
-showable site conns [] many each = tt
-showable site [] (s ∷ served) many each = absurd (omega (arith, many))
-showable site (conn ∷ conns) (s ∷ served) many each =
+showable : (expected : Expected) (conns : List ScriptConn) (served : List (Served MemLinkState)) → length served ≡ length conns → AreAlone expected conns served → AllByRecursion IsShowable served
+showable expected conns [] many each = tt
+showable expected [] (s ∷ served) many each = absurd (omega (arith, many))
+showable expected (conn ∷ conns) (s ∷ served) many each =
     let one = each zero conn s refl refl in
-    (record { link = one.link; there = one.there; end = _; is = one.end; fine = one.fine }, showable site conns served (omega (arith, many)) (λ i. each (suc i)))
+    (record { link = one.link; there = one.there; end = _; is = one.end; fine = one.fine }, showable expected conns served (omega (arith, many)) (λ i. each (suc i)))
 
 -- and each connection can be shown
-pub all_showable : (site : SiteState) (conns : List ScriptConn) (ended : Ended MemWorldState MemLinkState) → ServesAll site conns ended → AllByRecursion IsShowable ended.served.items
-all_showable site conns ended all = showable site conns ended.served.items all.many all.each
+pub all_showable : (expected : Expected) (conns : List ScriptConn) (ended : Ended MemWorldState MemLinkState) → ServesAll expected conns ended → AllByRecursion IsShowable ended.served.items
+all_showable expected conns ended all = showable expected conns ended.served.items all.many all.each
 
 -- ---- how a replay ends
 
@@ -106,30 +110,45 @@ next_shown served index s low is =
 
 -- ---- the texts of a replay
 
-module _ (site : SiteState) (shape : Shape) (conns : List ScriptConn) (ended : Ended MemWorldState MemLinkState) (ran : RunsWell site shape conns ended) (before after : Option (List ℕ)) (answer : Put) (result : Result (Unit {0}) RunFault) (is : result ≡ result_of answer) where
+module _ (expected : Expected) (shape : Shape) (conns : List ScriptConn) (log : Bool) (ended : Ended MemWorldState MemLinkState) (ran : RunsWell expected shape conns log ended) (before after : Option (List ℕ)) (answer : Put) (result : Result (Unit {0}) RunFault) (is : result ≡ result_of answer) where
   abbrev shown : List ℕ
   shown = transcript (map shown_of ended.served.items)
+
+  abbrev lines : List ℕ
+  lines = log_text ended.log.items
 
   abbrev behind : List ℕ
   behind = journal (histories_of ended)
 
-  same : shown ≡ transcript_of site conns
-  same = transcript_alone site conns ended ran.serves
+  same : shown ≡ transcript_of expected conns
+  same = transcript_alone expected conns ended ran.serves
 
-  pub without_journal : (asked : Bool) → asked ≡ false → Puts before after answer shown → WritesOne (IsReplay site shape conns asked) before after result
-  without_journal true asked puts = absurd (true≢false asked)
-  without_journal false asked puts = subst (WritesOne (IsReplay site shape conns false) before after) (sym is) (writes_one (IsReplay site shape conns false) shown before after answer same puts)
+  without : shown ++ (lines ++ []) ≡ transcript_of expected conns ++ lines
+  without = ap (λ (l : List ℕ). shown ++ l) (append-nil lines) ∙ ap (λ (t : List ℕ). t ++ lines) same
 
-  whole : shown ++ behind ≡ transcript_of site conns ++ behind
-  whole = ap (λ (t : List ℕ). t ++ behind) same
+  whole : shown ++ (lines ++ behind) ≡ transcript_of expected conns ++ lines ++ behind
+  whole = sym (append_assoc shown lines behind) ∙ ap (λ (t : List ℕ). t ++ lines ++ behind) same
 
-  pub with_journal : (asked : Bool) → asked ≡ true → Puts before after answer (shown ++ behind) → WritesOne (IsReplay site shape conns asked) before after result
-  with_journal false asked puts = absurd (true≢false (sym asked))
-  with_journal true asked puts =
-      subst (WritesOne (IsReplay site shape conns true) before after) (sym is) (writes_one (IsReplay site shape conns true) (shown ++ behind) before after answer (histories_of ended, ran.served, whole) puts)
+  pub replayed : (asked : Bool) → Puts before after answer (shown ++ (lines ++ journal_part asked (histories_of ended))) → WritesOne (IsReplay expected shape conns log asked) before after result
+  replayed false puts =
+      subst (WritesOne (IsReplay expected shape conns log false) before after) (sym is)
+      (writes_one (IsReplay expected shape conns log false) (shown ++ (lines ++ [])) before after answer (ended.log.items, ran.logged, without) puts)
+  replayed true puts =
+      subst (WritesOne (IsReplay expected shape conns log true) before after) (sym is)
+      (writes_one (IsReplay expected shape conns log true) (shown ++ (lines ++ behind)) before after answer (ended.log.items, histories_of ended, ran.logged, ran.served, whole) puts)
 
-  pub by_schedule : (input : Input) → input.conns ≡ conns → IsServerRun shape site (map script_of conns) input.steps (histories_of ended) → Puts before after answer (shown ++ behind) → WritesOne (IsScheduledReplay site shape input) before after result
+-- the text of a replay of HTTP by a schedule
+module _ (site : SiteState) (shape : Shape) (conns : List ScriptConn) (log : Bool) (ended : Ended MemWorldState MemLinkState) (ran : RunsWell (by_http site) shape conns log ended) (before after : Option (List ℕ)) (answer : Put) (result : Result (Unit {0}) RunFault) (is : result ≡ result_of answer) where
+  pub by_schedule : (input : Input) → input.conns ≡ conns → IsServerRun shape log site (map script_of conns) input.steps (histories_of ended)
+      → Puts before after answer (transcript (map shown_of ended.served.items) ++ (log_text ended.log.items ++ journal (histories_of ended))) → WritesOne (IsScheduledReplay site shape input log) before after result
   by_schedule input conns_are run puts =
-      let text_is : shown ++ behind ≡ transcript_of site input.conns ++ behind = whole ∙ ap (λ (c : List ScriptConn). transcript_of site c ++ behind) (sym conns_are) in
-      let run_is = subst (λ (c : List ScriptConn). IsServerRun shape site (map script_of c) input.steps (histories_of ended)) (sym conns_are) run in
-      subst (WritesOne (IsScheduledReplay site shape input) before after) (sym is) (writes_one (IsScheduledReplay site shape input) (shown ++ behind) before after answer (histories_of ended, run_is, text_is) puts)
+      let all = ended.log.items in
+      let text_is : transcript (map shown_of ended.served.items) ++ (log_text all ++ journal (histories_of ended)) ≡ transcript_of (by_http site) input.conns ++ log_text all ++ journal (histories_of ended) =
+      sym (append_assoc (transcript (map shown_of ended.served.items)) (log_text all) (journal (histories_of ended)))
+      ∙ ap (λ (t : List ℕ). t ++ log_text all ++ journal (histories_of ended)) (transcript_alone (by_http site) conns ended ran.serves ∙ ap (λ (c : List ScriptConn). transcript_of (by_http site) c) (sym conns_are)) in
+      let run_is = subst (λ (c : List ScriptConn). IsServerRun shape log site (map script_of c) input.steps (histories_of ended)) (sym conns_are) run in
+      let logged_is = subst (λ (c : List ScriptConn). IsLog (by_http site) c log all) (sym conns_are) ran.logged in
+      let served_is = subst (λ (c : List ScriptConn). AreServed (by_http site) shape c log all (histories_of ended)) (sym conns_are) ran.served in
+      subst (WritesOne (IsScheduledReplay site shape input log) before after) (sym is)
+      (writes_one (IsScheduledReplay site shape input log) (transcript (map shown_of ended.served.items) ++ (log_text all ++ journal (histories_of ended))) before after answer
+      (all, histories_of ended, run_is, logged_is, served_is, text_is) puts)

@@ -6,6 +6,8 @@ use Rattle.sws_engine.specs.ServerRun.{IsServerRun}
 use Rattle.sws_link.specs.Contents.{IsPrefix}
 use Rattle.sws_link.specs.declared.Put.{Put}
 use Rattle.sws_link.specs.declared.Put.TheVariants as put
+use Rattle.sws_log.specs.Lines.{log_text}
+use Rattle.sws_log.specs.declared.line.LogLine.{LogLine}
 use Rattle.sws_report.specs.Journal.{journal}
 use Rattle.sws_script.specs.Scripted.{script_of}
 use Rattle.sws_script.specs.declared.input.Input.{Input}
@@ -13,24 +15,32 @@ use Rattle.sws_script.specs.declared.input.ScriptConn.{ScriptConn}
 use Rattle.sws_site.specs.Site.{SiteState}
 use Rattle.sws_replay.specs.declared.fault.RunFault.{RunFault}
 use Rattle.sws_replay.specs.declared.fault.RunFault.TheVariants.{Write, Memory}
+use Rattle.sws_replay.specs.Expected.{Expected, by_http}
 use Rattle.sws_replay.specs.Histories.{AreServed}
+use Rattle.sws_replay.specs.Logs.{IsLog}
 use Rattle.sws_replay.specs.Transcripts.{transcript_of}
 
--- the text of a replay, with its journal where that is asked for: behind the transcript, that of
--- histories by which these connections were served
-abbrev pub IsReplay : SiteState → Shape → List ScriptConn → Bool → List ℕ → Type 0
-IsReplay site shape conns false text = text ≡ transcript_of site conns
-IsReplay site shape conns true text =
-    (histories : List (List Entry)) × AreServed site shape conns histories
-    × (text ≡ transcript_of site conns ++ journal histories)
+-- the text of a replay, with its log and with its journal where these are asked for: behind the
+-- transcript, the lines of the log, and behind them the journal of histories by which the
+-- connections were served
+abbrev pub IsReplay : Expected → Shape → List ScriptConn → (log journal : Bool) → List ℕ → Type 0
+IsReplay expected shape conns log false text =
+    (lines : List LogLine) × IsLog expected conns log lines
+    × (text ≡ transcript_of expected conns ++ log_text lines)
+IsReplay expected shape conns log true text =
+    (lines : List LogLine) × (histories : List (List Entry)) × IsLog expected conns log lines
+    × AreServed expected shape conns log lines histories
+    × (text ≡ transcript_of expected conns ++ log_text lines ++ journal histories)
 
--- the one text of a replay by a schedule: behind the transcript, the journal of the histories that
--- the definition of a run gives
-abbrev pub IsScheduledReplay : SiteState → Shape → Input → List ℕ → Type 0
-IsScheduledReplay site shape input text =
-    (histories : List (List Entry))
-    × IsServerRun shape site (map script_of input.conns) input.steps histories
-    × (text ≡ transcript_of site input.conns ++ journal histories)
+-- the one text of a replay of HTTP by a schedule: behind the transcript, the lines of the log where
+-- that is asked for, and the journal of the histories that the definition of a run gives
+abbrev pub IsScheduledReplay : SiteState → Shape → Input → (log : Bool) → List ℕ → Type 0
+IsScheduledReplay site shape input log text =
+    (lines : List LogLine) × (histories : List (List Entry))
+    × IsServerRun shape log site (map script_of input.conns) input.steps histories
+    × IsLog (by_http site) input.conns log lines
+    × AreServed (by_http site) shape input.conns log lines histories
+    × (text ≡ transcript_of (by_http site) input.conns ++ log_text lines ++ journal histories)
 
 -- a front of such a text
 abbrev pub Begins : (List ℕ → Type 0) → List ℕ → Type 0

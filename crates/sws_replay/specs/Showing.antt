@@ -1,9 +1,11 @@
--- What is shown of a connection that has ended with its link.
-use Rattle.std.specs.Prelude.{◌≡◌, ◌≢◌, ℕ, List, [], Option, Some, None}
+-- What is shown of a connection that has ended with its link, and of a run.
+use Rattle.std.specs.Prelude.{◌≡◌, ◌≢◌, ℕ, Bool, true, false, List, [], Option, Some, None}
+use Rattle.mely_history.specs.declared.entry.Entry.{Entry}
 use Rattle.sws_steps.specs.declared.End.{End}
 use Rattle.sws_steps.specs.declared.End.TheVariants.{Done, Memory}
 use Rattle.sws_engine.specs.declared.ended.Served.{Served}
 use Rattle.sws_link.specs.MemLink.{MemLinkState}
+use Rattle.sws_report.specs.Journal.{journal}
 
 -- it has its link and an end other than want of memory
 pub record IsShowable (s : Served MemLinkState) : Type 0 where
@@ -26,3 +28,8 @@ shown_end (Some end) = end
 -- its end, and what was written
 abbrev pub shown_of : Served MemLinkState → End × List ℕ
 shown_of s = (shown_end s.end, shown_bytes s.link)
+
+-- the journal of histories, where that is asked for
+abbrev pub journal_part : Bool → List (List Entry) → List ℕ
+journal_part false histories = []
+journal_part true histories = journal histories

@@ -1,4 +1,4 @@
-//! A script run over a site, and what is written of that run.
+//! A script run by HTTP over a site, or by talks of any hall, and what is written of that run.
 //!
 //! [`replay`] serves the connections of a script, several workers on threads, and writes their
 //! transcript, which is the same for every number of workers and shards: each connection is served
@@ -6,7 +6,8 @@
 //! With the journal it writes the entries of each shard as well. [`replay_by_schedule`] runs the
 //! same connections on one thread, by a schedule that says which core makes a step, and writes the
 //! one text of that schedule ([`laws::a_schedule_has_one_text`]). [`run_script`] is the run alone,
-//! for whoever counts what it leaves.
+//! for whoever counts what it leaves. [`replay_talks`] and [`run_talks`] are the two for any
+//! [`Talk`](sws_conn::Talk), of which HTTP is one.
 //!
 //! Nothing is written before a run has ended well. That a connection is lost isn't proved
 //! impossible on threads, so what such a run left is tested: that each connection met its link and
@@ -33,5 +34,5 @@ mod running;
 mod writing;
 
 pub use fault::RunFault;
-pub use replaying::{replay, replay_by_schedule};
-pub use running::run_script;
+pub use replaying::{replay, replay_by_schedule, replay_talks};
+pub use running::{run_script, run_talks};

@@ -1,9 +1,11 @@
-//! A script run over a site, by threads or by a schedule.
-ghost use Rattle.std.specs.Prelude.{◌≡◌, ◌≤◌, ◌<◌, ◌+◌, ◌^◌, All, None, IfOk, IfErr, length, map, sum_by};
+//! A script run by talks of a hall, by threads or by a schedule.
+ghost use Rattle.std.specs.Prelude.{◌≡◌, ◌≤◌, ◌<◌, ◌^◌, All, None, IfOk, IfErr, length, map, sum_by};
 ghost use Rattle.mely_history.specs.Setup.{first_out_of_range};
+ghost use Rattle.sws_engine.specs.Counting.{colours_over};
 ghost use Rattle.sws_engine.specs.ServerRun.{IsServerRun};
 ghost use Rattle.sws_link.specs.MemWorlds.{mem_world_tells};
 ghost use Rattle.sws_script.specs.Scripted.{script_of, told_of};
+ghost use Rattle.sws_replay.specs.Expected.{by_http, of_talk};
 ghost use Rattle.sws_replay.specs.OfInput.{AreOfInput};
 ghost use Rattle.sws_replay.specs.Runs.{RunsWell, histories_of};
 ghost use Rattle.sws_engine.specs.Limits.{conn_limit};
@@ -14,46 +16,103 @@ use mely_worker::OpenGate;
 use std::alloc::Global;
 use std::sync::Wait;
 use std::thread::Threads;
-use sws_engine::{Ended, Verdict, serve_all, serve_steps};
-use sws_link::MemWorld;
+use sws_conn::{Conn, Talk};
+use sws_engine::{Ended, Verdict, serve_steps, talk_all, talk_steps};
+use sws_link::{MemLink, MemWorld};
 use sws_script::{ScriptConn, script_world};
 use sws_site::Site;
 
 /// Serves the connections of a script out of a site, with a thread for each of several workers, and
-/// gives what the run leaves. It need not return.
+/// gives what the run leaves, with the access log where that is asked for. It need not return.
 ///
 /// However the threads run, each connection is served as if it were alone.
 ///
 /// # Errors
 ///
 /// `Memory` where an allocation was refused. There is no other.
-pub fn run_script<R: Threads + Wait + Sync>(
+pub fn run_script<'s, R: Threads + Wait + Sync>(
     rt: &R,
     alloc: Global,
-    site: &Site,
+    site: &'s Site,
     shape: &Shape,
     conns: &[ScriptConn],
+    log: bool,
 ) -> Result<Ended<MemWorld>, RunFault>
-    requires shape { first_out_of_range shape.now (length conns.now + 2) 1 ≡ None }
+    requires shape { first_out_of_range shape.now (colours_over (length conns.now) log) 1 ≡ None }
     requires few { length conns.now ≤ conn_limit }
     requires conns { AreOfInput conns.now }
-    ensures ran { IfOk result (λ ended. RunsWell site.now shape.now conns.now ended) }
+    ensures ran { IfOk result (λ ended. RunsWell (by_http site.now) shape.now conns.now log ended) }
+    ensures refused { IfErr result (λ fault. fault ≡ RunFault.Memory) }
+{
+    run_talks::<R, Conn<'s, MemLink>>(rt, alloc, site, shape, conns, log)
+}
+
+/// Serves the connections of a script by talks of one hall, with a thread for each of several
+/// workers, and gives what the run leaves, with the access log where that is asked for. It need not
+/// return.
+///
+/// However the threads run, each connection is served as if it were alone.
+///
+/// # Errors
+///
+/// `Memory` where an allocation was refused. There is no other.
+pub fn run_talks<R: Threads + Wait + Sync, T: Talk<MemLink> + Drop + Send>(
+    rt: &R,
+    alloc: Global,
+    hall: T::Hall,
+    shape: &Shape,
+    conns: &[ScriptConn],
+    log: bool,
+) -> Result<Ended<MemWorld>, RunFault>
+where
+    T::Hall: Send,
+    requires shape { first_out_of_range shape.now (colours_over (length conns.now) log) 1 ≡ None }
+    requires few { length conns.now ≤ conn_limit }
+    requires conns { AreOfInput conns.now }
+    ensures ran { IfOk result (λ ended.
+        RunsWell (of_talk T.Talk (T.contents_of hall)) shape.now conns.now log ended) }
     ensures refused { IfErr result (λ fault. fault ≡ RunFault.Memory) }
 {
     let world = make_world(alloc, conns)?;
-    let ended = serve_all(rt, alloc, site, shape, world, &OpenGate);
+    let ended = talk_all::<R, MemWorld, T, OpenGate>(rt, alloc, hall, shape, world, &OpenGate, log);
     match ended.verdict {
         Verdict::Ok => Ok(ended),
         Verdict::Memory => Err(RunFault::Memory),
         // That threads miss nothing isn't proved; of a run by steps, which takes their
         // place where they did, it is.
-        Verdict::Apart { .. } => run_steps(rt, alloc, site, shape, conns, &[]),
+        Verdict::Apart { .. } => run_again::<R, T>(rt, alloc, hall, shape, conns, log),
         Verdict::World => unreachable!(),
     }
 }
 
+/// Serves the connections of a script by talks of one hall, on one thread.
+fn run_again<R: Wait, T: Talk<MemLink> + Drop>(
+    rt: &R,
+    alloc: Global,
+    hall: T::Hall,
+    shape: &Shape,
+    conns: &[ScriptConn],
+    log: bool,
+) -> Result<Ended<MemWorld>, RunFault>
+    requires shape { first_out_of_range shape.now (colours_over (length conns.now) log) 1 ≡ None }
+    requires few { length conns.now ≤ conn_limit }
+    requires conns { AreOfInput conns.now }
+    ensures ran { IfOk result (λ ended.
+        RunsWell (of_talk T.Talk (T.contents_of hall)) shape.now conns.now log ended) }
+    ensures refused { IfErr result (λ fault. fault ≡ RunFault.Memory) }
+{
+    let world = make_world(alloc, conns)?;
+    let ended = talk_steps::<R, MemWorld, T>(rt, alloc, hall, shape, world, &[], log);
+    match ended.verdict {
+        Verdict::Ok => Ok(ended),
+        Verdict::Memory => Err(RunFault::Memory),
+        Verdict::World | Verdict::Apart { .. } => unreachable!(),
+    }
+}
+
 /// Serves the connections of a script out of a site on one thread: the schedule's steps of each
-/// core, and then rounds of one step a core until nothing is left. It need not return.
+/// core, and then rounds of one step a core until nothing is left; with the access log where that is
+/// asked for. It need not return.
 ///
 /// # Errors
 ///
@@ -65,20 +124,21 @@ pub fn run_steps<R: Wait>(
     shape: &Shape,
     conns: &[ScriptConn],
     schedule: &[(u16, u32)],
+    log: bool,
 ) -> Result<Ended<MemWorld>, RunFault>
-    requires shape { first_out_of_range shape.now (length conns.now + 2) 1 ≡ None }
+    requires shape { first_out_of_range shape.now (colours_over (length conns.now) log) 1 ≡ None }
     requires few { length conns.now ≤ conn_limit }
     requires conns { AreOfInput conns.now }
     requires cores { All (λ part. part.0 < shape.now.cores) schedule.now }
     requires count { sum_by (λ part. part.1) schedule.now < 2 ^ 64 }
-    ensures ran { IfOk result (λ ended. RunsWell site.now shape.now conns.now ended) }
+    ensures ran { IfOk result (λ ended. RunsWell (by_http site.now) shape.now conns.now log ended) }
     ensures scheduled { IfOk result (λ ended.
-        IsServerRun shape.now site.now (map script_of conns.now) schedule.now
+        IsServerRun shape.now log site.now (map script_of conns.now) schedule.now
         (histories_of ended)) }
     ensures refused { IfErr result (λ fault. fault ≡ RunFault.Memory) }
 {
     let world = make_world(alloc, conns)?;
-    let ended = serve_steps(rt, alloc, site, shape, world, schedule);
+    let ended = serve_steps(rt, alloc, site, shape, world, schedule, log);
     match ended.verdict {
         Verdict::Ok => Ok(ended),
         Verdict::Memory => Err(RunFault::Memory),

@@ -4,33 +4,73 @@ ghost use Rattle.std.specs.List.{AllByRecursion};
 ghost use Rattle.sws_link.specs.declared.Put.TheVariants as put;
 ghost use Rattle.sws_link.specs.Contents.{Puts};
 ghost use Rattle.sws_link.specs.Counts.{HasCause};
-ghost use Rattle.sws_report.specs.Journal.{journal};
+ghost use Rattle.sws_log.specs.Lines.{log_text};
 ghost use Rattle.sws_report.specs.Transcript.{transcript, conn_text};
 ghost use Rattle.sws_replay.specs.Runs.{histories_of};
-ghost use Rattle.sws_replay.specs.Showing.{IsShowable, shown_of};
+ghost use Rattle.sws_replay.specs.Showing.{IsShowable, journal_part, shown_of};
 ghost use Rattle.sws_engine.specs.Limits.{conn_limit};
 
+use mely_history::Entry;
 use std::alloc::Global;
 use sws_engine::{Ended, Served};
 use sws_link::{MemLink, MemWorld, Put, Sink};
+use sws_log::{LogLine, write_log};
 use sws_report::{write_conn, write_journal};
 
-/// Writes the transcript of the connections of a run, and behind it the journal of its histories.
-pub fn write_run<O: Sink>(alloc: Global, out: &mut O, ended: &Ended<MemWorld>) -> Put
+/// Writes the transcript of the connections of a run, behind it the lines of its log, of which there
+/// are none without one, and then the journal of its histories where that is asked for.
+pub fn write_run<O: Sink>(alloc: Global, out: &mut O, ended: &Ended<MemWorld>, journal: bool) -> Put
     requires few { length ended.now.served.items ≤ conn_limit }
     requires showable { AllByRecursion IsShowable ended.now.served.items }
     ensures text { Puts (O.written out.old) (O.written out.new) result
-        (transcript (map shown_of ended.now.served.items) ++ journal (histories_of ended.now)) }
+        (transcript (map shown_of ended.now.served.items)
+        ++ (log_text ended.now.log.items ++ journal_part journal (histories_of ended.now))) }
     ensures cause { HasCause (O.faults out.old) (O.faults out.new) (result ≡ put.Failed) }
 {
     match write_transcript(alloc, out, &ended.served) {
-        Put::Done => write_journal(alloc, out, &ended.histories),
+        Put::Done => write_behind(alloc, out, &ended.log, &ended.histories, journal),
         stopped => stopped,
     }
 }
 
+/// Writes the lines of a log, and then the journal of histories where that is asked for.
+fn write_behind<O: Sink>(
+    alloc: Global,
+    out: &mut O,
+    lines: &[LogLine],
+    histories: &[Vec<Entry>],
+    journal: bool,
+) -> Put
+    ensures text { Puts (O.written out.old) (O.written out.new) result (log_text lines.now
+        ++ journal_part journal (map (λ history. history.items) histories.now)) }
+    ensures cause { HasCause (O.faults out.old) (O.faults out.new) (result ≡ put.Failed) }
+{
+    match write_log(alloc, out, lines) {
+        Put::Done => write_journal_part(alloc, out, histories, journal),
+        stopped => stopped,
+    }
+}
+
+/// Writes the journal of histories where that is asked for.
+fn write_journal_part<O: Sink>(
+    alloc: Global,
+    out: &mut O,
+    histories: &[Vec<Entry>],
+    journal: bool,
+) -> Put
+    ensures text { Puts (O.written out.old) (O.written out.new) result
+        (journal_part journal (map (λ history. history.items) histories.now)) }
+    ensures cause { HasCause (O.faults out.old) (O.faults out.new) (result ≡ put.Failed) }
+{
+    if journal {
+        write_journal(alloc, out, histories)
+    } else {
+        Put::Done
+    }
+}
+
 /// Writes the transcript of connections, each of which has ended with its link.
-pub fn write_transcript<O: Sink>(alloc: Global, out: &mut O, served: &[Served<MemLink>]) -> Put
+fn write_transcript<O: Sink>(alloc: Global, out: &mut O, served: &[Served<MemLink>]) -> Put
     requires few { length served.now ≤ conn_limit }
     requires showable { AllByRecursion IsShowable served.now }
     ensures text { Puts (O.written out.old) (O.written out.new) result

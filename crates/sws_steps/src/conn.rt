@@ -1,14 +1,14 @@
 //! A connection over a link, which does one step at a time.
-ghost use Rattle.std.specs.Prelude.{◌≡◌, ◌≢◌, ◌≤◌, ◌<◌, ◌&&◌, ◌+◌, ◌^◌, ◌↔◌, ◌∷◌, [], false, IfOk, IfErr, IsSome, Some, None};
+ghost use Rattle.std.specs.Prelude.{◌≡◌, ◌≢◌, ◌≤◌, ◌<◌, ◌+◌, ◌^◌, ◌↔◌, ◌∷◌, [], false, IfOk, IfErr, IsSome, Some, None};
 ghost use Rattle.std.specs.Option.{option_copied};
 ghost use Rattle.sws_link.specs.Links.{IsInitialLink};
-ghost use Rattle.sws_steps.specs.ConnCore.{is_sent, reported_step, told_end};
+ghost use Rattle.sws_steps.specs.ConnCore.{reported_step, told_end};
 ghost use Rattle.sws_steps.specs.ConnCoreFields.{state_of};
 ghost use Rattle.sws_steps.specs.Step.{Steps, StepsFrom, Opens};
 ghost use Rattle.sws_steps.specs.Sound.{IsSound, IsShutAtEnd, core_before_open};
 ghost use Rattle.sws_steps.specs.Path.{FollowsScript, TakesEvent, TakesOff, HasNoEvents, open_link, known_path, known_rest, told_by_link};
 ghost use Rattle.sws_steps.specs.Serving.{BeginsResponses};
-ghost use Rattle.sws_steps.specs.Logs.{bit, is_write, gives_line, lines_given};
+ghost use Rattle.sws_steps.specs.Logs.{bit, gives_line, lines_given};
 ghost use Rattle.sws_steps.specs.Run.{HasRun};
 ghost use Rattle.sws_steps.specs.Talks.{HasNoStep};
 ghost use Rattle.sws_steps.specs.Told.{IsTelling, line_told};
@@ -127,9 +127,7 @@ impl<S: Speech + Drop, L: Link + Drop> SpeechConn<S, L> {
         ensures nothing { HasNoStep self.old.conn.standing.pending → self.new ≡ self.old }
         ensures sound { IsSound S.protocol L.Link self.new.conn }
     {
-        let writes = is_write(self.core.pending);
-        step_over(&mut self.core, &mut self.link);
-        self.told = writes_line(writes, &self.core);
+        self.told = step_over(&mut self.core, &mut self.link);
         self.core.next_step()
     }
 
@@ -212,33 +210,36 @@ impl<S: Speech + Drop, L: Link + Drop> SpeechConn<S, L> {
     }
 }
 
-/// Does the pending step.
-fn step_over<S: Speech, L: Link>(core: &mut ConnCore<S>, link: &mut Option<L>)
+/// Does the pending step. Answers whether it gave a line of the log.
+fn step_over<S: Speech, L: Link>(core: &mut ConnCore<S>, link: &mut Option<L>) -> bool
     requires { IsSound S.protocol L.Link
         (record { standing = state_of S.Speech core.old; link = link.old }) }
-    ensures { StepsFrom S.protocol L.Link (state_of S.Speech core.old) (state_of S.Speech core.new)
-        core.old.pending link.old link.new }
+    ensures steps { StepsFrom S.protocol L.Link (state_of S.Speech core.old)
+        (state_of S.Speech core.new) core.old.pending link.old link.new }
+    ensures line { result ≡ gives_line S.protocol (state_of S.Speech core.old)
+        (state_of S.Speech core.new) }
 {
     match (core.pending, link) {
-        (Next::Read, Some(link)) => core.read_step(link),
-        (Next::Parse, _) => core.parse_step(),
-        (Next::Look, _) => core.look_step(),
-        (Next::Write, Some(link)) => core.write_step(link),
-        (Next::Close, Some(link)) => core.close_step(link),
-        _ => {}
+        (Next::Read, Some(link)) => {
+            core.read_step(link);
+            false
+        }
+        (Next::Parse, _) => {
+            core.parse_step();
+            false
+        }
+        (Next::Look, _) => {
+            core.look_step();
+            false
+        }
+        (Next::Write, Some(link)) => {
+            core.write_step(link);
+            core.speech.left() == 0 && core.speech.logs()
+        }
+        (Next::Close, Some(link)) => {
+            core.close_step(link);
+            false
+        }
+        _ => false,
     }
-}
-
-/// Whether the step is a write.
-fn is_write(next: Next) -> bool
-    ensures { result ≡ is_write next }
-{
-    matches!(next, Next::Write)
-}
-
-/// Whether a step that left this gave a line of the log, by whether it was a write.
-fn writes_line<S: Speech>(writes: bool, core: &ConnCore<S>) -> bool
-    ensures { result ≡ (S.protocol.logs && writes && is_sent (S.parts_of core.now.speech)) }
-{
-    writes && core.speech.left() == 0 && core.speech.logs()
 }

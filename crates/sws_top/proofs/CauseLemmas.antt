@@ -1,7 +1,7 @@
 -- What follows of a run, whatever its order: the cause of its fault, and that
 -- without a cause all was done.
 use Rattle.std.specs.Prelude.{Ok, Err, is_some}
-use Rattle.std.proofs.Common.{◌≡◌, ◌≢◌, ◌⊎◌, inl, inr, ℕ, Bool, List, Option, Some, None, IsSome, refl, sym, ap, ◌∙◌, subst, Result}
+use Rattle.std.proofs.Common.{◌≡◌, ◌≢◌, ◌⊎◌, inl, inr, ℕ, Bool, false, List, Option, Some, None, IsSome, refl, sym, ap, ◌∙◌, subst, Result}
 use Rattle.mely_check.specs.Verdicts.{Accepts, IsAcceptance}
 use Rattle.mely_check.specs.declared.fault.CheckFault.{CheckFault}
 use Rattle.mely_check.specs.declared.fault.CheckFault.TheVariants as check_fault
@@ -31,7 +31,10 @@ use Rattle.sws_script.specs.declared.fault.ScriptFault.TheVariants as script_fau
 use Rattle.sws_site.proofs.LimitLemmas.{limit_of-none}
 use Rattle.sws_site.specs.Limits.{limit_of}
 use Rattle.sws_site.specs.Site.{SiteState}
-use Rattle.sws_words.specs.Orders.{Order, answer, replay, serve, bench, check}
+use Rattle.sws_gopher.specs.Menus.{Place, place_of}
+use Rattle.sws_replay.specs.Replays.{IsReplay}
+use Rattle.sws_words.specs.Orders.{Order, answer, replay, serve, bench, check, gopher}
+use Rattle.sws_words.specs.Orders as orders
 use Rattle.sws_top.specs.declared.faults.SiteLimit.{SiteLimit}
 use Rattle.sws_top.specs.declared.faults.TopFault.{TopFault}
 use Rattle.sws_top.specs.declared.faults.TopFault.TheVariants.{Usage, BadScript, ReadFault, WriteFault, WorldFault, Memory, SiteFull, TooMany, BadJournal, NotLegal, NotDrained, Apart}
@@ -44,6 +47,7 @@ use Rattle.sws_top.specs.Hands.{Hands}
 use Rattle.sws_top.specs.Ran.{IsUntouched, Ran, RanAs}
 use Rattle.sws_top.specs.RanAnswer.{RanAnswer}
 use Rattle.sws_top.specs.RanCheck.{WritesFound}
+use Rattle.sws_top.specs.RanGopher.{by_gopher, RanGopher, RanGopherScript, RanGopherServe}
 use Rattle.sws_top.specs.RanReplay.{RanReplay, IsReplayText}
 use Rattle.sws_top.specs.RanServe.{IsBack, LacksWorld, EndsBy, HasServed, RanServe}
 use Rattle.sws_bench.specs.BenchSummary.{bench_summary}
@@ -271,13 +275,13 @@ module _ {F R W L O : Type 0} (f : FolderWords F) (r : SourceWords R) (x : World
         kind = kind;
       })) world untouched.back
 
--- ---- causes of a run of `serve`
+-- ---- causes of a run on the world
 
 some_there : {A : Type 0} (o : Option A) → IsSome o → (a : A) × (o ≡ Some a)
 some_there None some = cc
 some_there (Some a) some = (a, refl)
 
-module _ {F R W L O T G : Type 0} (f : FolderWords F) (r : SourceWords R) (x : WorldWords W L) (l : LinkWords L) (o : SinkWords O) (y : TalkWords T L G SiteState) (before now : Hands F R O) (world : W) (outcome : Outcome W L)
+module _ {F R W L O T G H : Type 0} (f : FolderWords F) (r : SourceWords R) (x : WorldWords W L) (l : LinkWords L) (o : SinkWords O) (y : TalkWords T L G H) (before now : Hands F R O) (world : W) (outcome : Outcome W L)
     (folder : f.faults now.folder ≡ f.faults before.folder) (source : r.faults now.source ≡ r.faults before.source) where
   memory_kind : NotTheWorlds (Some Memory)
   memory_kind = record { unfailed = λ e. cc; unlost = λ conn e. cc }
@@ -306,14 +310,14 @@ module _ {F R W L O T G : Type 0} (f : FolderWords F) (r : SourceWords R) (x : W
     either = inl (ap is_some back.back, back.none_ended);
   }
 
-  module _ (port connections : ℕ) (shape : Shape) (site : SiteState) (served : HasServed x l o y before.out now.out world outcome port connections shape site) where
+  module _ (port connections : ℕ) (shape : Shape) (log : Bool) (hall : H) (served : HasServed x l o y before.out now.out world outcome port connections shape log hall) where
     -- there is one verdict
     one_verdict : (conn : ℕ) (v : Verdict) → served.ended.verdict ≡ v → HasLost outcome conn → v ≡ verdict.Apart conn
     one_verdict conn v is lost =
         let same : served.ended ≡ lost.0 = (let e : Some served.ended ≡ Some lost.0 = sym served.there ∙ lost.1 in cc) in
         sym is ∙ ap (λ (e : Ended W L). e.verdict) same ∙ lost.2
 
-    served_causes : (v : Verdict) → served.ended.verdict ≡ v → EndsBy o before.out now.out outcome.fault served.ended.served.items v → HasCauses f r x o before now world outcome
+    served_causes : (v : Verdict) → served.ended.verdict ≡ v → EndsBy o before.out now.out outcome.fault served.ended.log.items served.ended.served.items v → HasCauses f r x o before now world outcome
     served_causes verdict.Ok is ends =
         let fate = text_fate f r o before now outcome.fault _ folder source ends in
         record {
@@ -359,7 +363,7 @@ module _ {F R W L O T G : Type 0} (f : FolderWords F) (r : SourceWords R) (x : W
       either = inr (ap is_some served.there, served.gone);
     }
 
-    served_done : (v : Verdict) → served.ended.verdict ≡ v → EndsBy o before.out now.out outcome.fault served.ended.served.items v
+    served_done : (v : Verdict) → served.ended.verdict ≡ v → EndsBy o before.out now.out outcome.fault served.ended.log.items served.ended.served.items v
         → NothingFailed f r x o before now world outcome → IsDone f r x o before now world outcome
     served_done verdict.Ok is ends nothing = text_done outcome.fault ends nothing.out
       where
@@ -380,7 +384,8 @@ module _ {F R W L O T G : Type 0} (f : FolderWords F) (r : SourceWords R) (x : W
 
 -- ---- by the order
 
-module _ {F R W L O T G : Type 0} (f : FolderWords F) (r : SourceWords R) (x : WorldWords W L) (l : LinkWords L) (o : SinkWords O) (y : TalkWords T L G SiteState) (before now : Hands F R O) (world : W) (outcome : Outcome W L) where
+module _ {F R W L O T G T' G' : Type 0} (f : FolderWords F) (r : SourceWords R) (x : WorldWords W L) (l : LinkWords L) (o : SinkWords O) (y : TalkWords T L G SiteState) (z : TalkWords T' L G' Place)
+    (before now : Hands F R O) (world : W) (outcome : Outcome W L) where
   abbrev Caused : Type 0
   Caused = HasCauses f r x o before now world outcome
 
@@ -398,35 +403,65 @@ module _ {F R W L O T G : Type 0} (f : FolderWords F) (r : SourceWords R) (x : W
       by_fate (fate_as f r o before now outcome.fault cause is (site_fate f r o before now path cause lacks untouched.0 untouched.1)) back
   answer_causes path date (inr (site, loaded, answers)) back = by_fate (answer_fate f r o before now site outcome.fault loaded.no_fault answers) back
 
-  replay_causes : (path : List ℕ) (shape : Shape) (date : Option ℕ) (journal schedule : Bool) → RanReplay f r o before now outcome.fault path shape date journal schedule
+  replay_causes : (path : List ℕ) (shape : Shape) (date : Option ℕ) (journal schedule log : Bool) → RanReplay f r o before now outcome.fault path shape date journal schedule log
       → IsBack world outcome → Caused
-  replay_causes path shape date journal schedule (inl (cause, is, lacks, untouched)) back =
+  replay_causes path shape date journal schedule log (inl (cause, is, lacks, untouched)) back =
       by_fate (fate_as f r o before now outcome.fault cause is (site_fate f r o before now path cause lacks untouched.0 untouched.1)) back
-  replay_causes path shape date journal schedule (inr (site, loaded, inl (cause, is, lacks, untouched))) back =
+  replay_causes path shape date journal schedule log (inr (site, loaded, inl (cause, is, lacks, untouched))) back =
       by_fate (fate_as f r o before now outcome.fault cause is (input_fate f r o before now schedule shape.cores cause loaded.no_fault lacks untouched)) back
-  replay_causes path shape date journal schedule (inr (site, loaded, inr (input, read, writes))) back =
-      by_fate (text_fate f r o before now outcome.fault (IsReplayText shape journal schedule site input) loaded.no_fault read.no_fault writes) back
+  replay_causes path shape date journal schedule log (inr (site, loaded, inr (input, read, writes))) back =
+      by_fate (text_fate f r o before now outcome.fault (IsReplayText shape journal schedule log site input) loaded.no_fault read.no_fault writes) back
 
-  serve_causes : (path : List ℕ) (port connections : ℕ) (shape : Shape) (date : Option ℕ) → now.source ≡ before.source
-      → RanServe f x l o y before.folder now.folder before.out now.out world outcome path port connections shape date → Caused
-  serve_causes path port connections shape date source (inl (cause, is, lacks, untouched)) =
+  serve_causes : (path : List ℕ) (port connections : ℕ) (shape : Shape) (date : Option ℕ) (log : Bool) → now.source ≡ before.source
+      → RanServe f x l o y before.folder now.folder before.out now.out world outcome path port connections shape date log → Caused
+  serve_causes path port connections shape date log source (inl (cause, is, lacks, untouched)) =
       by_fate (fate_as f r o before now outcome.fault cause is (site_fate f r o before now path cause lacks source untouched.0)) untouched.1
-  serve_causes path port connections shape date source (inr (site, loaded, inl unready)) =
+  serve_causes path port connections shape date log source (inr (site, loaded, inl unready)) =
       unready_causes f r x l o y before now world outcome loaded.no_fault (ap r.faults source) port connections unready.answer unready.now_world unready.listens unready.why
       unready.back unready.unwritten
-  serve_causes path port connections shape date source (inr (site, loaded, inr served)) =
-      served_causes f r x l o y before now world outcome loaded.no_fault (ap r.faults source) port connections shape site served served.ended.verdict refl served.ends
+  serve_causes path port connections shape date log source (inr (site, loaded, inr served)) =
+      served_causes f r x l o y before now world outcome loaded.no_fault (ap r.faults source) port connections shape log site served served.ended.verdict refl served.ends
 
-  causes_as : (order : Order) → RanAs f r x l o y before now world outcome order → Caused
+  -- without memory for a hall
+  hall_causes : f.faults now.folder ≡ f.faults before.folder → now.source ≡ before.source → now.out ≡ before.out → outcome.fault ≡ Some Memory → IsBack world outcome → Caused
+  hall_causes folder source out refused back =
+      by_fate (fate_as f r o before now outcome.fault Memory refused (memory_fate f r x l o y before now world outcome folder (ap r.faults source) out)) back
+
+  gopher_script_causes : (path host : List ℕ) (port : ℕ) (shape : Shape) (journal : Bool) → RanGopherScript f r o before now outcome.fault path host port shape journal → IsBack world outcome → Caused
+  gopher_script_causes path host port shape journal (inl (cause, is, lacks, untouched)) back =
+      by_fate (fate_as f r o before now outcome.fault cause is (site_fate f r o before now path cause lacks untouched.0 untouched.1)) back
+  gopher_script_causes path host port shape journal (inr (site, loaded, inl (refused, untouched))) back = hall_causes loaded.no_fault untouched.0 untouched.1 refused back
+  gopher_script_causes path host port shape journal (inr (site, loaded, inr (inl (cause, is, lacks, untouched)))) back =
+      by_fate (fate_as f r o before now outcome.fault cause is (input_fate f r o before now false shape.cores cause loaded.no_fault lacks untouched)) back
+  gopher_script_causes path host port shape journal (inr (site, loaded, inr (inr (input, read, writes)))) back =
+      by_fate (text_fate f r o before now outcome.fault (IsReplay (by_gopher (place_of site host port)) shape input.conns false journal) loaded.no_fault read.no_fault writes) back
+
+  gopher_serve_causes : (path host : List ℕ) (port connections : ℕ) (shape : Shape) → now.source ≡ before.source
+      → RanGopherServe f x l o z before.folder now.folder before.out now.out world outcome path host port connections shape → Caused
+  gopher_serve_causes path host port connections shape source (inl (cause, is, lacks, untouched)) =
+      by_fate (fate_as f r o before now outcome.fault cause is (site_fate f r o before now path cause lacks source untouched.0)) untouched.1
+  gopher_serve_causes path host port connections shape source (inr (site, loaded, inl (refused, untouched))) = hall_causes loaded.no_fault source untouched.0 refused untouched.1
+  gopher_serve_causes path host port connections shape source (inr (site, loaded, inr (inl unready))) =
+      unready_causes f r x l o z before now world outcome loaded.no_fault (ap r.faults source) port connections unready.answer unready.now_world unready.listens unready.why
+      unready.back unready.unwritten
+  gopher_serve_causes path host port connections shape source (inr (site, loaded, inr (inr served))) =
+      served_causes f r x l o z before now world outcome loaded.no_fault (ap r.faults source) port connections shape false (place_of site host port) served served.ended.verdict refl served.ends
+
+  gopher_causes : (path host : List ℕ) (port : ℕ) (connections : Option ℕ) (shape : Shape) (journal : Bool) → RanGopher f r x l o z before now world outcome path host port connections shape journal → Caused
+  gopher_causes path host port None shape journal ran = gopher_script_causes path host port shape journal ran.0 ran.1
+  gopher_causes path host port (Some connections) shape journal ran = gopher_serve_causes path host port connections shape ran.0 ran.1
+
+  causes_as : (order : Order) → RanAs f r x l o y z before now world outcome order → Caused
   causes_as (answer path date) ran = answer_causes path date ran.0 ran.1
-  causes_as (replay path shape date journal schedule) ran = replay_causes path (run_shape shape) date journal schedule ran.0 ran.1
-  causes_as (serve path port connections shape date) ran = serve_causes path port connections (run_shape shape) date ran.0 ran.1
+  causes_as (replay path shape date journal schedule log) ran = replay_causes path (run_shape shape) date journal schedule log ran.0 ran.1
+  causes_as (serve path port connections shape date log) ran = serve_causes path port connections (run_shape shape) date log ran.0 ran.1
   causes_as (bench connections number shape) ran =
       by_fate (text_fate f r o before now outcome.fault (λ text. text ≡ bench_summary number connections) (ap f.faults ran.0) (ap r.faults ran.1) ran.2) ran.3
-  causes_as (check connections shape) ran = by_fate (check_fate f r o before now ran.1.found outcome.fault (ap f.faults ran.0) ran.1.cause ran.1.writes) ran.2
+  causes_as (check connections shape log) ran = by_fate (check_fate f r o before now ran.1.found outcome.fault (ap f.faults ran.0) ran.1.cause ran.1.writes) ran.2
+  causes_as (gopher path host port connections shape journal) ran = gopher_causes path host port connections (run_shape shape) journal ran
 
   -- each fault has its cause
-  pub causes_of : (order : Order) → Ran f r x l o y before now world outcome order → Caused
+  pub causes_of : (order : Order) → Ran f r x l o y z before now world outcome order → Caused
   causes_of order (inl (is, untouched)) =
       untouched_causes f r x o before now world outcome Memory is (λ e. cc) (λ e. cc) (record { unfailed = λ e. cc; unlost = λ conn e. cc }) untouched
   causes_of order (inr ran) = causes_as order ran
@@ -504,18 +539,18 @@ module _ {F R W L O T G : Type 0} (f : FolderWords F) (r : SourceWords R) (x : W
   unready_done port connections opened.Failed last listens why back nothing = absurd (nothing.last last (inl back.back) (listens.failed.rose refl))
   unready_done port connections opened.Memory last listens why back nothing = inr (inl why)
 
-  serve_done : (path : List ℕ) (port connections : ℕ) (shape : Shape) (date : Option ℕ) → now.source ≡ before.source
-      → RanServe f x l o y before.folder now.folder before.out now.out world outcome path port connections shape date → TellsWithinLimits (f.tells before.folder) → Undisturbed → AllDone
-  serve_done path port connections shape date source (inl (cause, is, lacks, untouched)) within nothing = site_done path cause is lacks.why within nothing
-  serve_done path port connections shape date source (inr (site, loaded, inl unready)) within nothing =
+  serve_done : (path : List ℕ) (port connections : ℕ) (shape : Shape) (date : Option ℕ) (log : Bool) → now.source ≡ before.source
+      → RanServe f x l o y before.folder now.folder before.out now.out world outcome path port connections shape date log → TellsWithinLimits (f.tells before.folder) → Undisturbed → AllDone
+  serve_done path port connections shape date log source (inl (cause, is, lacks, untouched)) within nothing = site_done path cause is lacks.why within nothing
+  serve_done path port connections shape date log source (inr (site, loaded, inl unready)) within nothing =
       unready_done port connections unready.answer unready.now_world unready.listens unready.why unready.back nothing
-  serve_done path port connections shape date source (inr (site, loaded, inr served)) within nothing =
-      served_done f r x l o y before now world outcome loaded.no_fault (ap r.faults source) port connections shape site served served.ended.verdict refl served.ends nothing
+  serve_done path port connections shape date log source (inr (site, loaded, inr served)) within nothing =
+      served_done f r x l o y before now world outcome loaded.no_fault (ap r.faults source) port connections shape log site served served.ended.verdict refl served.ends nothing
 
-  check_accepts : (connections : ℕ) (shape : Shape) (setup : Setup) (told : Option (List ℕ)) (found : Result Report CheckFault) → IsServerSetup connections shape setup
-      → TellsDrainedRun connections shape told → Accepts setup told found → IsAcceptance found
-  check_accepts connections shape setup None found is tells accepts = absurd tells
-  check_accepts connections shape setup (Some text) found is tells accepts = accepts text tells.0 refl (tells.1 setup is)
+  check_accepts : (connections : ℕ) (log : Bool) (shape : Shape) (setup : Setup) (told : Option (List ℕ)) (found : Result Report CheckFault) → IsServerSetup connections log shape setup
+      → TellsDrainedRun connections log shape told → Accepts setup told found → IsAcceptance found
+  check_accepts connections log shape setup None found is tells accepts = absurd tells
+  check_accepts connections log shape setup (Some text) found is tells accepts = accepts text tells.0 refl (tells.1 setup is)
 
   check_done : (found : Result Report CheckFault) → HasCause (r.faults before.source) (r.faults now.source) (found ≡ Err check_fault.Read)
       → WritesFound o before.out now.out outcome.fault found → IsAcceptance found → Undisturbed → AllDone
@@ -529,27 +564,49 @@ module _ {F R W L O T G : Type 0} (f : FolderWords F) (r : SourceWords R) (x : W
   check_done (Err (check_fault.NotDrained colour)) cause writes (inl other) nothing = cc
   check_done (Err (check_fault.NotDrained colour)) cause writes (inr other) nothing = cc
 
-  done_as : (order : Order) → RanAs f r x l o y before now world outcome order → IsSound f r x o before now world outcome order → Undisturbed → AllDone
+  gopher_script_done : (path host : List ℕ) (port : ℕ) (shape : Shape) (journal : Bool) → RanGopherScript f r o before now outcome.fault path host port shape journal
+      → TellsWithinLimits (f.tells before.folder) → TellsInput false shape.cores (r.left before.source) → Undisturbed → AllDone
+  gopher_script_done path host port shape journal (inl (cause, is, lacks, untouched)) within tells nothing = site_done path cause is lacks.why within nothing
+  gopher_script_done path host port shape journal (inr (site, loaded, inl (refused, untouched))) within tells nothing = inr (inl refused)
+  gopher_script_done path host port shape journal (inr (site, loaded, inr (inl (cause, is, lacks, untouched)))) within tells nothing = input_done false shape.cores cause is lacks.why tells nothing
+  gopher_script_done path host port shape journal (inr (site, loaded, inr (inr (input, read, writes)))) within tells nothing = text_done writes.answer writes.ended writes.cause.rose nothing
+
+  gopher_serve_done : (path host : List ℕ) (port connections : ℕ) (shape : Shape) → now.source ≡ before.source
+      → RanGopherServe f x l o z before.folder now.folder before.out now.out world outcome path host port connections shape → TellsWithinLimits (f.tells before.folder) → Undisturbed → AllDone
+  gopher_serve_done path host port connections shape source (inl (cause, is, lacks, untouched)) within nothing = site_done path cause is lacks.why within nothing
+  gopher_serve_done path host port connections shape source (inr (site, loaded, inl (refused, untouched))) within nothing = inr (inl refused)
+  gopher_serve_done path host port connections shape source (inr (site, loaded, inr (inl unready))) within nothing =
+      unready_done port connections unready.answer unready.now_world unready.listens unready.why unready.back nothing
+  gopher_serve_done path host port connections shape source (inr (site, loaded, inr (inr served))) within nothing =
+      served_done f r x l o z before now world outcome loaded.no_fault (ap r.faults source) port connections shape false (place_of site host port) served served.ended.verdict refl served.ends nothing
+
+  gopher_done : (path host : List ℕ) (port : ℕ) (connections : Option ℕ) (shape : orders.Shape) (journal : Bool) → RanGopher f r x l o z before now world outcome path host port connections (run_shape shape) journal
+      → IsSound f r x o before now world outcome (gopher path host port connections shape journal) → Undisturbed → AllDone
+  gopher_done path host port None shape journal ran sound nothing = gopher_script_done path host port (run_shape shape) journal ran.0 sound.0 sound.1 nothing
+  gopher_done path host port (Some connections) shape journal ran sound nothing = gopher_serve_done path host port connections (run_shape shape) ran.0 ran.1 sound nothing
+
+  done_as : (order : Order) → RanAs f r x l o y z before now world outcome order → IsSound f r x o before now world outcome order → Undisturbed → AllDone
   done_as (answer path date) ran sound nothing = by_phase ran.0
     where
       by_phase : RanAnswer f r o before now outcome.fault path date → AllDone
       by_phase (inl (cause, is, lacks, untouched)) = site_done path cause is lacks.why sound nothing
       by_phase (inr (site, loaded, answers)) = answer_done site outcome.fault refl answers nothing
-  done_as (replay path shape date journal schedule) ran sound nothing = by_phase ran.0
+  done_as (replay path shape date journal schedule log) ran sound nothing = by_phase ran.0
     where
-      by_phase : RanReplay f r o before now outcome.fault path (run_shape shape) date journal schedule → AllDone
+      by_phase : RanReplay f r o before now outcome.fault path (run_shape shape) date journal schedule log → AllDone
       by_phase (inl (cause, is, lacks, untouched)) = site_done path cause is lacks.why sound.0 nothing
       by_phase (inr (site, loaded, inl (cause, is, lacks, untouched))) = input_done schedule shape.cores cause is lacks.why sound.1 nothing
       by_phase (inr (site, loaded, inr (input, read, writes))) = text_done writes.answer writes.ended writes.cause.rose nothing
-  done_as (serve path port connections shape date) ran sound nothing = serve_done path port connections (run_shape shape) date ran.0 ran.1 sound nothing
+  done_as (serve path port connections shape date log) ran sound nothing = serve_done path port connections (run_shape shape) date log ran.0 ran.1 sound nothing
   done_as (bench connections number shape) ran sound nothing = text_done ran.2.answer ran.2.ended ran.2.cause.rose nothing
-  done_as (check connections shape) ran sound nothing =
+  done_as (check connections shape log) ran sound nothing =
       let checked = ran.1 in
       check_done checked.found checked.cause checked.writes
-      (check_accepts connections (run_shape shape) checked.setup (r.left before.source) checked.found checked.of_server sound checked.accepts) nothing
+      (check_accepts connections log (run_shape shape) checked.setup (r.left before.source) checked.found checked.of_server sound checked.accepts) nothing
+  done_as (gopher path host port connections shape journal) ran sound nothing = gopher_done path host port connections shape journal ran sound nothing
 
   -- with words, site and script in order, and no fault of the outside, all is done, or there was no
   -- memory, or a connection was lost
-  pub done_of : (order : Order) → Ran f r x l o y before now world outcome order → IsSound f r x o before now world outcome order → Undisturbed → AllDone
+  pub done_of : (order : Order) → Ran f r x l o y z before now world outcome order → IsSound f r x o before now world outcome order → Undisturbed → AllDone
   done_of order (inl (is, untouched)) sound nothing = inr (inl is)
   done_of order (inr ran) sound nothing = done_as order ran sound nothing

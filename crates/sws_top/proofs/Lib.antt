@@ -7,3 +7,4 @@ mod DuplexLinkLemmas
 mod ServeLemmas
 mod CauseLemmas
 mod LostLemmas
+mod UsageLemmas

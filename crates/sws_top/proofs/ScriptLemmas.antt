@@ -1,5 +1,5 @@
 -- What was read of a script, and what it says.
-use Rattle.std.proofs.Common.{◌≡◌, inl, inr, ℕ, ◌+◌, Bool, take, List, ◌++◌, Option, Some, None, sym, ap, ◌∙◌, subst, append_assoc}
+use Rattle.std.proofs.Common.{◌≡◌, inl, inr, ℕ, Bool, take, List, ◌++◌, Option, Some, None, sym, ap, ◌∙◌, subst, append_assoc}
 use Rattle.sws_link.specs.Counts.{IsLater}
 use Rattle.sws_link.proofs.CountLemmas.{IsLater-same}
 use Rattle.sws_link.specs.Contents.{Takes}

@@ -1,7 +1,7 @@
 -- What `serve` may call, and what it leaves.
 use Rattle.std.specs.Prelude.{Err, is_some}
 use Rattle.std.specs.List.{fold, cons_option, AllByRecursion, slice_get}
-use Rattle.std.proofs.Common.{◌≡◌, ◌≢◌, ◌⊎◌, inl, inr, ℕ, zero, suc, ◌+◌, ◌*◌, ◌<◌, ◌≤◌, false, List, [], ◌∷◌, ◌++◌, length, map, Option, Some, None, IsSome, refl, sym, ap, ◌∙◌, subst, arith, append-nil}
+use Rattle.std.proofs.Common.{◌≡◌, ◌≢◌, ◌⊎◌, inl, inr, ℕ, zero, suc, ◌+◌, ◌*◌, ◌<◌, ◌≤◌, false, List, [], ◌∷◌, ◌++◌, length, map, Option, Some, None, IsSome, refl, sym, ap, ◌∙◌, subst, arith, append-nil, Bool}
 use Rattle.std.specs.Prelude.{sum_by}
 use Rattle.std.proofs.Math.Nat.{mul-suc}
 use Rattle.std.proofs.lemmas.Option.{slice_get_within}
@@ -19,6 +19,7 @@ use Rattle.sws_link.specs.declared.world.World.{Ghosts as WorldWords}
 use Rattle.sws_steps.specs.declared.End.{End}
 use Rattle.sws_steps.specs.declared.End.TheVariants as ending
 use Rattle.sws_steps.specs.declared.talk.Talk.{Ghosts as TalkWords}
+use Rattle.sws_engine.specs.Counting.{colours_over}
 use Rattle.sws_engine.specs.RunLeaves.{NoneOutOfMemory, is_out_of_memory}
 use Rattle.sws_engine.specs.StepsLeave.{StepsLeave}
 use Rattle.sws_engine.specs.ThreadsLeave.{ThreadsLeave, HasRunThreads}
@@ -28,7 +29,6 @@ use Rattle.sws_engine.specs.declared.ended.Verdict.TheVariants as verdict
 use Rattle.sws_replay.specs.Replays.{WritesOne, result_of}
 use Rattle.sws_replay.specs.declared.fault.RunFault.TheVariants.{Write}
 use Rattle.sws_report.specs.Summary.{summary}
-use Rattle.sws_site.specs.Site.{SiteState}
 use Rattle.sws_top.specs.declared.outcomes.Outcome.{Outcome}
 use Rattle.sws_top.specs.Faults.{put_fault_of, fault_of_run}
 use Rattle.sws_top.specs.RanServe.{ends_of, summary_of, CanSumUp, EndsBy, HasServed}
@@ -95,12 +95,12 @@ none_refused (s ∷ served) none =
     by_end (Some ending.Fault) fine rest = (λ e. cc, rest)
     by_end (Some ending.Memory) fine rest = cc
 
-module _ {W L T G : Type 0} (x : WorldWords W L) (l : LinkWords L) (y : TalkWords T L G SiteState) (shape : Shape) (site : SiteState) (first : W) (ended : Ended W L) where
-  sums : HasRunThreads x l y shape site first ended → (x.tells first).total ≤ 1024 → ended.verdict ≡ verdict.Ok → CanSumUp ended.served.items
+module _ {W L T G H : Type 0} (x : WorldWords W L) (l : LinkWords L) (y : TalkWords T L G H) (shape : Shape) (hall : H) (first : W) (log : Bool) (ended : Ended W L) where
+  sums : HasRunThreads x l y shape hall first log ended → (x.tells first).total ≤ 1024 → ended.verdict ≡ verdict.Ok → CanSumUp ended.served.items
   sums run few ok =
       let many = run.many_served in
       let trails = map (λ t. t.items) ended.trails.items in
-      let long : length trails ≡ (x.tells first).total + 2 = length_mapped (λ t. t.items) ended.trails.items ∙ run.many_trails in
+      let long : length trails ≡ colours_over (x.tells first).total log = length_mapped (λ t. t.items) ended.trails.items ∙ run.many_trails in
       let read = sum_bound (λ (s : Served L). s.read) 65536 ended.served.items (λ i s is.
       let within = slice_get_within ended.served.items i s is in
       let trail = get_in trails (i + 2) (omega arith) in
@@ -112,14 +112,14 @@ module _ {W L T G : Type 0} (x : WorldWords W L) (l : LinkWords L) (y : TalkWord
       record { ends = none_refused ended.served.items (run.ok ok).3; read = omega arith; written = omega arith }
 
   -- at the verdict Ok all can be summed up
-  pub can_sum_up : ThreadsLeave x l y shape site first ended → (x.tells first).total ≤ 1024 → ended.verdict ≡ verdict.Ok → CanSumUp ended.served.items
+  pub can_sum_up : ThreadsLeave x l y shape hall first log ended → (x.tells first).total ≤ 1024 → ended.verdict ≡ verdict.Ok → CanSumUp ended.served.items
   can_sum_up (inl begun) few ok = (let other : verdict.Ok ≡ verdict.Memory = sym ok ∙ begun.refused in cc)
   can_sum_up (inr run) few ok = sums run few ok
 
   module _ {O : Type 0} (o : SinkWords O) (out out_now : O) (world : W) (outcome : Outcome W L) (port connections : ℕ)
       (listens : Listens x.tells x.faults x.waits world port connections opened.Ready first) where
-    pub served_by : ThreadsLeave x l y shape site first ended → (shape.cores ≡ 1 → StepsLeave x l y shape site first ended) → outcome.ended ≡ Some ended → outcome.world ≡ None
-        → EndsBy o out out_now outcome.fault ended.served.items ended.verdict → HasServed x l o y out out_now world outcome port connections shape site
+    pub served_by : ThreadsLeave x l y shape hall first log ended → (shape.cores ≡ 1 → StepsLeave x l y shape hall first log ended) → outcome.ended ≡ Some ended → outcome.world ≡ None
+        → EndsBy o out out_now outcome.fault ended.log.items ended.served.items ended.verdict → HasServed x l o y out out_now world outcome port connections shape log hall
     served_by leaves alone there gone ends = record {
       first = first;
       listens = listens;
@@ -135,23 +135,23 @@ module _ {W L T G : Type 0} (x : WorldWords W L) (l : LinkWords L) (y : TalkWord
       ends = ends;
     }
       where
-        port_by : ThreadsLeave x l y shape site first ended → (last : W) → ended.world ≡ Some last → (x.tells last).port ≡ port
+        port_by : ThreadsLeave x l y shape hall first log ended → (last : W) → ended.world ≡ Some last → (x.tells last).port ≡ port
         port_by (inl begun) last is =
             let same : first ≡ last = (let e = begun.back in cc) in ap (λ w. (x.tells w).port) (sym same) ∙ opened_port x world port connections first listens
         port_by (inr run) last is = (run.stands last is).port ∙ opened_port x world port connections first listens
 
-        rose_by : ThreadsLeave x l y shape site first ended → (last : W) → ended.world ≡ Some last → ended.verdict ≡ verdict.World → Rose (x.faults world) (x.faults last)
+        rose_by : ThreadsLeave x l y shape hall first log ended → (last : W) → ended.world ≡ Some last → ended.verdict ≡ verdict.World → Rose (x.faults world) (x.faults last)
         rose_by (inl begun) last is failed = (let other : verdict.World ≡ verdict.Memory = sym failed ∙ begun.refused in cc)
         rose_by (inr run) last is failed =
             subst (λ count. Rose count (x.faults last)) (opened_faults x world port connections first listens)
             ((run.stands last is).failed (run.world failed).1)
 
-        held_by : ThreadsLeave x l y shape site first ended → (ended.verdict ≡ verdict.Ok) ⊎ (ended.verdict ≡ verdict.World) → IsSome ended.world
+        held_by : ThreadsLeave x l y shape hall first log ended → (ended.verdict ≡ verdict.Ok) ⊎ (ended.verdict ≡ verdict.World) → IsSome ended.world
         held_by (inl begun) well = ap is_some begun.back
         held_by (inr run) (inl ok) = (run.ok ok).0
         held_by (inr run) (inr failed) = (run.world failed).0
 
-        many_by : ThreadsLeave x l y shape site first ended → ended.verdict ≢ verdict.Memory → length ended.served.items ≡ total_within (x.tells world).coming connections
+        many_by : ThreadsLeave x l y shape hall first log ended → ended.verdict ≢ verdict.Memory → length ended.served.items ≡ total_within (x.tells world).coming connections
         many_by (inl begun) run = absurd (run begun.refused)
         many_by (inr ran) run = ran.many_served ∙ opened_total x world port connections first listens
 

@@ -1,5 +1,5 @@
 -- The cause of each fault of a run, whatever its order; and when a run has done all.
-use Rattle.std.specs.Prelude.{◌≡◌, ◌≢◌, ◌≤◌, ◌⊎◌, ◌↔◌, ℕ, Bool, List, length, Option, Some, None, IsSome, ⊤}
+use Rattle.std.specs.Prelude.{◌≡◌, ◌≢◌, ◌≤◌, ◌⊎◌, ◌↔◌, ℕ, Bool, false, List, length, Option, Some, None, IsSome, ⊤}
 use Rattle.sws_link.specs.Counts.{Rose, HasCause}
 use Rattle.sws_link.specs.declared.Folder.{Ghosts as FolderWords}
 use Rattle.sws_link.specs.declared.Source.{Ghosts as SourceWords}
@@ -10,7 +10,7 @@ use Rattle.sws_engine.specs.declared.ended.Verdict.TheVariants as verdict
 use Rattle.sws_script.specs.Grammar.{Spells}
 use Rattle.sws_script.specs.Limits.{conn_limit}
 use Rattle.sws_script.specs.declared.input.Input.{Input}
-use Rattle.sws_words.specs.Orders.{Order, answer, replay, serve, bench, check}
+use Rattle.sws_words.specs.Orders.{Order, answer, replay, serve, bench, check, gopher}
 use Rattle.sws_top.specs.declared.faults.TopFault.TheVariants.{ReadFault, WriteFault, WorldFault, Memory, Apart}
 use Rattle.sws_top.specs.declared.outcomes.Outcome.{Outcome}
 use Rattle.sws_top.specs.Checked.{TellsDrainedRun}
@@ -38,10 +38,12 @@ HasLost {W} {L} outcome conn = (ended : Ended W L) × (outcome.ended ≡ Some en
 -- a run of the order may lose a connection: two workers or more serve
 abbrev pub MayLose : Order → Type 0
 MayLose (answer path date) = ⊥
-MayLose (replay path shape date journal schedule) = ⊥
-MayLose (serve path port connections shape date) = 2 ≤ shape.cores
+MayLose (replay path shape date journal schedule log) = ⊥
+MayLose (serve path port connections shape date log) = 2 ≤ shape.cores
 MayLose (bench connections number shape) = ⊥
-MayLose (check connections shape) = ⊥
+MayLose (check connections shape log) = ⊥
+MayLose (gopher path host port None shape journal) = ⊥
+MayLose (gopher path host port (Some connections) shape journal) = 2 ≤ shape.cores
 
 module _ {F R W L O : Type 0} (f : FolderWords F) (r : SourceWords R) (x : WorldWords W L)
     (o : SinkWords O) (before now : Hands F R O) (world : W) (outcome : Outcome W L) where
@@ -69,13 +71,17 @@ module _ {F R W L O : Type 0} (f : FolderWords F) (r : SourceWords R) (x : World
   -- is that of a legal and drained run
   abbrev pub IsSound : Order → Type 0
   IsSound (answer path date) = TellsWithinLimits (f.tells before.folder)
-  IsSound (replay path shape date journal schedule) =
+  IsSound (replay path shape date journal schedule log) =
       TellsWithinLimits (f.tells before.folder)
       × TellsInput schedule shape.cores (r.left before.source)
-  IsSound (serve path port connections shape date) = TellsWithinLimits (f.tells before.folder)
+  IsSound (serve path port connections shape date log) = TellsWithinLimits (f.tells before.folder)
   IsSound (bench connections number shape) = ⊤
-  IsSound (check connections shape) =
-      TellsDrainedRun connections (run_shape shape) (r.left before.source)
+  IsSound (check connections shape log) =
+      TellsDrainedRun connections log (run_shape shape) (r.left before.source)
+  IsSound (gopher path host port None shape journal) = TellsWithinLimits (f.tells before.folder)
+      × TellsInput false shape.cores (r.left before.source)
+  IsSound (gopher path host port (Some connections) shape journal) =
+      TellsWithinLimits (f.tells before.folder)
 
   -- nothing of the outside failed
   pub record NothingFailed : Type 0 where

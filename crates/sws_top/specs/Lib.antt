@@ -1,5 +1,6 @@
 pub mod Hands
 pub mod Ranges
+pub mod FaultLines
 pub mod Faults
 pub mod Sites
 pub mod Scripts
@@ -13,5 +14,6 @@ pub mod RanBench
 pub mod Checked
 pub mod RanCheck
 pub mod RanServe
+pub mod RanGopher
 pub mod Ran
 pub mod Causes

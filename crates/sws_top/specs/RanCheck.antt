@@ -1,5 +1,5 @@
 -- What a run of `check --connections N ..` did.
-use Rattle.std.specs.Prelude.{◌≡◌, ℕ, Option, Some, Result, Ok, Err}
+use Rattle.std.specs.Prelude.{◌≡◌, ℕ, Bool, Option, Some, Result, Ok, Err}
 use Rattle.mely_check.specs.Verdicts.{Finds, Accepts, IsExact}
 use Rattle.mely_check.specs.declared.fault.CheckFault.{CheckFault}
 use Rattle.mely_check.specs.declared.fault.CheckFault.TheVariants.{Read}
@@ -22,12 +22,13 @@ WritesFound o out now fault (Ok report) =
     WritesText o out now fault (λ text. text ≡ report_text report)
 WritesFound o out now fault (Err why) = (fault ≡ Some (check_fault_of why)) × (now ≡ out)
 
--- The source was read as a journal of the server with so many connections. What was found of its
--- bytes is so of them and of no others, and was written.
+-- The source was read as a journal of the server with so many connections, with the log or without
+-- it. What was found of its bytes is so of them and of no others, and was written.
 pub record RanCheck {R O : Type 0} (r : SourceWords R) (o : SinkWords O) (source source_now : R)
-    (out out_now : O) (fault : Option TopFault) (connections : ℕ) (shape : Shape) : Type 0 where
+    (out out_now : O) (fault : Option TopFault) (connections : ℕ) (log : Bool)
+    (shape : Shape) : Type 0 where
   pub setup : Setup
-  pub of_server : IsServerSetup connections shape setup
+  pub of_server : IsServerSetup connections log shape setup
   pub found : Result Report CheckFault
   pub finds : Finds setup (r.left source) found
   pub accepts : Accepts setup (r.left source) found

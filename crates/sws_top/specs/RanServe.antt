@@ -1,5 +1,5 @@
 -- What a run of `serve FOLDER --port P --connections N ..` did.
-use Rattle.std.specs.Prelude.{◌≡◌, ◌≢◌, ◌⊎◌, ◌<◌, ◌^◌, ℕ, List, length, sum_by, Option, Some, None, IsSome}
+use Rattle.std.specs.Prelude.{◌≡◌, ◌≢◌, ◌⊎◌, ◌<◌, ◌^◌, ◌++◌, ℕ, Bool, List, length, sum_by, Option, Some, None, IsSome}
 use Rattle.std.specs.List.{filter_map, AllByRecursion}
 use Rattle.mely_history.specs.declared.shape.Shape.{Shape}
 use Rattle.sws_link.specs.Counts.{Rose}
@@ -19,6 +19,8 @@ use Rattle.sws_engine.specs.declared.ended.Ended.{Ended}
 use Rattle.sws_engine.specs.declared.ended.Served.{Served}
 use Rattle.sws_engine.specs.declared.ended.Verdict.{Verdict}
 use Rattle.sws_engine.specs.declared.ended.Verdict.TheVariants as verdict
+use Rattle.sws_log.specs.Lines.{log_text}
+use Rattle.sws_log.specs.declared.line.LogLine.{LogLine}
 use Rattle.sws_report.specs.Summary.{summary}
 use Rattle.sws_site.specs.Site.{SiteState}
 use Rattle.sws_top.specs.declared.faults.TopFault.{TopFault}
@@ -56,16 +58,18 @@ pub record CanSumUp {L : Type 0} (served : List (Served L)) : Type 0 where
   pub written : sum_by (λ s. s.written) served < 2 ^ 64
 
 module _ {L O : Type 0} (o : SinkWords O) (out out_now : O) (fault : Option TopFault)
-    (served : List (Served L)) where
-  -- how a run ends by its verdict: at Ok the summary was written, and else nothing
+    (lines : List LogLine) (served : List (Served L)) where
+  -- how a run ends by its verdict: at Ok the lines of its log were written, of which there are none
+  -- without it, and behind them the summary; and else nothing
   abbrev pub EndsBy : Verdict → Type 0
-  EndsBy verdict.Ok = WritesText o out out_now fault (λ text. text ≡ summary_of served)
+  EndsBy verdict.Ok =
+      WritesText o out out_now fault (λ text. text ≡ log_text lines ++ summary_of served)
   EndsBy verdict.World = (fault ≡ Some WorldFault) × (out_now ≡ out)
   EndsBy (verdict.Apart conn) = (fault ≡ Some (Apart conn)) × (out_now ≡ out)
   EndsBy verdict.Memory = (fault ≡ Some Memory) × (out_now ≡ out)
 
-module _ {W L O T G : Type 0} (x : WorldWords W L) (l : LinkWords L) (o : SinkWords O)
-    (y : TalkWords T L G SiteState) (out out_now : O) (world : W) (outcome : Outcome W L) where
+module _ {W L O T G H : Type 0} (x : WorldWords W L) (l : LinkWords L) (o : SinkWords O)
+    (y : TalkWords T L G H) (out out_now : O) (world : W) (outcome : Outcome W L) where
   -- the world wasn't ready: it comes back as it stands, and nothing was written
   pub record IsNotReady (port connections : ℕ) : Type 0 where
     pub now_world : W
@@ -75,17 +79,18 @@ module _ {W L O T G : Type 0} (x : WorldWords W L) (l : LinkWords L) (o : SinkWo
     pub back : IsBack now_world outcome
     pub unwritten : out_now ≡ out
 
-  -- The world was opened at the port for so many connections, and they were served, several workers
-  -- on threads, with all that this leaves.
-  pub record HasServed (port connections : ℕ) (shape : Shape) (site : SiteState) : Type 0 where
+  -- The world was opened at the port for so many connections, and they were served by talks of the
+  -- hall, several workers on threads, with the log or without it, with all that this leaves.
+  pub record HasServed (port connections : ℕ) (shape : Shape) (log : Bool)
+      (hall : H) : Type 0 where
     pub first : W
     pub listens : Listens x.tells x.faults x.waits world port connections opened.Ready first
     pub ended : Ended W L
     pub there : outcome.ended ≡ Some ended
     pub gone : outcome.world ≡ None
-    pub leaves : ThreadsLeave x l y shape site first ended
+    pub leaves : ThreadsLeave x l y shape hall first log ended
     -- one worker leaves what steps leave: it loses no connection
-    pub alone : shape.cores ≡ 1 → StepsLeave x l y shape site first ended
+    pub alone : shape.cores ≡ 1 → StepsLeave x l y shape hall first log ended
     -- the world that is handed out has the port, and where it failed its count of faults rose; at
     -- Ok and World it is handed out
     pub port_is : (last : W) → ended.world ≡ Some last → (x.tells last).port ≡ port
@@ -96,19 +101,19 @@ module _ {W L O T G : Type 0} (x : WorldWords W L) (l : LinkWords L) (o : SinkWo
     -- told where these were fewer
     pub many : ended.verdict ≢ verdict.Memory
         → length ended.served.items ≡ total_within (x.tells world).coming connections
-    pub ends : EndsBy o out out_now outcome.fault ended.served.items ended.verdict
+    pub ends : EndsBy o out out_now outcome.fault ended.log.items ended.served.items ended.verdict
 
-  -- what became of the world, on the site
-  abbrev pub IsServeEnd : (port connections : ℕ) → Shape → SiteState → Type 0
-  IsServeEnd port connections shape site = IsNotReady port connections
-      ⊎ HasServed port connections shape site
+  -- what became of the world, in the hall
+  abbrev pub IsServeEnd : (port connections : ℕ) → Shape → (log : Bool) → H → Type 0
+  IsServeEnd port connections shape log hall = IsNotReady port connections
+      ⊎ HasServed port connections shape log hall
 
 module _ {F W L O T G : Type 0} (f : FolderWords F) (x : WorldWords W L) (l : LinkWords L)
     (o : SinkWords O) (y : TalkWords T L G SiteState) (folder folder_now : F) (out out_now : O)
     (world : W) (outcome : Outcome W L) where
-  -- on the site, the world was opened and served, and the summary was written
-  abbrev pub RanServe : List ℕ → (port connections : ℕ) → Shape → Option ℕ → Type 0
-  RanServe path port connections shape date =
+  -- on the site, the world was opened and served, and the summary was written, behind the log
+  abbrev pub RanServe : List ℕ → (port connections : ℕ) → Shape → Option ℕ → (log : Bool) → Type 0
+  RanServe path port connections shape date log =
       RunsOnSite f path folder folder_now date outcome.fault
       ((out_now ≡ out) × IsBack world outcome)
-      (IsServeEnd x l o y out out_now world outcome port connections shape)
+      (IsServeEnd x l o y out out_now world outcome port connections shape log)

@@ -1,9 +1,9 @@
 -- The ranges of the numbers in an order.
-use Rattle.std.specs.Prelude.{ℕ, ◌≤◌, IfSome, Option}
+use Rattle.std.specs.Prelude.{ℕ, ◌≤◌, length, IfSome, Option}
 use Rattle.mely_history.specs.declared.shape.Shape.{Shape as RunShape}
 use Rattle.mely_history.specs.Ranges.{core_limit, shard_limit, batch_limit, group_limit}
 use Rattle.sws_site.specs.Site.{last_second}
-use Rattle.sws_words.specs.Orders.{Order, Shape, cost_limit, answer, replay, serve, bench, check}
+use Rattle.sws_words.specs.Orders.{Order, Shape, cost_limit, host_limit, answer, replay, serve, bench, check, gopher}
 use Rattle.sws_engine.specs.Limits.{conn_limit}
 
 -- the number is in the range, whose ends belong to it
@@ -39,8 +39,10 @@ IsShape shape = IsRunShape (run_shape shape)
 -- each number of the order is within its range
 abbrev pub IsInRange : Order → Type 0
 IsInRange (answer folder date) = IsDate date
-IsInRange (replay folder shape date journal schedule) = IsShape shape × IsDate date
-IsInRange (serve folder port connections shape date) = IsBetween 1 65535 port
+IsInRange (replay folder shape date journal schedule log) = IsShape shape × IsDate date
+IsInRange (serve folder port connections shape date log) = IsBetween 1 65535 port
     × IsBetween 1 conn_limit connections × IsShape shape × IsDate date
 IsInRange (bench connections number shape) = IsBetween 1 conn_limit connections × IsShape shape
-IsInRange (check connections shape) = (connections ≤ conn_limit) × IsShape shape
+IsInRange (check connections shape log) = (connections ≤ conn_limit) × IsShape shape
+IsInRange (gopher folder host port connections shape journal) = (length host ≤ host_limit)
+    × IsBetween 1 65535 port × IfSome connections (IsBetween 1 conn_limit) × IsShape shape

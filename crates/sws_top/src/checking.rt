@@ -14,10 +14,12 @@ use std::alloc::Global;
 use sws_engine::handler_table;
 use sws_link::{Sink, Source};
 
-/// Runs `check`: on the journal that the source gives, of a run with so many connections.
+/// Runs `check`: on the journal that the source gives, of a run with so many connections, with the log
+/// or without it.
 pub fn check<R: Source, O: Sink>(
     alloc: Global,
     connections: u16,
+    log: bool,
     shape: &Shape,
     source: &mut R,
     out: &mut O,
@@ -25,22 +27,23 @@ pub fn check<R: Source, O: Sink>(
     requires connections { connections ≤ conn_limit }
     requires shape { IsRunShape shape.now }
     ensures { RanCheck R.Source O.Sink source.old source.new out.old out.new (fault_of result)
-        connections shape.now }
+        connections log shape.now }
 {
-    let setup = server_setup(connections, shape);
+    let setup = server_setup(connections, log, shape);
     match check_journal(alloc, &setup, source) {
         Ok(report) => write_report(alloc, &report, out),
         Err(fault) => Err(check_fault(fault)),
     }
 }
 
-/// The setup of the server's runs with so many connections.
-fn server_setup(connections: u16, shape: &Shape) -> Setup
+/// The setup of the server's runs with so many connections, with the log or without it.
+fn server_setup(connections: u16, log: bool, shape: &Shape) -> Setup
     requires connections { connections ≤ conn_limit }
     requires shape { IsRunShape shape.now }
-    ensures { IsServerSetup connections shape.now result }
+    ensures { IsServerSetup connections log shape.now result }
 {
-    match Setup::new(shape, 2 + u32::from(connections), handler_table(), 1) {
+    let colours = u32::from(connections) + 2 + u32::from(log);
+    match Setup::new(shape, colours, handler_table(), 1) {
         Ok(setup) => setup,
         Err(_) => unreachable!(),
     }

@@ -95,6 +95,11 @@ pub(crate) fn check_fault(fault: CheckFault) -> TopFault
 }
 
 impl fmt::Display for SiteLimit {
+    ghost use Rattle.std.specs.Prelude.{Some};
+    ghost use Rattle.sws_top.specs.FaultLines.{limit_line};
+
+    ghost output = { λ limit. Some (limit_line limit) };
+
     fn fmt<W: fmt::Write>(&self, f: &mut fmt::Formatter<W>) -> fmt::Result {
         match self {
             SiteLimit::Files { .. } => write!(f, "sws: the site has more than 4096 files"),
@@ -109,6 +114,11 @@ impl fmt::Display for SiteLimit {
 }
 
 impl fmt::Display for TopFault {
+    ghost use Rattle.std.specs.Prelude.{Some};
+    ghost use Rattle.sws_top.specs.FaultLines.{fault_line};
+
+    ghost output = { λ fault. Some (fault_line fault) };
+
     fn fmt<W: fmt::Write>(&self, f: &mut fmt::Formatter<W>) -> fmt::Result {
         match self {
             TopFault::Usage => write!(f, "sws: the command line is not understood"),

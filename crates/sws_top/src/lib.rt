@@ -12,6 +12,7 @@
 //! serve FOLDER --port P --connections N ..      the connections that the world gives; a summary is written
 //! bench N NUMBER ..                             a generated site and script, run in memory; a summary is written
 //! check --connections N ..                      a journal of the source's is checked; what each core did is written
+//! gopher FOLDER --host H --port P ..            a script of the source's, run by Gopher, or the connections that the world gives
 //! ```
 //!
 //! ```text
@@ -28,6 +29,7 @@ mod checked;
 mod checking;
 mod duplex_link;
 mod faults;
+mod gophering;
 mod ordering;
 mod outcomes;
 mod replaying;

@@ -12,19 +12,21 @@ use crate::answering::answer;
 use crate::benching::bench_shape;
 use crate::checking::check;
 use crate::faults::TopFault;
+use crate::gophering::{Gophering, gopher};
 use crate::outcomes::Outcome;
 use crate::replaying::{Replaying, replay_source};
 use crate::serving::{Serving, serve};
 use std::sync::Wait;
 use std::thread::Threads;
 use sws_conn::{Conn, Talk};
+use sws_gopher::GopherConn;
 use sws_link::{Folder, Sink, Source, World};
 use sws_words::{Order, WordFault, read_words};
 
 /// Runs the command that the words say, and says how that ended.
 ///
-/// The words are those behind the program's name. The order is: words, site, reading the source,
-/// script, run, output; the first fault decides. `answer` answers what was read before it tells a
+/// The words are those behind the program's name. The order is: words, site, the hall of Gopher,
+/// reading the source, script, run, output; the first fault decides. `answer` answers what was read before it tells a
 /// fault of the source; the others write nothing before their run has ended well.
 ///
 /// # Errors
@@ -44,7 +46,7 @@ use sws_words::{Order, WordFault, read_words};
 /// - `BadJournal` (10), `NotLegal` (11) and `NotDrained` (12) exactly where the source's bytes are
 ///   no accepted journal, and the first of these three that is so of them.
 /// - `Apart` (13) exactly where a run on the world that was handed in has lost a connection, which
-///   `ended` shows. That takes `serve`, with two workers or more.
+///   `ended` shows. That takes `serve`, or `gopher` with connections, and two workers or more.
 pub fn sws<
     T: AllocGlobal + Threads + Wait + Sync,
     F: Folder,
@@ -63,6 +65,7 @@ where
     ensures ran { (order : OrderValue) → order_of (map string_bytes words.now) ≡ Some order
         → Ran F.Folder R.Source W.World W.Link.Link O.Sink
         ⟦<Conn<'static, W::Link> as Talk<W::Link>>⟧
+        ⟦<GopherConn<'static, W::Link> as Talk<W::Link>>⟧
         (hands folder.old source.old out.old) (hands folder.new source.new out.new)
         world result order }
     ensures causes { HasCauses F.Folder R.Source W.World O.Sink
@@ -105,6 +108,7 @@ where
     ensures status { result.status ≡ status_of result.fault }
     ensures ran { RanAs F.Folder R.Source W.World W.Link.Link O.Sink
         ⟦<Conn<'static, W::Link> as Talk<W::Link>>⟧
+        ⟦<GopherConn<'static, W::Link> as Talk<W::Link>>⟧
         (hands folder.old source.old out.old) (hands folder.new source.new out.new)
         world result (order_view order.now) }
 {
@@ -119,11 +123,13 @@ where
             date,
             journal,
             schedule,
+            log,
         } => {
             let how = Replaying {
                 shape: *shape,
                 journal: *journal,
                 schedule: *schedule,
+                log: *log,
             };
             let ended = replay_source(rt, path.as_str(), *date, &how, folder, source, out);
             Outcome::without_run(world, ended)
@@ -134,11 +140,13 @@ where
             connections,
             shape,
             date,
+            log,
         } => {
             let how = Serving {
                 port: *port,
                 connections: *connections,
                 shape: *shape,
+                log: *log,
             };
             serve(rt, path.as_str(), *date, &how, folder, world, out)
         }
@@ -150,9 +158,30 @@ where
             let ended = bench_shape(rt, *connections, *number, shape, out);
             Outcome::without_run(world, ended)
         }
-        Order::Check { connections, shape } => {
-            let ended = check(rt.alloc(), *connections, shape, source, out);
+        Order::Check {
+            connections,
+            shape,
+            log,
+        } => {
+            let ended = check(rt.alloc(), *connections, *log, shape, source, out);
             Outcome::without_run(world, ended)
+        }
+        Order::Gopher {
+            folder: path,
+            host,
+            port,
+            connections,
+            shape,
+            journal,
+        } => {
+            let how = Gophering {
+                host: host.as_str(),
+                port: *port,
+                connections: *connections,
+                shape: *shape,
+                journal: *journal,
+            };
+            gopher(rt, path.as_str(), &how, folder, source, world, out)
         }
     }
 }

@@ -1,7 +1,8 @@
 //! The command `serve`: connections from outside.
-ghost use Rattle.std.specs.Prelude.{◌≡◌, ◌<◌, ◌^◌, IfOk, sum_by};
+ghost use Rattle.std.specs.Prelude.{◌≡◌, ◌<◌, ◌^◌, ◌++◌, IfOk, sum_by};
 ghost use Rattle.sws_link.specs.Contents.{Puts};
 ghost use Rattle.sws_link.specs.Counts.{HasCause};
+ghost use Rattle.sws_log.specs.Lines.{log_text};
 ghost use Rattle.sws_top.specs.Faults.{put_fault_of, status_of};
 ghost use Rattle.sws_top.specs.RanServe.{ends_of, summary_of, CanSumUp, EndsBy, IsServeEnd, RanServe};
 ghost use Rattle.sws_top.specs.Ranges.{IsBetween, IsDate, IsRunShape};
@@ -16,10 +17,10 @@ use std::alloc::{AllocError, Global};
 use std::sync::Wait;
 use std::thread::Threads;
 use sws_conn::{Conn, End, Talk};
-use sws_engine::{Served, Verdict, serve_all};
+use sws_engine::{Served, Verdict, talk_all};
 use sws_link::{Folder, Opened, Put, Sink, World};
+use sws_log::{LogLine, write_log};
 use sws_report::write_summary;
-use sws_site::Site;
 
 /// Where connections come in, and how they are served.
 #[derive(Clone, Copy, Debug)]
@@ -29,6 +30,8 @@ pub struct Serving {
     /// How many connections are served, 1 to 1,024.
     pub connections: u16,
     pub shape: Shape,
+    /// Whether the access log is kept and written too.
+    pub log: bool,
 }
 
 /// Runs `serve`: on the site of the folder, the connections that the world gives.
@@ -50,30 +53,31 @@ where
     ensures ran { RanServe F.Folder W.World W.Link.Link O.Sink
         ⟦<Conn<'static, W::Link> as Talk<W::Link>>⟧
         folder.old folder.new out.old out.new world result
-        path.now how.now.port how.now.connections how.now.shape date }
+        path.now how.now.port how.now.connections how.now.shape date how.now.log }
 {
     match open_site(rt.alloc(), path, date, folder) {
-        Ok(site) => serve_site(rt, &site, how, world, out),
+        Ok(site) => serve_hall::<T, W, Conn<'_, W::Link>, O>(rt, &site, how, world, out),
         Err(fault) => Outcome::without_run(world, Err(fault)),
     }
 }
 
-/// Serves the connections that the world gives out of a site, and writes their summary.
-fn serve_site<'s, T: AllocGlobal + Threads + Wait + Sync, W: World + Drop + Send, O: Sink>(
-    rt: &T,
-    site: &'s Site,
-    how: &Serving,
-    world: W,
-    out: &mut O,
-) -> Outcome<W>
+/// Serves the connections that the world gives by talks of one hall, and writes the lines of the log
+/// where that is kept, and their summary.
+pub fn serve_hall<
+    T: AllocGlobal + Threads + Wait + Sync,
+    W: World + Drop + Send,
+    K: Talk<W::Link> + Drop + Send,
+    O: Sink,
+>(rt: &T, hall: K::Hall, how: &Serving, world: W, out: &mut O) -> Outcome<W>
 where
     W::Link: Send,
+    K::Hall: Send,
     requires shape { IsRunShape how.now.shape }
     requires connections { IsBetween 1 conn_limit how.now.connections }
     ensures status { result.status ≡ status_of result.fault }
-    ensures served { IsServeEnd W.World W.Link.Link O.Sink
-        ⟦<Conn<'s, W::Link> as Talk<W::Link>>⟧
-        out.old out.new world result how.now.port how.now.connections how.now.shape site.now }
+    ensures served { IsServeEnd W.World W.Link.Link O.Sink K.Talk
+        out.old out.new world result how.now.port how.now.connections how.now.shape how.now.log
+        (K.contents_of hall) }
 {
     let mut world = world;
     match world.open(how.port, how.connections) {
@@ -82,26 +86,43 @@ where
         Opened::Memory => return Outcome::without_run(world, Err(TopFault::Memory)),
     }
     let alloc = rt.alloc();
-    let ended = serve_all(rt, alloc, site, &how.shape, world, &OpenGate);
-    let fault = write_end(alloc, ended.verdict, &ended.served, out);
+    let ended = talk_all::<T, W, K, OpenGate>(
+        rt, alloc, hall, &how.shape, world, &OpenGate, how.log,
+    );
+    let fault = write_end(alloc, ended.verdict, &ended.log, &ended.served, out);
     Outcome::of_run(ended, fault)
 }
 
-/// The fault of a run by its verdict; where all was served, the summary is written.
+/// The fault of a run by its verdict; where all was served, the lines of its log are written, of
+/// which there are none without it, and the summary.
 fn write_end<L, O: Sink>(
     alloc: Global,
     verdict: Verdict,
+    lines: &[LogLine],
     served: &[Served<L>],
     out: &mut O,
 ) -> Option<TopFault>
     requires { verdict ≡ Verdict.Ok → CanSumUp served.now }
-    ensures { EndsBy O.Sink out.old out.new result served.now verdict }
+    ensures { EndsBy O.Sink out.old out.new result lines.now served.now verdict }
 {
     match verdict {
-        Verdict::Ok => put_fault(sum_up(alloc, served, out)),
+        Verdict::Ok => put_fault(write_all(alloc, lines, served, out)),
         Verdict::World => Some(TopFault::WorldFault),
         Verdict::Apart { conn } => Some(TopFault::Apart { conn }),
         Verdict::Memory => Some(TopFault::Memory),
+    }
+}
+
+/// Writes the lines of a log, and the summary of connections, each of which has ended.
+fn write_all<L, O: Sink>(alloc: Global, lines: &[LogLine], served: &[Served<L>], out: &mut O) -> Put
+    requires { CanSumUp served.now }
+    ensures text { Puts (O.written out.old) (O.written out.new) result
+        (log_text lines.now ++ summary_of served.now) }
+    ensures cause { HasCause (O.faults out.old) (O.faults out.new) (result ≡ Put.Failed) }
+{
+    match write_log(alloc, out, lines) {
+        Put::Done => sum_up(alloc, served, out),
+        stopped => stopped,
     }
 }
 

@@ -66,7 +66,7 @@ abbrev pub all_leave : Text → List Rule → Bool
 all_leave name [] = true
 all_leave name (a ∷ rules) = (not (has_any a.defaults) || not (bytes_eq a.id name)) && all_leave name rules
 
-leave_all : (name : Text) (rules : List Rule) → all_leave name rules ≡ true → AllLeave name rules
+pub leave_all : (name : Text) (rules : List Rule) → all_leave name rules ≡ true → AllLeave name rules
 leave_all name [] e = tt
 leave_all name (a ∷ rules) e =
     let parts = both (not (has_any a.defaults) || not (bytes_eq a.id name)) (all_leave name rules) e in

@@ -3,3 +3,4 @@ pub mod ReplayLemmas
 pub mod ServeLemmas
 pub mod BenchLemmas
 pub mod CheckLemmas
+pub mod GopherLemmas

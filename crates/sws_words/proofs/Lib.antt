@@ -6,6 +6,7 @@ mod Clap
 mod GivenRows
 mod TakenLemmas
 mod FoundLemmas
+mod FlagLemmas
 mod CommandRowsLemmas
 mod EachCommand
 mod FromFoundLemmas

@@ -38,17 +38,18 @@ answer_app = with_rule (with_rule (bare_app (codes "answer")) (place_rule (codes
 -- the words of `replay`
 abbrev pub replay_app : App
 replay_app =
-    with_rule (with_rule (shape_app
+    with_rule (with_rule (with_rule (shape_app
     (with_rule (with_rule (bare_app (codes "replay")) (place_rule (codes "folder")))
     (option_rule (codes "date"))))
-    (flag_rule (codes "journal"))) (flag_rule (codes "schedule"))
+    (flag_rule (codes "journal"))) (flag_rule (codes "schedule"))) (flag_rule (codes "log"))
 
 -- the words of `serve`
 abbrev pub serve_app : App
 serve_app =
-    shape_app (with_rule
+    with_rule (shape_app (with_rule
     (with_rule (with_rule (with_rule (bare_app (codes "serve")) (place_rule (codes "folder")))
-    (option_rule (codes "port"))) (option_rule (codes "connections"))) (option_rule (codes "date")))
+    (option_rule (codes "port"))) (option_rule (codes "connections"))) (option_rule (codes "date"))))
+    (flag_rule (codes "log"))
 
 -- the words of `bench`
 abbrev pub bench_app : App
@@ -58,4 +59,14 @@ bench_app =
 
 -- the words of `check`
 abbrev pub check_app : App
-check_app = shape_app (with_rule (bare_app (codes "check")) (option_rule (codes "connections")))
+check_app =
+    with_rule (shape_app (with_rule (bare_app (codes "check")) (option_rule (codes "connections"))))
+    (flag_rule (codes "log"))
+
+-- the words of `gopher`
+abbrev pub gopher_app : App
+gopher_app =
+    with_rule (shape_app (with_rule
+    (with_rule (with_rule (with_rule (bare_app (codes "gopher")) (place_rule (codes "folder")))
+    (option_rule (codes "host"))) (option_rule (codes "port"))) (option_rule (codes "connections"))))
+    (flag_rule (codes "journal"))

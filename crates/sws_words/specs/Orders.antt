@@ -1,5 +1,7 @@
 -- The orders that words give.
-use Rattle.std.specs.Prelude.{ℕ, ◌==◌, ◌&&◌, Bool, not, nat_le, if◌then◌else◌, List, [], ◌∷◌, length, codes, Option, Some, None, option_map, option_and_then}
+use Rattle.std.specs.Prelude.{ℕ, ◌==◌, ◌&&◌, ◌||◌, Bool, false, not, nat_le, if◌then◌else◌, List, [], ◌∷◌, length, codes, Option, Some, None, is_some, option_map, option_and_then}
+use Rattle.std.specs.Char.{is_ascii_alphanumeric}
+use Rattle.std.specs.List.{list_all}
 use Rattle.std.specs.Str.{bytes_eq, all_ascii_digits}
 use Rattle.std.specs.Str.Parse.{digits_value, without_leading_plus}
 use Rattle.mely_history.specs.Ranges.{core_limit, shard_limit, batch_limit, group_limit}
@@ -43,10 +45,14 @@ pub record Shape : Type 0 where
 -- what a command line orders
 pub data Order : Type 0 where
   answer : (folder : Text) → (date : Option ℕ) → Order
-  replay : (folder : Text) → (shape : Shape) → (date : Option ℕ) → (journal schedule : Bool) → Order
-  serve : (folder : Text) → (port connections : ℕ) → (shape : Shape) → (date : Option ℕ) → Order
+  replay : (folder : Text) → (shape : Shape) → (date : Option ℕ) → (journal schedule log : Bool)
+      → Order
+  serve : (folder : Text) → (port connections : ℕ) → (shape : Shape) → (date : Option ℕ)
+      → (log : Bool) → Order
   bench : (connections number : ℕ) → (shape : Shape) → Order
-  check : (connections : ℕ) → (shape : Shape) → Order
+  check : (connections : ℕ) → (shape : Shape) → (log : Bool) → Order
+  gopher : (folder host : Text) → (port : ℕ) → (connections : Option ℕ) → (shape : Shape)
+      → (journal : Bool) → Order
 
 -- the highest cost of a steal, which is what the time left of a colour has to exceed for it
 abbrev pub cost_limit : ℕ
@@ -124,11 +130,11 @@ answer_by given =
     (only_place (places given))
 
 -- replay FOLDER [--workers K] [--shards G] [--batch B] [--group N] [--cost S] [--date D]
--- [--journal] [--schedule]
+-- [--journal] [--schedule] [--log]
 abbrev pub replay_known : Known
 replay_known = record {
   options = codes "date" ∷ shape_options;
-  flags = codes "journal" ∷ codes "schedule" ∷ [];
+  flags = codes "journal" ∷ codes "schedule" ∷ codes "log" ∷ [];
 }
 
 -- the order of `replay`
@@ -137,15 +143,15 @@ replay_by given =
     option_and_then (λ folder.
     option_and_then (λ shape.
     option_map (λ date. replay folder shape date (has_flag (codes "journal") given)
-    (has_flag (codes "schedule") given)) (date_of given))
+    (has_flag (codes "schedule") given) (has_flag (codes "log") given)) (date_of given))
     (shape_of given))
     (only_place (places given))
 
--- serve FOLDER --port P --connections N, with the options of the shape and --date
+-- serve FOLDER --port P --connections N [--log], with the options of the shape and --date
 abbrev pub serve_known : Known
 serve_known = record {
   options = codes "port" ∷ codes "connections" ∷ codes "date" ∷ shape_options;
-  flags = [];
+  flags = codes "log" ∷ [];
 }
 
 -- the order of `serve`
@@ -155,7 +161,8 @@ serve_by given =
     option_and_then (λ port.
     option_and_then (λ connections.
     option_and_then (λ shape.
-    option_map (λ date. serve folder port connections shape date) (date_of given))
+    option_map (λ date. serve folder port connections shape date (has_flag (codes "log") given))
+    (date_of given))
     (shape_of given))
     (option_and_then (within 1 conn_limit) (value_of (codes "connections") given)))
     (option_and_then (within 1 65535) (value_of (codes "port") given)))
@@ -176,22 +183,81 @@ bench_by given =
     (within 1 conn_limit words.0))
     (two_places (places given))
 
--- check --connections N, with the options of the shape
+-- check --connections N [--log], with the options of the shape
 abbrev pub check_known : Known
-check_known = record { options = codes "connections" ∷ shape_options; flags = [] }
+check_known = record {
+  options = codes "connections" ∷ shape_options;
+  flags = codes "log" ∷ [];
+}
 
 -- the order of `check` by the words that are no options, of which it has none
-abbrev pub check_in : List Text → Option ℕ → Option Shape → Option Order
-check_in [] connections shape =
-    option_and_then (λ most. option_map (λ form. check most form) shape) connections
-check_in (word ∷ words) connections shape = None
+abbrev pub check_in : List Text → Option ℕ → Option Shape → Bool → Option Order
+check_in [] connections shape log =
+    option_and_then (λ most. option_map (λ form. check most form log) shape) connections
+check_in (word ∷ words) connections shape log = None
 
 -- the order of `check`
 abbrev pub check_by : List Given → Option Order
 check_by given =
     check_in (places given)
     (option_and_then (within 0 conn_limit) (value_of (codes "connections") given))
-    (shape_of given)
+    (shape_of given) (has_flag (codes "log") given)
+
+-- ---- `gopher`
+
+-- the most bytes of a host's name
+abbrev pub host_limit : ℕ
+host_limit = 255
+
+-- the byte may stand in a host's name: a letter, a digit, a full stop or a minus sign
+abbrev pub is_host_byte : ℕ → Bool
+is_host_byte byte = is_ascii_alphanumeric byte || (byte == 46 || byte == 45)
+
+-- there is a first byte, and it is no minus sign
+abbrev pub begins_host : Text → Bool
+begins_host [] = false
+begins_host (byte ∷ bytes) = not (byte == 45)
+
+-- a host's name: 1 to 255 such bytes, of which the first is no minus sign
+abbrev pub is_host : Text → Bool
+is_host word =
+    begins_host word && (nat_le (length word) host_limit && list_all is_host_byte word)
+
+-- the host's name that the word is
+abbrev pub host_in : Text → Option Text
+host_in word = if is_host word then Some word else None
+
+-- how many connections from outside are served, where that is given
+abbrev pub some_in : Option Text → Option (Option ℕ)
+some_in connections = optional (within 1 conn_limit) connections
+
+-- gopher FOLDER --host H --port P [--connections N] [--journal], with the options of the shape
+abbrev pub gopher_known : Known
+gopher_known = record {
+  options = codes "host" ∷ codes "port" ∷ codes "connections" ∷ shape_options;
+  flags = codes "journal" ∷ [];
+}
+
+-- the order of its parts: a journal is that of a script, and not of connections from outside
+abbrev pub gopher_in : (folder host : Text) → ℕ → Option ℕ → Shape → Bool → Option Order
+gopher_in folder host port connections shape journal =
+    if is_some connections && journal then None
+    else Some (gopher folder host port connections shape journal)
+
+-- the order of `gopher`
+abbrev pub gopher_by : List Given → Option Order
+gopher_by given =
+    option_and_then (λ folder.
+    option_and_then (λ host.
+    option_and_then (λ port.
+    option_and_then (λ connections.
+    option_and_then (λ shape.
+    gopher_in folder host port connections shape (has_flag (codes "journal") given))
+    (shape_of given))
+    (some_in (value_of (codes "connections") given)))
+    (option_and_then (within 1 65535) (value_of (codes "port") given)))
+    (option_and_then host_in (value_of (codes "host") given)))
+    (only_place (places given))
 
 -- the order of a command line: by its first word the command, which reads those behind it
 abbrev pub order_of : List Text → Option Order
@@ -207,4 +273,6 @@ order_of (command ∷ words) =
     (given_of bench_known words)
     else if bytes_eq command (codes "check")
     then option_and_then check_by (given_of check_known words)
+    else if bytes_eq command (codes "gopher")
+    then option_and_then gopher_by (given_of gopher_known words)
     else None

@@ -56,6 +56,8 @@ pub enum Order {
         journal: bool,
         /// Whether a schedule stands before the script.
         schedule: bool,
+        /// Whether the access log is kept and written too.
+        log: bool,
     },
     /// Connections from outside.
     Serve {
@@ -66,6 +68,8 @@ pub enum Order {
         connections: u16,
         shape: Shape,
         date: Option<u64>,
+        /// Whether the access log is kept and written too.
+        log: bool,
     },
     /// A generated site and script.
     Bench {
@@ -80,5 +84,21 @@ pub enum Order {
         /// How many connections its run had, 0 to 1,024.
         connections: u16,
         shape: Shape,
+        /// Whether its run kept the access log, and so had one colour more.
+        log: bool,
+    },
+    /// Gopher: a script, run in memory, or connections from outside.
+    Gopher {
+        folder: String,
+        /// The name of the host that menus give, 1 to 255 letters, digits, full stops and minus
+        /// signs, of which the first is none of these signs.
+        host: String,
+        /// The port that menus give, 1 to 65,535, at which connections from outside come in.
+        port: u16,
+        /// How many connections from outside are served, 1 to 1,024; without it a script is run.
+        connections: Option<u16>,
+        shape: Shape,
+        /// Whether the run's histories are written too, which is asked of a script alone.
+        journal: bool,
     },
 }

@@ -1,14 +1,16 @@
 //! The words behind each command.
-ghost use Rattle.std.specs.Prelude.{◌≡◌, ◌≤◌, ◌<◌, ℕ, IfOk, IfErr, Some, None, map, string_bytes, codes, true, false};
+ghost use Rattle.std.specs.Prelude.{◌≡◌, ◌≤◌, ◌<◌, ◌&&◌, ℕ, IfOk, IfErr, Some, None, map, string_bytes, codes, true, false};
 ghost use Rattle.std.specs.Prelude.{option_and_then, is_some};
+ghost use Rattle.std.specs.List.{list_all};
 ghost use Rattle.clap.specs.Words.{found_of, first_of, first_value, one_of, rows_of};
 ghost use Rattle.sws_words.specs.Grammar.{given_of, has_bundle as have_bundle};
 ghost use Rattle.sws_words.specs.Orders.{within, or_default, shape_in, date_in, order_of, answer_by, answer_known, replay_by, replay_known};
 ghost use Rattle.sws_words.specs.Orders.{serve_by, serve_known, bench_by, bench_known, check_by, check_known};
+ghost use Rattle.sws_words.specs.Orders.{begins_host as begins_host_word, is_host as is_host_word, is_host_byte as is_byte_of_host, host_in, some_in, gopher_by, gopher_known};
 ghost use Rattle.sws_words.specs.Told.{order_view, told_shape};
 
 use crate::commands::{
-    answer_command, bench_command, check_command, replay_command, serve_command,
+    answer_command, bench_command, check_command, gopher_command, replay_command, serve_command,
 };
 use crate::numbers::number_within;
 use crate::parsing::{has_bundle, parsed};
@@ -25,6 +27,9 @@ const MAX_COST: u64 = 1_000_000;
 
 /// The most connections of a run.
 const MAX_CONNECTIONS: u64 = 1_024;
+
+/// The most bytes of a host's name.
+const MAX_HOST: usize = 255;
 
 /// The number that an option gives, or one that stands for it.
 fn number_or(
@@ -159,6 +164,71 @@ fn folder_of(alloc: Global, matches: &ArgMatches<'_>) -> Result<String, WordFaul
     }
 }
 
+/// Whether there is a first byte, which is no minus sign.
+fn begins_host(word: &[u8]) -> bool
+    ensures { result ≡ begins_host_word word.now }
+{
+    match word {
+        [first, ..] => *first != b'-',
+        [] => false,
+    }
+}
+
+/// Whether the byte may stand in a host's name: a letter, a digit, a full stop or a minus sign.
+fn is_host_byte(byte: u8) -> bool
+    ensures { result ≡ is_byte_of_host byte }
+{
+    byte.is_ascii_alphanumeric() || byte == b'.' || byte == b'-'
+}
+
+/// Whether all bytes may stand in a host's name.
+fn are_host_bytes(word: &[u8]) -> bool
+    ensures { result ≡ list_all is_byte_of_host word.now }
+{
+    word.iter().all(|byte| is_host_byte(*byte))
+}
+
+/// Whether the word is a host's name: 1 to 255 letters, digits, full stops and minus signs, of which
+/// the first is no minus sign.
+fn is_host(word: &[u8]) -> bool
+    ensures { result ≡ is_host_word word.now }
+{
+    begins_host(word) && word.len() <= MAX_HOST && are_host_bytes(word)
+}
+
+/// The host's name.
+fn host_of(alloc: Global, matches: &ArgMatches<'_>) -> Result<String, WordFault>
+    ensures read { IfOk result (λ host.
+        option_and_then host_in (first_value (found_of matches.now) (codes "host"))
+        ≡ Some (string_bytes host)) }
+    ensures refused { IfErr result (λ fault. fault ≡ WordFault.Usage
+        → option_and_then host_in (first_value (found_of matches.now) (codes "host")) ≡ None) }
+{
+    let Some(word) = matches.get_str("host") else {
+        return Err(WordFault::Usage);
+    };
+    if !is_host(word.as_bytes()) {
+        return Err(WordFault::Usage);
+    }
+    Ok(String::from_str(alloc, word)?)
+}
+
+/// How many connections from outside are served, where that is given.
+fn connections_of(matches: &ArgMatches<'_>) -> Result<Option<u16>, WordFault>
+    ensures read { IfOk result (λ connections.
+        some_in (first_value (found_of matches.now) (codes "connections")) ≡ Some connections) }
+    ensures refused { IfErr result (λ _.
+        some_in (first_value (found_of matches.now) (codes "connections")) ≡ None) }
+{
+    let Some(word) = matches.get_str("connections") else {
+        return Ok(None);
+    };
+    match number_within(word, 1, MAX_CONNECTIONS) {
+        Some(number) => Ok(Some(number as u16)),
+        None => Err(WordFault::Usage),
+    }
+}
+
 /// The order of the words behind `answer`.
 fn read_answer(alloc: Global, words: &[String]) -> Result<Order, WordFault>
     requires { have_bundle (map string_bytes words.now) ≡ false }
@@ -191,12 +261,14 @@ fn read_replay(alloc: Global, words: &[String]) -> Result<Order, WordFault>
     let folder = folder_of(alloc, &matches)?;
     let journal = matches.get_flag("journal");
     let schedule = matches.get_flag("schedule");
+    let log = matches.get_flag("log");
     Ok(Order::Replay {
         folder,
         shape,
         date,
         journal,
         schedule,
+        log,
     })
 }
 
@@ -216,12 +288,14 @@ fn read_serve(alloc: Global, words: &[String]) -> Result<Order, WordFault>
     let shape = shape_of(&matches)?;
     let date = date_of(&matches)?;
     let folder = folder_of(alloc, &matches)?;
+    let log = matches.get_flag("log");
     Ok(Order::Serve {
         folder,
         port,
         connections,
         shape,
         date,
+        log,
     })
 }
 
@@ -259,7 +333,49 @@ fn read_check(alloc: Global, words: &[String]) -> Result<Order, WordFault>
     let matches = parsed(command, words)?;
     let connections = small_of(&matches, "connections", 0, MAX_CONNECTIONS)?;
     let shape = shape_of(&matches)?;
-    Ok(Order::Check { connections, shape })
+    let log = matches.get_flag("log");
+    Ok(Order::Check {
+        connections,
+        shape,
+        log,
+    })
+}
+
+/// Whether a journal is asked for beside connections from outside.
+fn asks_for_both(connections: Option<u16>, journal: bool) -> bool
+    ensures { result ≡ (is_some connections && journal) }
+{
+    connections.is_some() && journal
+}
+
+/// The order of the words behind `gopher`.
+fn read_gopher(alloc: Global, words: &[String]) -> Result<Order, WordFault>
+    requires { have_bundle (map string_bytes words.now) ≡ false }
+    ensures read { IfOk result (λ order.
+        option_and_then gopher_by (given_of gopher_known (map string_bytes words.now))
+        ≡ Some (order_view order)) }
+    ensures refused { IfErr result (λ fault. fault ≡ WordFault.Usage
+        → option_and_then gopher_by (given_of gopher_known (map string_bytes words.now)) ≡ None) }
+{
+    let command = gopher_command(alloc)?;
+    let matches = parsed(command, words)?;
+    let port = small_of(&matches, "port", 1, 65_535)?;
+    let connections = connections_of(&matches)?;
+    let shape = shape_of(&matches)?;
+    let host = host_of(alloc, &matches)?;
+    let folder = folder_of(alloc, &matches)?;
+    let journal = matches.get_flag("journal");
+    if asks_for_both(connections, journal) {
+        return Err(WordFault::Usage);
+    }
+    Ok(Order::Gopher {
+        folder,
+        host,
+        port,
+        connections,
+        shape,
+        journal,
+    })
 }
 
 /// The order that the words behind the program's name give.
@@ -284,6 +400,7 @@ pub fn read_words(alloc: Global, words: &[String]) -> Result<Order, WordFault>
         "serve" => read_serve(alloc, rest),
         "bench" => read_bench(alloc, rest),
         "check" => read_check(alloc, rest),
+        "gopher" => read_gopher(alloc, rest),
         _ => Err(WordFault::Usage),
     }
 }

@@ -1,5 +1,5 @@
-//! What a connection and the command depend on, as tests: texts, links, heads, parts, sites, answers,
-//! words and sockets.
+//! What a connection and the command depend on, as tests: texts, links, heads, parts, sites, answers
+//! and words.
 //!
 //! They stand in a crate of their own, since a crate with tests is proved twice.
 #![tactic(auto)]

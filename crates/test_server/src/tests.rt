@@ -5,6 +5,5 @@ mod links;
 mod parts;
 mod requests;
 mod sites;
-mod sockets;
 mod texts;
 mod words;

@@ -4,6 +4,8 @@ mod answering;
 mod benches;
 mod checking;
 mod faults;
+mod gophering;
+mod logging;
 mod meeting;
 mod replaying;
 mod replays;
@@ -214,6 +216,9 @@ fn words_out_of_the_grammar_are_refused(rt: HostRuntime) -> Result<(), Fail> {
         "check",
         "check S --connections 1",
         "check --connections 1025",
+        "gopher S --host -x --port 70",
+        "gopher S --host=-x --port 70",
+        "gopher S --host h --port 70 --connections 1 --journal",
     ];
     for line in rows {
         let said = say(&rt, line, bytes_of(rt.alloc(), INDEX)?)?;

@@ -2,9 +2,10 @@
 use super::scripts::Shape;
 
 /// The weight of each handler: its time by its penalty.
-const WEIGHTS: [u64; 10] = [10, 10, 10, 20, 30, 80, 50, 50, 30, 30];
+const WEIGHTS: [u64; 11] = [10, 10, 10, 20, 30, 80, 50, 50, 30, 30, 10];
 const OPEN: usize = 3;
 const CLOSE: usize = 8;
+const LOG: usize = 10;
 /// Colours below this number are never stolen.
 const PINNED: usize = 1;
 /// The colour of the first connection.
@@ -14,6 +15,8 @@ const FIRST: usize = 2;
 struct Colour {
     /// The handlers of what was registered.
     registered: Vec<usize>,
+    /// Their arguments.
+    arguments: Vec<usize>,
     begun: usize,
     ended: usize,
     owner: usize,
@@ -36,15 +39,23 @@ fn numbers<const N: usize>(words: &[&str]) -> Option<[usize; N]> {
 }
 
 /// Makes an entry on its colour, where it is allowed.
-fn enter(colours: &mut [Colour], shape: &Shape, words: &[&str]) -> Option<()> {
+fn enter(colours: &mut [Colour], shape: &Shape, connections: usize, words: &[&str]) -> Option<()> {
     let (kind, rest) = words.split_first()?;
     let number: usize = rest.first()?.parse().ok()?;
     let colour = colours.get_mut(number)?;
     match *kind {
         "reg" => {
             let [_, handler, argument, by] = numbers(rest)?;
-            let fits = by <= shape.workers && handler < WEIGHTS.len() && (number < FIRST || argument + FIRST == number);
-            fits.then(|| colour.registered.push(handler))
+            let is_here = if number == connections + FIRST {
+                handler == LOG && argument < connections
+            } else {
+                handler < LOG && (number < FIRST || argument + FIRST == number)
+            };
+            let fits = by <= shape.workers && is_here;
+            fits.then(|| {
+                colour.registered.push(handler);
+                colour.arguments.push(argument);
+            })
         }
         "take" => {
             let [_, core, count] = numbers(rest)?;
@@ -77,10 +88,12 @@ fn enter(colours: &mut [Colour], shape: &Shape, words: &[&str]) -> Option<()> {
     }
 }
 
-/// What is wrong with the journal of a run of so many connections, if anything is.
-pub fn fault_of(journal: &str, shape: &Shape, connections: usize) -> Option<String> {
+/// What is wrong with the journal of a run of so many connections, if anything is. With a log its lines are of these
+/// connections, in this order.
+pub fn fault_of(journal: &str, shape: &Shape, connections: usize, logged: Option<&[usize]>) -> Option<String> {
+    let count = connections + FIRST + usize::from(logged.is_some());
     let mut colours: Vec<Colour> =
-        (0..connections + FIRST).map(|number| Colour { owner: number % shape.workers, ..Colour::default() }).collect();
+        (0..count).map(|number| Colour { owner: number % shape.workers, ..Colour::default() }).collect();
     let mut lines = journal.lines();
     for shard in 0..shape.shards {
         let heading = lines.next()?;
@@ -94,7 +107,7 @@ pub fn fault_of(journal: &str, shape: &Shape, connections: usize) -> Option<Stri
                 .get(1)
                 .and_then(|colour| colour.parse::<usize>().ok())
                 .is_some_and(|colour| colour % shape.shards == shard);
-            if !is_here || enter(&mut colours, shape, &words).is_none() {
+            if !is_here || enter(&mut colours, shape, connections, &words).is_none() {
                 return Some(format!("`{line}` in shard {shard}"));
             }
         }
@@ -108,6 +121,9 @@ pub fn fault_of(journal: &str, shape: &Shape, connections: usize) -> Option<Stri
     }
     let is_whole =
         |colour: &Colour| colour.registered.first() == Some(&OPEN) && colour.registered.last() == Some(&CLOSE);
-    let odd = colours[FIRST..].iter().position(|colour| !is_whole(colour));
+    if logged.is_some_and(|logged| colours[connections + FIRST].arguments != logged) {
+        return Some("the log's colour has run for other connections than the lines are of".to_string());
+    }
+    let odd = colours[FIRST..connections + FIRST].iter().position(|colour| !is_whole(colour));
     odd.map(|number| format!("connection {number} isn't opened first or closed last"))
 }

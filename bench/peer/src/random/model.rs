@@ -2,13 +2,15 @@
 //!
 //! Written from the documents, and plainly: every line of a response is built anew, and a connection is looked at as a whole.
 use super::head::{request, without_blanks, Request};
-use super::script::{Connection, End, Item};
+use super::script::{self, Connection, End, Item};
 use std::collections::HashMap;
 use std::time::{Duration, SystemTime, UNIX_EPOCH};
 
 pub const INPUT_LIMIT: usize = 65_536;
 const HEAD_LIMIT: usize = 8_192;
 const ANSWER_LIMIT: usize = 64;
+/// The most bytes of a target that a log shows.
+const BRIEF: usize = 64;
 /// A link that isn't ready so many times in a row is given up.
 const IDLE_AT: usize = 30;
 
@@ -25,6 +27,8 @@ pub struct Responses {
     pub bytes: Vec<u8>,
     pub closes: bool,
     pub codes: Vec<u16>,
+    /// How long each of them is, and what was asked for, `-` where that was no request.
+    pub asked: Vec<(usize, Vec<u8>)>,
 }
 
 enum Cut {
@@ -296,8 +300,10 @@ pub fn responses(site: &Site, input: &[u8]) -> Responses {
         let length = match cut(rest) {
             Cut::Head(length) => length,
             Cut::TooLong => {
+                let before = all.bytes.len();
                 write_plain(&mut all.bytes, 431, true, true, None);
                 all.codes.push(431);
+                all.asked.push((all.bytes.len() - before, b"-".to_vec()));
                 all.closes = true;
                 break;
             }
@@ -306,17 +312,39 @@ pub fn responses(site: &Site, input: &[u8]) -> Responses {
         let head = without_empty_lines(&rest[..length]);
         rest = &rest[length..];
         let is_last = all.codes.len() + 1 == ANSWER_LIMIT;
-        let (code, closes) = match request(head) {
-            Some(request) => answer(site, &request, is_last, &mut all.bytes),
+        let before = all.bytes.len();
+        let (code, closes, target) = match request(head) {
+            Some(request) => {
+                let (code, closes) = answer(site, &request, is_last, &mut all.bytes);
+                (code, closes, request.target.to_vec())
+            }
             None => {
                 write_plain(&mut all.bytes, 400, true, true, None);
-                (400, true)
+                (400, true, b"-".to_vec())
             }
         };
         all.codes.push(code);
+        all.asked.push((all.bytes.len() - before, target));
         all.closes = closes;
     }
     all
+}
+
+/// The lines of the access log of a connection of which so many bytes of these responses were written: one for each
+/// that was written whole.
+pub fn log(number: usize, full: &Responses, written: usize) -> Vec<String> {
+    let mut lines = Vec::new();
+    let mut sum = 0;
+    for (turn, (code, (length, target))) in full.codes.iter().zip(&full.asked).enumerate() {
+        sum += length;
+        if sum > written {
+            break;
+        }
+        let mut line = format!("log {number} {} {code} {length} ", turn + 1);
+        script::write_text(&mut line, &target[..target.len().min(BRIEF)]);
+        lines.push(line);
+    }
+    lines
 }
 
 enum Stop {

@@ -107,12 +107,17 @@ pub fn write_sent(to: &mut String, number: usize, end: &End, sent: &[u8]) {
     writeln!(to, "conn {number} {end} {}", sent.len()).expect("a string takes what is written");
     for line in sent.split_inclusive(|byte| *byte == b'\n') {
         to.push_str("| ");
-        let mut rest = line;
-        while !rest.is_empty() {
-            let (now, later) = rest.split_at(spelled_together(rest));
-            spell(to, now);
-            rest = later;
-        }
+        write_text(to, line);
         to.push('\n');
+    }
+}
+
+/// Writes bytes as a transcript and a log show them.
+pub fn write_text(to: &mut String, bytes: &[u8]) {
+    let mut rest = bytes;
+    while !rest.is_empty() {
+        let (now, later) = rest.split_at(spelled_together(rest));
+        spell(to, now);
+        rest = later;
     }
 }

@@ -28,6 +28,7 @@ pub enum Kind {
 pub struct Script {
     pub shape: Shape,
     pub kind: Kind,
+    pub log: bool,
     pub date: Option<u64>,
     /// What the connections have as their bytes before their stops, and the responses by the definition.
     pub texts: Vec<(Vec<u8>, Responses)>,
@@ -50,6 +51,7 @@ impl Script {
             Kind::Journal => words.push("--journal".to_string()),
             Kind::Schedule => words.push("--schedule".to_string()),
         }
+        words.extend(self.log.then(|| "--log".to_string()));
         words
     }
 
@@ -113,7 +115,8 @@ pub fn draw_script(seed: u64, number: u64, uses: usize, site: &mut Site) -> Scri
         connections.push(connection);
     }
     assert!(source.len() <= MAX_BYTES, "a script of {} bytes", source.len());
-    Script { shape, kind, date: site.date, texts, connections, source }
+    let log = draw.in_hundred(50);
+    Script { shape, kind, log, date: site.date, texts, connections, source }
 }
 
 fn push_schedule(source: &mut String, workers: usize, draw: &mut Draw) {

@@ -125,7 +125,7 @@ pub(super) fn run<R: AllocGlobal + Abort + Wait>(
     let Ok(_) = Setup::new(shape, u32::from(world.total()) + 2, handlers, 1) else {
         panic!(rt; "a number of the shape is out of its range");
     };
-    serve_steps(rt, rt.alloc(), site, shape, world, schedule)
+    serve_steps(rt, rt.alloc(), site, shape, world, schedule, false)
 }
 
 /// What a run left, as a replay prints it: each connection, and the histories

@@ -137,7 +137,7 @@ fn serve<R: AllocGlobal + Abort + Threads + Wait + Sync, G: Gate + Sync>(
     let Ok(setup) = Setup::new(shape, colours, handler_table(), 1) else {
         panic!(rt; "a number of the shape is out of its range");
     };
-    let ended = serve_all(rt, rt.alloc(), site, shape, world, gate);
+    let ended = serve_all(rt, rt.alloc(), site, shape, world, gate, false);
     for history in &ended.histories {
         assert!(rt; judge(&setup, history) == Judged::Legal);
     }
@@ -204,7 +204,7 @@ fn starve<R: AllocGlobal + Abort + Threads + Wait + Sync>(
     let Ok(_) = Setup::new(shape, colours, handler_table(), 1) else {
         panic!(rt; "a number of the shape is out of its range");
     };
-    serve_all(rt, rt.alloc(), &site, shape, world, &OpenGate)
+    serve_all(rt, rt.alloc(), &site, shape, world, &OpenGate, false)
 }
 
 /// A run of a world whose link of some number found no memory left these connections.
@@ -282,7 +282,7 @@ fn one_behind_the_gate<R: AllocGlobal + Abort + Threads + Wait + Sync>(rt: &R, c
     let Ok(_setup) = Setup::new(&shape, colours, handler_table(), 1) else {
         panic!(rt; "a number of the shape is out of its range");
     };
-    let ended = serve_all(rt, rt.alloc(), &site, &shape, world, &gate);
+    let ended = serve_all(rt, rt.alloc(), &site, &shape, world, &gate, false);
     assert!(rt; ended.verdict == Verdict::Ok);
     assert!(rt; gate.is_late.load(Ordering::SeqCst) == 0);
     // a read that finds the link not ready, that read again, a write of the answer's head, one of

@@ -46,7 +46,7 @@ fn starve<R: AllocGlobal + Abort + Wait>(
         given: 0,
     };
     setup_of(rt, shape, u32::from(world.total()) + 2);
-    serve_steps(rt, rt.alloc(), &site, shape, world, schedule)
+    serve_steps(rt, rt.alloc(), &site, shape, world, schedule, false)
 }
 
 /// The server's setup of so many colours.

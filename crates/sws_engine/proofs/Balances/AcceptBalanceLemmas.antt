@@ -94,7 +94,7 @@ module _ {W L T G H : Type 0} (y : TalkWords T L G H) (x : WorldWords W L) (l : 
 
   pub accept_balance : Balance y total s becomes e (carried_by puts0)
   accept_balance = record {
-    placed = ap (λ r. misplaced_at becomes.colour.0 r) is ∙ ap (λ (c : Colour). misplaced_at {W = W} {T = T} c.0 Accepting) colour ∙ sym (ap (λ r. misplaced_at s.colour.0 r) was);
+    placed = ap (λ r. misplaced_at total becomes.colour.0 r) is ∙ ap (λ (c : Colour). misplaced_at {W = W} {T = T} total c.0 Accepting) colour ∙ sym (ap (λ r. misplaced_at total s.colour.0 r) was);
     desk = let z = both (λ r. at_desk (λ d. 1) r) refl in z.1 ∙ sym z.0;
     seat = λ i. ap (λ r. at_seat (λ k. bit (becomes.colour.0 == i + 2)) r) is ∙ sym (ap (λ r. at_seat (λ k. bit (s.colour.0 == i + 2)) r) was);
     world = let one = sums.one in let z = both (λ r. at_desk (λ d. if_held is_any d.resting) r) refl in omega (arith, one, z.0, z.1, event_has is_any);

@@ -1,10 +1,16 @@
 -- One event is run: what must balance for a run to stand afterwards.
-use Rattle.std.proofs.Common.{◌≡◌, ℕ, ◌+◌, ◌≤◌, ◌<◌, ◌⊎◌, Bool, true, false, Option, Some, None, List, [], ◌∷◌, ◌++◌, refl, ap, arith, inl, inr}
+use Rattle.std.proofs.Common.{◌≡◌, ℕ, ◌+◌, ◌≤◌, ◌<◌, ◌⊎◌, Bool, true, false, Option, Some, None, List, [], ◌∷◌, ◌++◌, refl, ◌∙◌, ap, arith, inl, inr}
 use Rattle.std.proofs.lemmas.List.Sums.{sum_by-append, sum_by-cons}
-use Rattle.std.specs.Prelude.{sum_by, not}
+use Rattle.std.proofs.lemmas.List.{map-append}
+use Rattle.std.proofs.lemmas.Bool.{ne_eqb}
+use Rattle.std.specs.Prelude.{sum_by, not, ◌==◌, ◌&&◌}
+use Rattle.mely_tally.specs.Tallies.{carried_by}
+use Rattle.sws_log.specs.declared.line.LogLine.{LogLine}
+use Rattle.sws_engine.specs.declared.load.Load.TheVariants as load
+use Rattle.sws_engine.specs.Handling.{Put, line_puts}
 use Rattle.sws_engine.specs.declared.load.WorldLoad.{WorldLoad}
 use Rattle.sws_engine.specs.declared.place.Role.{Role}
-use Rattle.sws_engine.specs.declared.place.Role.TheVariants.{Polling, Accepting, Talking}
+use Rattle.sws_engine.specs.declared.place.Role.TheVariants.{Polling, Accepting, Talking, Logging}
 use Rattle.sws_steps.specs.declared.talk.Talk.{Ghosts as TalkWords}
 use Rattle.sws_engine.specs.Place.{PlaceState}
 use Rattle.sws_engine.specs.RunStands.{Way, if_held, is_any, is_late, at_desk, worlds, beyond, early, unended_count, asks_for, misplaced_count, desks, seats, rests, rests_beyond, unended_rests, rests_in_vain, is_last, waits_for, strays, is_at, is_opened, RunStands}
@@ -64,11 +70,12 @@ last_of : {W T : Type 0} (role : Role W T) → at_desk (λ desk. 1) role ≡ 0 �
 last_of (Polling desk) none = absurd (omega (arith, none))
 last_of Accepting none = refl
 last_of (Talking seat) none = refl
+last_of Logging none = refl
 
 module _ {W L T G H : Type 0} (y : TalkWords T L G H) (total : ℕ) where
   -- what one event and the state on which it is run owe, what it puts and the state then have
   pub record Balance (s becomes : PlaceState H W T) (e : Way W L) (puts : List (Way W L)) : Type 0 where
-    pub placed : misplaced_count becomes ≡ misplaced_count s
+    pub placed : misplaced_count total becomes ≡ misplaced_count total s
     pub desk : desks becomes ≡ desks s
     pub seat : (i : ℕ) → seats i becomes ≡ seats i s
     pub world : sum_by worlds puts + rests becomes ≡ worlds e + rests s
@@ -139,7 +146,7 @@ module _ {W L T G H : Type 0} (y : TalkWords T L G H) (total : ℕ) where
     -- the run stands afterwards
     pub stands_after : RunStands y total states ways → Balance s becomes e puts → RunStands y total after later
     stands_after stands balance = record {
-      placed = let h = stands.placed in let c = balance.placed in omega (arith, before_is misplaced_count, after_is misplaced_count, h, c);
+      placed = let h = stands.placed in let c = balance.placed in omega (arith, before_is (misplaced_count total), after_is (misplaced_count total), h, c);
       one_desk = let h = stands.one_desk in let c = balance.desk in omega (arith, before_is desks, after_is desks, h, c);
       one_seat = λ i low. let h = stands.one_seat i low in let c = balance.seat i in omega (arith, before_is (seats i), after_is (seats i), h, c);
       one_world = let h = stands.one_world in let c = balance.world in omega (arith, before_is rests, after_is rests, swaps.ways_are worlds, h, c);
@@ -163,4 +170,38 @@ module _ {W L T G H : Type 0} (y : TalkWords T L G H) (total : ℕ) where
           omega (arith, before_is (unended_rests total), after_is (unended_rests total), swaps.ways_are (unended_count total), h, none, not);
       late = late_after stands balance;
       not_in_vain = let h = stands.not_in_vain in let c = balance.not_in_vain in omega (arith, before_is rests_in_vain, after_is rests_in_vain, h, c);
+    }
+
+-- ---- the line that a step of a connection may put behind its next step
+
+line_none : {W L : Type 0} (f : Way W L → ℕ) (total i : ℕ) → ((line : LogLine) → f (record { handler = 10; arg = i }, Some (load.Line line)) ≡ 0) → (log : Bool) (line : Option LogLine) → sum_by f (carried_by (line_puts {W = W} {L = L} log total i line)) ≡ 0
+line_none f total i none log None = omega arith
+line_none f total i none false (Some line) = omega arith
+line_none f total i none true (Some line) = let z = none line in omega (arith, z)
+
+-- it changes no sum
+with_line : {W L : Type 0} (f : Way W L → ℕ) (total i : ℕ) → ((line : LogLine) → f (record { handler = 10; arg = i }, Some (load.Line line)) ≡ 0) → (puts : List (Put W L)) (log : Bool) (line : Option LogLine) → sum_by f (carried_by (puts ++ line_puts log total i line)) ≡ sum_by f (carried_by puts)
+with_line {W} {L} f total i none puts log line =
+    let apart = ap (sum_by f) (map-append (λ (p : Put W L). (p.1, p.2)) puts (line_puts log total i line)) in
+    omega (arith, apart, sum_by-append f (carried_by puts) (carried_by (line_puts {W = W} {L = L} log total i line)), line_none f total i none log line)
+
+ask_none : (W L : Type 0) (n i j : ℕ) → n ≤ 9 → (line : LogLine) → asks_for {W = W} {L = L} n i (record { handler = 10; arg = j }, Some (load.Line line)) ≡ 0
+ask_none W L n i j few line = ap (λ b. bit (b && (j == i))) (ne_eqb 10 n (λ same. absurd (omega (arith, same, few))))
+
+pub balance_more : {W L T G H : Type 0} (y : TalkWords T L G H) (total : ℕ) (s becomes : PlaceState H W T) (e : Way W L) (puts : List (Put W L)) (log : Bool) (j : ℕ) (line : Option LogLine) → Balance y total s becomes e (carried_by puts) → Balance y total s becomes e (carried_by (puts ++ line_puts log total j line))
+balance_more {W} {L} y total s becomes e puts log j line was =
+    let same : (f : Way W L → ℕ) → ((line : LogLine) → f (record { handler = 10; arg = j }, Some (load.Line line)) ≡ 0) → sum_by f (carried_by (puts ++ line_puts log total j line)) ≡ sum_by f (carried_by puts) = λ f none. with_line f total j none puts log line in
+    record {
+      placed = was.placed;
+      desk = was.desk;
+      seat = was.seat;
+      world = let h = was.world in omega (arith, h, same worlds (λ line. refl));
+      opens = λ i low. let h = was.opens i low in omega (arith, h, same (asks_for 3 i) (ask_none W L 3 i j (omega arith)), same (beyond i) (λ line. refl));
+      steps = λ i number low more less. let h = was.steps i number low more less in omega (arith, h, same (asks_for number i) (ask_none W L number i j (omega (arith, less))));
+      waits = λ i low. let h = was.waits i low in omega (arith, h, same (asks_for 9 i) (ask_none W L 9 i j (omega arith)), same (asks_for 1 i) (ask_none W L 1 i j (omega arith)));
+      stray = was.stray;
+      none_unended = same (unended_count total) (λ line. refl) ∙ was.none_unended;
+      not_unended = was.not_unended;
+      late = elim was.late [ inl less ↦ inl (omega (arith, less, same early (λ line. refl))) | inr at_desk ↦ inr (at_desk.0, at_desk.1, (let few = at_desk.2 in omega (arith, few, same early (λ line. refl)))) ];
+      not_in_vain = was.not_in_vain;
     }

@@ -1,7 +1,7 @@
 -- Where nothing is under way any more, all that was owed was done.
 use Rattle.std.proofs.Common.{◌≡◌, ℕ, zero, suc, ◌+◌, ◌≤◌, ◌<◌, Bool, true, false, true≢false, Option, Some, None, List, [], ◌∷◌, ◌++◌, refl, sym, ◌∙◌, ap, arith, inl, inr, eq-eqb}
 use Rattle.std.proofs.lemmas.Bool.Decides.{eqb_tells, nat_tests}
-use Rattle.std.specs.Prelude.{sum_by, not, nat_lt, ◌==◌, ◌&&◌, slice_get}
+use Rattle.std.specs.Prelude.{sum_by, not, nat_lt, ◌==◌, ◌&&◌, ◌||◌, slice_get}
 use Rattle.mely_event.specs.declared.event.Event.{Event}
 use Rattle.sws_steps.specs.declared.talk.Talk.{Ghosts as TalkWords}
 use Rattle.sws_conn.specs.Path.{Handler}
@@ -11,7 +11,7 @@ use Rattle.sws_engine.specs.declared.load.WorldLoad.{WorldLoad}
 use Rattle.sws_engine.specs.declared.place.Desk.{Desk}
 use Rattle.sws_engine.specs.declared.place.Seat.{Seat}
 use Rattle.sws_engine.specs.declared.place.Role.{Role}
-use Rattle.sws_engine.specs.declared.place.Role.TheVariants.{Polling, Accepting, Talking}
+use Rattle.sws_engine.specs.declared.place.Role.TheVariants.{Polling, Accepting, Talking, Logging}
 use Rattle.sws_engine.specs.Place.{PlaceState}
 use Rattle.sws_engine.specs.Handling.{is_some}
 use Rattle.sws_engine.specs.RunStands.{if_held, is_any, is_beyond, is_unended, at_desk, at_seat, first_number, due_number, is_stray, misplaced_at, misplaced_count, desks, seats, strays, RunStands}
@@ -47,11 +47,13 @@ at_desk_where : {W T : Type 0} (f : Desk W → ℕ) (role : Role W T) → at_des
 at_desk_where f (Polling desk) none = absurd (omega (arith, none))
 at_desk_where f Accepting none = refl
 at_desk_where f (Talking seat) none = refl
+at_desk_where f Logging none = refl
 
 at_seat_where : {W T : Type 0} (own : Bool) (f : Seat T → Bool) (role : Role W T) → at_seat (λ k. bit own) role ≡ 0 → at_seat (λ k. bit (own && f k)) role ≡ 0
 at_seat_where own f (Polling desk) none = refl
 at_seat_where own f Accepting none = refl
 at_seat_where own f (Talking seat) none = ap (λ b. bit (b && f seat)) (bit_not own none)
+at_seat_where own f Logging none = refl
 
 none_due : (d : Option Handler) → (3 ≤ first_number d → first_number d ≤ 9 → ⊥) → d ≡ None
 none_due None never = refl
@@ -184,26 +186,42 @@ module _ {W L T G H : Type 0} (y : TalkWords T L G H) (total : ℕ) (states : Li
 
 -- ---- of the states by colour
 
-place_role : {W T : Type 0} (i : ℕ) (role : Role W T) → misplaced_at i role ≡ 0 → (i ≡ 0 → (desk : Desk W) × (role ≡ Polling desk)) × (i ≡ 1 → role ≡ Accepting) × (2 ≤ i → (seat : Seat T) × (role ≡ Talking seat))
-place_role i (Polling desk) none =
+both_bounds : (a b : Bool) → bit (a || not b) ≡ 0 → (a ≡ false) × (b ≡ true)
+both_bounds true b none = absurd (omega (arith, none))
+both_bounds false true none = (refl, refl)
+both_bounds false false none = absurd (omega (arith, none))
+
+is_less : (a b : ℕ) → nat_lt a b ≡ true → a < b
+is_less a b is = grind (arith, nat_tests)
+
+pub talking_within : (i n : ℕ) → bit (nat_lt i 2 || not (nat_lt i n)) ≡ 0 → (2 ≤ i) × (i < n)
+talking_within i n none = let both = both_bounds (nat_lt i 2) (nat_lt i n) none in (not_less i 2 both.0, is_less i n both.1)
+
+place_role : {W T : Type 0} (total i : ℕ) (role : Role W T) → misplaced_at total i role ≡ 0 → (i ≡ 0 → (desk : Desk W) × (role ≡ Polling desk)) × (i ≡ 1 → role ≡ Accepting) × (2 ≤ i → i < total + 2 → (seat : Seat T) × (role ≡ Talking seat)) × (i ≡ total + 2 → role ≡ Logging)
+place_role total i (Polling desk) none =
     let first : i ≡ 0 = is_number i 0 none in
-    (λ is. (desk, refl), λ is. absurd (omega (arith, first, is)), λ more. absurd (omega (arith, first, more)))
-place_role i Accepting none =
+    (λ is. (desk, refl), λ is. absurd (omega (arith, first, is)), λ more less. absurd (omega (arith, first, more)), λ last. absurd (omega (arith, first, last)))
+place_role total i Accepting none =
     let second : i ≡ 1 = is_number i 1 none in
-    (λ is. absurd (omega (arith, second, is)), λ is. refl, λ more. absurd (omega (arith, second, more)))
-place_role i (Talking seat) none =
-    let later : 2 ≤ i = not_less i 2 (bit_not (nat_lt i 2) none) in
-    (λ is. absurd (omega (arith, later, is)), λ is. absurd (omega (arith, later, is)), λ more. (seat, refl))
+    (λ is. absurd (omega (arith, second, is)), λ is. refl, λ more less. absurd (omega (arith, second, more)), λ last. absurd (omega (arith, second, last)))
+place_role total i (Talking seat) none =
+    let within = talking_within i (total + 2) none in
+    let later : 2 ≤ i = within.0 in
+    let under : i < total + 2 = within.1 in
+    (λ is. absurd (omega (arith, later, is)), λ is. absurd (omega (arith, later, is)), λ more less. (seat, refl), λ last. absurd (omega (arith, under, last)))
+place_role total i Logging none =
+    let own : i ≡ total + 2 = is_number i (total + 2) none in
+    (λ is. absurd (omega (arith, own, is)), λ is. absurd (omega (arith, own, is)), λ more less. absurd (omega (arith, own, less)), λ last. refl)
 
 module _ {W L T G H : Type 0} (y : TalkWords T L G H) (total : ℕ) (states : List (PlaceState H W T)) (coloured : (i : ℕ) (place : PlaceState H W T) → slice_get states i ≡ Some place → place.colour.0 ≡ i) where
   -- each state has the role of its colour
-  pub placed_as : sum_by (λ (s : PlaceState H W T). misplaced_count s) states ≡ 0 → (i : ℕ) (place : PlaceState H W T) → slice_get states i ≡ Some place → IsPlacedAs i place
+  pub placed_as : sum_by (λ (s : PlaceState H W T). misplaced_count total s) states ≡ 0 → (i : ℕ) (place : PlaceState H W T) → slice_get states i ≡ Some place → IsPlacedAs total i place
   placed_as none i place at =
-      let few = sum_member (λ (s : PlaceState H W T). misplaced_count s) states i place at in
+      let few = sum_member (λ (s : PlaceState H W T). misplaced_count total s) states i place at in
       let colour = coloured i place at in
-      let mine : misplaced_at i place.role ≡ 0 = ap (λ n. misplaced_at n place.role) (sym colour) ∙ (let zero_is : misplaced_count place ≡ 0 = omega (arith, few, none) in zero_is) in
-      let role = place_role i place.role mine in
-      record { colour = colour; polls = role.0; accepts = role.1; talks = role.2 }
+      let mine : misplaced_at total i place.role ≡ 0 = ap (λ n. misplaced_at total n place.role) (sym colour) ∙ (let zero_is : misplaced_count total place ≡ 0 = omega (arith, few, none) in zero_is) in
+      let role = place_role total i place.role mine in
+      record { colour = colour; polls = role.0; accepts = role.1; talks = role.2; logs = role.3 }
 
   -- where nothing is under way, the run has ended
   pub run_ends : RunStands {W = W} {L = L} y total states [] → (place : PlaceState H W T) (desk : Desk W) → slice_get states 0 ≡ Some place → place.role ≡ Polling desk → RunEnds y total states desk

@@ -144,7 +144,7 @@ module _ {W L T G H : Type 0} (y : TalkWords T L G H) (total : ℕ) (s becomes :
 
   pub conn_balance : Balance y total s becomes e puts
   conn_balance = record {
-    placed = ap (λ r. misplaced_at becomes.colour.0 r) is ∙ ap (λ (c : Colour). misplaced_at {W = W} {T = T} c.0 (Talking after)) colour ∙ sym (ap (λ r. misplaced_at s.colour.0 r) was);
+    placed = ap (λ r. misplaced_at total becomes.colour.0 r) is ∙ ap (λ (c : Colour). misplaced_at {W = W} {T = T} total c.0 (Talking after)) colour ∙ sym (ap (λ r. misplaced_at total s.colour.0 r) was);
     desk = let z = same_at (λ r. at_desk (λ d. 1) r) (λ k. refl) in z.1 ∙ sym z.0;
     seat = λ i. ap (λ r. at_seat (λ k. bit (becomes.colour.0 == i + 2)) r) is ∙ ap (λ (c : Colour). bit (c.0 == i + 2)) colour ∙ sym (ap (λ r. at_seat (λ k. bit (s.colour.0 == i + 2)) r) was);
     world =

@@ -193,7 +193,7 @@ module _ {W L T G H : Type 0} (y : TalkWords T L G H) (x : WorldWords W L) (l : 
 
   pub poll_balance : Balance y total s becomes e (carried_by puts0)
   poll_balance = record {
-    placed = ap (λ r. misplaced_at becomes.colour.0 r) is ∙ ap (λ (c : Colour). misplaced_at {W = W} {T = T} c.0 (Polling after)) colour ∙ sym (ap (λ r. misplaced_at s.colour.0 r) was);
+    placed = ap (λ r. misplaced_at total becomes.colour.0 r) is ∙ ap (λ (c : Colour). misplaced_at {W = W} {T = T} total c.0 (Polling after)) colour ∙ sym (ap (λ r. misplaced_at total s.colour.0 r) was);
     desk = desk_is (λ d. 1) ∙ sym (desk_was (λ d. 1));
     seat = λ i. ap (λ r. at_seat (λ k. bit (becomes.colour.0 == i + 2)) r) is ∙ sym (ap (λ r. at_seat (λ k. bit (s.colour.0 == i + 2)) r) was);
     world = let one = g.one in omega (arith, puts_split worlds, resumes_none W L worlds (λ i. refl) done.resumed, one, rests_are is_any, rested is_any, event_has is_any);

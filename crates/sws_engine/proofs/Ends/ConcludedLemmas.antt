@@ -1,9 +1,9 @@
 -- What a conclusion shows of the connections and the world, by what the states keep and
 -- what is still under way.
-use Rattle.std.proofs.Common.{◌≡◌, ◌≢◌, ℕ, zero, suc, ◌+◌, ◌⊎◌, Bool, true, false, true≢false, List, [], ◌∷◌, Option, None, Some, length, map, refl, sym, ◌∙◌, ap, subst, arith, inl, inr}
+use Rattle.std.proofs.Common.{◌≡◌, ◌≢◌, ℕ, zero, suc, ◌+◌, ◌-◌, ◌≤◌, ◌<◌, ◌⊎◌, Bool, true, false, true≢false, List, [], ◌∷◌, Option, None, Some, length, map, take, refl, sym, ◌∙◌, ap, subst, arith, inl, inr}
 use Rattle.std.proofs.lemmas.Option.{same_Some, slice_get_within}
 use Rattle.std.specs.List.{AllByRecursion}
-use Rattle.std.specs.Prelude.{slice_get, is_some, is_none, IsSome, IfSome, option_map, ◌||◌}
+use Rattle.std.specs.Prelude.{slice_get, is_some, is_none, IsSome, IfSome, option_map, ◌||◌, not}
 use Rattle.mely_event.specs.declared.event.Event.{Event}
 use Rattle.mely_event.specs.HandlerTable.{rows_of}
 use Rattle.mely_history.specs.Setup.{shape_of, handlers_of, pinned_of}
@@ -19,7 +19,7 @@ use Rattle.sws_link.specs.declared.world.World.{Ghosts as WorldWords}
 use Rattle.sws_steps.specs.declared.Next.{Next}
 use Rattle.sws_steps.specs.declared.Next.TheVariants as next
 use Rattle.sws_steps.specs.declared.talk.Talk.{Ghosts as TalkWords}
-use Rattle.sws_conn.specs.Talks.{TalkView, HasServed, due}
+use Rattle.sws_conn.specs.Talks.{TalkView, unopened_view, HasServed, due}
 use Rattle.sws_conn.specs.Conn.{end_at}
 use Rattle.sws_engine.specs.declared.ended.Served.{Served}
 use Rattle.sws_engine.specs.declared.ended.Ended.{Ended}
@@ -33,17 +33,29 @@ use Rattle.sws_engine.specs.RunEnds.{IsPlacedAs}
 use Rattle.sws_engine.specs.ServerRun.{server_rules, handler_rows}
 use Rattle.sws_engine.specs.RunFits.{CarriesStanding, RunFits}
 use Rattle.sws_link.specs.Scripts.{Script}
-use Rattle.sws_link.specs.Worlds.{Coming}
+use Rattle.sws_link.specs.Worlds.{Coming, initial_contents}
 use Rattle.sws_engine.specs.ConnFollows.{ConnFollows}
 use Rattle.sws_engine.specs.ConnLeft.{LinkLeft, ConnLeft}
 use Rattle.sws_engine.specs.Loads.{WorldStands, LinkStands}
 use Rattle.sws_engine.specs.Served.{SeatServes, ServedBy}
+use Rattle.sws_engine.specs.Counting.{colours_over}
+use Rattle.sws_log.specs.declared.line.LogLine.{LogLine}
+use Rattle.sws_engine.specs.Loads.{IsComing, IsLineIn}
+use Rattle.std.specs.List.{range_with_len}
+use Rattle.std.proofs.lemmas.List.{length-map}
+use Rattle.sws_link.specs.Links.{LinkContents, input_of}
+use Rattle.sws_log.specs.Lines.{lines_within}
+use Rattle.sws_steps.specs.Talks.{LinesServed, LinesOf}
+use Rattle.sws_engine.specs.LogTurns.{lines_for, turns_of, is_numbered}
+use Rattle.sws_engine.proofs.Ends.LogTurnsLemmas.{IsOfLog, numbered_are, lines_are}
+use Rattle.sws_engine.specs.Invariant.{LogStands}
 use Rattle.sws_engine.specs.Handling.{conn_of}
 use Rattle.sws_engine.specs.declared.place.Seat.{Seat}
 use Rattle.sws_engine.specs.declared.place.Role.{Role}
-use Rattle.sws_engine.specs.declared.place.Role.TheVariants.{Talking}
-use Rattle.sws_engine.specs.RunLeaves.{talkers, resting_in, ShowsSeat, RoleTells, StateTells, is_lacking, is_out_of_memory, IsJudged, VerdictIs}
-use Rattle.sws_engine.specs.Handing.{place_link, served_with_load, served_with_loads}
+use Rattle.sws_engine.specs.declared.place.Role.TheVariants.{Talking, Logging}
+use Rattle.sws_engine.specs.RunLeaves.{lines_kept, is_out_of_turn, is_amiss, talkers, resting_in, ShowsSeat, RoleTells, StateTells, is_lacking, is_out_of_memory, IsJudged, VerdictIs}
+use Rattle.sws_engine.specs.declared.left.Left.{Left}
+use Rattle.sws_engine.specs.Handing.{place_link, served_with_load, served_with_loads, HandsOut}
 use Rattle.sws_engine.specs.Conclusion.{is_empty, is_whole, accepted_of, failed_of, ways_of, world_found, IsConcluded}
 use Rattle.sws_engine.proofs.Ends.InitialServedLemmas.{initial_served}
 use Rattle.sws_engine.proofs.Paths.ScriptFollowedLemmas.{followed}
@@ -69,10 +81,15 @@ load_length : {W L : Type 0} (i : ℕ) (carried : Option (Load W L)) (served : L
 load_length i None served = refl
 load_length i (Some (load.World held)) served = refl
 load_length i (Some (load.Link link)) served = place_length link i served
+load_length i (Some (load.Line line)) served = refl
 
 served_length : {W L : Type 0} (events : List (Event × Option (Load W L))) (served : List (Served L)) → length (served_with_loads events served) ≡ length served
 served_length [] served = refl
 served_length (e ∷ events) served = served_length events (served_with_load e.0.arg e.1 served) ∙ load_length e.0.arg e.1 served
+
+-- what is handed out leaves as many connections
+pub handed_many : {W L : Type 0} (events : List (Event × Option (Load W L))) (before after : Left W L) → HandsOut events before after → length after.served.items ≡ length before.served.items
+handed_many events before after hands = ap (λ l. length l) hands.served ∙ served_length events before.served.items
 
 empty_is : {A : Type 0} (xs : List A) → is_empty xs ≡ true → xs ≡ []
 empty_is [] is = refl
@@ -83,13 +100,25 @@ whole_is drained.Empty lost is = (refl, empty_is lost is)
 whole_is drained.Memory lost is = cc
 
 -- a verdict but want of memory is over a run that was whole
-pub judged : {L : Type 0} (served : List (Served L)) (whole there failed : Bool) (total accepted : ℕ) (told : Verdict) → told ≢ verdict.Memory → VerdictIs served whole total there accepted failed told → IsJudged served whole
-judged served whole there failed total accepted verdict.Ok isnt is = is.0
-judged served whole there failed total accepted verdict.World isnt is = is.0
-judged served whole there failed total accepted (verdict.Apart conn) isnt is = is.0
-judged served whole there failed total accepted verdict.Memory isnt is = absurd (isnt refl)
+pub judged : {L : Type 0} (kept : Option (List LogLine)) (served : List (Served L)) (whole there failed : Bool) (total accepted : ℕ) (told : Verdict) → told ≢ verdict.Memory → VerdictIs kept served whole total there accepted failed told → IsJudged served whole
+judged kept served whole there failed total accepted verdict.Ok isnt is = is.0
+judged kept served whole there failed total accepted verdict.World isnt is = is.0
+judged kept served whole there failed total accepted (verdict.Apart conn) isnt is = is.0
+judged kept served whole there failed total accepted verdict.Memory isnt is = absurd (isnt refl)
 
-all_at : {A : Type 0} (P : A → Type 0) (xs : List A) (i : ℕ) (a : A) → AllByRecursion P xs → slice_get xs i ≡ Some a → P a
+not_false : (b : Bool) → not b ≡ false → b ≡ true
+not_false true is = refl
+not_false false is = absurd (true≢false is)
+
+no_lack : (a b : Bool) → a || b ≡ false → a ≡ false
+no_lack false b is = refl
+no_lack true b is = is
+
+no_turn : (a b : Bool) → a || b ≡ false → b ≡ false
+no_turn false b is = is
+no_turn true b is = absurd (true≢false is)
+
+pub all_at : {A : Type 0} (P : A → Type 0) (xs : List A) (i : ℕ) (a : A) → AllByRecursion P xs → slice_get xs i ≡ Some a → P a
 all_at P [] i a all at = cc
 all_at P (x ∷ xs) zero a all at = subst P (same_Some x a at) all.0
 all_at P (x ∷ xs) (suc i) a all at = all_at P xs i a all.1 at
@@ -129,6 +158,7 @@ left_of {W} {L} {T} {G} {H} x l y hall first i trail place seat before after sho
         few_read = shows.few_read;
         written = shows.written;
         few_written = shows.few_written;
+        answered = shows.answered ∙ serves.answered;
         stray = shows.stray;
         serves = serves;
       })
@@ -144,6 +174,7 @@ left_of {W} {L} {T} {G} {H} x l y hall first i trail place seat before after sho
         few_read = shows.few_read;
         written = shows.written;
         few_written = shows.few_written;
+        answered = shows.answered ∙ serves.answered;
         stray = shows.stray;
         serves = serves;
       })
@@ -163,32 +194,32 @@ no_more false (Some e) whole = cc
 not_ended : {A : Type 0} (o : Option A) → IsSome o → o ≡ None → ⊥
 not_ended o some none = let both : true ≡ false = sym some ∙ ap is_some none in true≢false both
 
-module _ {W L T G H : Type 0} (x : WorldWords W L) (l : LinkWords L) (y : TalkWords T L G H) (hall : H) (first : W) (how : Drained) (parts : WeaveParts (PlaceState H W T) (Load W L)) (ended : Ended W L)
-    (many : length parts.states.items ≡ (x.tells first).total + 2)
-    (placed : (i : ℕ) (place : PlaceState H W T) → slice_get parts.states.items i ≡ Some place → IsPlacedAs i place)
+module _ {W L T G H : Type 0} (x : WorldWords W L) (l : LinkWords L) (y : TalkWords T L G H) (hall : H) (first : W) (log : Bool) (how : Drained) (parts : WeaveParts (PlaceState H W T) (Load W L)) (ended : Ended W L)
+    (many : length parts.states.items ≡ colours_over (x.tells first).total log)
+    (placed : (i : ℕ) (place : PlaceState H W T) → slice_get parts.states.items i ≡ Some place → IsPlacedAs (x.tells first).total i place)
     (of_world : (i : ℕ) (place : PlaceState H W T) → slice_get parts.states.items i ≡ Some place → place.first ≡ first)
     (fits : RunFits x l first hall parts.states.items (map (λ events. events.items) parts.queued.items) parts.lost.items)
-    (is : IsConcluded y (x.tells first).total how parts ended)
+    (is : IsConcluded y (x.tells first).total log how parts ended)
     (tell : AllByRecursion (StateTells x l y) parts.states.items) where
   abbrev total : ℕ
   total = (x.tells first).total
 
   seats : SeatsStand total parts.states.items
-  seats = seats_stand total parts.states.items many placed
+  seats = seats_stand total log parts.states.items many placed
 
   pub served_many : length ended.served.items ≡ total
-  served_many = ap length is.served ∙ served_length (ways_of y total how parts ended) is.found ∙ is.shows.many ∙ seats.many
+  served_many = ap length is.served ∙ served_length (ways_of y total log how parts ended) is.found ∙ is.shows.many ∙ seats.many
 
   -- the state of a connection, and what its type keeps
   told_of : (i : ℕ) (place : PlaceState H W T) → slice_get parts.states.items i ≡ Some place → StateTells x l y place
   told_of i place at = all_at (StateTells x l y) parts.states.items i place tell at
 
-  ways_all : AllByRecursion (λ (e : Event × Option (Load W L)). CarriesStanding x l first e.0.arg e.1) (ways_of y total how parts ended)
+  ways_all : AllByRecursion (λ (e : Event × Option (Load W L)). CarriesStanding x l first e.0.arg e.1) (ways_of y total log how parts ended)
   ways_all = ways_stand x l first hall parts.states.items (map (λ events. events.items) parts.queued.items) parts.lost.items fits
 
   pub conn_left : (i : ℕ) (s : Served L) (trail : List Event) → slice_get ended.served.items i ≡ Some s → slice_get (map (λ t. t.items) ended.trails.items) (i + 2) ≡ Some trail → ConnLeft x l y hall first i trail s
   conn_left i s trail at there =
-      let handed = served_given x l first i (ways_of y total how parts ended) is.found s ways_all (ap (λ (all : List (Served L)). slice_get all i) (sym is.served) ∙ at) in
+      let handed = served_given x l first i (ways_of y total log how parts ended) is.found s ways_all (ap (λ (all : List (Served L)). slice_get all i) (sym is.served) ∙ at) in
       let within = slice_get_within is.found i handed.before handed.there in
       let shown = is.shows.many in
       let talker = get_there (talkers parts.states.items) i (omega (arith, within, shown)) in
@@ -203,8 +234,9 @@ module _ {W L T G H : Type 0} (x : WorldWords W L) (l : LinkWords L) (y : TalkWo
   -- a connection over a script followed it, where nothing is due on it once it has its end
   pub conn_follows : ended.served.items ≡ is.found → (i : ℕ) → ((place : PlaceState H W T) (seat : Seat T) → slice_get parts.states.items (i + 2) ≡ Some place → place.role ≡ Talking seat → (y.view_of seat.talk).pending ≡ next.Nothing → IsSome (y.view_of seat.talk).end → due (y.view_of seat.talk) ≡ None)
       → (coming : List Coming) (one : Coming) (script : Script) (s : Served L) (trail : List Event) → (x.tells first).coming ≡ Some coming → slice_get coming i ≡ Some one → one.answers ≡ Some script
-      → slice_get ended.served.items i ≡ Some s → slice_get (map (λ t. t.items) ended.trails.items) (i + 2) ≡ Some trail → is_lacking s ≡ false → is_out_of_memory s.end ≡ false → ConnFollows l y hall i script trail s
-  conn_follows served_are i closed_by coming one script s trail known at answers there run_of whole enough =
+      → slice_get ended.served.items i ≡ Some s → slice_get (map (λ t. t.items) ended.trails.items) (i + 2) ≡ Some trail → is_amiss (lines_kept log ended.log.items) i s ≡ false → is_out_of_memory s.end ≡ false → ConnFollows l y hall i script trail s
+  conn_follows served_are i closed_by coming one script s trail known at answers there run_of not_amiss enough =
+      let whole = no_lack (is_lacking s) (is_out_of_turn (lines_kept log ended.log.items) i s) not_amiss in
       let here : slice_get is.found i ≡ Some s = ap (λ (all : List (Served L)). slice_get all i) (sym served_are) ∙ there in
       let within = slice_get_within is.found i s here in
       let shown = is.shows.many in
@@ -229,8 +261,85 @@ module _ {W L T G H : Type 0} (x : WorldWords W L) (l : LinkWords L) (y : TalkWo
   desk_stands : IfSome seats.desk.resting (WorldStands x l first)
   desk_stands = subst (λ (w : W). IfSome seats.desk.resting (WorldStands x l w)) (of_world 0 seats.place seats.first) (subst (λ (r : Role W T). RoleTells x l y seats.place r) seats.polls (told_of 0 seats.place seats.first))
 
-  found_stands : IfSome (world_found y total how parts ended) (WorldStands x l first)
-  found_stands = world_stands x l first (ways_of y total how parts ended) (resting_in None parts.states.items) ways_all (subst (λ (o : Option (WorldLoad W)). IfSome o (WorldStands x l first)) (sym seats.resting) desk_stands)
+  found_stands : IfSome (world_found y total log how parts ended) (WorldStands x l first)
+  found_stands = world_stands x l first (ways_of y total log how parts ended) (resting_in None parts.states.items) ways_all (subst (λ (o : Option (WorldLoad W)). IfSome o (WorldStands x l first)) (sym seats.resting) desk_stands)
 
   pub world_is_ours : (world : W) → ended.world ≡ Some world → WorldStands x l first (record { world = world; accepted = ended.accepted; failed = ended.failed })
-  world_is_ours world there = ours x l first (world_found y total how parts ended) found_stands world ended.accepted ended.failed (sym is.world ∙ there) is.accepted is.failed
+  world_is_ours world there = ours x l first (world_found y total log how parts ended) found_stands world ended.accepted ended.failed (sym is.world ∙ there) is.accepted is.failed
+
+  -- the state that keeps the log, where there is one
+  log_kept : (last : PlaceState H W T) → slice_get parts.states.items (total + 2) ≡ Some last → LogStands x l y hall first last.trail ended.log.items
+  log_kept last there =
+      let own : last.role ≡ Logging = (placed (total + 2) last there).logs refl in
+      let stands : LogStands x l y last.hall last.first last.trail last.lines = subst (λ (r : Role W T). RoleTells x l y last r) own (told_of (total + 2) last there) in
+      let here : LogStands x l y hall first last.trail last.lines = subst (λ (w : W). LogStands x l y hall w last.trail last.lines) (of_world (total + 2) last there) (subst (λ (h : H). LogStands x l y h last.first last.trail last.lines) (fits.of_hall (total + 2) last there) stands) in
+      subst (λ (ls : List LogLine). LogStands x l y hall first last.trail ls) (sym (is.kept ∙ seats.logged last there)) here
+
+  pub log_runs : (trail : List Event) → slice_get (map (λ t. t.items) ended.trails.items) (total + 2) ≡ Some trail → map (λ (line : LogLine). line.conn) ended.log.items ≡ map (λ (event : Event). event.arg) trail
+  log_runs trail at =
+      let back = from_map (λ (p : PlaceState H W T). p.trail) parts.states.items (total + 2) trail (ap (λ (all : List (List Event)). slice_get all (total + 2)) (sym is.trails) ∙ at) in
+      (log_kept back.0 back.1).named ∙ ap (λ (es : List Event). map (λ (event : Event). event.arg) es) back.2
+
+  pub unlogged : log ≡ false → ended.log.items ≡ []
+  unlogged none = is.kept ∙ seats.unlogged (many ∙ ap (λ (b : Bool). colours_over total b) none ∙ omega arith)
+
+  lines_told_by : (b : Bool) → log ≡ b → AllByRecursion (λ (line : LogLine). (line.conn < total) × IsLineIn (y.log hall) (x.tells first).coming line) ended.log.items
+  lines_told_by false none = subst (λ (ls : List LogLine). AllByRecursion (λ (line : LogLine). (line.conn < total) × IsLineIn (y.log hall) (x.tells first).coming line) ls) (sym (unlogged none)) tt
+  lines_told_by true on =
+      let long : length parts.states.items ≡ total + 2 + 1 = many ∙ ap (λ (b : Bool). colours_over total b) on in
+      let last = get_there parts.states.items (total + 2) (omega (arith, long)) in
+      (log_kept last.0 last.1).told
+
+  pub lines_told : AllByRecursion (λ (line : LogLine). (line.conn < total) × IsLineIn (y.log hall) (x.tells first).coming line) ended.log.items
+  lines_told = lines_told_by log refl
+
+  -- ---- the lines of a connection
+
+  -- where its lines are in turn they are the first ones of its log
+  in_turn : (n : ℕ) (i : ℕ) (s : Served L) → log ≡ true → is_out_of_turn (lines_kept log ended.log.items) i s ≡ false → turns_of i ended.log.items ≡ range_with_len 1 s.answered
+  in_turn n i s on turn =
+      let out : is_out_of_turn (Some ended.log.items) i s ≡ false = sym (ap (λ (b : Bool). is_out_of_turn (lines_kept b ended.log.items) i s) on) ∙ turn in
+      numbered_are s.answered (turns_of i ended.log.items) (not_false (is_numbered s.answered (turns_of i ended.log.items)) out)
+
+  each_of_log : (coming : List Coming) (one : Coming) (i : ℕ) → (x.tells first).coming ≡ Some coming → slice_get coming i ≡ Some one → (lines : List LogLine) → AllByRecursion (λ (line : LogLine). (line.conn < total) × IsLineIn (y.log hall) (x.tells first).coming line) lines → AllByRecursion (IsOfLog i (y.log hall i (input_of (initial_contents one)))) lines
+  each_of_log coming one i known at [] told = tt
+  each_of_log coming one i known at (line ∷ lines) told = (
+    λ own.
+        let here : IsLineIn (y.log hall) (Some coming) line = subst (λ (o : Option (List Coming)). IsLineIn (y.log hall) o line) known told.0.1 in
+        let exact = here one (ap (slice_get coming) own ∙ at) in
+        subst (λ (k : ℕ). (1 ≤ line.turn) × (slice_get (y.log hall k (input_of (initial_contents one))) (line.turn - 1) ≡ Some line)) own exact,
+    each_of_log coming one i known at lines told.1,
+  )
+
+  -- what a connection that was served to its end has given
+  ended_lines : (i : ℕ) (s : Served L) (trail : List Event) (left : ConnLeft x l y hall first i trail s) → IsSome s.end → (coming : List Coming) (one : Coming) → (x.tells first).coming ≡ Some coming → slice_get coming i ≡ Some one → (o : Option L) → y.link_of left.seat.talk ≡ o → LinesOf (y.log hall i (input_of (initial_contents one))) (y.view_of left.seat.talk)
+  ended_lines i s trail left end coming one known at None none =
+      let initial : y.view_of left.seat.talk ≡ unopened_view = subst (λ (o : Option L). ServedBy x l y left.place left.seat o) none left.serves.served in
+      let shut = left.closed.0 end in
+      let both : next.Nothing ≡ next.Open = sym shut ∙ ap (λ (v : TalkView). v.pending) initial in
+      cc
+  ended_lines i s trail left end coming one known at (Some now) there =
+      let served = subst (λ (o : Option L). ServedBy x l y left.place left.seat o) there left.serves.served in
+      let colour = left.colour in
+      let conn_is : conn_of left.place.colour ≡ i = omega (arith, colour) in
+      let stands = subst (λ (w : W). LinkStands x l w i served.0) left.over.1 (subst (λ (n : ℕ). LinkStands x l left.place.first n served.0) conn_is served.1) in
+      let comes : IsComing (Some coming) i (l.tells served.0) = subst (λ (o : Option (List Coming)). IsComing o i (l.tells served.0)) known stands.coming in
+      let same : comes.0 ≡ one = same_Some comes.0 one (sym comes.1 ∙ at) in
+      let tells : l.tells served.0 ≡ Some (initial_contents one) = comes.2 ∙ ap (λ (c : Coming). Some (initial_contents c)) same in
+      let lines = subst (λ (h : H). LinesServed (y.log h i) (l.tells served.0) (y.view_of left.seat.talk)) left.over.0 (subst (λ (n : ℕ). LinesServed (y.log left.place.hall n) (l.tells served.0) (y.view_of left.seat.talk)) conn_is served.3) in
+      subst (λ (o : Option LinkContents). LinesServed (y.log hall i) o (y.view_of left.seat.talk)) tells lines
+
+  pub lines_of : log ≡ true → (coming : List Coming) (one : Coming) (i : ℕ) (s : Served L) → (x.tells first).coming ≡ Some coming → slice_get coming i ≡ Some one → slice_get ended.served.items i ≡ Some s → is_amiss (lines_kept log ended.log.items) i s ≡ false
+      → lines_for i ended.log.items ≡ lines_within s.written (y.log hall i (input_of (initial_contents one)))
+  lines_of on coming one i s known at there whole =
+      let within = slice_get_within ended.served.items i s there in
+      let count : length (map (λ t. t.items) ended.trails.items) ≡ colours_over total log = ap length is.trails ∙ length-map parts.states.items (λ (p : PlaceState H W T). p.trail) ∙ many in
+      let trail = get_there (map (λ t. t.items) ended.trails.items) (i + 2) (omega (arith, within, served_many, count)) in
+      let left = conn_left i s trail.0 there trail.1 in
+      let end : IsSome s.end = has_end (is_none s.link) s.end (is_some s.stray) (no_lack (is_lacking s) (is_out_of_turn (lines_kept log ended.log.items) i s) whole) in
+      let given = ended_lines i s trail.0 left end coming one known at (y.link_of left.seat.talk) refl in
+      let turns = in_turn s.answered i s on (no_turn (is_lacking s) (is_out_of_turn (lines_kept log ended.log.items) i s) whole) in
+      lines_are i (y.log hall i (input_of (initial_contents one))) ended.log.items s.answered (each_of_log coming one i known at ended.log.items lines_told) turns
+      ∙ ap (λ (n : ℕ). take n (y.log hall i (input_of (initial_contents one)))) left.answered
+      ∙ given.lines
+      ∙ ap (λ (n : ℕ). lines_within n (y.log hall i (input_of (initial_contents one)))) (sym left.written)

@@ -34,7 +34,27 @@ module _ {W L : Type 0} (x : WorldWords W L) (l : LinkWords L) (first : W) where
   carried_by_task c arg (Some task.Poll) (Some (load.World held)) fit = fit.stands
   carried_by_task c arg (Some task.Accept) (Some (load.World held)) fit = fit.stands
   carried_by_task c arg (Some task.Open) (Some (load.Link link)) fit = fit.initial
-  carried_by_task c arg which (Some carried) fit = absurd fit
+  carried_by_task c arg which (Some (load.Line line)) fit = tt
+  carried_by_task c arg None (Some carried) fit = absurd fit
+  carried_by_task c arg (Some task.Poll) (Some (load.Link link)) fit = absurd fit
+  carried_by_task c arg (Some task.Wait) (Some (load.World held)) fit = absurd fit
+  carried_by_task c arg (Some task.Wait) (Some (load.Link link)) fit = absurd fit
+  carried_by_task c arg (Some task.Accept) (Some (load.Link link)) fit = absurd fit
+  carried_by_task c arg (Some task.Open) (Some (load.World held)) fit = absurd fit
+  carried_by_task c arg (Some task.Read) (Some (load.World held)) fit = absurd fit
+  carried_by_task c arg (Some task.Read) (Some (load.Link link)) fit = absurd fit
+  carried_by_task c arg (Some task.Parse) (Some (load.World held)) fit = absurd fit
+  carried_by_task c arg (Some task.Parse) (Some (load.Link link)) fit = absurd fit
+  carried_by_task c arg (Some task.Look) (Some (load.World held)) fit = absurd fit
+  carried_by_task c arg (Some task.Look) (Some (load.Link link)) fit = absurd fit
+  carried_by_task c arg (Some task.Write) (Some (load.World held)) fit = absurd fit
+  carried_by_task c arg (Some task.Write) (Some (load.Link link)) fit = absurd fit
+  carried_by_task c arg (Some task.Close) (Some (load.World held)) fit = absurd fit
+  carried_by_task c arg (Some task.Close) (Some (load.Link link)) fit = absurd fit
+  carried_by_task c arg (Some task.Resume) (Some (load.World held)) fit = absurd fit
+  carried_by_task c arg (Some task.Resume) (Some (load.Link link)) fit = absurd fit
+  carried_by_task c arg (Some task.Log) (Some (load.World held)) fit = absurd fit
+  carried_by_task c arg (Some task.Log) (Some (load.Link link)) fit = absurd fit
 
   abbrev WayStands : Way → Type 0
   WayStands e = CarriesStanding x l first e.0.arg e.1
@@ -67,6 +87,7 @@ module _ {W L : Type 0} (x : WorldWords W L) (l : LinkWords L) (first : W) where
   world_load i None world carries stands = stands
   world_load i (Some (load.World held)) world carries stands = carries
   world_load i (Some (load.Link link)) world carries stands = stands
+  world_load i (Some (load.Line line)) world carries stands = stands
 
   pub world_stands : (events : List Way) (world : Option (WorldLoad W)) → AllByRecursion (λ (e : Way). CarriesStanding x l first e.0.arg e.1) events → IfSome world (WorldStands x l first) → IfSome (world_with_loads events world) (WorldStands x l first)
   world_stands [] world all stands = stands
@@ -101,6 +122,7 @@ module _ {W L : Type 0} (x : WorldWords W L) (l : LinkWords L) (first : W) where
   load_given : (i at : ℕ) (carried : Option (Load W L)) (served : List (Served L)) (after : Served L) → CarriesStanding x l first at carried → slice_get (served_with_load at carried served) i ≡ Some after → IsGiven i served after
   load_given i at None served after carries is = record { before = after; there = is; given = inl refl }
   load_given i at (Some (load.World held)) served after carries is = record { before = after; there = is; given = inl refl }
+  load_given i at (Some (load.Line line)) served after carries is = record { before = after; there = is; given = inl refl }
   load_given i at (Some (load.Link link)) served after carries is =
       let one = place_given i i at link served after (λ same. subst (λ n. LinkStands x l first n link) same carries) is in
       record { before = one.0; there = one.1; given = one.2 }

@@ -60,6 +60,7 @@ module _ {W L : Type 0} where
     served = other.served ∙ ap (λ (l : List (Served L)). served_with_loads ys l) one.served ∙ sym (served_more xs ys a.served.items);
     world = other.world ∙ ap (λ (o : Option (WorldLoad W)). world_with_loads ys o) one.world ∙ sym (world_more xs ys a.world);
     trails = other.trails ∙ one.trails;
+    log = other.log ∙ one.log;
   }
 
   -- one list of events more

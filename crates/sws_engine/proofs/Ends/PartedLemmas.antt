@@ -1,5 +1,5 @@
 -- What a run leaves in the parts of its weave.
-use Rattle.std.proofs.Common.{◌≡◌, ℕ, ◌+◌, List, [], ◌++◌, Option, Some, length, map, sym, ◌∙◌, ap, subst}
+use Rattle.std.proofs.Common.{Bool, ◌≡◌, ℕ, List, [], ◌++◌, Option, Some, length, map, sym, ◌∙◌, ap, subst}
 use Rattle.std.proofs.lemmas.List.{length-map}
 use Rattle.std.specs.Prelude.{slice_get, flat_map}
 use Rattle.mely_event.specs.declared.colour.Colour.{Colour}
@@ -7,6 +7,8 @@ use Rattle.mely_event.specs.declared.event.Event.{Event}
 use Rattle.mely_event.specs.declared.trail.Trail.{Ghosts as TrailWords}
 use Rattle.mely_history.specs.Legal.{AreLegal}
 use Rattle.mely_history.specs.Setup.{shape_of, colours_of}
+use Rattle.sws_engine.specs.LogStream.{LogsEndInOrder}
+use Rattle.sws_engine.specs.Counting.{colours_over}
 use Rattle.mely_history.specs.declared.entry.Entry.{Entry}
 use Rattle.mely_history.specs.declared.setup.Setup.{Setup}
 use Rattle.mely_shard.specs.Shard.{ShardState}
@@ -37,9 +39,9 @@ use Rattle.sws_engine.proofs.Runs.SameStandsLemmas.{same_stands}
 pub as_many_histories : {S P : Type 0} (shards : List (ShardState S P)) (histories : List (List Entry)) (count : ℕ) → histories ≡ map (λ (has : ShardState S P). has.history) shards → length shards ≡ count → length histories ≡ count
 as_many_histories {S} {P} shards histories count are many = ap length are ∙ length-map shards (λ (has : ShardState S P). has.history) ∙ many
 
-module _ {W L T G H : Type 0} (x : WorldWords W L) (y : TalkWords T L G H) (t : TrailWords (PlaceState H W T) (Frame H W)) (setup : Setup) (first : W) (ended : Drained) (weave : WeaveState (PlaceState H W T) (Load W L))
+module _ {W L T G H : Type 0} (x : WorldWords W L) (y : TalkWords T L G H) (t : TrailWords (PlaceState H W T) (Frame H W)) (setup : Setup) (first : W) (log : Bool) (ended : Drained) (weave : WeaveState (PlaceState H W T) (Load W L))
     (histories : List (List Entry)) (states : List (PlaceState H W T)) (queued : List (List (Way W L))) (lost : List (Colour × Event × Option (Load W L)))
-    (apart : IsTakenApart t weave histories states queued lost) (fact : RunFact x y first weave) (of_setup : weave.setup ≡ setup) (colours : colours_of setup ≡ (x.tells first).total + 2) (drained_is : ended ≡ Empty → HistoriesAreDrained weave) (many_histories : length histories ≡ (shape_of weave.setup).shards)
+    (apart : IsTakenApart t weave histories states queued lost) (fact : RunFact x y first weave) (of_setup : weave.setup ≡ setup) (colours : colours_of setup ≡ colours_over (x.tells first).total log) (drained_is : ended ≡ Empty → HistoriesAreDrained weave) (many_histories : length histories ≡ (shape_of weave.setup).shards) (many_queued : length queued ≡ colours_of weave.setup) (ordered : LogsEndInOrder y (x.tells first).total log states queued lost)
     (colour_is : (s : PlaceState H W T) → t.colour_of s ≡ s.colour) (trail_is : (s : PlaceState H W T) → t.trail_of s ≡ s.trail) (frame_is : (s : PlaceState H W T) → t.frame_of s ≡ record { hall = s.hall; first = s.first }) where
   abbrev total : ℕ
   total = (x.tells first).total
@@ -59,7 +61,7 @@ module _ {W L T G H : Type 0} (x : WorldWords W L) (y : TalkWords T L G H) (t : 
   none_left : ended ≡ Empty → lost ≡ [] → ways ≡ []
   none_left empty none = ap (λ (l : List (Way W L)). l ++ carried_by lost) (apart.emptied (drained_is empty)) ∙ ap (λ (l : List (Colour × Event × Option (Load W L))). carried_by l) none
 
-  pub run_parts : RunParts x y setup first ended histories states queued lost
+  pub run_parts : RunParts x y setup first log ended histories states queued lost
   run_parts = record {
     kept = record {
       legal = subst (λ (s : Setup). AreLegal s histories) of_setup apart.legal;
@@ -72,6 +74,8 @@ module _ {W L T G H : Type 0} (x : WorldWords W L) (y : TalkWords T L G H) (t : 
       trailed = λ c place history at there. sym (trail_is place) ∙ apart.trailed c place history at (ap (λ (s : Setup). slice_get histories (shard_of s c)) of_setup ∙ there);
     };
     stands = stands;
+    many_queued = many_queued ∙ ap (λ (s : Setup). colours_of s) of_setup ∙ colours;
+    ordered = ordered;
     ends = λ empty none place desk at role. run_ends y total states coloured (subst (λ (l : List (Way W L)). RunStands y total states l) (none_left empty none) stands) place desk at role;
   }
 

@@ -3,7 +3,12 @@ use Rattle.std.proofs.Common.{◌≡◌, ℕ, ◌+◌, ◌≤◌, ◌<◌, Bool,
 use Rattle.std.proofs.lemmas.Bool.Decides.{eqb_tells}
 use Rattle.std.proofs.lemmas.List.{map-append, append_assoc}
 use Rattle.std.proofs.lemmas.Option.{same_Some}
-use Rattle.std.specs.Prelude.{◌==◌, ◌&&◌}
+use Rattle.std.specs.Prelude.{◌==◌, ◌&&◌, slice_get, IfSome, IsSome, is_some as is_there}
+use Rattle.mely_event.specs.declared.colour.Colour.{Colour}
+use Rattle.sws_log.specs.declared.line.LogLine.{LogLine}
+use Rattle.sws_link.specs.Links.{LinkContents}
+use Rattle.sws_link.specs.Worlds.{Coming, initial_contents}
+use Rattle.sws_steps.specs.Logs.{IsLineOf}
 use Rattle.std.specs.List.{AllByRecursion}
 use Rattle.mely_event.specs.declared.event.Event.{Event}
 use Rattle.mely_worker.specs.Access.{FitsIn}
@@ -15,10 +20,15 @@ use Rattle.sws_conn.specs.Talks.{TalkView, unopened_view, reported_next, due}
 use Rattle.sws_engine.specs.declared.load.Load.{Load}
 use Rattle.sws_engine.specs.declared.load.Load.TheVariants as load
 use Rattle.sws_engine.specs.declared.place.Seat.{Seat}
-use Rattle.sws_engine.specs.Loads.{LinkStands, Fit}
-use Rattle.sws_engine.specs.Handling.{Put, number_of, next_puts, is_due, stray_of, Stepped, RunsSeat}
+use Rattle.sws_engine.specs.Loads.{LinkStands, Fit, FitsTold, IsComing, IsLineIn, TellsLine}
+use Rattle.sws_engine.specs.Handling.{Put, number_of, next_puts, line_puts, is_due, stray_of, Stepped, RunsSeat}
+use Rattle.sws_engine.specs.Counting.{bit, colours_over}
+use Rattle.sws_engine.specs.Tasks.{task_of}
+use Rattle.sws_engine.specs.declared.task.Task.TheVariants as task
+use Rattle.sws_engine.proofs.Events.FitLemmas.{line_fit, number_is}
+use Rattle.sws_engine.proofs.Events.WaitingListsLemmas.{each_append}
 use Rattle.sws_engine.specs.Invariant.{event_for, RanBy, TrailIs, SeatStands}
-use Rattle.sws_engine.specs.Seating.{HasRunSome}
+use Rattle.sws_engine.specs.Seating.{HasRunSome, PutsTold}
 
 and_both : (a b : Bool) → (a && b) ≡ true → (a ≡ true) × (b ≡ true)
 and_both true b is = (refl, is)
@@ -34,6 +44,28 @@ due_event i step event is =
     let h = same_number event.handler (number_of step) both.0 in
     let a = same_number event.arg i both.1 in
     ap (λ (n : ℕ). let e : Event = record { handler = n; arg = event.arg } in e) h ∙ ap (λ (n : ℕ). let e : Event = record { handler = number_of step; arg = n } in e) a
+
+-- each put that isn't a line fits as well where there is a log
+module _ {W L T G H : Type 0} (x : WorldWords W L) (l : LinkWords L) (y : TalkWords T L G H) (hall : H) (first : W) where
+  no_line : (c : Colour) (event : Event) (carried : Option (Load W L)) → event.handler < 10 → Fit x l first c event carried → TellsLine (y.log hall) (x.tells first).coming carried
+  no_line c event None less fit = tt
+  no_line c event (Some (load.World held)) less fit = tt
+  no_line c event (Some (load.Link link)) less fit = tt
+  no_line c event (Some (load.Line line)) less fit =
+      let own = line_fit x l first c event.arg (task_of event.handler) line fit in
+      let number = number_is event.handler task.Log own.is in
+      absurd (omega (arith, number, less))
+
+  wide_put : (put : Put W L) → FitsIn ((x.tells first).total + 2) 10 (Fit x l first) put → (log : Bool) → FitsIn (colours_over (x.tells first).total log) 11 (FitsTold x l y hall first) put
+  wide_put put fit log = record {
+    colour = (let low_colour = fit.colour in omega (arith, low_colour));
+    handler = (let low_handler = fit.handler in omega (arith, low_handler));
+    load = (fit.load, no_line put.0 put.1 put.2 fit.handler fit.load);
+  }
+
+  pub wide_puts : (puts : List (Put W L)) → AllByRecursion (FitsIn ((x.tells first).total + 2) 10 (Fit x l first)) puts → (log : Bool) → AllByRecursion (FitsIn (colours_over (x.tells first).total log) 11 (FitsTold x l y hall first)) puts
+  wide_puts [] fit log = tt
+  wide_puts (put ∷ puts) fit log = (wide_put put fit.0 log, wide_puts puts fit.1 log)
 
 module _ {W L T G H : Type 0} (x : WorldWords W L) (l : LinkWords L) (y : TalkWords T L G H) (hall : H) (first : W) (i : ℕ) where
   abbrev total : ℕ
@@ -61,7 +93,7 @@ module _ {W L T G H : Type 0} (x : WorldWords W L) (l : LinkWords L) (y : TalkWo
   ran_more (h ∷ hs) close before after carried is at does fits no_twice = (is.0, is.1, does is.0 (h ∷ hs) is.2)
 
   module _ (seat after : Seat T) (trail : List Event) (event : Event) (carried : Option (Load W L)) (puts : List (Put W L)) (stands : SeatStands x l y hall first i trail seat)
-      (next : after.next ≡ reported_next (y.view_of after.talk))
+      (next : after.next ≡ reported_next (y.view_of after.talk)) (answered : after.answered ≡ (y.view_of after.talk).lines) (log : Bool)
       (fits : (link : L) → carried ≡ Some (load.Link link) → LinkStands x l first i link)
       (no_twice : HasRunSome y seat.talk → due (y.view_of seat.talk) ≡ Some open_link → ⊥) where
     more_trail : (stray : Option Event) (step : Handler) → event ≡ event_for i step → TrailIs x l y hall first i trail stands.ran stray → TrailIs x l y hall first i (trail ++ event ∷ []) (stands.ran ++ step ∷ []) stray
@@ -99,27 +131,29 @@ module _ {W L T G H : Type 0} (x : WorldWords W L) (l : LinkWords L) (y : TalkWo
     ran_some : (h : Handler) (hs : List Handler) → stands.ran ≡ h ∷ hs → HasRunSome y seat.talk
     ran_some h hs is = let r = subst (λ (ran : List Handler). RanBy x l y hall first i ran seat.talk) is stands.runs in record { first = r.0; ran = h ∷ hs; is = r.2 }
 
-    due_kept : (d : Option Handler) → due (y.view_of seat.talk) ≡ d → is_due i d event ≡ true → RunsSeat y true i seat event carried after puts → SeatStands x l y hall first i (trail ++ event ∷ []) after
+    due_kept : (d : Option Handler) → due (y.view_of seat.talk) ≡ d → is_due i d event ≡ true → RunsSeat y log total true i seat event carried after puts → SeatStands x l y hall first i (trail ++ event ∷ []) after
     due_kept None at is does = cc
     due_kept (Some step) at is does = record {
       hall_is = does.2 ∙ stands.hall_is;
       next = next;
+      answered = answered;
       ran = stands.ran ++ step ∷ [];
       runs = ran_more stands.ran step seat.talk after.talk carried stands.runs at (subst (λ (d : Option Handler). Stepped y seat.talk d carried after.talk) at does.0) (λ link opens carries. fits link carries) (λ h hs some opens. no_twice (ran_some h hs some) (at ∙ ap (λ (s : Handler). Some s) opens));
       trailed = subst (λ (s : Option Event). TrailIs x l y hall first i (trail ++ event ∷ []) (stands.ran ++ step ∷ []) s) (sym does.1) (more_trail seat.stray step (due_event i step event is) stands.trailed);
     }
 
-    pub seat_kept : (b : Bool) → is_due i (due (y.view_of seat.talk)) event ≡ b → RunsSeat y b i seat event carried after puts → SeatStands x l y hall first i (trail ++ event ∷ []) after
+    pub seat_kept : (b : Bool) → is_due i (due (y.view_of seat.talk)) event ≡ b → RunsSeat y log total b i seat event carried after puts → SeatStands x l y hall first i (trail ++ event ∷ []) after
     seat_kept true is does = due_kept (due (y.view_of seat.talk)) refl is does
     seat_kept false is does =
-        let kept : SeatStands x l y hall first i (trail ++ event ∷ []) (record { talk = seat.talk; next = after.next; stray = stray_of seat.stray event }) = record {
+        let kept : SeatStands x l y hall first i (trail ++ event ∷ []) (record { talk = seat.talk; next = after.next; answered = after.answered; stray = stray_of seat.stray event }) = record {
           hall_is = stands.hall_is;
           next = next ∙ ap (λ (t : T). reported_next (y.view_of t)) does.0;
+          answered = answered ∙ ap (λ (t : T). (y.view_of t).lines) does.0;
           ran = stands.ran;
           runs = stands.runs;
           trailed = stray_trail seat.stray is stands.trailed;
         } in
-        let back : after ≡ record { talk = seat.talk; next = after.next; stray = stray_of seat.stray event } = ap (λ (t : T). let k : Seat T = record { talk = t; next = after.next; stray = after.stray } in k) does.0 ∙ ap (λ (s : Option Event). let k : Seat T = record { talk = seat.talk; next = after.next; stray = s } in k) does.1 in
+        let back : after ≡ record { talk = seat.talk; next = after.next; answered = after.answered; stray = stray_of seat.stray event } = ap (λ (t : T). let k : Seat T = record { talk = t; next = after.next; answered = after.answered; stray = after.stray } in k) does.0 ∙ ap (λ (s : Option Event). let k : Seat T = record { talk = seat.talk; next = after.next; answered = after.answered; stray = s } in k) does.1 in
         subst (λ (k : Seat T). SeatStands x l y hall first i (trail ++ event ∷ []) k) (sym back) kept
 
   -- what a connection puts fits
@@ -137,6 +171,67 @@ module _ {W L T G H : Type 0} (x : WorldWords W L) (l : LinkWords L) (y : TalkWo
     next_fits (Some close) is = ((record { colour = omega (arith, low); handler = omega arith; load = record { colour = refl; conn = low } }, tt), omega arith)
     next_fits (Some resume) is = ((record { colour = omega arith; handler = omega arith; load = record { colour = refl; conn = low } }, tt), omega arith)
 
-    pub seat_puts_fit : (b : Bool) (seat after : Seat T) (event : Event) (carried : Option (Load W L)) (puts : List (Put W L)) → RunsSeat y b i seat event carried after puts → AllByRecursion PutFits puts × (length puts ≤ 2)
-    seat_puts_fit true seat after event carried puts does = subst (λ (ps : List (Put W L)). AllByRecursion PutFits ps × (length ps ≤ 2)) (sym does.4) (next_fits (due (y.view_of after.talk)) does.3)
-    seat_puts_fit false seat after event carried puts does = subst (λ (ps : List (Put W L)). AllByRecursion PutFits ps × (length ps ≤ 2)) (sym does.2) (tt, omega arith)
+    -- of a line that was put, its connection has run, and so its link told what it began with
+    ran_with_lines : (ran : List Handler) (talk : T) → RanBy x l y hall first i ran talk → 1 ≤ (y.view_of talk).lines → (link : L) × LinkStands x l first i link × (trail : List Handler) × y.has_run link trail talk
+    ran_with_lines [] talk is some = let none = ap (λ (v : TalkView). v.lines) is.1 in absurd (omega (arith, none, some))
+    ran_with_lines (h ∷ hs) talk is some = (is.0, is.1, h ∷ hs, is.2)
+
+    line_told : (log : List ℕ → List LogLine) (coming : Option (List Coming)) (told : Option LinkContents) (line : LogLine) → IsComing coming i told → IsLineOf log told line → (one : List Coming) → coming ≡ Some one → (c : Coming) → slice_get one i ≡ Some c → IsLineOf log (Some (initial_contents c)) line
+    line_told log None told line comes is one none c at = cc
+    line_told log (Some coming) told line comes is one some c at =
+        let same : coming ≡ one = same_Some coming one some in
+        let there : comes.0 ≡ c = same_Some comes.0 c (sym comes.1 ∙ ap (λ (l : List Coming). slice_get l i) same ∙ at) in
+        subst (λ (k : Coming). IsLineOf log (Some (initial_contents k)) line) there (subst (λ (t : Option LinkContents). IsLineOf log t line) comes.2 is)
+
+    line_in_log : (log : ℕ → List ℕ → List LogLine) (coming : Option (List Coming)) (told : Option LinkContents) (line : LogLine) → line.conn ≡ i → IsComing coming i told → IsLineOf (log i) told line → IsLineIn log coming line
+    line_in_log log None told line own comes is = tt
+    line_in_log log (Some coming) told line own comes is = λ c at. subst (λ (n : ℕ). IsLineOf (log n) (Some (initial_contents c)) line) (sym own) (line_told (log i) (Some coming) told line comes is coming refl c (ap (slice_get coming) (sym own) ∙ at))
+
+    -- the line of a step
+    line_fits : (log : Bool) (talk : T) (line : Option LogLine) → IfSome line (λ line. (line.conn ≡ i) × (line.turn ≡ (y.view_of talk).lines)) → (IsSome line → 1 ≤ (y.view_of talk).lines) → (ran : List Handler) → RanBy x l y hall first i ran talk → y.hall_of talk ≡ hall
+        → PutsTold l y i talk (line_puts {W = W} {L = L} log total i line) → AllByRecursion (FitsIn (colours_over total log) 11 (FitsTold x l y hall first)) (line_puts {W = W} {L = L} log total i line)
+    line_fits log talk None numbered some ran runs over told = tt
+    line_fits false talk (Some line) numbered some ran runs over told = tt
+    line_fits true talk (Some line) numbered some ran runs over told =
+        let has = ran_with_lines ran talk runs (some refl) in
+        let own = numbered.0 in
+        let turn = numbered.1 in
+        let least = some refl in
+        let exact : IsLineOf (y.log (y.hall_of talk) i) (l.tells has.0) line = (told has.0 has.2 has.3).0 in (
+          record {
+            colour = omega arith;
+            handler = omega arith;
+            load = (record { colour = refl; conn = low; own = own; numbered = omega (arith, turn, least) }, line_in_log (y.log hall) (x.tells first).coming (l.tells has.0) line own has.1.coming (subst (λ (h : H). IsLineOf (y.log h i) (l.tells has.0) line) over exact));
+          },
+          tt,
+        )
+
+    told_behind : (talk : T) (puts more : List (Put W L)) → PutsTold l y i talk (puts ++ more) → PutsTold l y i talk more
+    told_behind talk [] more told = told
+    told_behind talk (put ∷ puts) more told = told_behind talk puts more (λ link trail runs. (told link trail runs).1)
+
+    few_more : (log : Bool) (d : Option Handler) (line : Option LogLine) → length (next_puts {W = W} {L = L} i d ++ line_puts log total i line) ≤ 2
+    few_more log None None = omega arith
+    few_more true None (Some line) = omega arith
+    few_more false None (Some line) = omega arith
+    few_more log (Some step) None = omega arith
+    few_more true (Some step) (Some line) = omega arith
+    few_more false (Some step) (Some line) = omega arith
+
+    some_bit : (line : Option LogLine) → IsSome line → bit (is_there line) ≡ 1
+    some_bit None some = cc
+    some_bit (Some line) some = refl
+
+    pub seat_puts_fit : (log : Bool) (b : Bool) (seat after : Seat T) (event : Event) (carried : Option (Load W L)) (puts : List (Put W L)) → RunsSeat y log total b i seat event carried after puts → (ran : List Handler) → RanBy x l y hall first i ran after.talk → y.hall_of after.talk ≡ hall → PutsTold l y i after.talk puts
+        → AllByRecursion (FitsIn (colours_over total log) 11 (FitsTold x l y hall first)) puts × (length puts ≤ 2)
+    seat_puts_fit log true seat after event carried puts does ran runs over told =
+        let next = does.4 in
+        let d : Option Handler = due (y.view_of after.talk) in
+        let split = subst (λ (ps : List (Put W L)). PutsTold l y i after.talk ps) next.puts_are told in
+        let counted = next.lines in
+        subst (λ (ps : List (Put W L)). AllByRecursion (FitsIn (colours_over total log) 11 (FitsTold x l y hall first)) ps × (length ps ≤ 2)) (sym next.puts_are) (
+          each_append (FitsIn (colours_over total log) 11 (FitsTold x l y hall first)) (next_puts i d) (line_puts log total i next.line) (wide_puts x l y hall first (next_puts i d) (next_fits d does.3).0 log)
+              (line_fits log after.talk next.line next.numbered (λ some. (let one = some_bit next.line some in omega (arith, counted, one))) ran runs over (told_behind after.talk (next_puts i d) (line_puts log total i next.line) split)),
+          few_more log d next.line,
+        )
+    seat_puts_fit log false seat after event carried puts does ran runs over told = subst (λ (ps : List (Put W L)). AllByRecursion (FitsIn (colours_over total log) 11 (FitsTold x l y hall first)) ps × (length ps ≤ 2)) (sym does.2) (tt, omega arith)

@@ -1,14 +1,15 @@
 -- Worked schedules, by computation.
 use Rattle.std.proofs.Common.{◌≡◌, ◌<◌, refl, ℕ, zero, suc, Bool, true, false, not, ◌&&◌, List, [], ◌∷◌, arith, ap, ◌∙◌, inl, inr}
 use Rattle.std.proofs.lemmas.Bool.{cases_eq}
-use Rattle.sws_conn.specs.Path.{Handler, open_link, read_piece, parse, close}
+use Rattle.sws_steps.specs.Logs.{Step}
+use Rattle.sws_conn.specs.Path.{open_link, read_piece, parse, close}
 use Rattle.mely_machine.specs.Rules.{Rules}
 use Rattle.mely_machine.specs.Machine.{Acts, Machine}
 use Rattle.mely_machine.specs.MachineStep.{step}
 use Rattle.mely_machine.specs.MachineRun.{initial_machine, post, steps, rounds, is_quiet, spelled_out}
 use Rattle.sws_engine.specs.Server.{initial_server, serve}
 use Rattle.sws_engine.specs.ServerRun.{server_rules, IsRunOfPaths}
-use Rattle.sws_engine.specs.ServerRows.{col, event, two_cores, worked_histories, polled_histories}
+use Rattle.sws_engine.specs.ServerRows.{col, event, two_cores, worked_histories, polled_histories, step as step_of, answered, logged_histories}
 
 -- before each of the first rounds something is left to do
 abbrev busy_below : {X : Type 0} → Rules → Acts X → ℕ → Machine X → Bool
@@ -29,18 +30,18 @@ busy_at rules act (suc k) m h n low =
     ]
 
 -- a connection without input
-abbrev pub silent : List Handler
-silent = open_link ∷ read_piece ∷ parse ∷ close ∷ []
+abbrev pub silent : List Step
+silent = step_of open_link false ∷ step_of read_piece false ∷ step_of parse false ∷ step_of close false ∷ []
 
 -- the worked schedule: core 1 steals the connection of class 2, though another colour of
 -- class 1 stands before it
-pub worked : IsRunOfPaths two_cores (silent ∷ []) ((0, 6) ∷ (1, 12) ∷ []) worked_histories
+pub worked : IsRunOfPaths two_cores false (silent ∷ []) ((0, 6) ∷ (1, 12) ∷ []) worked_histories
 unfolding post steps step rounds serve
 worked = record {
-  end = rounds (server_rules two_cores) serve 22 (steps (server_rules two_cores) serve (spelled_out ((0, 6) ∷ (1, 12) ∷ [])) (post (server_rules two_cores) (col 0) (event 0 0) (initial_machine (server_rules two_cores) (initial_server (silent ∷ [])))));
+  end = rounds (server_rules two_cores) serve 22 (steps (server_rules two_cores) serve (spelled_out ((0, 6) ∷ (1, 12) ∷ [])) (post (server_rules two_cores) (col 0) (event 0 0) (initial_machine (server_rules two_cores) (initial_server false (silent ∷ [])))));
   drains = record {
     count = 22;
-    busy = busy_at (server_rules two_cores) serve 22 (steps (server_rules two_cores) serve (spelled_out ((0, 6) ∷ (1, 12) ∷ [])) (post (server_rules two_cores) (col 0) (event 0 0) (initial_machine (server_rules two_cores) (initial_server (silent ∷ []))))) refl;
+    busy = busy_at (server_rules two_cores) serve 22 (steps (server_rules two_cores) serve (spelled_out ((0, 6) ∷ (1, 12) ∷ [])) (post (server_rules two_cores) (col 0) (event 0 0) (initial_machine (server_rules two_cores) (initial_server false (silent ∷ []))))) refl;
     last = refl;
     quiet = refl;
   };
@@ -48,13 +49,27 @@ worked = record {
 }
 
 -- no connection: the poll stays on core 0, though core 1 looks for it
-pub polled : IsRunOfPaths two_cores [] ((1, 2) ∷ []) polled_histories
+pub polled : IsRunOfPaths two_cores false [] ((1, 2) ∷ []) polled_histories
 unfolding post steps step rounds serve
 polled = record {
-  end = rounds (server_rules two_cores) serve 4 (steps (server_rules two_cores) serve (spelled_out ((1, 2) ∷ [])) (post (server_rules two_cores) (col 0) (event 0 1) (initial_machine (server_rules two_cores) (initial_server []))));
+  end = rounds (server_rules two_cores) serve 4 (steps (server_rules two_cores) serve (spelled_out ((1, 2) ∷ [])) (post (server_rules two_cores) (col 0) (event 0 1) (initial_machine (server_rules two_cores) (initial_server false []))));
   drains = record {
     count = 4;
-    busy = busy_at (server_rules two_cores) serve 4 (steps (server_rules two_cores) serve (spelled_out ((1, 2) ∷ [])) (post (server_rules two_cores) (col 0) (event 0 1) (initial_machine (server_rules two_cores) (initial_server [])))) refl;
+    busy = busy_at (server_rules two_cores) serve 4 (steps (server_rules two_cores) serve (spelled_out ((1, 2) ∷ [])) (post (server_rules two_cores) (col 0) (event 0 1) (initial_machine (server_rules two_cores) (initial_server false [])))) refl;
+    last = refl;
+    quiet = refl;
+  };
+  told = refl;
+}
+
+-- a connection with one line
+pub logged : IsRunOfPaths two_cores true (answered ∷ []) ((0, 6) ∷ (1, 12) ∷ []) logged_histories
+unfolding post steps step rounds serve
+logged = record {
+  end = rounds (server_rules two_cores) serve 44 (steps (server_rules two_cores) serve (spelled_out ((0, 6) ∷ (1, 12) ∷ [])) (post (server_rules two_cores) (col 0) (event 0 0) (initial_machine (server_rules two_cores) (initial_server true (answered ∷ [])))));
+  drains = record {
+    count = 44;
+    busy = busy_at (server_rules two_cores) serve 44 (steps (server_rules two_cores) serve (spelled_out ((0, 6) ∷ (1, 12) ∷ [])) (post (server_rules two_cores) (col 0) (event 0 0) (initial_machine (server_rules two_cores) (initial_server true (answered ∷ []))))) refl;
     last = refl;
     quiet = refl;
   };

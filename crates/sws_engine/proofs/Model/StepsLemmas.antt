@@ -1,5 +1,5 @@
 -- At Ok no link met want of memory, so the histories that a run leaves are those of the definition.
-use Rattle.std.proofs.Common.{◌≡◌, ◌+◌, ◌<◌, ℕ, zero, suc, All, Bool, true, false, List, [], ◌∷◌, ◌++◌, Option, None, Some, get_or, map, arith, refl, sym, ap, subst, ◌∙◌}
+use Rattle.std.proofs.Common.{◌≡◌, ◌+◌, ◌<◌, ℕ, zero, suc, All, Bool, true, false, List, [], ◌∷◌, ◌++◌, Option, None, Some, get_or, map, arith, refl, sym, ap, subst, ◌∙◌, inl, inr}
 use Rattle.std.specs.Prelude.{slice_get, is_none, is_some, IsSome, ◌||◌}
 use Rattle.std.proofs.lemmas.Bool.{or_parts}
 use Rattle.std.proofs.lemmas.Option.{same_Some, slice_get_within, slice_get-get_or}
@@ -22,7 +22,7 @@ use Rattle.sws_steps.specs.declared.Next.{Next}
 use Rattle.sws_steps.specs.declared.Next.TheVariants as next
 use Rattle.sws_steps.specs.declared.talk.Talk.{Ghosts as TalkWords}
 use Rattle.sws_conn.specs.Conn.{end_at}
-use Rattle.sws_conn.specs.Path.{Handler}
+use Rattle.sws_steps.specs.Logs.{Step}
 use Rattle.sws_engine.specs.declared.ended.Served.{Served}
 use Rattle.sws_engine.specs.declared.ended.Ended.{Ended}
 use Rattle.sws_engine.specs.declared.ended.Verdict.{Verdict}
@@ -30,17 +30,18 @@ use Rattle.sws_engine.specs.declared.ended.Verdict.TheVariants as verdict
 use Rattle.sws_engine.specs.declared.load.Load.{Load}
 use Rattle.sws_engine.specs.declared.place.Seat.{Seat}
 use Rattle.sws_engine.specs.declared.place.Role.{Role}
-use Rattle.sws_engine.specs.declared.place.Role.TheVariants.{Polling, Accepting, Talking}
+use Rattle.sws_engine.specs.declared.place.Role.TheVariants.{Polling, Accepting, Talking, Logging}
 use Rattle.sws_engine.specs.Place.{PlaceState}
 use Rattle.sws_engine.specs.RunParts.{RunParts}
-use Rattle.sws_engine.specs.RunLeaves.{Talker, talkers, is_out_of_memory, links_owed, AreWhole, VerdictIs}
+use Rattle.sws_engine.specs.RunLeaves.{Talker, talkers, is_out_of_memory, links_owed, AreWhole, VerdictIs, lines_kept, is_lacking, is_out_of_turn}
 use Rattle.sws_engine.specs.Handing.{served_with_loads}
 use Rattle.sws_engine.specs.Conclusion.{is_empty, is_whole, IsConcluded}
 use Rattle.sws_engine.specs.PathStates.{TellsPaths, is_memory, is_spoilt_role, is_spoilt}
 use Rattle.sws_engine.specs.Agrees.{AreOpened}
 use Rattle.sws_engine.specs.ServerRun.{handler_rows, IsRunOfPaths}
 use Rattle.sws_engine.specs.ServedRun.{IsOfPaths}
-use Rattle.sws_engine.proofs.Ends.SeatsOfRunLemmas.{SeatsStand, seats_stand}
+use Rattle.sws_engine.proofs.Ends.SeatsOfRunLemmas.{SeatsStand, seats_stand, below_bit}
+use Rattle.std.proofs.lemmas.Bool.{cases_lt}
 
 empty_is : {A : Type 0} (xs : List A) → is_empty xs ≡ true → xs ≡ []
 empty_is [] is = refl
@@ -61,14 +62,14 @@ not_memory (Some ending.Idle) is = refl
 not_memory (Some ending.Fault) is = refl
 not_memory (Some ending.Memory) is = cc
 
-module _ {W L T G H : Type 0} (x : WorldWords W L) (l : LinkWords L) (y : TalkWords T L G H) (setup : Setup) (first : W) (how : Drained) (parts : WeaveParts (PlaceState H W T) (Load W L)) (ended : Ended W L)
-    (ran : RunParts x y setup first how (map (λ history. history.items) parts.histories.items) parts.states.items (map (λ events. events.items) parts.queued.items) parts.lost.items)
-    (is : IsConcluded y (x.tells first).total how parts ended) (ok : ended.verdict ≡ verdict.Ok) where
+module _ {W L T G H : Type 0} (x : WorldWords W L) (l : LinkWords L) (y : TalkWords T L G H) (setup : Setup) (first : W) (log : Bool) (how : Drained) (parts : WeaveParts (PlaceState H W T) (Load W L)) (ended : Ended W L)
+    (ran : RunParts x y setup first log how (map (λ history. history.items) parts.histories.items) parts.states.items (map (λ events. events.items) parts.queued.items) parts.lost.items)
+    (is : IsConcluded y (x.tells first).total log how parts ended) (ok : ended.verdict ≡ verdict.Ok) where
   abbrev total : ℕ
   total = (x.tells first).total
 
-  told : VerdictIs ended.served.items (is_whole how parts.lost.items) total (is_some ended.world) ended.accepted ended.failed verdict.Ok
-  told = subst (λ (v : Verdict). VerdictIs ended.served.items (is_whole how parts.lost.items) total (is_some ended.world) ended.accepted ended.failed v) ok is.verdict
+  told : VerdictIs (lines_kept log ended.log.items) ended.served.items (is_whole how parts.lost.items) total (is_some ended.world) ended.accepted ended.failed verdict.Ok
+  told = subst (λ (v : Verdict). VerdictIs (lines_kept log ended.log.items) ended.served.items (is_whole how parts.lost.items) total (is_some ended.world) ended.accepted ended.failed v) ok is.verdict
 
   whole : (how ≡ drained.Empty) × (parts.lost.items ≡ [])
   whole = whole_is how parts.lost.items (told.0.ran)
@@ -81,10 +82,10 @@ module _ {W L T G H : Type 0} (x : WorldWords W L) (l : LinkWords L) (y : TalkWo
       (ap (λ (w : List (Event × Option (Load W L))). w ++ carried_by parts.lost.items) (ran.emptied whole.0) ∙ ap (λ l. carried_by l) whole.1)
 
   seats : SeatsStand total parts.states.items
-  seats = seats_stand total parts.states.items ran.many ran.placed
+  seats = seats_stand total log parts.states.items ran.many ran.placed
 
-  all_whole : AreWhole ended.served.items total
-  all_whole = subst (λ (failed : Bool). AreWhole ended.served.items (links_owed failed ended.accepted total)) told.2 told.3
+  all_whole : AreWhole (lines_kept log ended.log.items) ended.served.items total
+  all_whole = subst (λ (failed : Bool). AreWhole (lines_kept log ended.log.items) ended.served.items (links_owed failed ended.accepted total)) told.2 told.3
 
   -- the end of a talk of these
   module _ (i : ℕ) (under : i < total) (place : PlaceState H W T) (seat : Seat T) (there : slice_get parts.states.items (i + 2) ≡ Some place) (talks : place.role ≡ Talking seat) where
@@ -105,7 +106,7 @@ module _ {W L T G H : Type 0} (x : WorldWords W L) (l : LinkWords L) (y : TalkWo
     seat_sound =
         let shows = is.shows.each i talker.0 shown.0 talker.1 shown.1 in
         let at : slice_get ended.served.items i ≡ Some shown.0 = ap (λ (l : List (Served L)). slice_get l i) served_are ∙ shown.1 in
-        let lacks = or_parts (is_none shown.0.link || is_none shown.0.end) (is_some shown.0.stray) (all_whole i shown.0 under at) in
+        let lacks = or_parts (is_none shown.0.link || is_none shown.0.end) (is_some shown.0.stray) (or_parts (is_lacking shown.0) (is_out_of_turn (lines_kept log ended.log.items) i shown.0) (all_whole i shown.0 under at)).0 in
         let ends = has_end shown.0.end (or_parts (is_none shown.0.link) (is_none shown.0.end) lacks.0).1 in
         let shut : (y.view_of talker.0.seat.talk).pending ≡ next.Nothing = shows.closed.0 ends in
         let end : shown.0.end ≡ (y.view_of talker.0.seat.talk).end = shows.end ∙ ap (λ (n : Next). end_at n (y.view_of talker.0.seat.talk).end) shut in
@@ -114,13 +115,21 @@ module _ {W L T G H : Type 0} (x : WorldWords W L) (l : LinkWords L) (y : TalkWo
   role_sound : (k : ℕ) (place : PlaceState H W T) → slice_get parts.states.items k ≡ Some place → (role : Role W T) → place.role ≡ role → is_spoilt_role y role ≡ false
   role_sound k place there (Polling desk) is_role = refl
   role_sound k place there Accepting is_role = refl
+  role_sound k place there Logging is_role = refl
   role_sound zero place there (Talking seat) is_role = let polls = (ran.placed zero place there).polls refl in let both : Talking seat ≡ Polling polls.0 = sym is_role ∙ polls.1 in cc
   role_sound (suc zero) place there (Talking seat) is_role = let accepts = (ran.placed 1 place there).accepts refl in let both : Talking seat ≡ Accepting = sym is_role ∙ accepts in cc
   role_sound (suc (suc i)) place there (Talking seat) is_role =
       let at : i + 2 ≡ suc (suc i) = omega arith in
-      let within = slice_get_within parts.states.items (suc (suc i)) place there in
-      let many = ran.many in
-      seat_sound i (omega (arith, within, many)) place seat (ap (slice_get parts.states.items) at ∙ there) is_role
+      elim (cases_lt i total) [
+        | inl low ↦ seat_sound i low place seat (ap (slice_get parts.states.items) at ∙ there) is_role
+        | inr high ↦
+            let within = slice_get_within parts.states.items (suc (suc i)) place there in
+            let many = ran.many in
+            let last : suc (suc i) ≡ total + 2 = omega (arith, high, within, many, below_bit log) in
+            let logs = (ran.placed (suc (suc i)) place there).logs last in
+            let both : Talking seat ≡ Logging = sym is_role ∙ logs in
+            cc
+      ]
 
   none_spoilt : All (λ place. is_spoilt y place ≡ false) parts.states.items
   none_spoilt k d low =
@@ -129,8 +138,8 @@ module _ {W L T G H : Type 0} (x : WorldWords W L) (l : LinkWords L) (y : TalkWo
 
   -- so the histories are those of the definition
   pub steps_modelled : (hall : H) (shape : Shape) (schedule : List (ℕ × ℕ)) → shape_of setup ≡ shape → rows_of (handlers_of setup) ≡ handler_rows → pinned_of setup ≡ 1
-      → IsOfPaths x y l hall setup first schedule how (map (λ history. history.items) parts.histories.items) parts.states.items
-      → (paths : List (List Handler)) → TellsPaths x l y hall first paths → AreOpened paths → IsRunOfPaths shape paths schedule (map (λ history. history.items) ended.histories.items)
+      → IsOfPaths x y l hall setup first log schedule how (map (λ history. history.items) parts.histories.items) parts.states.items
+      → (paths : List (List Step)) → TellsPaths x l y hall first paths → AreOpened paths → IsRunOfPaths shape log paths schedule (map (λ history. history.items) ended.histories.items)
   steps_modelled hall shape schedule of_shape rows pinned modelled paths tells opened =
-      subst (λ (hs : List (List Entry)). IsRunOfPaths shape paths schedule hs) (ap (λ v. map (λ history. history.items) v.items) (sym is.histories))
+      subst (λ (hs : List (List Entry)). IsRunOfPaths shape log paths schedule hs) (ap (λ v. map (λ history. history.items) v.items) (sym is.histories))
       (modelled shape paths (λ i. record { shape = of_shape i; rows = rows i; pinned = pinned i }) tells opened whole.0 none_spoilt)

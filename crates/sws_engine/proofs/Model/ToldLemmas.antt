@@ -10,20 +10,16 @@ use Rattle.mely_event.specs.declared.colour.Colour.{Colour}
 use Rattle.mely_event.specs.declared.event.Event.{Event}
 use Rattle.mely_event.specs.declared.trail.Trail.{Ghosts as TrailWords}
 use Rattle.mely_worker.specs.declared.app.App.{Ghosts as AppWords}
-use Rattle.sws_conn.specs.Path.{Handler}
+use Rattle.sws_steps.specs.Logs.{Step}
 use Rattle.mely_machine.specs.Machine.{Acted}
 use Rattle.mely_run.specs.Corresponds.{without_loads}
 use Rattle.mely_run.specs.Pieces.{Piece, state_piece, event_piece, of_put, IsTold}
 use Rattle.sws_engine.specs.Server.{Server, serve}
-use Rattle.sws_engine.specs.PathPlaces.{World, Load, world, link, Place, polling, accepting, talking, Put, Ran, runs_place, worlds_of_rest, worlds_of_place, worlds_of_load}
+use Rattle.sws_engine.specs.PathPlaces.{World, Load, world, link, line, Place, polling, accepting, talking, logging, Put, Ran, runs_place, worlds_of_rest, worlds_of_place, worlds_of_load}
 use Rattle.sws_engine.specs.Agrees.{AreOpened, WorldStands, RestStands, PlaceStands, ComingStands, is_state_of, worlds_in_load, worlds_of, PieceStands, Agrees}
 use Rattle.sws_engine.specs.PathStates.{AreLoads, ArePuts}
 use Rattle.sws_engine.specs.Placed.{IsPlaced}
-use Rattle.sws_engine.proofs.Model.HandlesLemmas.{bare, Handled, handle_is}
-
-append_all : {A : Type 0} (Q : A → Type 0) (xs ys : List A) → AllByRecursion Q xs → AllByRecursion Q ys → AllByRecursion Q (xs ++ ys)
-append_all Q [] ys p q = q
-append_all Q (x ∷ xs) ys p q = (p.0, append_all Q xs ys p.1 q)
+use Rattle.sws_engine.proofs.Model.HandlesLemmas.{bare, Handled, append_all, handle_is}
 
 all_zero : {A : Type 0} (f : A → ℕ) (xs : List A) → sum_by f xs ≡ 0 → AllByRecursion (λ x. f x ≡ 0) xs
 all_zero f [] h = tt
@@ -33,7 +29,7 @@ map_two : {A : Type 0} (Q : A → Type 0) (R : A → Type 0) (T : A → Type 0) 
 map_two Q R T [] f q r = tt
 map_two Q R T (x ∷ xs) f q r = (f x q.0 r.0, map_two Q R T xs f q.1 r.1)
 
-module _ {S P : Type 0} (IsPlace : S → Place → Type 0) (IsLoad : P → Load → Type 0) (holds : S → ℕ) (carries : P → ℕ) (whole : List (List Handler))
+module _ {S P : Type 0} (IsPlace : S → Place → Type 0) (IsLoad : P → Load → Type 0) (holds : S → ℕ) (carries : P → ℕ) (whole : List (List Step))
     (held : (state : S) (place : Place) → IsPlace state place → holds state ≡ worlds_of_place place) (carriage : (load : P) (l : Load) → IsLoad load l → carries load ≡ worlds_of_load (Some l)) where
   abbrev worlds : Piece S P → ℕ
   worlds = worlds_of holds carries
@@ -97,8 +93,9 @@ module _ {S P : Type 0} (IsPlace : S → Place → Type 0) (IsLoad : P → Load 
         rest_on None few stands = tt
         rest_on (Some w) few stands = elim few [ inl none ↦ world_on w none stands | inr never ↦ absurd (omega (arith, never)) ]
     place_on d accepting apart few stands = stands
-    place_on d (talking None) apart few stands = (stands.0, h.others (d.0 - 2) (λ e. apart (let low = stands.0 in omega (arith, e, low))) ∙ stands.1)
-    place_on d (talking (Some path)) apart few stands = (stands.0, (h.others (d.0 - 2) (λ e. apart (let low = stands.0 in omega (arith, e, low))) ∙ stands.1.0, stands.1.1))
+    place_on d logging apart few stands = stands
+    place_on d (talking None) apart few stands = (stands.0, h.others (d.0 - 2) (λ e. apart (let low = stands.0.0 in omega (arith, e, low))) ∙ stands.1)
+    place_on d (talking (Some path)) apart few stands = (stands.0, (h.others (d.0 - 2) (λ e. apart (let low = stands.0.0 in omega (arith, e, low))) ∙ stands.1.0, stands.1.1))
 
     coming_on : (d : Colour) (handler arg : ℕ) (l : Option Load) → (worlds_of_load load ≡ 0) ⊎ (worlds_of_load l ≡ 0) → ComingStands whole s d handler arg l → ComingStands whole acted.becomes d handler arg l
     coming_on d zero arg (Some (world w)) few stands = elim few [ inl none ↦ (stands.0, world_on w none stands.1, stands.2) | inr never ↦ absurd (omega (arith, never)) ]
@@ -106,6 +103,10 @@ module _ {S P : Type 0} (IsPlace : S → Place → Type 0) (IsLoad : P → Load 
     coming_on d (suc (suc zero)) arg (Some (world w)) few stands = elim few [ inl none ↦ (stands.0, world_on w none stands.1, stands.2) | inr never ↦ absurd (omega (arith, never)) ]
     coming_on d (suc (suc (suc zero))) arg (Some (link path)) few stands = stands
     coming_on d (suc (suc (suc (suc more)))) arg None few stands = stands
+    coming_on d (suc (suc (suc (suc more)))) arg (Some line) few stands = stands
+    coming_on d zero arg (Some line) few stands = elim stands [ ]
+    coming_on d (suc (suc zero)) arg (Some line) few stands = elim stands [ ]
+    coming_on d (suc (suc (suc zero))) arg (Some line) few stands = elim stands [ ]
     coming_on d zero arg None few stands = elim stands [ ]
     coming_on d zero arg (Some (link path)) few stands = elim stands [ ]
     coming_on d (suc zero) arg (Some l) few stands = elim stands [ ]
@@ -113,7 +114,8 @@ module _ {S P : Type 0} (IsPlace : S → Place → Type 0) (IsLoad : P → Load 
     coming_on d (suc (suc zero)) arg (Some (link path)) few stands = elim stands [ ]
     coming_on d (suc (suc (suc zero))) arg None few stands = elim stands [ ]
     coming_on d (suc (suc (suc zero))) arg (Some (world w)) few stands = elim stands [ ]
-    coming_on d (suc (suc (suc (suc more)))) arg (Some l) few stands = elim stands [ ]
+    coming_on d (suc (suc (suc (suc more)))) arg (Some (world w)) few stands = elim stands [ ]
+    coming_on d (suc (suc (suc (suc more)))) arg (Some (link path)) few stands = elim stands [ ]
 
     piece_on : (piece : Piece S P) → (states c.0 piece ≡ 0) × ((worlds_of_load load ≡ 0) ⊎ (worlds piece ≡ 0)) → PieceStands IsPlace IsLoad holds carries whole s piece → PieceStands IsPlace IsLoad holds carries whole acted.becomes piece
     piece_on (d, inl state) few stands = (
@@ -132,10 +134,11 @@ module _ {S P : Type 0} (IsPlace : S → Place → Type 0) (IsLoad : P → Load 
   worlds_few None = inl refl
   worlds_few (Some (world w)) = inr refl
   worlds_few (Some (link path)) = inl refl
+  worlds_few (Some line) = inl refl
 
   -- what is left stands after an event was run
-  module _ (opened : AreOpened whole) (s : Server) (c : Colour) (event : Event) (load : Option P) (state after : S) (puts : List (Colour × Event × Option P)) (rest : List (Piece S P))
-      (agrees : Agrees IsPlace IsLoad holds carries whole s (state_piece c state ∷ event_piece c event load ∷ rest)) where
+  module _ (opened : AreOpened whole) (log : Bool) (s : Server) (c : Colour) (event : Event) (load : Option P) (state after : S) (puts : List (Colour × Event × Option P)) (rest : List (Piece S P))
+      (agrees : Agrees IsPlace IsLoad holds carries whole log s (state_piece c state ∷ event_piece c event load ∷ rest)) where
     pub each : AllByRecursion (PieceStands IsPlace IsLoad holds carries whole s) (state_piece c state ∷ event_piece c event load ∷ rest)
     each = recursion_from_All (PieceStands IsPlace IsLoad holds carries whole s) (state_piece c state ∷ event_piece c event load ∷ rest) agrees.each
 
@@ -152,9 +155,9 @@ module _ {S P : Type 0} (IsPlace : S → Place → Type 0) (IsLoad : P → Load 
       few = let one = agrees.one_world in omega (arith, one, parts)
 
     module _ (place : Place) (is_place : IsPlace state place) (place_stands : PlaceStands whole s c place) (l : Option Load) (is_load : AreLoads IsLoad load l) (load_stands : ComingStands whole s c event.handler event.arg l)
-        (place_is : IsPlace after (runs_place (length whole) c place event l).place) (puts_are : ArePuts IsLoad puts (runs_place (length whole) c place event l).puts) where
+        (place_is : IsPlace after (runs_place s.log (length whole) c place event l).place) (puts_are : ArePuts IsLoad puts (runs_place s.log (length whole) c place event l).puts) where
       abbrev ran : Ran
-      ran = runs_place (length whole) c place event l
+      ran = runs_place s.log (length whole) c place event l
 
       abbrev acted : Acted Server
       acted = serve s c event
@@ -196,9 +199,10 @@ module _ {S P : Type 0} (IsPlace : S → Place → Type 0) (IsLoad : P → Load 
           (λ piece a b. (a, b)) (all_zero (states c.0) rest none_there) left_few)
           each.1.1
 
-      agrees_after : Agrees IsPlace IsLoad holds carries whole acted.becomes (state_piece c after ∷ (map of_put puts ++ rest))
+      agrees_after : Agrees IsPlace IsLoad holds carries whole log acted.becomes (state_piece c after ∷ (map of_put puts ++ rest))
       agrees_after = record {
         many = handled.many ∙ agrees.many;
+        logs = handled.log ∙ agrees.logs;
         each = All-from_recursion (PieceStands IsPlace IsLoad holds carries whole acted.becomes) (state_piece c after ∷ (map of_put puts ++ rest)) (
           (ran.place, place_is, handled.place),
           append_all (PieceStands IsPlace IsLoad holds carries whole acted.becomes) (map of_put puts) rest (shown_stand acted.becomes puts ran.puts puts_are handled.coming) rest_stands,
@@ -217,11 +221,12 @@ module _ {S P : Type 0} (IsPlace : S → Place → Type 0) (IsLoad : P → Load 
             omega (arith, one, two, no_states d puts, three, states_parts d);
       }
 
-pub server_told : {S P F R : Type 0} (t : TrailWords S F) (fits : F → Colour → Event → Option P → Type 0) (y : AppWords R P S F) (app : R) (frame : F) (IsPlace : S → Place → Type 0) (IsLoad : P → Load → Type 0) (holds : S → ℕ) (carries : P → ℕ) (spoilt : S → Bool) (whole : List (List Handler)) → AreOpened whole
-    → IsPlaced t fits y app frame IsPlace IsLoad holds carries spoilt whole → IsTold t fits y app frame serve (Agrees IsPlace IsLoad holds carries whole) spoilt
-server_told {S} {P} t fits y app frame IsPlace IsLoad holds carries spoilt whole opened placed = record {
+pub server_told : {S P F R : Type 0} (t : TrailWords S F) (fits : F → Colour → Event → Option P → Type 0) (y : AppWords R P S F) (app : R) (frame : F) (IsPlace : S → Place → Type 0) (IsLoad : P → Load → Type 0) (holds : S → ℕ) (carries : P → ℕ) (spoilt : S → Bool) (log : Bool) (whole : List (List Step)) → AreOpened whole
+    → IsPlaced t fits y app frame IsPlace IsLoad holds carries spoilt log whole → IsTold t fits y app frame serve (Agrees IsPlace IsLoad holds carries whole log) spoilt
+server_told {S} {P} t fits y app frame IsPlace IsLoad holds carries spoilt log whole opened placed = record {
   moved = λ s some others order agrees. record {
     many = agrees.many;
+    logs = agrees.logs;
     each = All-permutation (PieceStands IsPlace IsLoad holds carries whole s) some others order agrees.each;
     one_world = let same = sum_by-IsPermutation (worlds_of holds carries) some others order in let one = agrees.one_world in omega (arith, same, one);
     one_state = λ c. let same = sum_by-IsPermutation (λ (piece : Piece S P). cond {A = ℕ} (is_state_of c piece) 1 0) some others order in let one = agrees.one_state c in omega (arith, same, one);
@@ -232,6 +237,7 @@ server_told {S} {P} t fits y app frame IsPlace IsLoad holds carries spoilt whole
       let now_is = placed.roomy state room is.0 alike is.1 in
       record {
         many = agrees.many;
+        logs = agrees.logs;
         each = All-from_recursion (PieceStands IsPlace IsLoad holds carries whole s) (state_piece c room ∷ rest) ((is.0, now_is, is.2), all.1);
         one_world =
             let one = agrees.one_world in
@@ -252,11 +258,14 @@ server_told {S} {P} t fits y app frame IsPlace IsLoad holds carries spoilt whole
       let comes = all.1.0 in
       let does = placed.runs s state after event load puts is.0 comes.0 framed (subst (λ (d : Colour). fits frame d event load) (sym coloured) fit) is.1
       (subst (λ (d : Colour). PlaceStands whole s d is.0) (sym coloured) is.2) comes.1 (subst (λ (d : Colour). ComingStands whole s d event.handler event.arg comes.0) (sym coloured) comes.2)
-      (let both = few IsPlace IsLoad holds carries whole placed.held placed.carriage opened s c event load state after puts rest agrees is.0 is.1 comes.0 comes.1 in omega (arith, both)) ran fine in
-      let place_is = subst (λ (d : Colour). IsPlace after (runs_place (length whole) d is.0 event comes.0).place) coloured does.0 in
-      let puts_are = subst (λ (d : Colour). ArePuts IsLoad puts (runs_place (length whole) d is.0 event comes.0).puts) coloured does.1 in (
-        puts_told IsPlace IsLoad holds carries whole placed.held placed.carriage opened s c event load state after puts rest agrees is.0 is.1 is.2 comes.0 comes.1 comes.2 place_is puts_are,
-        agrees_after IsPlace IsLoad holds carries whole placed.held placed.carriage opened s c event load state after puts rest agrees is.0 is.1 is.2 comes.0 comes.1 comes.2 place_is puts_are,
+      (let both = few IsPlace IsLoad holds carries whole placed.held placed.carriage opened log s c event load state after puts rest agrees is.0 is.1 comes.0 comes.1 in omega (arith, both)) ran fine in
+      let place_there = subst (λ (d : Colour). IsPlace after (runs_place log (length whole) d is.0 event comes.0).place) coloured does.0 in
+      let puts_there = subst (λ (d : Colour). ArePuts IsLoad puts (runs_place log (length whole) d is.0 event comes.0).puts) coloured does.1 in
+      let same : log ≡ s.log = sym agrees.logs in
+      let place_is = subst (λ (b : Bool). IsPlace after (runs_place b (length whole) c is.0 event comes.0).place) same place_there in
+      let puts_are = subst (λ (b : Bool). ArePuts IsLoad puts (runs_place b (length whole) c is.0 event comes.0).puts) same puts_there in (
+        puts_told IsPlace IsLoad holds carries whole placed.held placed.carriage opened log s c event load state after puts rest agrees is.0 is.1 is.2 comes.0 comes.1 comes.2 place_is puts_are,
+        agrees_after IsPlace IsLoad holds carries whole placed.held placed.carriage opened log s c event load state after puts rest agrees is.0 is.1 is.2 comes.0 comes.1 comes.2 place_is puts_are,
       );
   spoilt_roomier = placed.spoilt_roomier;
   spoilt_after = placed.spoilt_after;

@@ -12,8 +12,8 @@ use Rattle.sws_link.specs.declared.Accepted.TheVariants as accepted
 use Rattle.sws_link.specs.Links.{LinkContents}
 use Rattle.sws_link.specs.Worlds.{Coming, initial_contents, TakesNext, Accepts, IsLink}
 use Rattle.sws_steps.specs.declared.talk.Talk.{Ghosts as TalkWords}
-use Rattle.sws_conn.specs.Path.{Handler, open_link, resume}
-use Rattle.sws_conn.specs.Talks.{path_to_come}
+use Rattle.sws_steps.specs.Logs.{Step}
+use Rattle.sws_conn.specs.Path.{open_link, resume}
 use Rattle.sws_engine.specs.declared.load.WorldLoad.{WorldLoad}
 use Rattle.sws_engine.specs.declared.load.Load.{Load}
 use Rattle.sws_engine.specs.declared.place.Desk.{Desk}
@@ -21,7 +21,7 @@ use Rattle.sws_engine.specs.Waiting.{taken_off, waiting_with}
 use Rattle.sws_engine.specs.Handling.{Put, step_put, Asked, Answered, Asks, is_to_ask, resumed_one, onward, rest_of, RunsPoll, woken_by, RunsWait, accept_puts, RunsAccept}
 use Rattle.sws_engine.specs.Loads.{IsComing, PollFits, AcceptFits}
 use Rattle.sws_engine.specs.PathPlaces as path
-use Rattle.sws_engine.specs.PathStates.{TellsPaths, HasWorld, HasRest, HasDesk, HasLoad, ArePuts}
+use Rattle.sws_engine.specs.PathStates.{steps_to_come, TellsPaths, HasWorld, HasRest, HasDesk, HasLoad, ArePuts}
 use Rattle.sws_engine.proofs.Events.AcceptLemmas.{next_coming}
 
 -- ---- lists
@@ -60,7 +60,7 @@ module _ {W L : Type 0} (x : WorldWords W L) (world now : W) (scripted : IsTrue 
   asked_by true (w ∷ waiting) asks = ready true w waiting asks
   asked_by false (w ∷ waiting) asks = ready false w waiting asks
 
-module _ {W L T G H : Type 0} (x : WorldWords W L) (l : LinkWords L) (y : TalkWords T L G H) (hall : H) (first : W) (paths : List (List Handler)) (tells : TellsPaths x l y hall first paths) where
+module _ {W L T G H : Type 0} (x : WorldWords W L) (l : LinkWords L) (y : TalkWords T L G H) (hall : H) (first : W) (paths : List (List Step)) (tells : TellsPaths x l y hall first paths) where
   abbrev Loads : Load W L → path.Load → Type 0
   Loads carried p = HasLoad x l y hall paths carried p
 
@@ -196,13 +196,13 @@ module _ {W L T G H : Type 0} (x : WorldWords W L) (l : LinkWords L) (y : TalkWo
 
   -- ---- an accept
 
-  told_way : (told : Option LinkContents) (link : Coming) (way : List Handler) → told ≡ Some (initial_contents link) → option_map (y.path hall) link.answers ≡ Some way → path_to_come (y.path hall) told ≡ Some way
-  told_way told link way is same = ap (λ (o : Option LinkContents). path_to_come (y.path hall) o) is ∙ same
+  told_way : (told : Option LinkContents) (link : Coming) (way : List Step) → told ≡ Some (initial_contents link) → option_map (y.steps hall) link.answers ≡ Some way → steps_to_come (y.steps hall) told ≡ Some way
+  told_way told link way is same = ap (λ (o : Option LinkContents). steps_to_come (y.steps hall) o) is ∙ same
 
   open_at : (n : ℕ) → (path.talk n open_link).0 ≡ record { 0 = n + 2 }
   open_at n = let e : 2 + n ≡ n + 2 = omega arith in ap (λ (k : ℕ). let c : Colour = record { 0 = k } in c) e
 
-  accept_answer : (total : ℕ) (held : WorldLoad W) (now : W) (answer : Accepted L) (way : List Handler) → slice_get paths held.accepted ≡ Some way
+  accept_answer : (total : ℕ) (held : WorldLoad W) (now : W) (answer : Accepted L) (way : List Step) → slice_get paths held.accepted ≡ Some way
       → (x.tells held.world).coming ≡ option_map (λ c. drop held.accepted c) (x.tells first).coming → Accepts x.tells x.faults x.waits l.tells l.is_shut l.faults l.waits held.world answer now → IsLink answer
       → Puts (accept_puts total held now answer) (path.accepts total held.accepted (way ∷ drop (held.accepted + 1) paths)).puts
   accept_answer total held now (accepted.Link link) way at come is given =
@@ -226,5 +226,5 @@ module _ {W L T G H : Type 0} (x : WorldWords W L) (l : LinkWords L) (y : TalkWo
       let given = runs.accepts.scripted (subst (λ (b : Bool). IsTrue b) (sym stands.scripted) tells.scripted) in
       let does = accept_answer total held runs.now runs.answer way.0 way.1 stands.coming runs.accepts given in
       let all : AcceptRan puts (path.accepts total held.accepted (way.0 ∷ drop (held.accepted + 1) paths)) = (refl, subst (λ (us : List (Put W L)). Puts us (path.accepts total held.accepted (way.0 ∷ drop (held.accepted + 1) paths)).puts) (sym runs.puts_are) does) in
-      subst (λ (ws : List (List Handler)). AcceptRan puts (path.accepts total w.accepted ws)) (sym coming_is)
+      subst (λ (ws : List (List Step)). AcceptRan puts (path.accepts total w.accepted ws)) (sym coming_is)
       (subst (λ (n : ℕ). AcceptRan puts (path.accepts total n (way.0 ∷ drop (held.accepted + 1) paths))) (sym has.accepted) all)

@@ -1,27 +1,31 @@
 -- A connection's event makes of the connection what its path says, unless its
 -- link meets want of memory.
 use Rattle.std.proofs.Common.{◌≡◌, ◌≢◌, ◌+◌, ◌⊎◌, ℕ, Bool, true, false, true≢false, List, [], ◌∷◌, ◌++◌, Option, None, Some, map, arith, refl, sym, ap, subst, ◌∙◌, inl, inr, eq-eqb, append_assoc}
-use Rattle.std.specs.Prelude.{◌==◌, ◌&&◌, if◌then◌else◌}
+use Rattle.sws_log.specs.declared.line.LogLine.{LogLine}
+use Rattle.std.specs.Prelude.{◌==◌, ◌&&◌, if◌then◌else◌, length, option_map, is_some}
 use Rattle.std.proofs.lemmas.Bool.{ne_eqb}
 use Rattle.std.proofs.lemmas.Bool.Decides.{eqb_tells}
-use Rattle.std.proofs.lemmas.List.{append_cancel_left}
-use Rattle.std.proofs.lemmas.Option.{none-some}
+use Rattle.std.proofs.lemmas.List.{length-map}
+use Rattle.std.proofs.lemmas.Option.{none-some, same_Some}
 use Rattle.mely_event.specs.declared.colour.Colour.{Colour}
 use Rattle.mely_event.specs.declared.event.Event.{Event}
 use Rattle.sws_link.specs.declared.Link.{Ghosts as LinkWords}
 use Rattle.sws_link.specs.declared.world.World.{Ghosts as WorldWords}
+use Rattle.sws_link.specs.Scripts.{Script}
 use Rattle.sws_steps.specs.declared.End.{End}
 use Rattle.sws_steps.specs.declared.End.TheVariants.{Done, Idle, Fault, Memory}
 use Rattle.sws_steps.specs.declared.talk.Talk.{Ghosts as TalkWords}
+use Rattle.sws_steps.specs.Logs.{Step, last_line}
+use Rattle.sws_steps.specs.Talks.{StepsBy, StepsServed}
 use Rattle.sws_conn.specs.Outcome.{UnlessMemory}
-use Rattle.sws_conn.specs.Path.{Handler, open_link, read_piece, parse, look, write_part, resume, close, TakesOff}
-use Rattle.sws_conn.specs.Talks.{TalkView, unopened_view, due, path_to_come, IsDue}
+use Rattle.sws_conn.specs.Path.{Handler, open_link, read_piece, parse, look, write_part, resume, close, answers_to_come}
+use Rattle.sws_conn.specs.Talks.{TalkView, unopened_view, due, BeginsWith}
 use Rattle.sws_engine.specs.declared.load.Load.{Load}
 use Rattle.sws_engine.specs.declared.load.Load.TheVariants as load
 use Rattle.sws_engine.specs.declared.place.Seat.{Seat}
-use Rattle.sws_engine.specs.Handling.{Put, number_of, is_due, next_puts, Stepped, RunsSeat}
+use Rattle.sws_engine.specs.Handling.{Put, number_of, is_due, next_puts, line_puts, Stepped, PutsNext, RunsSeat}
 use Rattle.sws_engine.specs.PathPlaces as path
-use Rattle.sws_engine.specs.PathStates.{HasRun, HasTalk, HasLoad, ArePuts}
+use Rattle.sws_engine.specs.PathStates.{steps_to_come, HasRun, HasTalk, HasLoad, ArePuts}
 use Rattle.sws_engine.proofs.Events.SeatKeptLemmas.{due_event}
 
 met_memory : (end : Option End) → (end ≡ Some Memory) ⊎ (end ≢ Some Memory)
@@ -64,123 +68,201 @@ step_at i step = let e : i + 2 ≡ 2 + i = omega arith in ap (λ (n : ℕ). let 
 same_link : (W : Type 0) {L : Type 0} (a b : L) → ◌≡◌ {A = Option (Load W L)} (Some (load.Link a)) (Some (load.Link b)) → a ≡ b
 same_link W a b is = cc
 
-module _ {W L T G H : Type 0} (x : WorldWords W L) (l : LinkWords L) (y : TalkWords T L G H) (hall : H) (paths : List (List Handler))
-    (path_law : (first : L) (trail : List Handler) (talk : T) → y.has_run first trail talk → UnlessMemory (y.view_of talk).end (TakesOff trail (path_to_come (y.path (y.hall_of talk)) (l.tells first)) (y.rest_of talk)))
-    (due_law : (first : L) (trail : List Handler) (talk : T) → y.has_run first trail talk → IsDue (due (y.view_of talk)) (y.rest_of talk)) where
+-- ---- lists
+
+-- the handlers of steps
+abbrev pub handlers : List Step → List Handler
+handlers steps = map (λ (step : Step). step.handler) steps
+
+handlers-append : (xs ys : List Step) → handlers (xs ++ ys) ≡ handlers xs ++ handlers ys
+handlers-append [] ys = refl
+handlers-append (x ∷ xs) ys = ap (λ hs. x.handler ∷ hs) (handlers-append xs ys)
+
+cons_parts : {A : Type 0} (x y : A) (xs ys : List A) → x ∷ xs ≡ y ∷ ys → (x ≡ y) × (xs ≡ ys)
+cons_parts x y xs ys is = (cc, cc)
+
+-- fronts of one list that are as long as each other are the same, and so is what is behind them
+same_cut : {A : Type 0} (a b c d : List A) → length a ≡ length c → a ++ b ≡ c ++ d → (a ≡ c) × (b ≡ d)
+same_cut [] b [] d many is = (refl, is)
+same_cut [] b (z ∷ c) d many is = absurd (omega (arith, many))
+same_cut (x ∷ a) b [] d many is = absurd (omega (arith, many))
+same_cut (x ∷ a) b (z ∷ c) d many is =
+    let parts = cons_parts x z (a ++ b) (c ++ d) is in
+    let later = same_cut a b c d (omega (arith, many)) parts.1 in
+    (λ i. parts.0 i ∷ later.0 i, later.1)
+
+last-line : (ran : List Step) (step : Step) → last_line (ran ++ step ∷ []) ≡ step.line
+last-line [] step = refl
+last-line (s ∷ []) step = refl
+last-line (s ∷ t ∷ ran) step = last-line (t ∷ ran) step
+
+-- where the opening was run, it is the first of the steps
+first_ran : (ran rest way : List Step) → way ≡ ran ++ rest → handlers ran ≡ open_link ∷ [] → (step : Step) × (later : List Step) × (way ≡ step ∷ later) × (step.handler ≡ open_link)
+first_ran [] rest way is ran_is = let none : [] ≡ open_link ∷ [] = ran_is in cc
+first_ran (step ∷ ran) rest way is ran_is = (step, ran ++ rest, is, (cons_parts step.handler open_link (handlers ran) [] ran_is).0)
+
+module _ {W L T G H : Type 0} (x : WorldWords W L) (l : LinkWords L) (y : TalkWords T L G H) (hall : H) (paths : List (List Step))
+    (steps_law : (first : L) (trail : List Handler) (talk : T) → y.has_run first trail talk → UnlessMemory (y.view_of talk).end (StepsServed (y.steps (y.hall_of talk)) (l.tells first) trail (y.told talk) (y.view_of talk))) where
   abbrev Loads : Load W L → path.Load → Type 0
   Loads carried p = HasLoad x l y hall paths carried p
 
   abbrev Puts : List (Put W L) → List path.Put → Type 0
   Puts puts qs = ArePuts Loads puts qs
 
-  -- the path of a link, of which a front was run, has this rest
-  way_left : (link : L) (ran : List Handler) (talk : T) (way : List Handler) → y.hall_of talk ≡ hall → y.has_run link ran talk → path_to_come (y.path hall) (l.tells link) ≡ Some way → (y.view_of talk).end ≢ Some Memory
-      → (left : List Handler) × (way ≡ ran ++ left) × IsDue (due (y.view_of talk)) (Some left)
-  way_left link ran talk way hall_is runs told sound =
-      let off = unless (y.view_of talk).end _ sound (path_law link ran talk runs) in
-      let here = subst (λ (h : H). TakesOff ran (path_to_come (y.path h) (l.tells link)) (y.rest_of talk)) hall_is off in
-      let own = subst (λ (o : Option (List Handler)). TakesOff ran o (y.rest_of talk)) told here in
-      (own.0, own.2, subst (λ (o : Option (List Handler)). IsDue (due (y.view_of talk)) o) own.1 (due_law link ran talk runs))
+  -- ---- what the steps that were run say of those to come
+
+  served_here : (link : L) (trail : List Handler) (talk : T) → y.hall_of talk ≡ hall → y.has_run link trail talk → (y.view_of talk).end ≢ Some Memory → StepsServed (y.steps hall) (l.tells link) trail (y.told talk) (y.view_of talk)
+  served_here link trail talk hall_is runs sound =
+      let served = unless (y.view_of talk).end (StepsServed (y.steps (y.hall_of talk)) (l.tells link) trail (y.told talk) (y.view_of talk)) sound (steps_law link trail talk runs) in
+      subst (λ (h : H). StepsServed (y.steps h) (l.tells link) trail (y.told talk) (y.view_of talk)) hall_is served
+
+  -- a talk that has run these steps of the whole way told what the last of them says, and the next
+  -- one is due
+  abbrev Along : T → List Step → List Step → Type 0
+  Along talk ran rest = (y.told talk ≡ last_line ran) × BeginsWith (due (y.view_of talk)) (handlers rest)
+
+  along_by : (o : Option Script) (talk : T) (ran rest : List Step) → option_map (y.steps hall) o ≡ Some (ran ++ rest) → StepsBy (y.steps hall) o (handlers ran) (y.told talk) (y.view_of talk) → Along talk ran rest
+  along_by None talk ran rest is by = absurd (none-some (ran ++ rest) is)
+  along_by (Some script) talk ran rest is by =
+      let all : y.steps hall script ≡ ran ++ rest = same_Some (y.steps hall script) (ran ++ rest) is in
+      let many : length by.ran ≡ length ran = sym (length-map by.ran (λ (step : Step). step.handler)) ∙ ap (λ (hs : List Handler). length hs) by.trail_is ∙ length-map ran (λ (step : Step). step.handler) in
+      let same = same_cut by.ran by.rest ran rest many (sym by.all_is ∙ all) in
+      (by.told_is ∙ ap (λ (steps : List Step). last_line steps) same.0, subst (λ (steps : List Step). BeginsWith (due (y.view_of talk)) (handlers steps)) same.1 by.due_is)
+
+  along : (link : L) (ran rest : List Step) (talk : T) → y.hall_of talk ≡ hall → y.has_run link (handlers ran) talk → steps_to_come (y.steps hall) (l.tells link) ≡ Some (ran ++ rest) → (y.view_of talk).end ≢ Some Memory → Along talk ran rest
+  along link ran rest talk hall_is runs way sound = along_by (answers_to_come (l.tells link)) talk ran rest way (served_here link (handlers ran) talk hall_is runs sound)
+
+  opening_by : (o : Option Script) (talk : T) (way : List Step) → option_map (y.steps hall) o ≡ Some way → StepsBy (y.steps hall) o (open_link ∷ []) (y.told talk) (y.view_of talk) → (step : Step) × (later : List Step) × (way ≡ step ∷ later) × (step.handler ≡ open_link)
+  opening_by None talk way is by = absurd (none-some way is)
+  opening_by (Some script) talk way is by = first_ran by.ran by.rest way (sym (same_Some (y.steps hall script) way is) ∙ by.all_is) by.trail_is
+
+  -- ---- what is put
+
+  -- what is put for a step is the event that brings the connection on to it
+  next_as : (i : ℕ) (event : Handler) → Puts (next_puts i (Some event)) (path.with_nothing (path.next_event i event) ∷ [])
+  next_as i open_link = ((step_at i open_link, refl, tt), tt)
+  next_as i read_piece = ((step_at i read_piece, refl, tt), tt)
+  next_as i parse = ((step_at i parse, refl, tt), tt)
+  next_as i look = ((step_at i look, refl, tt), tt)
+  next_as i write_part = ((step_at i write_part, refl, tt), tt)
+  next_as i close = ((step_at i close, refl, tt), tt)
+  next_as i resume = ((refl, refl, tt), tt)
 
   -- what is put after a step is what follows on the path
-  puts_follow : (i : ℕ) (d : Option Handler) (left : List Handler) → IsDue d (Some left) → Puts (next_puts i d) (map path.with_nothing (path.follows i left))
-  puts_follow i None left is = subst (λ (ws : List Handler). Puts [] (map path.with_nothing (path.follows i ws))) (sym is) tt
-  puts_follow i (Some open_link) left is = subst (λ (ws : List Handler). Puts (next_puts i (Some open_link)) (map path.with_nothing (path.follows i ws))) (sym is.1) ((step_at i open_link, refl, tt), tt)
-  puts_follow i (Some read_piece) left is = subst (λ (ws : List Handler). Puts (next_puts i (Some read_piece)) (map path.with_nothing (path.follows i ws))) (sym is.1) ((step_at i read_piece, refl, tt), tt)
-  puts_follow i (Some parse) left is = subst (λ (ws : List Handler). Puts (next_puts i (Some parse)) (map path.with_nothing (path.follows i ws))) (sym is.1) ((step_at i parse, refl, tt), tt)
-  puts_follow i (Some look) left is = subst (λ (ws : List Handler). Puts (next_puts i (Some look)) (map path.with_nothing (path.follows i ws))) (sym is.1) ((step_at i look, refl, tt), tt)
-  puts_follow i (Some write_part) left is = subst (λ (ws : List Handler). Puts (next_puts i (Some write_part)) (map path.with_nothing (path.follows i ws))) (sym is.1) ((step_at i write_part, refl, tt), tt)
-  puts_follow i (Some close) left is = subst (λ (ws : List Handler). Puts (next_puts i (Some close)) (map path.with_nothing (path.follows i ws))) (sym is.1) ((step_at i close, refl, tt), tt)
-  puts_follow i (Some resume) left is = subst (λ (ws : List Handler). Puts (next_puts i (Some resume)) (map path.with_nothing (path.follows i ws))) (sym is.1) ((refl, refl, tt), tt)
+  puts_follow : (i : ℕ) (d : Option Handler) (left : List Step) → BeginsWith d (handlers left) → Puts (next_puts i d) (map path.with_nothing (path.follows i left))
+  puts_follow i None [] is = tt
+  puts_follow i None (step ∷ left) is = let none : step.handler ∷ handlers left ≡ [] = is in cc
+  puts_follow i (Some event) [] is = let none : [] ≡ event ∷ is.0 = is.1 in cc
+  puts_follow i (Some event) (step ∷ left) is =
+      subst (λ (h : Handler). Puts (next_puts i (Some event)) (path.with_nothing (path.next_event i h) ∷ [])) (sym (cons_parts step.handler event (handlers left) is.0 is.1).0) (next_as i event)
+
+  -- a line that was given is put where there is a log
+  line_follows : (log : Bool) (total i : ℕ) (line : Option LogLine) → Puts (line_puts log total i line) (map path.with_line (path.logs log total i (is_some line)))
+  line_follows true total i None = tt
+  line_follows false total i None = tt
+  line_follows true total i (Some line) = ((refl, refl, tt), tt)
+  line_follows false total i (Some line) = tt
+
+  puts_append : (ps more : List (Put W L)) (qs later : List path.Put) → Puts ps qs → Puts more later → Puts (ps ++ more) (qs ++ later)
+  puts_append [] more [] later are and_more = and_more
+  puts_append [] more (q ∷ qs) later are and_more = absurd are
+  puts_append (p ∷ ps) more [] later are and_more = absurd are
+  puts_append (p ∷ ps) more (q ∷ qs) later are and_more = (are.0, puts_append ps more qs later are.1 and_more)
+
+  -- ---- a step
 
   -- what a connection's event leaves: want of memory, or what the path says
   abbrev pub TalkRan : T → List (Put W L) → path.Ran → Type 0
-  TalkRan talk puts ran = ((y.view_of talk).end ≡ Some Memory) ⊎ ((rest : Option (List Handler)) × (ran.place ≡ path.talking rest) × HasTalk x l y hall paths talk rest × Puts puts ran.puts)
+  TalkRan talk puts ran = ((y.view_of talk).end ≡ Some Memory) ⊎ ((rest : Option (List Step)) × (ran.place ≡ path.talking rest) × HasTalk x l y hall paths talk rest × Puts puts ran.puts)
 
   -- a step that goes on with the path
-  goes_on : (i : ℕ) (talk : T) (puts : List (Put W L)) (link : L) (ran way : List Handler) → y.hall_of talk ≡ hall → y.has_run link ran talk → path_to_come (y.path hall) (l.tells link) ≡ Some way → puts ≡ next_puts i (due (y.view_of talk)) → is_due i (due (y.view_of talk)) (record { handler = 3; arg = i }) ≡ false
-      → (later : List Handler) → way ≡ ran ++ later → TalkRan talk puts (record { place = path.talking (Some later); puts = map path.with_nothing (path.follows i later) })
-  goes_on i talk puts link ran way hall_is runs told puts_are once later is = elim (met_memory (y.view_of talk).end) [
+  goes_on : (log : Bool) (total i : ℕ) (before talk : T) (puts : List (Put W L)) (link : L) (ran : List Step) (step : Step) (later : List Step) → y.hall_of talk ≡ hall → y.has_run link (handlers ran ++ step.handler ∷ []) talk → steps_to_come (y.steps hall) (l.tells link) ≡ Some (ran ++ step ∷ later)
+      → PutsNext y log total i before talk puts → is_due i (due (y.view_of talk)) (record { handler = 3; arg = i }) ≡ false → TalkRan talk puts (path.goes_along log total i step later)
+  goes_on log total i before talk puts link ran step later hall_is runs told next once = elim (met_memory (y.view_of talk).end) [
     | inl memory ↦ inl memory
     | inr sound ↦
-        let left = way_left link ran talk way hall_is runs told sound in
-        let same : left.0 ≡ later = append_cancel_left ran left.0 later (sym left.1 ∙ is) in
-        let due_is = subst (λ (ws : List Handler). IsDue (due (y.view_of talk)) (Some ws)) same left.2 in
+        let all_ran : y.has_run link (handlers (ran ++ step ∷ [])) talk = subst (λ (hs : List Handler). y.has_run link hs talk) (sym (handlers-append ran (step ∷ []))) runs in
+        let way : steps_to_come (y.steps hall) (l.tells link) ≡ Some ((ran ++ step ∷ []) ++ later) = told ∙ ap (λ (ws : List Step). Some ws) (sym (append_assoc ran (step ∷ []) later)) in
+        let is = along link (ran ++ step ∷ []) later talk hall_is all_ran way sound in
+        let line_is : is_some next.line ≡ step.line = next.told ∙ is.0 ∙ last-line ran step in
+        let line_put = subst (λ (b : Bool). Puts (line_puts log total i next.line) (map path.with_line (path.logs log total i b))) line_is (line_follows log total i next.line) in
         inr (
           Some later,
           refl,
-          (hall_is, record { link = link; ran = ran; runs = runs; way = told ∙ ap (λ ws. Some ws) is; opened = opened_once i (due (y.view_of talk)) once; sound = sound }),
-          subst (λ (us : List (Put W L)). Puts us (map path.with_nothing (path.follows i later))) (sym puts_are) (puts_follow i (due (y.view_of talk)) later due_is),
+          (hall_is, record { link = link; ran = ran ++ step ∷ []; runs = all_ran; way = way; opened = opened_once i (due (y.view_of talk)) once; sound = sound }),
+          subst (λ (us : List (Put W L)). Puts us (map path.with_nothing (path.follows i later) ++ map path.with_line (path.logs log total i step.line))) (sym next.puts_are)
+              (puts_append (next_puts i (due (y.view_of talk))) (line_puts log total i next.line) (map path.with_nothing (path.follows i later)) (map path.with_line (path.logs log total i step.line)) (puts_follow i (due (y.view_of talk)) later is.1) line_put),
         )
   ]
 
   -- ---- an opened connection
 
-  module _ (i : ℕ) (seat after : Seat T) (event : Event) (carried : Option (Load W L)) (puts : List (Put W L)) (own : event.arg ≡ i) (hall_is : y.hall_of seat.talk ≡ hall) where
+  module _ (log : Bool) (total i : ℕ) (seat after : Seat T) (event : Event) (carried : Option (Load W L)) (puts : List (Put W L)) (own : event.arg ≡ i) (hall_is : y.hall_of seat.talk ≡ hall) where
     -- an event that isn't due changes nothing
-    stays : (rest : Option (List Handler)) → HasTalk x l y hall paths seat.talk rest → RunsSeat y false i seat event carried after puts → TalkRan after.talk puts (path.stays (path.talking rest))
+    stays : (rest : Option (List Step)) → HasTalk x l y hall paths seat.talk rest → RunsSeat y log total false i seat event carried after puts → TalkRan after.talk puts (path.stays (path.talking rest))
     stays rest has does = inr (rest, refl, subst (λ (t : T). HasTalk x l y hall paths t rest) (sym does.0) has, subst (λ (us : List (Put W L)). Puts us []) (sym does.2) tt)
 
+    stepped : (step : Handler) → step ≢ open_link → Stepped y seat.talk (Some step) carried after.talk → (link : L) (ran : List Handler) → y.has_run link ran seat.talk → y.has_run link (ran ++ step ∷ []) after.talk
+    stepped open_link never does link ran runs = absurd (never refl)
+    stepped read_piece never does link ran runs = does link ran runs
+    stepped parse never does link ran runs = does link ran runs
+    stepped look never does link ran runs = does link ran runs
+    stepped write_part never does link ran runs = does link ran runs
+    stepped close never does link ran runs = does link ran runs
+    stepped resume never does link ran runs = does link ran runs
+
     -- the due one takes its step off the path
-    due_runs : (step : Handler) (later : List Handler) → step ≢ open_link → HasRun x l y hall paths seat.talk (step ∷ later) → Stepped y seat.talk (Some step) carried after.talk → y.hall_of after.talk ≡ y.hall_of seat.talk
-        → is_due i (due (y.view_of after.talk)) (record { handler = 3; arg = i }) ≡ false → puts ≡ next_puts i (due (y.view_of after.talk)) → TalkRan after.talk puts (record { place = path.talking (Some later); puts = map path.with_nothing (path.follows i later) })
-    due_runs step later never has does same once puts_are =
-        goes_on i after.talk puts has.link (has.ran ++ step ∷ []) (has.ran ++ step ∷ later) (same ∙ hall_is) (stepped step never does has.link has.ran has.runs) has.way puts_are once later (sym (append_assoc has.ran (step ∷ []) later))
-      where
-        stepped : (step : Handler) → step ≢ open_link → Stepped y seat.talk (Some step) carried after.talk → (link : L) (ran : List Handler) → y.has_run link ran seat.talk → y.has_run link (ran ++ step ∷ []) after.talk
-        stepped open_link never does link ran runs = absurd (never refl)
-        stepped read_piece never does link ran runs = does link ran runs
-        stepped parse never does link ran runs = does link ran runs
-        stepped look never does link ran runs = does link ran runs
-        stepped write_part never does link ran runs = does link ran runs
-        stepped close never does link ran runs = does link ran runs
-        stepped resume never does link ran runs = does link ran runs
+    due_runs : (step : Step) (later : List Step) → step.handler ≢ open_link → HasRun x l y hall paths seat.talk (step ∷ later) → Stepped y seat.talk (Some step.handler) carried after.talk → y.hall_of after.talk ≡ y.hall_of seat.talk
+        → is_due i (due (y.view_of after.talk)) (record { handler = 3; arg = i }) ≡ false → PutsNext y log total i seat.talk after.talk puts → TalkRan after.talk puts (path.goes_along log total i step later)
+    due_runs step later never has does same once next =
+        goes_on log total i seat.talk after.talk puts has.link has.ran step later (same ∙ hall_is) (stepped step.handler never does has.link (handlers has.ran) has.runs) has.way next once
 
     -- by the rest of the path, which begins with what is due
-    opened_by : (d : Option Handler) → due (y.view_of seat.talk) ≡ d → (rest : List Handler) → IsDue d (Some rest) → d ≢ Some open_link → HasRun x l y hall paths seat.talk rest → (b : Bool) → is_due i d event ≡ b → RunsSeat y b i seat event carried after puts
-        → TalkRan after.talk puts (path.takes_off i event.handler (Some rest) rest)
-    opened_by None at rest nothing never has true is does = cc
-    opened_by None at rest nothing never has false is does =
-        subst (λ (ws : List Handler). TalkRan after.talk puts (path.takes_off i event.handler (Some rest) ws)) (sym nothing) (stays (Some rest) (hall_is, has) does)
-    opened_by (Some step) at rest begins never has true is does =
-        let number = due_number i step event is in
-        let had = subst (λ (ws : List Handler). HasRun x l y hall paths seat.talk ws) begins.1 has in
-        let did = subst (λ (d : Option Handler). Stepped y seat.talk d carried after.talk) at does.0 in
-        let ran = due_runs step begins.0 (λ e. never (ap (λ h. Some h) e)) had did does.2 does.3 does.4 in
-        subst (λ (ws : List Handler). TalkRan after.talk puts (path.takes_off i event.handler (Some rest) ws)) (sym begins.1)
-        (subst (λ (b : Bool). TalkRan after.talk puts (if b then record { place = path.talking (Some begins.0); puts = map path.with_nothing (path.follows i begins.0) } else path.stays (path.talking (Some rest)))) (sym number) ran)
-    opened_by (Some step) at rest begins never has false is does =
-        let number = other_number i step event own is in
-        subst (λ (ws : List Handler). TalkRan after.talk puts (path.takes_off i event.handler (Some rest) ws)) (sym begins.1)
-        (subst (λ (b : Bool). TalkRan after.talk puts (if b then record { place = path.talking (Some begins.0); puts = map path.with_nothing (path.follows i begins.0) } else path.stays (path.talking (Some rest)))) (sym number) (stays (Some rest) (hall_is, has) does))
+    opened_by : (d : Option Handler) → due (y.view_of seat.talk) ≡ d → (rest : List Step) → BeginsWith d (handlers rest) → d ≢ Some open_link → HasRun x l y hall paths seat.talk rest → (b : Bool) → is_due i d event ≡ b → RunsSeat y log total b i seat event carried after puts
+        → TalkRan after.talk puts (path.takes_off log total i event.handler (Some rest) rest)
+    opened_by None at [] nothing never has true is does = cc
+    opened_by None at [] nothing never has false is does = stays (Some []) (hall_is, has) does
+    opened_by None at (step ∷ later) nothing never has b is does = let none : step.handler ∷ handlers later ≡ [] = nothing in cc
+    opened_by (Some event_due) at [] begins never has b is does = let none : [] ≡ event_due ∷ begins.0 = begins.1 in cc
+    opened_by (Some event_due) at (step ∷ later) begins never has true is does =
+        let same : step.handler ≡ event_due = (cons_parts step.handler event_due (handlers later) begins.0 begins.1).0 in
+        let number : (number_of step.handler == event.handler) ≡ true = ap (λ (h : Handler). number_of h == event.handler) same ∙ due_number i event_due event is in
+        let did = subst (λ (d : Option Handler). Stepped y seat.talk d carried after.talk) (at ∙ ap (λ (h : Handler). Some h) (sym same)) does.0 in
+        let ran = due_runs step later (λ e. never (ap (λ (h : Handler). Some h) (sym same ∙ e))) has did does.2 does.3 does.4 in
+        subst (λ (b : Bool). TalkRan after.talk puts (if b then path.goes_along log total i step later else path.stays (path.talking (Some (step ∷ later))))) (sym number) ran
+    opened_by (Some event_due) at (step ∷ later) begins never has false is does =
+        let same : step.handler ≡ event_due = (cons_parts step.handler event_due (handlers later) begins.0 begins.1).0 in
+        let number : (number_of step.handler == event.handler) ≡ false = ap (λ (h : Handler). number_of h == event.handler) same ∙ other_number i event_due event own is in
+        subst (λ (b : Bool). TalkRan after.talk puts (if b then path.goes_along log total i step later else path.stays (path.talking (Some (step ∷ later))))) (sym number) (stays (Some (step ∷ later)) (hall_is, has) does)
 
-    pub opened_runs : (rest : List Handler) → HasRun x l y hall paths seat.talk rest → RunsSeat y (is_due i (due (y.view_of seat.talk)) event) i seat event carried after puts
-        → TalkRan after.talk puts (path.takes_off i event.handler (Some rest) rest)
+    pub opened_runs : (rest : List Step) → HasRun x l y hall paths seat.talk rest → RunsSeat y log total (is_due i (due (y.view_of seat.talk)) event) i seat event carried after puts
+        → TalkRan after.talk puts (path.takes_off log total i event.handler (Some rest) rest)
     opened_runs rest has does =
-        let left = way_left has.link has.ran seat.talk (has.ran ++ rest) hall_is has.runs has.way has.sound in
-        let same : left.0 ≡ rest = append_cancel_left has.ran left.0 rest (sym left.1) in
-        opened_by (due (y.view_of seat.talk)) refl rest (subst (λ (ws : List Handler). IsDue (due (y.view_of seat.talk)) (Some ws)) same left.2) has.opened has (is_due i (due (y.view_of seat.talk)) event) refl does
+        opened_by (due (y.view_of seat.talk)) refl rest (along has.link has.ran rest seat.talk hall_is has.runs has.way has.sound).1 has.opened has (is_due i (due (y.view_of seat.talk)) event) refl does
 
     -- ---- one that isn't open
 
     -- an event that isn't the opening changes nothing
-    pub waiting_runs : y.view_of seat.talk ≡ unopened_view → (event.handler ≡ 3 → ⊥) → RunsSeat y (is_due i (due (y.view_of seat.talk)) event) i seat event carried after puts → TalkRan after.talk puts (path.stays (path.talking None))
+    pub waiting_runs : y.view_of seat.talk ≡ unopened_view → (event.handler ≡ 3 → ⊥) → RunsSeat y log total (is_due i (due (y.view_of seat.talk)) event) i seat event carried after puts → TalkRan after.talk puts (path.stays (path.talking None))
     waiting_runs initial other does =
         let isnt : is_due i (due (y.view_of seat.talk)) event ≡ false = ap (λ (v : TalkView). is_due i (due v) event) initial ∙ ap (λ b. b && (event.arg == i)) (ne_eqb event.handler 3 other) in
-        stays None (hall_is, initial) (subst (λ (b : Bool). RunsSeat y b i seat event carried after puts) isnt does)
+        stays None (hall_is, initial) (subst (λ (b : Bool). RunsSeat y log total b i seat event carried after puts) isnt does)
 
     -- the opening takes the first event off the path of the link
-    pub opening_runs : y.view_of seat.talk ≡ unopened_view → event.handler ≡ 3 → (link : L) → carried ≡ Some (load.Link link) → (way : List Handler) → path_to_come (y.path hall) (l.tells link) ≡ Some way
-        → RunsSeat y (is_due i (due (y.view_of seat.talk)) event) i seat event carried after puts → TalkRan after.talk puts (path.takes_off i event.handler None way)
+    pub opening_runs : y.view_of seat.talk ≡ unopened_view → event.handler ≡ 3 → (link : L) → carried ≡ Some (load.Link link) → (way : List Step) → steps_to_come (y.steps hall) (l.tells link) ≡ Some way
+        → RunsSeat y log total (is_due i (due (y.view_of seat.talk)) event) i seat event carried after puts → TalkRan after.talk puts (path.takes_off log total i event.handler None way)
     opening_runs initial three link carries way told does =
         let due_is : due (y.view_of seat.talk) ≡ Some open_link = ap (λ (v : TalkView). due v) initial in
         let is : is_due i (due (y.view_of seat.talk)) event ≡ true = ap (λ (d : Option Handler). is_due i d event) due_is ∙ (ap (λ b. b && (event.arg == i)) (eq-eqb event.handler 3 three) ∙ eq-eqb event.arg i own) in
-        let did = subst (λ (b : Bool). RunsSeat y b i seat event carried after puts) is does in
+        let did = subst (λ (b : Bool). RunsSeat y log total b i seat event carried after puts) is does in
         let step = subst (λ (d : Option Handler). Stepped y seat.talk d carried after.talk) due_is did.0 in
         let same : step.0 ≡ link = same_link W step.0 link (sym step.1 ∙ carries) in
         let runs = subst (λ (k : L). y.has_run k (open_link ∷ []) after.talk) same step.2 in
         let sound : (y.view_of after.talk).end ≢ Some Memory = λ memory. none-some Memory (sym (ap (λ (v : TalkView). v.end) step.3) ∙ memory) in
-        let left = way_left link (open_link ∷ []) after.talk way (did.2 ∙ hall_is) runs told sound in
-        let ran = goes_on i after.talk puts link (open_link ∷ []) way (did.2 ∙ hall_is) runs told did.4 did.3 left.0 left.1 in
-        subst (λ (ws : List Handler). TalkRan after.talk puts (path.takes_off i event.handler None ws)) (sym left.1)
-        (subst (λ (b : Bool). TalkRan after.talk puts (if b then record { place = path.talking (Some left.0); puts = map path.with_nothing (path.follows i left.0) } else path.stays (path.talking None))) (sym (eq-eqb 3 event.handler (sym three))) ran)
+        let here = did.2 ∙ hall_is in
+        let opens = opening_by (answers_to_come (l.tells link)) after.talk way told (served_here link (open_link ∷ []) after.talk here runs sound) in
+        let first : y.has_run link (opens.0.handler ∷ []) after.talk = subst (λ (h : Handler). y.has_run link (h ∷ []) after.talk) (sym opens.3) runs in
+        let ran = goes_on log total i seat.talk after.talk puts link [] opens.0 opens.1 here first (told ∙ ap (λ (ws : List Step). Some ws) opens.2) did.4 did.3 in
+        let number : (number_of opens.0.handler == event.handler) ≡ true = ap (λ (h : Handler). number_of h == event.handler) opens.3 ∙ eq-eqb 3 event.handler (sym three) in
+        subst (λ (ws : List Step). TalkRan after.talk puts (path.takes_off log total i event.handler None ws)) (sym opens.2)
+        (subst (λ (b : Bool). TalkRan after.talk puts (if b then path.goes_along log total i opens.0 opens.1 else path.stays (path.talking None))) (sym number) ran)

@@ -1,5 +1,5 @@
 -- A run stands after each event that is run.
-use Rattle.std.proofs.Common.{◌≡◌, ℕ, ◌+◌, ◌≤◌, Bool, true, false, true≢false, Option, Some, None, List, refl, sym, ◌∙◌, ap, subst, arith, inl, inr, eq-eqb}
+use Rattle.std.proofs.Common.{◌≡◌, ℕ, ◌+◌, ◌≤◌, Bool, true, false, true≢false, Option, Some, None, List, ◌++◌, ◌<◌, refl, sym, ◌∙◌, ap, subst, arith, inl, inr, eq-eqb}
 use Rattle.std.proofs.lemmas.Bool.{ne_eqb}
 use Rattle.std.proofs.lemmas.Bool.Decides.{eqb_tells, nat_tests}
 use Rattle.std.specs.Prelude.{sum_by, not, nat_lt, ◌==◌, ◌&&◌}
@@ -15,20 +15,22 @@ use Rattle.sws_engine.specs.declared.load.WorldLoad.{WorldLoad}
 use Rattle.sws_engine.specs.declared.place.Desk.{Desk}
 use Rattle.sws_engine.specs.declared.place.Seat.{Seat}
 use Rattle.sws_engine.specs.declared.place.Role.{Role}
-use Rattle.sws_engine.specs.declared.place.Role.TheVariants.{Polling, Accepting, Talking}
+use Rattle.sws_engine.specs.declared.place.Role.TheVariants.{Polling, Accepting, Talking, Logging}
 use Rattle.sws_engine.specs.declared.task.Task.{Task}
 use Rattle.sws_engine.specs.declared.task.Task.TheVariants as task
 use Rattle.sws_engine.specs.Tasks.{task_of, number_of_task}
 use Rattle.sws_engine.specs.Place.{PlaceState}
 use Rattle.sws_engine.specs.Loads.{Fit, at_first, world_of}
-use Rattle.sws_engine.specs.Handling.{Put, number_of, next_puts, is_due, conn_of, RunsDesk, RunsAccepting, RunsSeat, RunsRole, Runs}
+use Rattle.sws_engine.specs.Handling.{Put, number_of, next_puts, line_puts, is_due, conn_of, RunsDesk, RunsAccepting, RunsSeat, RunsRole, Runs}
 use Rattle.sws_engine.specs.RunStands.{Way, if_held, is_any, is_beyond, is_late, is_unended, at_desk, at_seat, misplaced_at, first_number, due_number, worlds, beyond, early, unended_count, asks_for, misplaced_count, desks, seats, rests, rests_beyond, unended_rests, is_last, waits_for, is_at, is_opened, RunStands}
-use Rattle.sws_engine.proofs.Balances.BalanceLemmas.{Balance, Swaps, sum_below, others, before_is, desk_alone, seat_alone, stands_after}
+use Rattle.sws_engine.proofs.Balances.BalanceLemmas.{Balance, Swaps, sum_below, others, before_is, desk_alone, seat_alone, stands_after, balance_more}
+use Rattle.sws_engine.proofs.Balances.ConcludesLemmas.{talking_within}
+use Rattle.sws_engine.proofs.Balances.LogBalanceLemmas.{log_balance}
 use Rattle.sws_engine.proofs.Balances.ConnBalanceLemmas.{conn_balance}
 use Rattle.sws_engine.proofs.Balances.DeskBalanceLemmas.{wait_balance}
 use Rattle.sws_engine.proofs.Balances.PollBalanceLemmas.{poll_balance}
 use Rattle.sws_engine.proofs.Balances.AcceptBalanceLemmas.{accept_balance}
-use Rattle.sws_engine.proofs.Events.FitLemmas.{number_is, ConnFit, conn_fit, DeskPoll, DeskWait, desk_fit, accept_fit}
+use Rattle.sws_engine.proofs.Events.FitLemmas.{number_is, ConnFit, conn_fit, DeskPoll, DeskWait, desk_fit, accept_fit, log_fit, below_line}
 use Rattle.sws_engine.specs.Counting.{bit, times}
 
 bit_one : (b : Bool) → 1 ≤ bit b → b ≡ true
@@ -69,57 +71,61 @@ desks_where : {W T : Type 0} (f : Desk W → ℕ) (role : Role W T) → at_desk 
 desks_where f (Polling desk) none = absurd (omega (arith, none))
 desks_where f Accepting none = refl
 desks_where f (Talking seat) none = refl
+desks_where f Logging none = refl
 
 rests_below : {W T : Type 0} (f g : Desk W → ℕ) → ((d : Desk W) → f d ≤ g d) → (role : Role W T) → at_desk f role ≤ at_desk g role
 rests_below f g less (Polling desk) = less desk
 rests_below f g less Accepting = omega arith
 rests_below f g less (Talking seat) = omega arith
+rests_below f g less Logging = omega arith
 
 seats_below : {W T : Type 0} (own : Bool) (f : Seat T → Bool) (role : Role W T) → at_seat (λ k. bit (own && f k)) role ≤ at_seat (λ k. bit own) role
 seats_below own f (Polling desk) = omega arith
 seats_below own f Accepting = omega arith
 seats_below own f (Talking seat) = below_both own (f seat)
+seats_below own f Logging = omega arith
 
 -- the cases of a connection's task
-by_task : (t : Task) (Is : ℕ → Type 0) → Is (number_of_task t) → {Goal : Type 0} → (Is 3 → Goal) → ((n : ℕ) → Is n → 4 ≤ n → n ≤ 8 → Goal) → (Is 9 → Goal) → 3 ≤ number_of_task t → Goal
-by_task task.Poll Is is opens steps resumes some = absurd (omega (arith, some))
-by_task task.Wait Is is opens steps resumes some = absurd (omega (arith, some))
-by_task task.Accept Is is opens steps resumes some = absurd (omega (arith, some))
-by_task task.Open Is is opens steps resumes some = opens is
-by_task task.Read Is is opens steps resumes some = steps 4 is (omega arith) (omega arith)
-by_task task.Parse Is is opens steps resumes some = steps 5 is (omega arith) (omega arith)
-by_task task.Look Is is opens steps resumes some = steps 6 is (omega arith) (omega arith)
-by_task task.Write Is is opens steps resumes some = steps 7 is (omega arith) (omega arith)
-by_task task.Close Is is opens steps resumes some = steps 8 is (omega arith) (omega arith)
-by_task task.Resume Is is opens steps resumes some = resumes is
+by_task : (t : Task) (Is : ℕ → Type 0) → number_of_task t ≤ 9 → Is (number_of_task t) → {Goal : Type 0} → (Is 3 → Goal) → ((n : ℕ) → Is n → 4 ≤ n → n ≤ 8 → Goal) → (Is 9 → Goal) → 3 ≤ number_of_task t → Goal
+by_task task.Poll Is low is opens steps resumes some = absurd (omega (arith, some))
+by_task task.Wait Is low is opens steps resumes some = absurd (omega (arith, some))
+by_task task.Accept Is low is opens steps resumes some = absurd (omega (arith, some))
+by_task task.Open Is low is opens steps resumes some = opens is
+by_task task.Read Is low is opens steps resumes some = steps 4 is (omega arith) (omega arith)
+by_task task.Parse Is low is opens steps resumes some = steps 5 is (omega arith) (omega arith)
+by_task task.Look Is low is opens steps resumes some = steps 6 is (omega arith) (omega arith)
+by_task task.Write Is low is opens steps resumes some = steps 7 is (omega arith) (omega arith)
+by_task task.Close Is low is opens steps resumes some = steps 8 is (omega arith) (omega arith)
+by_task task.Resume Is low is opens steps resumes some = resumes is
+by_task task.Log Is low is opens steps resumes some = absurd (omega (arith, low))
 
 seats_where : {W T : Type 0} (own : Bool) (f : Seat T → Bool) (role : Role W T) → at_seat (λ k. bit own) role ≡ 0 → at_seat (λ k. bit (own && f k)) role ≡ 0
 seats_where own f (Polling desk) none = refl
 seats_where own f Accepting none = refl
 seats_where own f (Talking seat) none = ap (λ b. bit (b && f seat)) (bit_zero own none)
+seats_where own f Logging none = refl
 
 module _ {W L T G H : Type 0} (x : WorldWords W L) (l : LinkWords L) (y : TalkWords T L G H) (first : W) where
   abbrev total : ℕ
   total = (at_first x l first).total
 
   module _ (states after : List (PlaceState H W T)) (ways later : List (Way W L)) (s becomes : PlaceState H W T) (e : Way W L) (puts : List (Put W L))
-      (swaps : Swaps y total states after ways later s becomes e (carried_by puts)) (stands : RunStands y total states ways) (fit : Fit x l first s.colour e.0 e.1) (runs : Runs x l y total s e.0 e.1 becomes puts) where
+      (swaps : Swaps y total states after ways later s becomes e (carried_by puts)) (stands : RunStands y total states ways) (fit : Fit x l first s.colour e.0 e.1) (log : Bool) (runs : Runs x l y log total s e.0 e.1 becomes puts) where
     before : (f : PlaceState H W T → ℕ) → sum_by f states ≡ f s + others swaps.front swaps.back f
     before f = before_is y total states after ways later s becomes e (carried_by puts) swaps f
 
     -- ---- a connection
 
     module _ (seat : Seat T) (was : s.role ≡ Talking seat) where
-      high : 2 ≤ s.colour.0
+      high : (2 ≤ s.colour.0) × (s.colour.0 < total + 2)
       high =
           let z = stands.placed in
-          let m = before misplaced_count in
-          let r = ap (λ (role : Role W T). misplaced_at s.colour.0 role) was in
-          let none : nat_lt s.colour.0 2 ≡ false = bit_zero (nat_lt s.colour.0 2) (omega (arith, z, m, r)) in
-          not_below s.colour.0 2 none
+          let m = before (misplaced_count total) in
+          let r = ap (λ (role : Role W T). misplaced_at total s.colour.0 role) was in
+          talking_within s.colour.0 (total + 2) (omega (arith, z, m, r))
 
       fits : ConnFit x l first s.colour e.0.arg (task_of e.0.handler) e.1
-      fits = conn_fit x l first s.colour e.0.arg (task_of e.0.handler) e.1 high fit
+      fits = conn_fit x l first s.colour e.0.arg (task_of e.0.handler) e.1 (high.0, below_line x l first s.colour e.0.arg (task_of e.0.handler) e.1 high.1 fit) fit
 
       abbrev i : ℕ
       i = e.0.arg
@@ -177,7 +183,7 @@ module _ {W L T G H : Type 0} (x : WorldWords W L) (l : LinkWords L) (y : TalkWo
           elim (eqb_tells (due_number y seat) 3) [ inl same ↦ is ∙ sym same.1 | inr apart ↦ let some = ap (λ b. bit (not b)) apart.0 in absurd (omega (arith, none, some)) ]
 
       due_now : e.0.handler ≡ due_number y seat
-      due_now = by_task fits.t (λ n. e.0.handler ≡ n) handler by_open by_step by_resume fits.some
+      due_now = by_task fits.t (λ n. e.0.handler ≡ n) fits.few handler by_open by_step by_resume fits.some
 
       number_now : 3 ≤ due_number y seat
       number_now = omega (arith, handler_some, due_now)
@@ -188,14 +194,15 @@ module _ {W L T G H : Type 0} (x : WorldWords W L) (l : LinkWords L) (y : TalkWo
       is_due_now : is_due (conn_of s.colour) (due (y.view_of seat.talk)) e.0 ≡ true
       is_due_now = due_is (conn_of s.colour) (due (y.view_of seat.talk)) e.0 (sym conn_is) due_now (omega (arith, number_now))
 
-      conn_keeps : (role : Role W T) → becomes.role ≡ role → RunsRole x l y s.colour (Talking seat) e.0 e.1 role puts total → RunStands y total after later
+      conn_keeps : (role : Role W T) → becomes.role ≡ role → RunsRole x l y log s.colour (Talking seat) e.0 e.1 role puts total → RunStands y total after later
       conn_keeps (Polling desk) is does = absurd does
       conn_keeps Accepting is does = absurd does
+      conn_keeps Logging is does = absurd does
       conn_keeps (Talking next) is does =
-          let d : RunsSeat y true (conn_of s.colour) seat e.0 e.1 next puts = subst (λ b. RunsSeat y b (conn_of s.colour) seat e.0 e.1 next puts) is_due_now does in
-          let puts_are : puts ≡ next_puts i (due (y.view_of next.talk)) = d.4 ∙ ap (λ k. next_puts k (due (y.view_of next.talk))) conn_is in
+          let d : RunsSeat y log total true (conn_of s.colour) seat e.0 e.1 next puts = subst (λ b. RunsSeat y log total b (conn_of s.colour) seat e.0 e.1 next puts) is_due_now does in
+          let puts_are : puts ≡ next_puts i (due (y.view_of next.talk)) ++ line_puts log total i d.4.line = d.4.puts_are ∙ ap (λ k. next_puts k (due (y.view_of next.talk)) ++ line_puts log total k d.4.line) conn_is in
           let balance : Balance y total s becomes e (carried_by (next_puts i (due (y.view_of next.talk)))) = conn_balance y total s becomes seat next e i was is runs.colour fits.step.colour due_now refl fits.no_world number_now (not_opening (conn_of s.colour) (due (y.view_of next.talk)) d.3) d.1 in
-          stands_after y total states after ways later s becomes e (carried_by puts) swaps stands (subst (λ (ps : List (Put W L)). Balance y total s becomes e (carried_by ps)) (sym puts_are) balance)
+          stands_after y total states after ways later s becomes e (carried_by puts) swaps stands (subst (λ (ps : List (Put W L)). Balance y total s becomes e (carried_by ps)) (sym puts_are) (balance_more y total s becomes e (next_puts i (due (y.view_of next.talk))) log i d.4.line balance))
 
     -- ---- colour 0
 
@@ -203,8 +210,8 @@ module _ {W L T G H : Type 0} (x : WorldWords W L) (l : LinkWords L) (y : TalkWo
       low : s.colour.0 ≡ 0
       low =
           let z = stands.placed in
-          let m = before misplaced_count in
-          let r = ap (λ (role : Role W T). misplaced_at s.colour.0 role) was in
+          let m = before (misplaced_count total) in
+          let r = ap (λ (role : Role W T). misplaced_at total s.colour.0 role) was in
           elim (eqb_tells s.colour.0 0) [ inl same ↦ same.1 | inr apart ↦ let q = ap (λ b. bit (not b)) apart.0 in absurd (omega (arith, z, m, r, q)) ]
 
       my_desk : desks s ≡ 1
@@ -257,30 +264,47 @@ module _ {W L T G H : Type 0} (x : WorldWords W L) (l : LinkWords L) (y : TalkWo
           let not_early : if_held (is_unended total) desk.resting ≡ 0 = omega (arith, ended, before (unended_rests total), desk_mine (λ d. if_held (is_unended total) d.resting)) in
           stands_after y total states after ways later s becomes e (carried_by puts) swaps stands (wait_balance y x l total s becomes desk next e e.0.arg puts was is runs.colour number refl (ap world_of wait.carries) not_there not_early does2)
 
-      desk_keeps : (role : Role W T) → becomes.role ≡ role → RunsRole x l y s.colour (Polling desk) e.0 e.1 role puts total → RunStands y total after later
+      desk_keeps : (role : Role W T) → becomes.role ≡ role → RunsRole x l y log s.colour (Polling desk) e.0 e.1 role puts total → RunStands y total after later
       desk_keeps Accepting is does = absurd does
       desk_keeps (Talking seat) is does = absurd does
+      desk_keeps Logging is does = absurd does
       desk_keeps (Polling next) is does = elim (desk_fit x l first s.colour e.0.arg (task_of e.0.handler) e.1 low fit) [ inl poll ↦ poll_keeps poll next is does | inr wait ↦ wait_keeps wait next is does ]
 
     -- ---- colour 1
 
-    accept_keeps : s.role ≡ Accepting → (role : Role W T) → becomes.role ≡ role → RunsRole x l y s.colour Accepting e.0 e.1 role puts total → RunStands y total after later
+    accept_keeps : s.role ≡ Accepting → (role : Role W T) → becomes.role ≡ role → RunsRole x l y log s.colour Accepting e.0 e.1 role puts total → RunStands y total after later
     accept_keeps was (Polling desk) is does = absurd does
     accept_keeps was (Talking seat) is does = absurd does
+    accept_keeps was Logging is does = absurd does
     accept_keeps was Accepting is does =
         let z = stands.placed in
-        let m = before misplaced_count in
-        let r = ap (λ (role : Role W T). misplaced_at s.colour.0 role) was in
+        let m = before (misplaced_count total) in
+        let r = ap (λ (role : Role W T). misplaced_at total s.colour.0 role) was in
         let one : s.colour.0 ≡ 1 = elim (eqb_tells s.colour.0 1) [ inl same ↦ same.1 | inr apart ↦ let q = ap (λ b. bit (not b)) apart.0 in absurd (omega (arith, z, m, r, q)) ] in
         let accept = accept_fit x l first s.colour e.0.arg (task_of e.0.handler) e.1 one fit in
         let does1 = subst (λ (t : Option Task). RunsAccepting x l total t e.1 puts) accept.is does in
         let does2 = subst (λ (c : Option (Load W L)). RunsAccepting x l total (Some task.Accept) c puts) accept.carries does1 in
         stands_after y total states after ways later s becomes e (carried_by puts) swaps stands (accept_balance y x l total s becomes e accept.held puts was is runs.colour (number_is e.0.handler task.Accept accept.is) (ap world_of accept.carries) does2)
 
-    role_keeps : (role : Role W T) → s.role ≡ role → RunsRole x l y s.colour role e.0 e.1 becomes.role puts total → RunStands y total after later
+    -- ---- the log
+
+    log_keeps : s.role ≡ Logging → (role : Role W T) → becomes.role ≡ role → RunsRole x l y log s.colour Logging e.0 e.1 role puts total → RunStands y total after later
+    log_keeps was (Polling desk) is does = absurd does
+    log_keeps was Accepting is does = absurd does
+    log_keeps was (Talking seat) is does = absurd does
+    log_keeps was Logging is does =
+        let z = stands.placed in
+        let m = before (misplaced_count total) in
+        let r = ap (λ (role : Role W T). misplaced_at total s.colour.0 role) was in
+        let own : s.colour.0 ≡ total + 2 = elim (eqb_tells s.colour.0 (total + 2)) [ inl same ↦ same.1 | inr apart ↦ let q = ap (λ b. bit (not b)) apart.0 in absurd (omega (arith, z, m, r, q)) ] in
+        let log_is = log_fit x l first s.colour e.0.arg (task_of e.0.handler) e.1 own fit in
+        stands_after y total states after ways later s becomes e (carried_by puts) swaps stands (subst (λ (ps : List (Put W L)). Balance y total s becomes e (carried_by ps)) (sym does) (log_balance y total s becomes e was is runs.colour (number_is e.0.handler task.Log log_is.is) (ap world_of log_is.carries)))
+
+    role_keeps : (role : Role W T) → s.role ≡ role → RunsRole x l y log s.colour role e.0 e.1 becomes.role puts total → RunStands y total after later
     role_keeps (Polling desk) was does = desk_keeps desk was becomes.role refl does
     role_keeps Accepting was does = accept_keeps was becomes.role refl does
     role_keeps (Talking seat) was does = conn_keeps seat was becomes.role refl does
+    role_keeps Logging was does = log_keeps was becomes.role refl does
 
     -- a run that stands, stands after an event that fits was run
     pub run_keeps : RunStands y total after later

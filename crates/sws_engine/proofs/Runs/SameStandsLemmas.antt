@@ -11,7 +11,7 @@ module _ {W L T G H : Type 0} (y : TalkWords T L G H) (total : ℕ) (before afte
     (ways_same : (g : Way W L → ℕ) → sum_by g later ≡ sum_by g ways) where
   pub same_stands : RunStands y total before ways → RunStands y total after later
   same_stands was = record {
-    placed = states_same misplaced_count (λ p q is. sym (ap misplaced_count is)) ∙ was.placed;
+    placed = states_same (misplaced_count total) (λ p q is. sym (ap (misplaced_count total) is)) ∙ was.placed;
     one_desk = states_same desks (λ p q is. sym (ap desks is)) ∙ was.one_desk;
     one_seat = λ i low. states_same (seats i) (λ p q is. sym (ap (seats i) is)) ∙ was.one_seat i low;
     one_world = let h = was.one_world in omega (arith, h, ways_same worlds, states_same rests (λ p q is. sym (ap rests is)));

@@ -1,5 +1,5 @@
 -- A weave that runs the server's app: what stands of the run stands after every step.
-use Rattle.std.proofs.Common.{◌≡◌, ℕ, List, Option, ◌∙◌, ap, subst, inl, inr}
+use Rattle.std.proofs.Common.{◌≡◌, ℕ, Bool, List, Option, ◌∙◌, ap, subst, inl, inr}
 use Rattle.mely_event.specs.declared.colour.Colour.{Colour}
 use Rattle.mely_event.specs.declared.event.Event.{Event}
 use Rattle.mely_event.specs.declared.trail.Trail.{Ghosts as TrailWords}
@@ -30,8 +30,8 @@ module _ {W L T G H R : Type 0} (x : WorldWords W L) (l : LinkWords L) (y : Talk
     (frame_is : (s : PlaceState H W T) → t.frame_of s ≡ record { hall = s.hall; first = s.first })
     (colour_is : (s : PlaceState H W T) → t.colour_of s ≡ s.colour)
     (fits_is : (frame : Frame H W) (c : Colour) (event : Event) (carried : Option (Load W L)) → fits frame c event carried → Fit x l frame.first c event carried)
-    (first : W)
-    (runs_is : (s : PlaceState H W T) (event : Event) (carried : Option (Load W L)) (becomes : PlaceState H W T) (puts : List (Put W L)) → z.runs app s event carried becomes puts → Runs x l y (at_first x l first).total s event carried becomes puts) where
+    (first : W) (log : Bool)
+    (runs_is : (s : PlaceState H W T) (event : Event) (carried : Option (Load W L)) (becomes : PlaceState H W T) (puts : List (Put W L)) → z.runs app s event carried becomes puts → Runs x l y log (at_first x l first).total s event carried becomes puts) where
   -- the run stands, over the world that was given at first
   pub record WeaveFact (weave : WeaveState (PlaceState H W T) (Load W L)) : Type 0 where
     pub stands : RunStands y (at_first x l first).total (states_of weave) (under_way weave)
@@ -47,7 +47,7 @@ module _ {W L T G H R : Type 0} (x : WorldWords W L) (l : LinkWords L) (y : Talk
       let fit2 = subst (λ (c : Colour). Fit x l first c one.event.0 one.event.1) (colour_is one.state) fit1 in
       run_keeps x l y first (states_of a) (states_of b) (under_way a) (under_way b) one.state one.becomes one.event one.puts
       (record { front = one.front; back = one.back; was = one.was; is = one.is; held = one.held; ways_are = one.ways })
-      was.stands fit2 (runs_is one.state one.event.0 one.event.1 one.becomes one.puts one.ran)
+      was.stands fit2 log (runs_is one.state one.event.0 one.event.1 one.becomes one.puts one.ran)
 
   pub weave_keeps : (a b : WeaveState (PlaceState H W T) (Load W L)) (core : ℕ) (made : Made) → StandsWell t fits a → StepsWell t fits z app a core made b → WeaveFact a → WeaveFact b
   weave_keeps a b core made well step was = record {

@@ -29,15 +29,32 @@ fn the_first_event_that_is_not_due_is_kept_and_runs_no_step(rt: HostRuntime) {
     let mut seat = Seat {
         talk,
         next: Next::Open,
+        answered: 0,
         stray: None,
     };
     let mut outs: Outs<Load<MemWorld, MemLink>> = Outs::new();
-    serve(&mut seat, 0, event_of(Task::Write, 0), None, &mut outs);
+    serve(
+        &mut seat,
+        0,
+        1,
+        true,
+        event_of(Task::Write, 0),
+        None,
+        &mut outs,
+    );
     assert!(rt; outs.is_empty());
     assert_eq!(rt; seat.next, Next::Open);
     assert_eq!(rt; seat.stray, Some(event_of(Task::Write, 0)));
 
-    serve(&mut seat, 0, event_of(Task::Close, 0), None, &mut outs);
+    serve(
+        &mut seat,
+        0,
+        1,
+        true,
+        event_of(Task::Close, 0),
+        None,
+        &mut outs,
+    );
     assert_eq!(rt; seat.stray, Some(event_of(Task::Write, 0)));
     assert!(rt; seat.talk.link().is_none());
 }

@@ -15,7 +15,7 @@ fn words_of(alloc: Global, line: &str) -> Result<Vec<String>, AllocError> {
     Ok(words)
 }
 
-static GOOD: [&str; 30] = [
+static GOOD: [&str; 36] = [
     "answer S --",
     "answer S",
     "answer S --date 5",
@@ -46,9 +46,15 @@ static GOOD: [&str; 30] = [
     "check --connections=1024 --workers 64 --shards=64",
     "check --cost 5 --connections +7",
     "check --connections 1 --",
+    "gopher S --host h --port 70",
+    "gopher --port=65535 S --host=a.b-c.9 --journal",
+    "gopher S --host localhost --port 7070 --connections 1024 --workers 4",
+    "gopher S --host 127.0.0.1 --port +070 --cost 5 --group 2 --batch 7 --shards 3",
+    "gopher --host . --port 1 -- S",
+    "gopher S --host h --port 1 --connections 1",
 ];
 
-static BAD: [&str; 87] = [
+static BAD: [&str; 109] = [
     "",
     "frob S",
     "answer",
@@ -136,6 +142,28 @@ static BAD: [&str; 87] = [
     "answer S -ü",
     "answer S --ü",
     "answer S --date ü",
+    "gopher",
+    "gopher S",
+    "gopher S --host h",
+    "gopher S --port 70",
+    "gopher --host h --port 70",
+    "gopher S --host -x --port 70",
+    "gopher S --host=-x --port 70",
+    "gopher S --host= --port 70",
+    "gopher S --host h_x --port 70",
+    "gopher S --host h: --port 70",
+    "gopher S --host ü --port 70",
+    "gopher S --host h --port 0",
+    "gopher S --host h --port 65536",
+    "gopher S --host h --port 70 --connections 0",
+    "gopher S --host h --port 70 --connections 1025",
+    "gopher S --host h --port 70 --connections 1 --journal",
+    "gopher S --host h --port 70 --journal --journal",
+    "gopher S --host h --host h --port 70",
+    "gopher S --host h --port 70 --date 5",
+    "gopher S --host h --port 70 --schedule",
+    "gopher S T --host h --port 70",
+    "replay S --host h",
 ];
 
 #[test]
@@ -161,7 +189,7 @@ fn other_lines_are_no_command_lines(rt: HostRuntime) -> Result<(), Fail> {
 
 #[test]
 fn defaults_and_values_come_where_they_belong(rt: HostRuntime) -> Result<(), Fail> {
-    let line = "replay --cost=5 --journal S --workers +2 --date 007";
+    let line = "replay --cost=5 --journal S --workers +2 --date 007 --log";
     let words = words_of(rt.alloc(), line)?;
     match read_words(rt.alloc(), words.as_slice()) {
         Ok(
@@ -171,11 +199,56 @@ fn defaults_and_values_come_where_they_belong(rt: HostRuntime) -> Result<(), Fai
                 date,
                 journal,
                 schedule,
+                log,
             },
         ) => {
-            assert!(rt; folder.as_str() == "S" && date == Some(7) && journal && !schedule);
+            assert!(rt; folder.as_str() == "S" && date == Some(7) && journal && !schedule && log);
             assert!(rt; shape.cores == 2 && shape.shards == 1 && shape.batch == 10);
             assert!(rt; shape.group == 4 && shape.steal_cost == 5);
+        }
+        _ => panic!(rt; "{line}"),
+    }
+    Ok(())
+}
+
+/// The words of `gopher` for a host's name of so many bytes.
+fn host_of(alloc: Global, count: usize) -> Result<Vec<String>, AllocError> {
+    let mut words = words_of(alloc, "gopher S --port 70 --host")?;
+    let mut host = String::new(alloc);
+    for _ in 0..count {
+        host.push_str("h")?;
+    }
+    words.push(host)?;
+    Ok(words)
+}
+
+#[test]
+fn a_name_of_a_host_has_255_bytes_at_most(rt: HostRuntime) -> Result<(), Fail> {
+    for (count, is_read) in [(1, true), (255, true), (256, false)] {
+        let words = host_of(rt.alloc(), count)?;
+        let read = read_words(rt.alloc(), words.as_slice());
+        assert_eq!(rt; read.is_ok(), is_read, "{count} bytes");
+    }
+    Ok(())
+}
+
+#[test]
+fn the_values_of_gopher_come_where_they_belong(rt: HostRuntime) -> Result<(), Fail> {
+    let line = "gopher --journal S --port 70 --host h.x --workers 2";
+    let words = words_of(rt.alloc(), line)?;
+    match read_words(rt.alloc(), words.as_slice()) {
+        Ok(
+            Order::Gopher {
+                folder,
+                host,
+                port,
+                connections,
+                shape,
+                journal,
+            },
+        ) => {
+            assert!(rt; folder.as_str() == "S" && host.as_str() == "h.x" && port == 70);
+            assert!(rt; connections.is_none() && journal && shape.cores == 2);
         }
         _ => panic!(rt; "{line}"),
     }

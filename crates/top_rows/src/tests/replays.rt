@@ -76,7 +76,16 @@ fn replayed<O: Sink>(
 ) -> Result<(), RunFault> {
     let input = read(rt, script, false, shape);
     let conns = input.conns.as_slice();
-    replay(rt, rt.alloc(), &site(rt), shape, conns, journal, sink)
+    replay(
+        rt,
+        rt.alloc(),
+        &site(rt),
+        shape,
+        conns,
+        journal,
+        false,
+        sink,
+    )
 }
 
 /// How a connection has ended, and how many bytes were read of it and written to it.
@@ -85,7 +94,14 @@ type Ended = (Option<End>, u64, u64);
 /// Runs a script on two workers: what was served.
 fn ran(rt: &(impl AllocGlobal + Abort + Threads + Wait + Sync), script: &[u8]) -> Vec<Ended> {
     let input = read(rt, script, false, &TWO);
-    let Ok(run) = run_script(rt, rt.alloc(), &site(rt), &TWO, input.conns.as_slice()) else {
+    let Ok(run) = run_script(
+        rt,
+        rt.alloc(),
+        &site(rt),
+        &TWO,
+        input.conns.as_slice(),
+        false,
+    ) else {
         panic!(rt; "no memory");
     };
     let mut all = Vec::new(rt.alloc());
@@ -100,7 +116,7 @@ fn ran(rt: &(impl AllocGlobal + Abort + Threads + Wait + Sync), script: &[u8]) -
 fn scheduled(rt: &(impl AllocGlobal + Abort + Wait), text: &[u8], expected: &[u8]) {
     let input = read(rt, text, true, &TWO);
     let mut sink = SureSink::new(rt.alloc());
-    let wrote = replay_by_schedule(rt, rt.alloc(), &site(rt), &TWO, &input, &mut sink);
+    let wrote = replay_by_schedule(rt, rt.alloc(), &site(rt), &TWO, &input, false, &mut sink);
     assert_eq!(rt; wrote, Ok(()));
     assert_eq!(rt; sink.written(), expected);
 }

@@ -14,28 +14,28 @@ use sws_link::{Link, LinkItem, MemLink, MemWorld, SureFolder, SureSink, SureSour
 use sws_top::Outcome;
 
 /// What is written where both clients were served.
-const SUMMARY: &[u8] = b"connections 2 done 2 idle 0 fault 0\nread 54 written 158\n";
+pub(super) const SUMMARY: &[u8] = b"connections 2 done 2 idle 0 fault 0\nread 54 written 158\n";
 
-/// A link whose client asks for the index.
-fn asking(alloc: Global) -> Result<MemLink, AllocError>
+/// A link whose client sends this text.
+fn asking(alloc: Global, text: &str) -> Result<MemLink, AllocError>
     ensures { IfOk result IsInitialMemLink }
 {
     let mut items = Vec::new(alloc);
-    items.push(LinkItem::Bytes(bytes_of(alloc, INDEX)?))?;
+    items.push(LinkItem::Bytes(bytes_of(alloc, text)?))?;
     Ok(MemLink::new(alloc, items, None, None, Vec::new(alloc)))
 }
 
 /// A world of two such links, which fails at this call, where it is one of its calls.
-fn two_clients(alloc: Global, failing: u32) -> Result<MemWorld, AllocError> {
+pub(super) fn two_clients(alloc: Global, text: &str, failing: u32) -> Result<MemWorld, AllocError> {
     let mut links = Vec::new(alloc);
-    links.push(asking(alloc)?)?;
-    links.push(asking(alloc)?)?;
+    links.push(asking(alloc, text)?)?;
+    links.push(asking(alloc, text)?)?;
     Ok(MemWorld::new(links, vec![in alloc; failing]?))
 }
 
 /// Serves the small site to the links of a world by these words: how that ended, and what was
 /// written.
-fn serve<T: AllocGlobal + Threads + Wait + Sync, W: World + Drop + Send>(
+pub(super) fn serve<T: AllocGlobal + Threads + Wait + Sync, W: World + Drop + Send>(
     rt: &T,
     line: &str,
     world: W,
@@ -73,7 +73,7 @@ fn serve_two<T: AllocGlobal + Threads + Wait + Sync>(
 ) -> Result<Clients, AllocError> {
     let alloc = rt.alloc();
     let line = "serve S --port 8080 --connections 2";
-    let (outcome, written) = serve(rt, line, two_clients(alloc, failing)?)?;
+    let (outcome, written) = serve(rt, line, two_clients(alloc, INDEX, failing)?)?;
     let mut served = Vec::new(alloc);
     if let Some(ended) = &outcome.ended {
         for conn in &ended.served {
@@ -125,7 +125,7 @@ fn serve_meeting<T: AllocGlobal + Threads + Wait + Sync>(
     line: &str,
 ) -> Result<(u8, Vec<u8>), AllocError> {
     let world = Meeting {
-        world: two_clients(rt.alloc(), 0)?,
+        world: two_clients(rt.alloc(), INDEX, 0)?,
         room,
         given: 0,
     };

@@ -1,28 +1,15 @@
-use Rattle.std.proofs.Common.{◌≡◌, ◌≤◌, [], sym, ◌∙◌, arith, eqb-true}
-use Rattle.std.specs.Prelude.{vec_len}
+use Rattle.std.proofs.Common.{◌≤◌, arith, map}
 use Rattle.mely_history.specs.Setup.{colours_of}
 use Rattle.mely_weave.proofs.Wholes.GatherLemmas.{get_there}
-use Rattle.mely_app.proofs.AllPutLemmas.{has_put_all, none_of}
-use Rattle.mely_app.proofs.RanLemmas.{ran_all}
+use Rattle.mely_app.proofs.RanLemmas.{of_first}
+use Rattle.mely_app.specs.Puts.{HasPutAll}
 use Rattle.mely_app.proofs.running.run_app.Goals as goal
 
-pub returns-in-Empty-clause-ran : goal.returns-in-Empty-clause-ran
-returns-in-Empty-clause-ran g c =
-    let parts = c.into_parts-histories.ensures in
-    let stands = c.stands_well.ensures in
-    let ran = c.in-Ok.ensures in
-    let apart = c.the_parts_are_what_the_weave_had.ensures c.in-Ok.weave _ _ _ _ stands.keeps stands.parts ran.free parts.histories parts.states parts.queued parts.lost in
-    ran_all g.S.Trail c.args.setup.now c.args.colour c.args.event c.in-Ok.weave _ _ _ _ ran.of_setup stands.keeps.shards parts.histories ran.begun (ran.drained c.in-Empty.is) apart
-
-pub returns-in-Empty-clause-puts : goal.returns-in-Empty-clause-puts
-returns-in-Empty-clause-puts g c =
-    let parts = c.into_parts-histories.ensures in
-    let ran = c.in-Ok.ensures in
+pub returns-clause-puts : goal.returns-clause-puts
+returns-clause-puts g c =
     let first = c.in_ok-states.ensures.first in
     let some : 1 ≤ colours_of c.args.setup.now = c.args.setup.now.colours_in.0 in
     let all = first.all in
     let state = get_there c.in_ok-states.states.items 0 (omega (arith, some, all)) in
-    let lost = c.into_parts-histories.result.lost in
-    let none : lost.items ≡ [] = none_of lost.items (sym lost.ok.0 ∙ eqb-true (vec_len lost) 0 (sym c.is_empty.ensures ∙ c.if-is_empty.true)) in
-    has_put_all g.S.Trail g.S.Fits.fits_under g.A.App c.args.app.now c.args.setup.now g.S.Initial.initial_frame (c.args.colour, c.args.event, c.args.load) c.in-Ok.weave _ _ ran.of_setup (ran.framed state.0 state.1 ∙ c.in_ok-states.ensures.frame state.0 state.1)
-    parts.histories ran.free (ran.drained c.in-Empty.is) parts.lost none ran.accounted
+    of_first (λ frame ended. HasPutAll g.S.Trail g.S.Fits.fits_under g.A.App c.args.app.now c.args.setup.now frame (c.args.colour, c.args.event, c.args.load) (map (λ history. history.items) ended.histories.items))
+    g.S.Trail.frame_of c.in_ok-states.states.items g.S.Initial.initial_frame state.0 state.1 (c.in_ok-states.ensures.frame state.0 state.1) c.run_states.result c.run_states.ensures.puts

@@ -8,7 +8,8 @@ invariant-pieces g l = record {
   open_line : IsOpen l.reader;
   shards : l.reader.place.shards ≡ (shape_of l.setup).shards;
   faults : g.R.Source.faults l.source ≡ g.R.Source.faults l.fn.source;
-  read : HasRead l.setup (g.R.Source.left l.fn.source) (g.R.Source.left l.source) l.reader;
+  read : HasRead (λ walk. g.L.Listener.Heard walk l.listener) l.setup (g.R.Source.left l.fn.source) (g.R.Source.left l.source) l.reader;
+  frame : g.L.Listener.frame_of l.listener ≡ g.L.Listener.frame_of l.fn.listener;
   room : length l.room ≡ 4096;
 }
 

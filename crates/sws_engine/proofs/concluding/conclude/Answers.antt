@@ -1,11 +1,34 @@
-use Rattle.std.proofs.Common.{ap, ◌∙◌, subst}
+use Rattle.std.proofs.Common.{◌≡◌, ℕ, List, [], ◌++◌, Option, Some, length, sym, ap, ◌∙◌, subst, arith}
+use Rattle.std.proofs.lemmas.List.{length-replicate}
+use Rattle.sws_engine.specs.declared.ended.Served.{Served}
 use Rattle.sws_engine.specs.Conclusion.{is_whole}
-use Rattle.sws_engine.specs.RunLeaves.{VerdictIs}
+use Rattle.sws_engine.specs.LogTurns.{AreLastTurns}
+use Rattle.sws_engine.specs.RunLeaves.{VerdictIs, lines_kept, talkers}
 use Rattle.sws_engine.proofs.Ends.ConcludeLemmas.{concluded}
+use Rattle.sws_engine.proofs.Ends.ConcludedLemmas.{handed_many}
+use Rattle.sws_engine.proofs.Ends.LogTurnsLemmas.{counts_none}
 use Rattle.sws_engine.proofs.concluding.conclude.Goals as goal
 
 pub returns-clause-concluded : goal.returns-clause-concluded
 returns-clause-concluded g c =
-    let told = subst (λ served. VerdictIs served c.ran_all-whole.result c.args.total c.is_some.result c.split_world-world.result.1 c.split_world-world.result.2 c.judge-verdict.result) c.deref-2.ensures.value c.judge-verdict.ensures in
-    concluded g.T.Talk c.args.total c.args.drained c.args.parts c.args.room c.keep_states.new.left c.keep_queued.new.left c.keep_lost.new.left _ _ _ c.ran_all-whole.result c.is_some.result _ c.requires.room.none_served c.requires.room.no_trail
+    let lines = subst (λ lines. VerdictIs (lines_kept c.args.log lines) c.deref-3.result.now c.ran_all-whole.result c.args.total c.is_some.result c.split_world-world.result.1 c.split_world-world.result.2 c.judge-verdict.result) c.deref-2.ensures.value c.judge-verdict.ensures in
+    let told = subst (λ served. VerdictIs (lines_kept c.args.log c.keep_lost.new.left.log.items) served c.ran_all-whole.result c.args.total c.is_some.result c.split_world-world.result.1 c.split_world-world.result.2 c.judge-verdict.result) c.deref-3.ensures.value lines in
+    concluded g.T.Talk c.args.total c.args.log c.args.drained c.args.parts c.args.room c.keep_states.new.left c.keep_queued.new.left c.keep_lost.new.left _ _ _ c.ran_all-whole.result c.is_some.result _ c.requires.room.none_served c.requires.room.no_trail c.requires.room.no_line
     c.keep_states.ensures.keeps c.keep_queued.ensures c.keep_lost.ensures c.split_world-world.ensures.world c.split_world-world.ensures.accepted c.split_world-world.ensures.failed (c.ran_all-whole.ensures ∙ ap (is_whole c.args.drained) c.deref.ensures.value) c.is_some.ensures told
+
+pub judge-verdict-requires-clause-counted : goal.judge-verdict-requires-clause-counted
+judge-verdict-requires-clause-counted g c =
+    subst (λ (turns : List (Option ℕ)). AreLastTurns [] turns) (sym (c.deref_mut.ensures.value ∙ c.requires.room.turns)) (counts_none c.args.total)
+
+pub judge-verdict-requires-clause-there : goal.judge-verdict-requires-clause-there
+judge-verdict-requires-clause-there g c =
+    let added = c.keep_states.ensures.keeps.added in
+    let many : length c.deref-3.result.now ≡ length added =
+    ap (λ (l : List (Served g.row.W-Link.Denot)). length l) c.deref-3.ensures.value
+    ∙ handed_many _ c.keep_queued.new.left c.keep_lost.new.left c.keep_lost.ensures ∙ handed_many _ c.keep_states.new.left c.keep_queued.new.left c.keep_queued.ensures
+    ∙ ap (λ (l : List (Served g.row.W-Link.Denot)). length l) (c.keep_states.ensures.keeps.served ∙ ap (λ (l : List (Served g.row.W-Link.Denot)). l ++ added) c.requires.room.none_served) in
+    let shown : length added ≡ length (talkers c.args.parts.states.items) = c.keep_states.ensures.keeps.shows.many in
+    let turns : length c.deref_mut.result.now ≡ c.args.total =
+    ap (λ (l : List (Option ℕ)). length l) (c.deref_mut.ensures.value ∙ c.requires.room.turns) ∙ length-replicate c.args.total (Some 0) in
+    let few = c.requires.seats in
+    omega (arith, many, shown, turns, few)

@@ -1,5 +1,5 @@
-use Rattle.sws_engine.specs.RunLeaves.{AreWhole}
+use Rattle.sws_engine.specs.RunLeaves.{AreWhole, lines_kept}
 use Rattle.sws_engine.proofs.judging.first_lacking.Given as goal
 
 abbrev pub invariant-loop-conn : goal.invariant-loop-conn
-invariant-loop-conn g l = AreWhole l.served l.conn
+invariant-loop-conn g l = AreWhole (lines_kept l.log l.lines) l.served l.conn

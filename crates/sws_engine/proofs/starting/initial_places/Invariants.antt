@@ -3,4 +3,4 @@ use Rattle.sws_engine.specs.Initial.{AreInitialPlacesOver}
 use Rattle.sws_engine.proofs.starting.initial_places.Given as goal
 
 abbrev pub invariant-loop-number : goal.invariant-loop-number
-invariant-loop-number g l = AreInitialPlacesOver g.T.Talk l.fn.world (g.T.Talk.contents_of l.hall) l.number l.places.items × (l.number-end ≤ vec_capacity l.places)
+invariant-loop-number g l = AreInitialPlacesOver g.T.Talk l.fn.world (g.T.Talk.contents_of l.hall) l.total l.number l.places.items × (l.colours ≤ vec_capacity l.places)

@@ -1,3 +1,4 @@
+use Rattle.sws_engine.specs.Counting.{bit}
 use Rattle.std.proofs.Common.{◌∙◌, sym, ap, refl, arith}
 use Rattle.mely_weave.proofs.Wholes.GatherLemmas.{get_there}
 use Rattle.sws_engine.specs.declared.place.Frame.{Frame}
@@ -5,21 +6,22 @@ use Rattle.sws_engine.proofs.Runs.BeginLemmas.{are_first, first_fits_in}
 use Rattle.sws_engine.proofs.threads.run_places.Goals as goal
 
 pub run_lent-requires-clause-first : goal.run_lent-requires-clause-first
-run_lent-requires-clause-first g c = λ _ _. are_first g.T.Talk c.args.world c.requires.set.first.0 c.args.total _ _ _ c.requires.set.first.1 c.requires.set.colours (λ s. refl) (λ s. refl) (λ s. refl)
+run_lent-requires-clause-first g c = λ _ _. are_first g.T.Talk c.args.world c.requires.set.first.0 c.args.total c.args.log _ _ _ c.requires.set.first.1 c.requires.set.colours (λ s. refl) (λ s. refl) (λ s. refl)
 
 pub run_lent-requires-clause-fits : goal.run_lent-requires-clause-fits
 run_lent-requires-clause-fits g c = λ _ _ state at.
     let initial = (c.requires.set.first.1.each 0 state at).initial in
-    first_fits_in g.W.World g.W.Link.Link state.first c.args.world c.args.total c.args.setup.now c.args.setup.now c.first_event.result initial.world refl c.requires.set.colours c.requires.set.handlers c.requires.set.total c.requires.set.none c.first_event.ensures
+    first_fits_in g.W.World g.W.Link.Link g.T.Talk state.hall state.first c.args.world c.args.total c.args.log c.args.setup.now c.args.setup.now c.first_event.result initial.world refl c.requires.set.colours c.requires.set.handlers c.requires.set.total c.requires.set.none c.first_event.ensures
 
 pub run_lent-requires-clause-served : goal.run_lent-requires-clause-served
 run_lent-requires-clause-served g c = λ _ _ state at.
     let colours = c.requires.set.colours in
-    let app = c.new-app.ensures in
+    let app = c.new-app.ensures.total in
+    let logs = ap bit c.new-app.ensures.log in
     let few = c.requires.few in
     let initial = (c.requires.set.first.1.each 0 state at).initial in
     record {
-      colours = omega (arith, colours, app);
+      colours = omega (arith, colours, app, logs);
       handlers = c.requires.set.handlers;
       serves = (ap (λ w. (g.W.World.tells w).total) initial.world ∙ c.requires.set.total ∙ sym app, omega (arith, few, app));
     }

@@ -11,7 +11,7 @@ returns-clause-kept g c =
     let stands = c.stands_well.ensures in
     let ran = c.in_ok-weave.ensures in
     let apart = c.the_parts_are_what_the_weave_had.ensures c.in_ok-weave.weave _ _ _ _ stands.keeps stands.parts ran.rests.free parts.histories parts.states parts.queued parts.lost in
-    parts_kept g.W.World g.W.Link.Link g.T.Talk _ c.args.setup.now c.args.world c.in_ok-weave.drained c.in_ok-weave.weave _ _ _ _ apart ran.rests.of_setup c.requires.colours ran.rests.drained (as_many_histories c.in_ok-weave.weave.shards _ _ parts.histories stands.keeps.shards) ran.of_world
+    parts_kept g.W.World g.W.Link.Link g.T.Talk _ c.args.setup.now c.args.world c.args.log c.in_ok-weave.drained c.in_ok-weave.weave _ _ _ _ apart ran.rests.of_setup c.requires.colours ran.rests.drained (as_many_histories c.in_ok-weave.weave.shards _ _ parts.histories stands.keeps.shards) ran.of_world
     (subst (λ places. AtEach (λ i place. IsConsistent g.W.World g.W.Link.Link g.T.Talk place) places) c.deref.ensures.value c.are_kept.ensures) (λ s. refl) (λ s. refl) (λ s. refl)
 
 pub returns-clause-fits : goal.returns-clause-fits
@@ -21,4 +21,4 @@ returns-clause-fits g c =
     let ran = c.in_ok-weave.ensures in
     let apart = c.the_parts_are_what_the_weave_had.ensures c.in_ok-weave.weave _ _ _ _ stands.keeps stands.parts ran.rests.free parts.histories parts.states parts.queued parts.lost in
     let fit = c.what_is_left_in_the_parts_fits.ensures c.in_ok-weave.weave _ _ stands.parts parts.queued parts.lost in
-    run_fits g.W.World g.W.Link.Link _ _ c.args.world _ c.in_ok-weave.weave _ _ _ _ apart fit ran.of_world (ran.of_hall _ c.in-Ok.ensures) (λ s. refl) (λ frame k event carried is. is)
+    run_fits g.W.World g.W.Link.Link _ _ c.args.world _ c.in_ok-weave.weave _ _ _ _ apart fit ran.of_world (ran.of_hall _ c.in-Ok.ensures) (λ s. refl) (λ frame k event carried is. is.0)

@@ -4,24 +4,31 @@ use Rattle.sws_engine.specs.Conclusion.{IsConcluded}
 use Rattle.sws_engine.proofs.Ends.AloneLemmas.{steps_leave_threads}
 use Rattle.sws_engine.proofs.Ends.ThreadLemmas.{has_run_threads}
 use Rattle.sws_engine.proofs.Ends.ConcludedLemmas.{rules_are}
-use Rattle.sws_engine.proofs.Ends.SeatsOfRunLemmas.{seats_stand}
+use Rattle.sws_engine.proofs.Ends.SeatsOfRunLemmas.{seats_stand, below_bit}
 use Rattle.sws_engine.proofs.threads.talk_all.Goals as goal
+
+pub conclude-requires-clause-states : goal.conclude-requires-clause-states
+conclude-requires-clause-states g c =
+    let many = c.in-Ok-run_threads.ensures.kept.many in
+    let same = c.total-total.ensures in
+    omega (arith, many, same, below_bit c.args.log)
 
 pub conclude-requires-clause-seats : goal.conclude-requires-clause-seats
 conclude-requires-clause-seats g c =
     let kept = c.in-Ok-run_threads.ensures.kept in
-    let seats = (seats_stand _ c.in-Ok-run_threads.parts.states.items kept.many kept.placed).many in
+    let seats = (seats_stand _ c.args.log c.in-Ok-run_threads.parts.states.items kept.many kept.placed).many in
     let same = c.total-total.ensures in
     omega (arith, seats, same)
 
 pub returns-then-shape-eq1-clause-leaves : goal.returns-then-shape-eq1-clause-leaves
-returns-then-shape-eq1-clause-leaves g c = steps_leave_threads g.W.World g.W.Link.Link g.T.Talk c.args.shape.now (g.T.Talk.contents_of c.args.hall) c.args.world c.talk_gated.result c.talk_gated.ensures.leaves
+returns-then-shape-eq1-clause-leaves g c = steps_leave_threads g.W.World g.W.Link.Link g.T.Talk c.args.shape.now (g.T.Talk.contents_of c.args.hall) c.args.world c.args.log c.talk_gated.result c.talk_gated.ensures.leaves
 
 pub returns-in-Ok-run_threads-clause-leaves : goal.returns-in-Ok-run_threads-clause-leaves
 returns-in-Ok-run_threads-clause-leaves g c =
     let same = c.total-total.ensures in
     let setup = c.in-Ok-new.ensures in
     let from = c.from.ensures in
+    let made = c.colour_count-colours.ensures in
     let count = setup.colours in
-    inr (has_run_threads g.W.World g.W.Link.Link g.T.Talk c.args.shape.now c.in-Ok-new.setup _ c.args.world c.in-Ok-run_threads.drained c.in-Ok-run_threads.parts c.conclude.result (rules_are c.in-Ok-new.setup c.args.shape.now setup.shape (ap (λ handlers. rows_of handlers) setup.handlers ∙ c.handler_table.ensures.rows) setup.pinned) (omega (arith, count, from, same)) c.in-Ok-run_threads.ensures.kept c.in-Ok-run_threads.ensures.fits
-    (subst (λ n. IsConcluded g.T.Talk n c.in-Ok-run_threads.drained c.in-Ok-run_threads.parts c.conclude.result) same c.conclude.ensures.concluded) c.conclude.ensures.tell c.ended_is_unkept.ensures)
+    inr (has_run_threads g.W.World g.W.Link.Link g.T.Talk c.args.shape.now c.in-Ok-new.setup _ c.args.world c.args.log c.in-Ok-run_threads.drained c.in-Ok-run_threads.parts c.conclude.result (rules_are c.in-Ok-new.setup c.args.shape.now setup.shape (ap (λ handlers. rows_of handlers) setup.handlers ∙ c.handler_table.ensures.rows) setup.pinned) (omega (arith, count, from, made, same)) c.in-Ok-run_threads.ensures.kept c.in-Ok-run_threads.ensures.fits
+    (subst (λ n. IsConcluded g.T.Talk n c.args.log c.in-Ok-run_threads.drained c.in-Ok-run_threads.parts c.conclude.result) same c.conclude.ensures.concluded) c.conclude.ensures.tell c.ended_is_unkept.ensures)

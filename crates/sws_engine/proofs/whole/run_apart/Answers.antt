@@ -1,4 +1,5 @@
 use Rattle.std.proofs.Common.{refl}
+use Rattle.sws_engine.specs.LogStream.{log_stream}
 use Rattle.sws_engine.proofs.Ends.PartedLemmas.{as_many_histories, run_parts, run_fits}
 use Rattle.sws_engine.proofs.Model.EngineLemmas.{engine_run}
 use Rattle.sws_engine.proofs.whole.run_apart.Goals as goal
@@ -8,7 +9,9 @@ returns-clause-ran g c =
     let parts = c.into_parts.ensures in
     let stands = c.stands_well.ensures in
     let apart = c.the_parts_are_what_the_weave_had.ensures c.in_ok-weave.weave _ _ _ _ stands.keeps stands.parts c.in_ok-weave.ensures.rests.free parts.histories parts.states parts.queued parts.lost in
-    run_parts g.W.World g.T.Talk _ c.args.setup.now c.args.world _ c.in_ok-weave.weave _ _ _ _ apart c.in_ok-weave.ensures.stands c.in_ok-weave.ensures.rests.of_setup c.requires.set.colours c.in_ok-weave.ensures.rests.drained (as_many_histories c.in_ok-weave.weave.shards _ _ parts.histories stands.keeps.shards) (λ s. refl) (λ s. refl) (λ s. refl)
+    run_parts g.W.World g.T.Talk _ c.args.setup.now c.args.world c.args.log _ c.in_ok-weave.weave _ _ _ _ apart c.in_ok-weave.ensures.stands c.in_ok-weave.ensures.rests.of_setup c.requires.set.colours c.in_ok-weave.ensures.rests.drained (as_many_histories c.in_ok-weave.weave.shards _ _ parts.histories stands.keeps.shards)
+    parts.queued.many (λ on i low. c.what_is_left_of_a_stream_is_in_order.ensures (log_stream g.T.Talk (g.W.World.tells c.args.world).total i) c.in_ok-weave.weave _ _ _ (c.in_ok-weave.ensures.ordered on i low) c.in_ok-weave.ensures.rests.free parts.states parts.queued parts.lost)
+    (λ s. refl) (λ s. refl) (λ s. refl)
 
 pub returns-clause-fits : goal.returns-clause-fits
 returns-clause-fits g c =
@@ -16,9 +19,9 @@ returns-clause-fits g c =
     let stands = c.stands_well.ensures in
     let apart = c.the_parts_are_what_the_weave_had.ensures c.in_ok-weave.weave _ _ _ _ stands.keeps stands.parts c.in_ok-weave.ensures.rests.free parts.histories parts.states parts.queued parts.lost in
     let fit = c.what_is_left_in_the_parts_fits.ensures c.in_ok-weave.weave _ _ stands.parts parts.queued parts.lost in
-    run_fits g.W.World g.W.Link.Link _ _ c.args.world _ c.in_ok-weave.weave _ _ _ _ apart fit c.in_ok-weave.ensures.stands.framed c.in_ok-weave.ensures.of_hall (λ s. refl) (λ frame k event carried is. is)
+    run_fits g.W.World g.W.Link.Link _ _ c.args.world _ c.in_ok-weave.weave _ _ _ _ apart fit c.in_ok-weave.ensures.stands.framed c.in_ok-weave.ensures.of_hall (λ s. refl) (λ frame k event carried is. is.0)
 
 pub returns-clause-model : goal.returns-clause-model
 returns-clause-model g c = λ shape paths ruled tells opened empty fine.
-    engine_run g.W.World g.W.Link.Link g.T.Talk _ c.args.world paths _ _ _ _ (λ p q alike. alike) (λ s. refl) (λ s. refl) (λ frame k event carried fit. fit) (λ app s event carried after puts ran. ran)
-    c.args.setup.now c.args.schedule.now c.in_ok-weave.weave _ _ c.a_run_serves.ensures.path c.a_run_serves.ensures.due (c.in_ok-weave.ensures.out empty) c.into_parts.ensures.histories c.into_parts.ensures.states tells opened fine shape ruled
+    engine_run g.W.World g.W.Link.Link g.T.Talk _ c.args.world paths _ _ _ _ _ (λ p q alike. alike) (λ s. refl) (λ s. refl) (λ frame k event carried fit. fit.0) (λ app s event carried after puts ran. ran)
+    c.args.log c.args.setup.now c.args.schedule.now c.in_ok-weave.weave _ _ c.a_run_serves.ensures.steps (c.in_ok-weave.ensures.out empty) c.into_parts.ensures.histories c.into_parts.ensures.states tells opened fine shape ruled

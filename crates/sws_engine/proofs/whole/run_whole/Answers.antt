@@ -1,6 +1,7 @@
-use Rattle.std.proofs.Common.{arith, ap, ◌∙◌}
+use Rattle.std.proofs.Common.{arith, ap, sym, ◌∙◌}
 use Rattle.mely_history.specs.declared.setup.Setup.{Setup}
 use Rattle.mely_history.specs.Setup.{shape_of}
+use Rattle.sws_engine.proofs.Runs.LogOrderLemmas.{ordered_as}
 use Rattle.sws_engine.proofs.Model.EngineLemmas.{has_run_out}
 use Rattle.sws_engine.proofs.whole.run_whole.Goals as goal
 
@@ -15,5 +16,11 @@ returns-clause-of_hall g c = ap (λ s. s.hall) c.run_through-drained.ensures.sam
 
 pub returns-clause-out : goal.returns-clause-out
 returns-clause-out g c = λ empty.
-    has_run_out g.W.World g.T.Talk _ _ _ _ c.args.setup.now c.args.world _ _ c.new-app.result c.total-total.result c.in-Ok.states.items c.in_ok-weave.weave _ c.total-total.ensures c.new-app.ensures c.in-Ok.ensures
+    has_run_out g.W.World g.T.Talk _ _ _ _ _ c.args.log c.args.setup.now c.args.world _ _ c.new-app.result c.total-total.result c.in-Ok.states.items c.in_ok-weave.weave _ c.total-total.ensures c.new-app.ensures.total c.new-app.ensures.log c.in-Ok.ensures
     c.in_ok-weave.ensures.begun (c.run_through-drained.ensures.out empty)
+
+pub run_through-drained-requires-clause-ordered : goal.run_through-drained-requires-clause-ordered
+run_through-drained-requires-clause-ordered g c = ordered_as g.T.Talk _ _ _ _ c.in_ok-weave.weave (sym c.new-app.ensures.total) (sym c.new-app.ensures.log) c.in_ok-weave.ensures.ordered
+
+pub returns-clause-ordered : goal.returns-clause-ordered
+returns-clause-ordered g c = ordered_as g.T.Talk _ _ _ _ c.run_through-drained.new.weave (c.new-app.ensures.total ∙ c.total-total.ensures) c.new-app.ensures.log c.run_through-drained.ensures.ordered

@@ -1,4 +1,4 @@
-use Rattle.std.proofs.Common.{◌≡◌, sym, ◌∙◌}
+use Rattle.std.proofs.Common.{sym, ◌∙◌}
 use Rattle.std.specs.Prelude.{◌==◌}
 use Rattle.sws_gopher.proofs.CutLemmas.{before-found, before-missed}
 use Rattle.sws_gopher.proofs.gopher.before.Goals as goal

@@ -1,4 +1,4 @@
-use Rattle.std.proofs.Common.{◌≡◌, ◌+◌, ap, ◌∙◌, arith, take}
+use Rattle.std.proofs.Common.{◌+◌, ap, ◌∙◌, arith, take}
 use Rattle.std.proofs.lemmas.List.{take_min}
 use Rattle.sws_gopher.specs.Gopher.{input_limit}
 use Rattle.sws_gopher.proofs.CutLemmas.{line-found, line-missed}

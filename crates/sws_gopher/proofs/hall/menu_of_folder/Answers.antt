@@ -1,4 +1,4 @@
-use Rattle.std.proofs.Common.{◌≡◌, ◌≢◌, List, ℕ, [], ◌∷◌, sym, ap, ◌∙◌, rules, Some, None, Bor}
+use Rattle.std.proofs.Common.{◌≢◌, List, ℕ, [], ◌∷◌, sym, ap, ◌∙◌, rules, Bor}
 use Rattle.std.specs.Prelude.{option_map}
 use Rattle.sws_gopher.proofs.ReplyLemmas.{folder-by_key, or_not_found}
 use Rattle.sws_gopher.specs.Halls.{menu_of_key}

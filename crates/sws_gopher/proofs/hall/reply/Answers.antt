@@ -1,5 +1,4 @@
-use Rattle.std.proofs.Common.{◌≡◌, [], sym, ap, ◌∙◌}
-use Rattle.sws_parts.specs.Parts.{PartsState}
+use Rattle.std.proofs.Common.{[], ap, ◌∙◌}
 use Rattle.sws_gopher.specs.Replies.{reply_of, reply_to}
 use Rattle.sws_gopher.proofs.hall.reply.Goals as goal
 

@@ -1,4 +1,4 @@
-use Rattle.std.proofs.Common.{rules, ◌≡◌, ◌++◌, List, ℕ, map, sym, ap, ◌∙◌, Bor}
+use Rattle.std.proofs.Common.{rules, ◌≡◌, ◌++◌, List, ℕ, map, ap, ◌∙◌, Bor}
 use Rattle.std.specs.List.{flat_map}
 use Rattle.std.specs.Map.Iter.{deref}
 use Rattle.std.proofs.lemmas.Map.Iter.{iter_end}

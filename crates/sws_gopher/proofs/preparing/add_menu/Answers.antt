@@ -1,4 +1,4 @@
-use Rattle.std.proofs.Common.{◌≡◌, sym, ap, subst, ◌∙◌}
+use Rattle.std.proofs.Common.{sym, ap, subst, ◌∙◌}
 use Rattle.std.specs.Str.{bytes_eq}
 use Rattle.sws_gopher.specs.Halls.{menu_at, AddsMenus}
 use Rattle.sws_gopher.specs.Menus.{menu_of}

@@ -1,4 +1,4 @@
-use Rattle.std.proofs.Common.{◌≡◌, ◌+◌, sym, ap, subst, ◌∙◌, take, arith, rules}
+use Rattle.std.proofs.Common.{◌+◌, sym, subst, take, arith, rules}
 use Rattle.sws_gopher.specs.Halls.{AddsMenus, lies_in}
 use Rattle.sws_gopher.proofs.KeyLemmas.{along-slash, along-other}
 use Rattle.sws_gopher.proofs.preparing.add_menus_along.Goals as goal

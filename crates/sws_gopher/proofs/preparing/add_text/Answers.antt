@@ -1,9 +1,9 @@
-use Rattle.std.proofs.Common.{◌≡◌, sym, ap, subst, ◌∙◌}
+use Rattle.std.proofs.Common.{sym, ap, subst, ◌∙◌}
 use Rattle.std.specs.Prelude.{IfSome}
 use Rattle.sws_gopher.specs.Halls.{AddsText}
 use Rattle.sws_gopher.specs.Texts.{text_of}
 use Rattle.sws_gopher.specs.Menus.{is_text}
-use Rattle.sws_gopher.proofs.HallLemmas.{text-added, text-passed, name-at}
+use Rattle.sws_gopher.proofs.HallLemmas.{text-added, name-at}
 use Rattle.sws_gopher.proofs.preparing.add_text.Goals as goal
 
 pub returns-in_ok-insert : goal.returns-in_ok-insert

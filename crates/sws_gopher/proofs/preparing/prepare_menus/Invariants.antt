@@ -1,4 +1,4 @@
-use Rattle.std.proofs.Common.{◌≡◌, ◌≤◌, ℕ, List, length, take}
+use Rattle.std.proofs.Common.{take}
 use Rattle.sws_gopher.specs.Halls.{KeepsMenusOf}
 use Rattle.sws_gopher.proofs.preparing.prepare_menus.Given as goal
 

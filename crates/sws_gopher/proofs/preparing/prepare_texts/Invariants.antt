@@ -1,4 +1,4 @@
-use Rattle.std.proofs.Common.{◌≡◌, ◌≤◌, ℕ, List, length, drop}
+use Rattle.std.proofs.Common.{◌≤◌, length, drop}
 use Rattle.sws_gopher.specs.Halls.{KeepsTexts}
 use Rattle.sws_gopher.proofs.preparing.prepare_texts.Given as goal
 

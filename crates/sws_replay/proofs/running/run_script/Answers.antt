@@ -1,10 +1,9 @@
-use Rattle.std.proofs.Common.{refl}
-use Rattle.sws_replay.proofs.RunLemmas.{threads_run_well, threads_keep_the_world}
+use Rattle.std.proofs.Common.{subst}
+use Rattle.std.specs.Prelude.{IfOk}
+use Rattle.sws_replay.specs.Expected.{Expected, by_http-is}
+use Rattle.sws_replay.specs.Runs.{RunsWell}
 use Rattle.sws_replay.proofs.running.run_script.Goals as goal
 
-pub unreachable-requires : goal.unreachable-requires
-unreachable-requires g c = threads_keep_the_world _ _ _ _ _ _ c.args.conns.now _ c.serve_all-ended.ensures.leaves c.in_ok-world.ensures.tells c.in-World.is
-
-pub returns-in-Ok-clause-ran : goal.returns-in-Ok-clause-ran
-returns-in-Ok-clause-ran g c =
-    threads_run_well _ _ _ _ _ _ c.args.conns.now _ c.serve_all-ended.ensures.leaves c.in_ok-world.ensures.tells (λ link. refl) (λ script. refl) (λ script. refl) c.in-Ok.is
+pub returns-clause-ran : goal.returns-clause-ran
+returns-clause-ran g c =
+    subst (λ (e : Expected). IfOk c.run_talks.result (λ ended. RunsWell e c.args.shape.now c.args.conns.now c.args.log ended)) (by_http-is c.args.site.now) c.run_talks.ensures.ran

@@ -14,9 +14,9 @@ returns-in-Replay-clause-ran g c =
     let how = c.in-Replay in
     let outcome = c.without_run-in-Replay in
     rw c.in-Replay.is (
-      subst (λ (fault : Option TopFault). RanReplay g.F.Folder g.R.Source g.O.Sink before now fault (string_bytes how.path) how.shape how.date how.journal how.schedule)
+      subst (λ (fault : Option TopFault). RanReplay g.F.Folder g.R.Source g.O.Sink before now fault (string_bytes how.path) how.shape how.date how.journal how.schedule how.log)
           (sym outcome.ensures.fault)
-          (subst (λ (path : List ℕ). RanReplay g.F.Folder g.R.Source g.O.Sink before now (fault_of ended.result) path how.shape how.date how.journal how.schedule)
+          (subst (λ (path : List ℕ). RanReplay g.F.Folder g.R.Source g.O.Sink before now (fault_of ended.result) path how.shape how.date how.journal how.schedule how.log)
           c.as_str-in-Replay.ensures.value ended.ensures),
       record { none_ended = outcome.ensures.none_ended; back = outcome.ensures.back },
     )
@@ -31,7 +31,10 @@ returns-in-Check-clause-ran g c =
     let outcome = c.without_run-in-Check in
     rw c.in-Check.is (
       refl,
-      subst (λ (fault : Option TopFault). RanCheck g.R.Source g.O.Sink c.args.source.now ended.new.source c.args.out.now ended.new.out fault how.connections how.shape)
+      subst (λ (fault : Option TopFault). RanCheck g.R.Source g.O.Sink c.args.source.now ended.new.source c.args.out.now ended.new.out fault how.connections how.log how.shape)
           (sym outcome.ensures.fault) ended.ensures,
       record { none_ended = outcome.ensures.none_ended; back = outcome.ensures.back },
     )
+
+pub returns-in-Gopher-clause-ran : goal.returns-in-Gopher-clause-ran
+returns-in-Gopher-clause-ran g c = rw c.in-Gopher.is (rw (c.as_str-in-Gopher.ensures.value, c.as_str-in-Gopher-2.ensures.value) at c.gopher.ensures.ran)

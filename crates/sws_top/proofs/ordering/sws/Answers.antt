@@ -7,6 +7,7 @@ use Rattle.sws_top.specs.Hands.{hands}
 use Rattle.sws_top.proofs.CauseLemmas.{causes_of, done_of}
 use Rattle.sws_top.proofs.LostLemmas.{lost_by}
 use Rattle.sws_top.proofs.RangeLemmas.{order_in_range}
+use Rattle.sws_top.proofs.UsageLemmas.{no_usage}
 use Rattle.sws_top.proofs.ordering.sws.Goals as goal
 
 pub run-requires-clause-range : goal.run-requires-clause-range
@@ -17,14 +18,14 @@ pub returns-in-Ok-clause-causes : goal.returns-in-Ok-clause-causes
 returns-in-Ok-clause-causes g c =
     let before = hands c.args.folder.now c.args.source.now c.args.out.now in
     let now = hands c.run.new.folder c.run.new.source c.run.new.out in
-    causes_of g.F.Folder g.R.Source g.W.World g.W.Link.Link g.O.Sink _ before now c.args.world c.run.result (order_view c.in-Ok.order) (inr c.run.ensures.ran)
+    causes_of g.F.Folder g.R.Source g.W.World g.W.Link.Link g.O.Sink _ _ before now c.args.world c.run.result (order_view c.in-Ok.order) (inr c.run.ensures.ran)
 
 pub returns-in-Ok-clause-complete : goal.returns-in-Ok-clause-complete
 returns-in-Ok-clause-complete g c = λ order is sound nothing.
     let before = hands c.args.folder.now c.args.source.now c.args.out.now in
     let now = hands c.run.new.folder c.run.new.source c.run.new.out in
     let same : order ≡ order_view c.in-Ok.order = (let read = c.in-Ok.ensures.read in cc) in
-    done_of g.F.Folder g.R.Source g.W.World g.W.Link.Link g.O.Sink _ before now c.args.world c.run.result (order_view c.in-Ok.order) (inr c.run.ensures.ran)
+    done_of g.F.Folder g.R.Source g.W.World g.W.Link.Link g.O.Sink _ _ before now c.args.world c.run.result (order_view c.in-Ok.order) (inr c.run.ensures.ran)
     (subst (λ (k : Order). IsSound g.F.Folder g.R.Source g.W.World g.O.Sink before now c.args.world c.run.result k) same sound) nothing
 
 pub returns-in-Ok-clause-lost : goal.returns-in-Ok-clause-lost
@@ -33,7 +34,13 @@ returns-in-Ok-clause-lost g c = λ order conn is apart.
     let now = hands c.run.new.folder c.run.new.source c.run.new.out in
     let read = order_view c.in-Ok.order in
     let same : order ≡ read = (let there = c.in-Ok.ensures.read in cc) in
-    let causes = causes_of g.F.Folder g.R.Source g.W.World g.W.Link.Link g.O.Sink _ before now c.args.world c.run.result read (inr c.run.ensures.ran) in
+    let causes = causes_of g.F.Folder g.R.Source g.W.World g.W.Link.Link g.O.Sink _ _ before now c.args.world c.run.result read (inr c.run.ensures.ran) in
     subst MayLose (sym same)
-    (lost_by g.F.Folder g.R.Source g.W.World g.W.Link.Link g.O.Sink _ before now c.args.world c.run.result conn ((causes.lost conn).0 apart) read
+    (lost_by g.F.Folder g.R.Source g.W.World g.W.Link.Link g.O.Sink _ _ before now c.args.world c.run.result conn ((causes.lost conn).0 apart) read
     (order_in_range (map string_bytes c.args.words.now) read c.in-Ok.ensures.read) (inr c.run.ensures.ran))
+
+pub returns-in-Ok-clause-usage : goal.returns-in-Ok-clause-usage
+returns-in-Ok-clause-usage g c = λ usage.
+    let before = hands c.args.folder.now c.args.source.now c.args.out.now in
+    let now = hands c.run.new.folder c.run.new.source c.run.new.out in
+    absurd (no_usage g.F.Folder g.R.Source g.W.World g.W.Link.Link g.O.Sink _ _ before now c.args.world c.run.result usage (order_view c.in-Ok.order) c.run.ensures.ran)

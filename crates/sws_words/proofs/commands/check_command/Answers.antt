@@ -6,4 +6,4 @@ use Rattle.sws_words.proofs.commands.check_command.Goals as goal
 
 pub returns : goal.returns
 returns c =
-    IfOk-weaker c.with_shape.result _ _ (λ m e. e ∙ ap shape_app (added c.in_ok-command.ensures c.bare.ensures c.option.ensures.rule c.option.ensures.global)) c.with_shape.ensures
+    IfOk-weaker c.arg-2.result _ _ (λ m adds. added adds (c.in_ok-with_shape.ensures ∙ ap shape_app (added c.in_ok-command.ensures c.bare.ensures c.option.ensures.rule c.option.ensures.global)) c.flag.ensures.rule c.flag.ensures.global) c.arg-2.ensures

@@ -6,4 +6,4 @@ use Rattle.sws_words.proofs.commands.serve_command.Goals as goal
 
 pub returns : goal.returns
 returns c =
-    IfOk-weaker c.with_shape.result _ _ (λ m e. e ∙ ap shape_app (added c.in_ok-command.ensures (added c.in_ok-arg-3.ensures (added c.in_ok-arg-2.ensures (added c.in_ok-arg.ensures c.bare.ensures c.place.ensures.rule c.place.ensures.global) c.option.ensures.rule c.option.ensures.global) c.option-2.ensures.rule c.option-2.ensures.global) c.option-3.ensures.rule c.option-3.ensures.global)) c.with_shape.ensures
+    IfOk-weaker c.arg-5.result _ _ (λ m adds. added adds (c.in_ok-with_shape.ensures ∙ ap shape_app (added c.in_ok-command.ensures (added c.in_ok-arg-3.ensures (added c.in_ok-arg-2.ensures (added c.in_ok-arg.ensures c.bare.ensures c.place.ensures.rule c.place.ensures.global) c.option.ensures.rule c.option.ensures.global) c.option-2.ensures.rule c.option-2.ensures.global) c.option-3.ensures.rule c.option-3.ensures.global)) c.flag.ensures.rule c.flag.ensures.global) c.arg-5.ensures

@@ -26,6 +26,6 @@ returns-in_err-shape-clause-refused c =
 
 pub returns-clause-read : goal.returns-clause-read
 returns-clause-read c =
-    check_complete (app_of c.in_ok-command.command) (map string_bytes c.args.words.now) (found_of c.in_ok-matches.matches) c.in_ok-connections.connections (told_shape c.in_ok-shape.shape)
-    c.in_ok-command.ensures c.requires c.in_ok-matches.ensures.taken c.in_ok-matches.ensures.rows
+    check_complete (app_of c.in_ok-command.command) (map string_bytes c.args.words.now) (found_of c.in_ok-matches.matches) c.get_flag-log.result c.in_ok-connections.connections (told_shape c.in_ok-shape.shape)
+    c.in_ok-command.ensures c.requires c.in_ok-matches.ensures.taken c.in_ok-matches.ensures.rows c.get_flag-log.ensures.value c.get_flag-log.ensures.other
     c.in_ok-connections.ensures.read c.in_ok-shape.ensures.read

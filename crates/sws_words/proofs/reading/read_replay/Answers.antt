@@ -32,6 +32,6 @@ returns-in_err-date-clause-refused c =
 
 pub returns-clause-read : goal.returns-clause-read
 returns-clause-read c =
-    replay_complete (app_of c.in_ok-command.command) (map string_bytes c.args.words.now) (found_of c.in_ok-matches.matches) c.get_flag-journal.result c.get_flag-schedule.result (string_bytes c.in_ok-folder.folder) (told_shape c.in_ok-shape.shape) c.in_ok-date.date
-    c.in_ok-command.ensures c.requires c.in_ok-matches.ensures.taken c.in_ok-matches.ensures.rows c.get_flag-journal.ensures.value c.get_flag-journal.ensures.other c.get_flag-schedule.ensures.value c.get_flag-schedule.ensures.other
+    replay_complete (app_of c.in_ok-command.command) (map string_bytes c.args.words.now) (found_of c.in_ok-matches.matches) c.get_flag-journal.result c.get_flag-schedule.result c.get_flag-log.result (string_bytes c.in_ok-folder.folder) (told_shape c.in_ok-shape.shape) c.in_ok-date.date
+    c.in_ok-command.ensures c.requires c.in_ok-matches.ensures.taken c.in_ok-matches.ensures.rows c.get_flag-journal.ensures.value c.get_flag-journal.ensures.other c.get_flag-schedule.ensures.value c.get_flag-schedule.ensures.other c.get_flag-log.ensures.value c.get_flag-log.ensures.other
     c.in_ok-folder.ensures.read c.in_ok-shape.ensures.read c.in_ok-date.ensures.read

@@ -42,6 +42,6 @@ returns-in_err-date-clause-refused c =
 
 pub returns-clause-read : goal.returns-clause-read
 returns-clause-read c =
-    serve_complete (app_of c.in_ok-command.command) (map string_bytes c.args.words.now) (found_of c.in_ok-matches.matches) (string_bytes c.in_ok-folder.folder) c.in_ok-port.port c.in_ok-connections.connections (told_shape c.in_ok-shape.shape) c.in_ok-date.date
-    c.in_ok-command.ensures c.requires c.in_ok-matches.ensures.taken c.in_ok-matches.ensures.rows
+    serve_complete (app_of c.in_ok-command.command) (map string_bytes c.args.words.now) (found_of c.in_ok-matches.matches) c.get_flag-log.result (string_bytes c.in_ok-folder.folder) c.in_ok-port.port c.in_ok-connections.connections (told_shape c.in_ok-shape.shape) c.in_ok-date.date
+    c.in_ok-command.ensures c.requires c.in_ok-matches.ensures.taken c.in_ok-matches.ensures.rows c.get_flag-log.ensures.value c.get_flag-log.ensures.other
     c.in_ok-folder.ensures.read c.in_ok-port.ensures.read c.in_ok-connections.ensures.read c.in_ok-shape.ensures.read c.in_ok-date.ensures.read

@@ -30,12 +30,12 @@ returns-in-Head-clause-answers c =
     let given = c.answer-given in
     let asked = c.ask-asked.ensures ∙ asked-is buffer c.bytes.result.now len len (c.bytes.ensures ∙ c.in-Head.ensures.same) refl in
     let answer_by : Asked → Answer = λ a. answer_of before.site.now a c.args.last in
-    subst (λ cut. AnswersFirst http before.site.now buffer c.args.last (cut_by cut) c.drop_front.new.self c.send.new.parts c.note-self.result c.send.result) c.in-Head.ensures.cut (record {
+    subst (λ cut. AnswersFirst http before.site.now buffer c.args.last (cut_by cut) c.drop_front.new.self c.send-closes.new.parts c.send-closes.new.note c.send-closes.result) c.in-Head.ensures.cut (record {
       rest_is = c.drop_front.ensures ∙ ap (drop len) c.in-Head.ensures.same;
-      parts_is = c.send.ensures.parts ∙ parts-are given.result.parts _ _
+      parts_is = c.send-closes.ensures.parts ∙ parts-are given.result.parts _ _
           (given.ensures.head ∙ ap (λ a. (answer_by a).head) asked) (given.ensures.body ∙ ap (λ a. (answer_by a).body) asked);
-      note_is = c.note-self.ensures ∙ note-is (answer_by (asked_by (take len buffer))) given.result.code given.result.parts c.of.result
+      note_is = c.send-closes.ensures.note ∙ note-is (answer_by (asked_by (take len buffer))) given.result.code given.result.parts (take shown_limit c.target.result.now)
           (given.ensures.code ∙ ap (λ a. (answer_by a).code) asked) (given.ensures.head ∙ ap (λ a. (answer_by a).head) asked) (given.ensures.body ∙ ap (λ a. (answer_by a).body) asked)
-          (c.of.ensures ∙ ap (take shown_limit) (c.target.ensures ∙ ap target_of asked));
-      closes_is = c.send.ensures.closes ∙ given.ensures.closes ∙ ap (λ a. (answer_by a).closes) asked;
+          (ap (take shown_limit) (c.target.ensures ∙ ap target_of asked));
+      closes_is = c.send-closes.ensures.closes ∙ given.ensures.closes ∙ ap (λ a. (answer_by a).closes) asked;
     })

@@ -1,4 +1,4 @@
-use Rattle.std.proofs.Common.{◌≤◌, arith}
+use Rattle.std.proofs.Common.{arith}
 use Rattle.sws_gopher.proofs.CutLemmas.{not_yet-few}
 use Rattle.sws_gopher.proofs.gopher.GopherSpeech.fill.Goals as goal
 

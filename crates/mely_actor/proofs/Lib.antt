@@ -1,0 +1,5 @@
+mod RunLemmas
+mod AccountLemmas
+mod StatesLemmas
+mod KeptLemmas
+pub mod SilentLemmas

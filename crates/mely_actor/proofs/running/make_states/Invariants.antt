@@ -1,0 +1,5 @@
+use Rattle.mely_actor.specs.Received.{AreMade}
+use Rattle.mely_actor.proofs.running.make_states.Given as goal
+
+abbrev pub invariant-colours : goal.invariant-colours
+invariant-colours g l = AreMade l.plan l.number l.states.items

@@ -1,0 +1,19 @@
+use Rattle.std.proofs.Common.{◌≡◌, ◌++◌, ◌∷◌, [], length, ap, ◌∙◌, sym, subst, arith, append_assoc}
+use Rattle.std.specs.Vec.Iter.{into_iter_items}
+use Rattle.mely_actor.specs.Received.{AreValues}
+use Rattle.mely_actor.proofs.StatesLemmas.{more_taken}
+use Rattle.mely_actor.proofs.running.take_values.Goals as goal
+
+pub states-preserved : goal.states-preserved
+states-preserved g c =
+    let at = c.states.invariant in
+    let state = c.in-Some.state in
+    let steps : into_iter_items c.states.state-iterator ≡ state ∷ into_iter_items c.next.new.self = c.in-Some.ensures.steps.0 in
+    let short = ap length steps in
+    let left = at.left in
+    let gone = c.in-Some.ensures.steps.1 in
+    record {
+      split = append_assoc c.states.yielded (state ∷ []) _ ∙ rw (← steps) at.split;
+      left = omega (arith, left, short, gone);
+      values = subst (AreValues g.A.Actor (c.states.yielded ++ state ∷ [])) (sym c.in_ok-push.ensures.items) (more_taken g.A.Actor c.states.yielded c.states.values.items state c.in-Some-into_value.value at.values c.in-Some-into_value.ensures);
+    }

@@ -1,0 +1,29 @@
+//! Actors with data: a layer over `mely_app` in which an author writes a type of value, a type of
+//! message, and one fact about them.
+//!
+//! An [`Actor`] says how the value of a colour begins and what a message does to it, and what it
+//! keeps over the messages that it has received. [`run_actors`] posts the first messages, as many
+//! as are given, runs all on threads until nothing is left, and hands out the values.
+//!
+//! ```text
+//! let posts = vec![in alloc; (Colour(0), Add(3)), (Colour(1), Add(4))]?;
+//! let ended = run_actors(&rt, alloc, &setup, Adder, posts)?;
+//! ended.values[1] // what colour 1 has come to
+//! ```
+//!
+//! What is promised is [`AreKept`](../specs/Received.antt): what each colour received is what its
+//! history says was registered, in that order; its value keeps the author's fact over exactly that;
+//! and what was received is what was posted and what the messages received had sent, no more and no
+//! less. The order in which messages of different senders come to a colour isn't promised.
+#![tactic(auto)]
+
+mod acting;
+mod actor;
+mod kept;
+mod load;
+mod running;
+mod sends;
+
+pub use actor::Actor;
+pub use running::{Ended, run_actors};
+pub use sends::Sends;

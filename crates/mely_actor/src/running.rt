@@ -1,0 +1,124 @@
+//! A run of actors.
+ghost use Rattle.std.specs.Prelude.{◌≡◌, ◌<◌, ◌≤◌, IfOk, IfSome, length, map};
+ghost use Rattle.std.specs.List.{AllByRecursion};
+ghost use Rattle.mely_event.specs.HandlerTable.{rows_of};
+ghost use Rattle.mely_history.specs.Setup.{colours_of, handlers_of};
+ghost use Rattle.mely_actor.specs.Received.{AreKept, AreMade, AreValues};
+ghost use Rattle.mely_actor.specs.Sending.{MaySend};
+
+use crate::acting::{Acting, POST};
+use crate::actor::Actor;
+use crate::kept::Kept;
+use crate::load::{Load, Plan};
+use mely_app::run_states;
+use mely_event::{Colour, Event, Memory};
+use mely_history::{Entry, Setup};
+use std::alloc::Global;
+use std::collections::VecDeque;
+use std::sync::Wait;
+use std::thread::Threads;
+
+/// What a run of actors leaves that came to its end.
+#[derive(Drop)]
+pub struct Ended<V> {
+    /// The value of each colour.
+    pub values: Vec<V>,
+
+    /// The history of each shard; the entries of a colour stand in that of its number modulo the
+    /// number of shards.
+    pub histories: Vec<Vec<Entry>>,
+}
+
+/// The states of all colours, in ascending order.
+///
+/// # Errors
+///
+/// There was no memory.
+fn make_states<A: Actor>(
+    alloc: Global,
+    setup: &Setup,
+    plan: &Plan<A, A::Message>,
+) -> Result<Vec<Kept<A>>, Memory>
+    requires { colours_of setup.now ≡ A.colours_of plan.now.actor }
+    ensures { IfOk result (λ states. AreMade plan.now (colours_of setup.now) states.items) }
+{
+    let mut states = Vec::new(alloc);
+    'colours: for number in 0..setup.colours() {
+        let colour = Colour(number as u16);
+        let value = plan.actor.begin(alloc, colour)?;
+        states.push(Kept::new(alloc, colour, plan, value))?;
+    }
+    Ok(states)
+}
+
+/// The values of the states, where none of them has failed.
+///
+/// # Errors
+///
+/// One has, or there was no memory.
+fn take_values<A: Actor + Drop>(
+    alloc: Global,
+    states: Vec<Kept<A>>,
+) -> Result<Vec<A::Value>, Memory>
+    ensures { IfOk result (λ values. AreValues A.Actor states.items values.items) }
+{
+    let mut values = Vec::new(alloc);
+    'states: for state in states {
+        let Some(value) = state.into_value() else {
+            return Err(Memory);
+        };
+        values.push(value)?;
+    }
+    Ok(values)
+}
+
+/// Runs actors, a colour each, from the messages that are posted to begin with, with a thread for
+/// each core, until nothing is left. It need not return: messages may send for ever.
+///
+/// Row 0 of the setup's table weighs the library's own events, one for each post; the rows from 1 on
+/// are the author's.
+///
+/// # Errors
+///
+/// There was no memory, to begin, for an event or for a value on the way: what was done is dropped.
+pub fn run_actors<R: Threads + Wait + Sync, A: Actor + Drop + Sync>(
+    rt: &R,
+    alloc: Global,
+    setup: &Setup,
+    actor: A,
+    posts: Vec<(Colour, A::Message)>,
+) -> Result<Ended<A::Value>, Memory>
+where
+    A::Value: Send,
+    A::Message: Send,
+    requires colours { colours_of setup.now ≡ A.colours_of actor }
+    requires rows { A.rows_of actor ≤ length (rows_of (handlers_of setup.now)) }
+    requires own { 0 < A.rows_of actor }
+    requires few { length posts.items < 65536 }
+    requires posts { AllByRecursion (MaySend (A.colours_of actor) (A.rows_of actor) A.event_of
+        (A.sound actor)) posts.items }
+    ensures { IfOk result (λ ended. AreKept A.Actor actor setup.now posts.items
+        (map (λ history. history.items) ended.histories.items) ended.values.items) }
+{
+    let plan = Plan { actor, posts };
+    let states = make_states(alloc, setup, &plan)?;
+    let Plan { actor, posts } = plan;
+    let first = Event {
+        handler: POST,
+        arg: 0,
+    };
+    let load = Load::Posts(VecDeque::from(posts));
+    let acting = Acting { actor };
+    let mely_app::Ended { states, histories } = run_states(
+        rt,
+        alloc,
+        setup,
+        states,
+        &acting,
+        Colour(0),
+        first,
+        Some(load),
+    )?;
+    let values = take_values(alloc, states)?;
+    Ok(Ended { values, histories })
+}

@@ -1,0 +1,30 @@
+use Rattle.std.proofs.Common.{◌≡◌, [], sym, ◌∙◌, eqb-true}
+use Rattle.std.specs.Prelude.{vec_len}
+use Rattle.mely_app.proofs.AllPutLemmas.{has_put_all, none_of}
+use Rattle.mely_app.proofs.RanLemmas.{ran_all}
+use Rattle.mely_app.proofs.running.run_states.Goals as goal
+
+pub returns-in-Empty-clause-ran : goal.returns-in-Empty-clause-ran
+returns-in-Empty-clause-ran g c =
+    let parts = c.into_parts-histories.ensures in
+    let stands = c.stands_well.ensures in
+    let ran = c.in-Ok.ensures in
+    let apart = c.the_parts_are_what_the_weave_had.ensures c.in-Ok.weave _ _ _ _ stands.keeps stands.parts ran.free parts.histories parts.states parts.queued parts.lost in
+    ran_all g.S.Trail c.args.setup.now c.args.colour c.args.event c.in-Ok.weave _ _ _ _ ran.of_setup stands.keeps.shards parts.histories ran.begun (ran.drained c.in-Empty.is) apart
+
+pub returns-in-Empty-clause-puts : goal.returns-in-Empty-clause-puts
+returns-in-Empty-clause-puts g c =
+    let parts = c.into_parts-histories.ensures in
+    let ran = c.in-Ok.ensures in
+    let lost = c.into_parts-histories.result.lost in
+    let none : lost.items ≡ [] = none_of lost.items (sym lost.ok.0 ∙ eqb-true (vec_len lost) 0 (sym c.is_empty.ensures ∙ c.if-is_empty.true)) in
+    λ first at. has_put_all g.S.Trail g.S.Fits.fits_under g.A.App c.args.app.now c.args.setup.now (g.S.Trail.frame_of first) (c.args.colour, c.args.event, c.args.load) c.in-Ok.weave _ _ ran.of_setup (ran.framed first at)
+    parts.histories ran.free (ran.drained c.in-Empty.is) parts.lost none ran.accounted
+
+pub returns-in-Empty-clause-framed : goal.returns-in-Empty-clause-framed
+returns-in-Empty-clause-framed g c =
+    let parts = c.into_parts-histories.ensures in
+    let stands = c.stands_well.ensures in
+    let ran = c.in-Ok.ensures in
+    let apart = c.the_parts_are_what_the_weave_had.ensures c.in-Ok.weave _ _ _ _ stands.keeps stands.parts ran.free parts.histories parts.states parts.queued parts.lost in
+    λ first at colour state there. apart.framed colour state there ∙ ran.framed first at

@@ -1,0 +1,1 @@
+-- The proofs have no lemmas of their own.

@@ -1,0 +1,130 @@
+//! A socket of the machine.
+ghost use Rattle.std.specs.Prelude.{◌≤◌, ◌++◌, None, not, is_some, IfOk, length};
+ghost use Rattle.sws_net.specs.Initial.{IsOpenSocket};
+
+use crate::errors::is_not_yet;
+use crate::lobby::{Presence, Way};
+use crate::socket::Socket;
+use mio::net::TcpStream;
+use std::io::{self, IoSlice, Read, Write};
+use sws_link::{LinkRead, LinkWrite};
+
+/// The machine's socket, and that it is there.
+#[derive(Drop)]
+struct Open {
+    stream: TcpStream,
+    presence: Presence,
+}
+
+/// A socket that doesn't block, of whose bytes nothing is known.
+///
+/// **A read that came up short isn't tried again at once.** Where the machine gave fewer bytes
+/// than there was room for, it had no more, so that the next read is answered without asking it.
+/// No wake-up is lost by this: the socket is registered edge-triggered, so what comes after that
+/// short read is a new edge, which the world reports and remembers until the link waits. Only
+/// the end of the input may have come together with those last bytes. Then there is no new edge;
+/// but then the edge that brought them said so too. If the world has seen that edge, the lobby
+/// says that the peer has hung up, and the machine is asked. If it has not, it is still to see
+/// it, and wakes the link.
+///
+/// **The last answer isn't lost, and nobody is held up by it.** The end hands the socket to the
+/// world, which hands over the last bytes, says that no more comes, and takes what the peer still
+/// sends for a while ([`Leaving`](crate::leaving::Leaving)).
+#[derive(Drop)]
+pub struct TcpSocket {
+    open: Option<Open>,
+
+    /// Whether the last read came up short.
+    is_drained: bool,
+
+    /// Whether all input was taken.
+    has_ended: bool,
+}
+
+/// Hands two pieces to the machine, which takes some of them.
+fn send_parts(stream: &TcpStream, first: &[u8], second: &[u8]) -> io::Result<usize>
+    ensures { IfOk result (λ count. count ≤ length (first.now ++ second.now)) }
+{
+    if second.is_empty() {
+        return (&mut &*stream).write(first);
+    }
+    let parts = [IoSlice::new(first), IoSlice::new(second)];
+    stream.write_vectored(&parts)
+}
+
+impl TcpSocket {
+    /// A socket that doesn't block.
+    pub fn new(stream: TcpStream, presence: Presence) -> TcpSocket
+        ensures { IsOpenSocket result }
+    {
+        TcpSocket {
+            open: Some(Open { stream, presence }),
+            is_drained: false,
+            has_ended: false,
+        }
+    }
+}
+
+impl Socket for TcpSocket {
+    ghost tells = { λ _. None };
+
+    ghost is_shut = { λ socket. not (is_some socket.open) };
+
+    fn receive(&mut self, into: &mut [u8]) -> LinkRead {
+        let Some(open) = &self.open else {
+            unreachable!()
+        };
+        if self.is_drained && !open.presence.has_hung_up() {
+            self.is_drained = false;
+            open.presence.wait_for(Way::Reading);
+            return LinkRead::NotReady;
+        }
+        match (&mut &open.stream).read(into) {
+            Ok(0) => {
+                self.has_ended = true;
+                LinkRead::End
+            }
+            Ok(count) => {
+                self.is_drained = count < into.len();
+                LinkRead::Took(count)
+            }
+            Err(error) if is_not_yet(&error) => {
+                open.presence.wait_for(Way::Reading);
+                LinkRead::NotReady
+            }
+            Err(_) => LinkRead::Failed,
+        }
+    }
+
+    fn send(&mut self, first: &[u8], second: &[u8]) -> LinkWrite {
+        let Some(open) = &self.open else {
+            unreachable!()
+        };
+        match send_parts(&open.stream, first, second) {
+            Ok(0) => {
+                open.presence.wait_for(Way::Writing);
+                LinkWrite::NotReady
+            }
+            Ok(count) => {
+                if count < first.len() + second.len() {
+                    // What is left waits for the same.
+                    open.presence.wait_for(Way::Writing);
+                }
+                LinkWrite::Wrote(count)
+            }
+            Err(error) if is_not_yet(&error) => {
+                open.presence.wait_for(Way::Writing);
+                LinkWrite::NotReady
+            }
+            Err(_) => LinkWrite::Failed,
+        }
+    }
+
+    fn finish(&mut self, last: &[u8]) {
+        let Some(open) = self.open.take() else {
+            unreachable!()
+        };
+        let Open { stream, presence } = open;
+        presence.leave(stream, last, self.has_ended);
+    }
+}

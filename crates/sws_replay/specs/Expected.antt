@@ -1,0 +1,37 @@
+-- What is expected of scripted connections, whatever they talk about.
+use Rattle.std.specs.Prelude.{ℕ, List}
+use Rattle.std.proofs.Common.{◌≡◌, ap}
+use Rattle.sws_link.specs.Scripts.{Script}
+use Rattle.sws_log.specs.declared.line.LogLine.{LogLine}
+use Rattle.sws_steps.specs.Outcome.{Outcome}
+use Rattle.sws_steps.specs.Path.{Handler}
+use Rattle.sws_steps.specs.declared.talk.Talk.{Ghosts as TalkWords}
+use Rattle.sws_steps.specs.Logs as logs
+use Rattle.sws_conn.specs.Http.{http}
+use Rattle.sws_conn.specs.Logs.{log_of, log_of-is}
+use Rattle.sws_conn.specs.Outcome.{outcome_of}
+use Rattle.sws_conn.specs.Path.{path_of}
+use Rattle.sws_site.specs.Site.{SiteState}
+
+-- the outcome of a scripted connection, and its path; and the lines of an access log that all
+-- answers to the bytes of a connection give, by its number
+pub record Expected : Type 0 where
+  pub outcome : Script → Outcome
+  pub path : Script → List Handler
+  pub log : ℕ → List ℕ → List LogLine
+
+-- as a talk has it, out of what its hall has
+abbrev pub of_talk : {T L G H : Type 0} → TalkWords T L G H → H → Expected
+of_talk y hall = record { outcome = y.outcome hall; path = y.path hall; log = y.log hall }
+
+-- of HTTP, out of a site
+abbrev pub by_http : SiteState → Expected
+by_http site = record { outcome = outcome_of site; path = path_of site; log = log_of site }
+
+-- it is what the talks of HTTP expect, as any protocol's do
+pub by_http-is : (site : SiteState)
+    → record { outcome = outcome_of site; path = path_of site; log = logs.log_of http site }
+    ≡ by_http site
+by_http-is site =
+    ap (λ lines. record { outcome = outcome_of site; path = path_of site; log = lines })
+    (λ i conn bytes. log_of-is site conn bytes i)

@@ -1,4 +1,0 @@
-//! The adapters over what the machine may do.
-
-mod streams;
-mod tcp;
