@@ -175,6 +175,8 @@ def weave(folder):
 
 def connections(folder):
     """Microseconds a request on a connection over memory, by the pieces in which 64 heads come: what serving takes beyond making the links."""
+    # The C library is to keep what is freed: else it gives the heap's top back in each round, or doesn't, by what lies there last.
+    os.environ.update({"MALLOC_TRIM_THRESHOLD_": "1000000000", "MALLOC_TOP_PAD_": "67108864"})
     none = put(os.path.join(folder, "none"), b"")
     for piece, rounds in ((0, 2000), (4096, 2000), (7, 200), (1, 50)):
         programs = {kind: ([CONN, kind, str(rounds), str(piece)], none) for kind in ("serve", "make")}
