@@ -9,14 +9,14 @@ use crate::access::Access;
 use crate::app::App;
 use crate::delivery::Delivery;
 use crate::gate::Gate;
+use crate::kept_phase::KeptPhase;
 use crate::made::Made;
 use crate::outs::Outs;
-use crate::phase::Phase;
+use crate::stage::Stage;
 use crate::worker_fields::WorkerFields;
 use mely_event::{Colour, Event, Fits, Mark, Trail};
 use mely_history::After;
 use mely_queue::Turn;
-use std::mem;
 
 /// Whether nothing is left of a turn but its finish.
 pub(crate) fn has_run_all<S, P>(turn: &Turn<S, P>, hand: &Delivery, outs: &Outs<P>) -> bool
@@ -141,7 +141,7 @@ fn run_next<S: Fits<P> + Drop, P: Drop, A: Access<S, P>, R: App<State = S, Load 
 /// Finishes a turn of which nothing is left.
 pub(crate) fn finish_turn<S: Fits<P> + Drop, P: Drop, A: Access<S, P>, R: App<State = S, Load = P>>(
     fields: &mut WorkerFields<P>,
-    phase: &mut Phase<S, P>,
+    phase: &mut KeptPhase<S, P>,
     access: &mut A,
     app: &R,
 ) -> Made
@@ -152,7 +152,7 @@ pub(crate) fn finish_turn<S: Fits<P> + Drop, P: Drop, A: Access<S, P>, R: App<St
         fields.old phase.old
         result access.new fields.new phase.new }
 {
-    let turn = mem::replace(phase, Phase::Free { place: 0 }).into_turn();
+    let turn = phase.end();
     let colour = turn.colour();
     match access.finish(turn) {
         After::More { started, worth } => {
@@ -161,7 +161,7 @@ pub(crate) fn finish_turn<S: Fits<P> + Drop, P: Drop, A: Access<S, P>, R: App<St
                 started,
                 worth,
             };
-            phase.go_to(Phase::Pushing {
+            phase.go_to(Stage::Pushing {
                 core: fields.core,
                 mark,
             });
