@@ -49,10 +49,13 @@ pub(crate) fn step_turn<
         result access.new fields.new (Turning turn.new hand.new outs.new) }
 {
     match *hand {
-        Delivery::Nothing => match outs.take_first() {
-            Some(first) => step_put(fields, turn, hand, first, outs, access, app),
-            None => run_next(fields, turn, outs, access, app, gate),
-        },
+        Delivery::Nothing => {
+            if outs.is_empty() {
+                run_next(fields, turn, outs, access, app, gate)
+            } else {
+                step_put(fields, turn, hand, outs, access, app)
+            }
+        }
         Delivery::PushMark { core, mark } => {
             let _entered = hand.deliver(access);
             *hand = Delivery::Nothing;
@@ -83,19 +86,21 @@ fn step_put<S: Fits<P> + Drop, P: Drop, A: Access<S, P>, R: App<State = S, Load 
     fields: &mut WorkerFields<P>,
     turn: &Turn<S, P>,
     hand: &mut Delivery,
-    first: (Colour, Event, Option<P>),
-    outs: &Outs<P>,
+    outs: &mut Outs<P>,
     access: &mut A,
     app: &R,
 ) -> Made
+    requires some { ¬ (outs.old ≡ []) }
     requires empty { hand.old ≡ Nothing }
     requires on { StepsOn S.Trail S.fits_under A.Access R.App app.now access.old fields.old
-        (Turning turn.now Nothing (first ∷ outs.now)) }
+        (Turning turn.now Nothing outs.old) }
     ensures done { StepDone S.Trail S.fits_under A.Access R.App app.now access.old
-        fields.old (Turning turn.now Nothing (first ∷ outs.now))
-        result access.new fields.new (Turning turn.now hand.new outs.now) }
+        fields.old (Turning turn.now Nothing outs.old)
+        result access.new fields.new (Turning turn.now hand.new outs.new) }
 {
-    let (colour, event, load) = first;
+    let Some((colour, event, load)) = outs.take_first() else {
+        unreachable!()
+    };
     match access.register(colour, event, load) {
         Ok(answer) => {
             *hand = Delivery::after(colour, &answer);
