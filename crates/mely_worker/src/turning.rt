@@ -1,5 +1,5 @@
 //! The steps of a worker at a turn.
-ghost use Rattle.std.specs.Prelude.{◌≡◌, ◌∷◌, [], ◌↔◌, IsTrue};
+ghost use Rattle.std.specs.Prelude.{◌≡◌, [], ◌↔◌, IsTrue};
 ghost use Rattle.mely_worker.specs.declared.phase.Phase.TheVariants.{Turning};
 ghost use Rattle.mely_worker.specs.declared.delivery.Delivery.TheVariants.{Nothing};
 ghost use Rattle.mely_worker.specs.Phase.{HasRunAll};
@@ -14,7 +14,7 @@ use crate::made::Made;
 use crate::outs::Outs;
 use crate::stage::Stage;
 use crate::worker_fields::WorkerFields;
-use mely_event::{Colour, Event, Fits, Mark, Trail};
+use mely_event::{Fits, Mark, Trail};
 use mely_history::After;
 use mely_queue::Turn;
 
