@@ -1,5 +1,6 @@
 pub mod Outs
 pub mod Phase
+pub mod KeptPhase
 pub mod Access
 pub mod Delivery
 pub mod Worker

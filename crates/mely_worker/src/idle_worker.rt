@@ -1,7 +1,7 @@
 //! A worker at rest.
 ghost use Rattle.std.specs.Prelude.{◌≡◌, ◌≤◌, ◌*◌, length};
 
-use crate::phase::Phase;
+use crate::kept_phase::KeptPhase;
 use crate::worker::Worker;
 use crate::worker_fields::WorkerFields;
 use mely_event::{Colour, Event};
@@ -37,7 +37,7 @@ impl<P> IdleWorker<P> {
         let IdleWorker { fields, place } = self;
         Worker {
             fields,
-            phase: Phase::Free { place },
+            phase: KeptPhase::free(place),
         }
     }
 }

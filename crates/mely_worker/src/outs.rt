@@ -3,6 +3,7 @@ ghost use Rattle.std.specs.Prelude.{◌≡◌, ◌<◌, ◌∷◌, ◌++◌, [],
 
 use mely_event::{Colour, Event};
 use std::marker::Model;
+use std::mem;
 
 /// What a handler registers: at most two events, the first before the second.
 #[derive(Drop)]
@@ -47,8 +48,11 @@ impl<P> Outs<P> {
         ensures first { MatchOption result (self.old ≡ []) (λ first. self.old ≡ first ∷ self.new) }
         ensures none { MatchOption result (self.new ≡ []) (λ _. Unit {0}) }
     {
-        let second = self.second.take();
-        std::mem::replace(&mut self.first, second)
+        let first = self.first.take();
+        if self.second.is_some() {
+            mem::swap(&mut self.first, &mut self.second);
+        }
+        first
     }
 }
 

@@ -6,11 +6,10 @@ ghost use Rattle.mely_worker.specs.Rule.{StepsOn, StepDone};
 
 use crate::access::Access;
 use crate::app::App;
-use crate::delivery::Delivery;
 use crate::gate::Gate;
+use crate::kept_phase::KeptPhase;
 use crate::made::Made;
-use crate::outs::Outs;
-use crate::phase::Phase;
+use crate::stage::Stage;
 use crate::turning::{finish_turn, has_run_all, step_turn};
 use crate::worker_fields::WorkerFields;
 use mely_event::{Fits, Mark, Trail};
@@ -20,7 +19,7 @@ use mely_history::{NoSteal, NoTake};
 /// is refused drops the mark.
 fn step_popped<S: Fits<P> + Drop, P: Drop, A: Access<S, P>, R: App<State = S, Load = P>>(
     fields: &mut WorkerFields<P>,
-    phase: &mut Phase<S, P>,
+    phase: &mut KeptPhase<S, P>,
     mark: Mark,
     access: &mut A,
     app: &R,
@@ -38,23 +37,19 @@ fn step_popped<S: Fits<P> + Drop, P: Drop, A: Access<S, P>, R: App<State = S, Lo
                 colour: turn.colour(),
                 count: turn.count(),
             };
-            phase.go_to(Phase::Turning {
-                turn,
-                hand: Delivery::Nothing,
-                outs: Outs::new(),
-            });
+            phase.begin(turn);
             made
         }
         Err(NoTake::Memory) => {
             fields.halted = true;
-            phase.go_to(Phase::Pushing {
+            phase.go_to(Stage::Pushing {
                 core: fields.core,
                 mark,
             });
             Made::Memory
         }
         Err(why) => {
-            phase.go_to(Phase::Free { place: 0 });
+            phase.go_to(Stage::Free { place: 0 });
             Made::NotTaken { why }
         }
     }
@@ -64,7 +59,7 @@ fn step_popped<S: Fits<P> + Drop, P: Drop, A: Access<S, P>, R: App<State = S, Lo
 /// is refused drops the mark.
 fn step_picked<S: Fits<P> + Drop, P: Drop, A: Access<S, P>, R: App<State = S, Load = P>>(
     fields: &mut WorkerFields<P>,
-    phase: &mut Phase<S, P>,
+    phase: &mut KeptPhase<S, P>,
     mark: Mark,
     victim: u16,
     access: &mut A,
@@ -79,7 +74,7 @@ fn step_picked<S: Fits<P> + Drop, P: Drop, A: Access<S, P>, R: App<State = S, Lo
 {
     match access.steal(mark.colour) {
         Ok(stolen) => {
-            phase.go_to(Phase::Landing {
+            phase.go_to(Stage::Landing {
                 mark: Mark {
                     colour: mark.colour,
                     started: stolen.started,
@@ -93,11 +88,11 @@ fn step_picked<S: Fits<P> + Drop, P: Drop, A: Access<S, P>, R: App<State = S, Lo
         }
         Err(NoSteal::Memory) => {
             fields.halted = true;
-            phase.go_to(Phase::Pushing { core: victim, mark });
+            phase.go_to(Stage::Pushing { core: victim, mark });
             Made::Memory
         }
         Err(why) => {
-            phase.go_to(Phase::Free { place: 0 });
+            phase.go_to(Stage::Free { place: 0 });
             Made::NotStolen { why }
         }
     }
@@ -106,7 +101,7 @@ fn step_picked<S: Fits<P> + Drop, P: Drop, A: Access<S, P>, R: App<State = S, Lo
 /// The step of a free worker: it looks for a mark at the next place of its hunt.
 fn step_free<S: Fits<P> + Drop, P: Drop, A: Access<S, P>, R: App<State = S, Load = P>>(
     fields: &mut WorkerFields<P>,
-    phase: &mut Phase<S, P>,
+    phase: &mut KeptPhase<S, P>,
     place: usize,
     access: &mut A,
     app: &R,
@@ -127,13 +122,13 @@ fn step_free<S: Fits<P> + Drop, P: Drop, A: Access<S, P>, R: App<State = S, Load
     if place == 0 {
         return match access.pop() {
             Some(mark) => {
-                phase.go_to(Phase::Popped { mark });
+                phase.go_to(Stage::Popped { mark });
                 Made::Popped {
                     colour: mark.colour,
                 }
             }
             None => {
-                phase.go_to(Phase::Free { place: next });
+                phase.go_to(Stage::Free { place: next });
                 Made::NoneHere
             }
         };
@@ -141,14 +136,14 @@ fn step_free<S: Fits<P> + Drop, P: Drop, A: Access<S, P>, R: App<State = S, Load
     let victim = fields.victims[place - 1];
     match access.pick(victim) {
         Some(mark) => {
-            phase.go_to(Phase::Picked { mark, victim });
+            phase.go_to(Stage::Picked { mark, victim });
             Made::Picked {
                 colour: mark.colour,
                 victim,
             }
         }
         None => {
-            phase.go_to(Phase::Free { place: next });
+            phase.go_to(Stage::Free { place: next });
             Made::NoneThere { victim }
         }
     }
@@ -161,49 +156,52 @@ pub(crate) fn step_by_phase<
     A: Access<S, P>,
     R: App<State = S, Load = P>,
     G: Gate,
->(fields: &mut WorkerFields<P>, phase: &mut Phase<S, P>, access: &mut A, app: &R, gate: &G) -> Made
+>(
+    fields: &mut WorkerFields<P>,
+    phase: &mut KeptPhase<S, P>,
+    access: &mut A,
+    app: &R,
+    gate: &G,
+) -> Made
     requires on { StepsOn S.Trail S.fits_under A.Access R.App app.now access.old
         fields.old phase.old }
     ensures done { StepDone S.Trail S.fits_under A.Access R.App app.now access.old
         fields.old phase.old
         result access.new fields.new phase.new }
 {
-    match phase {
-        Phase::Turning { turn, hand, outs } => {
-            if has_run_all(turn, hand, outs) {
-                finish_turn(fields, phase, access, app)
-            } else {
-                step_turn(fields, turn, hand, outs, access, app, gate)
-            }
-        }
-        Phase::Pushing { core, mark } => {
-            let (core, mark) = (*core, *mark);
+    if let Some(turn) = &mut phase.turn {
+        return if has_run_all(turn, &phase.hand, &phase.outs) {
+            finish_turn(fields, phase, access, app)
+        } else {
+            step_turn(
+                fields,
+                turn,
+                &mut phase.hand,
+                &mut phase.outs,
+                access,
+                app,
+                gate,
+            )
+        };
+    }
+    match phase.stage {
+        Stage::Pushing { core, mark } => {
             let _ = access.push(core, mark);
-            phase.go_to(Phase::Free { place: 0 });
+            phase.go_to(Stage::Free { place: 0 });
             Made::Pushed {
                 colour: mark.colour,
                 core,
             }
         }
-        Phase::Popped { mark } => {
-            let mark = *mark;
-            step_popped(fields, phase, mark, access, app)
-        }
-        Phase::Picked { mark, victim } => {
-            let (mark, victim) = (*mark, *victim);
-            step_picked(fields, phase, mark, victim, access, app)
-        }
-        Phase::Landing { mark } => {
-            let mark = *mark;
+        Stage::Popped { mark } => step_popped(fields, phase, mark, access, app),
+        Stage::Picked { mark, victim } => step_picked(fields, phase, mark, victim, access, app),
+        Stage::Landing { mark } => {
             let _ = access.push(fields.core, mark);
-            phase.go_to(Phase::Free { place: 0 });
+            phase.go_to(Stage::Free { place: 0 });
             Made::Landed {
                 colour: mark.colour,
             }
         }
-        Phase::Free { place } => {
-            let place = *place;
-            step_free(fields, phase, place, access, app)
-        }
+        Stage::Free { place } => step_free(fields, phase, place, access, app),
     }
 }

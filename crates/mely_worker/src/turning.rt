@@ -1,5 +1,5 @@
 //! The steps of a worker at a turn.
-ghost use Rattle.std.specs.Prelude.{◌≡◌, ◌∷◌, [], ◌↔◌, IsTrue};
+ghost use Rattle.std.specs.Prelude.{◌≡◌, [], ◌↔◌, IsTrue};
 ghost use Rattle.mely_worker.specs.declared.phase.Phase.TheVariants.{Turning};
 ghost use Rattle.mely_worker.specs.declared.delivery.Delivery.TheVariants.{Nothing};
 ghost use Rattle.mely_worker.specs.Phase.{HasRunAll};
@@ -9,14 +9,14 @@ use crate::access::Access;
 use crate::app::App;
 use crate::delivery::Delivery;
 use crate::gate::Gate;
+use crate::kept_phase::KeptPhase;
 use crate::made::Made;
 use crate::outs::Outs;
-use crate::phase::Phase;
+use crate::stage::Stage;
 use crate::worker_fields::WorkerFields;
-use mely_event::{Colour, Event, Fits, Mark, Trail};
+use mely_event::{Fits, Mark, Trail};
 use mely_history::After;
 use mely_queue::Turn;
-use std::mem;
 
 /// Whether nothing is left of a turn but its finish.
 pub(crate) fn has_run_all<S, P>(turn: &Turn<S, P>, hand: &Delivery, outs: &Outs<P>) -> bool
@@ -49,10 +49,13 @@ pub(crate) fn step_turn<
         result access.new fields.new (Turning turn.new hand.new outs.new) }
 {
     match *hand {
-        Delivery::Nothing => match outs.take_first() {
-            Some(first) => step_put(fields, turn, hand, first, outs, access, app),
-            None => run_next(fields, turn, outs, access, app, gate),
-        },
+        Delivery::Nothing => {
+            if outs.is_empty() {
+                run_next(fields, turn, outs, access, app, gate)
+            } else {
+                step_put(fields, turn, hand, outs, access, app)
+            }
+        }
         Delivery::PushMark { core, mark } => {
             let _entered = hand.deliver(access);
             *hand = Delivery::Nothing;
@@ -83,19 +86,21 @@ fn step_put<S: Fits<P> + Drop, P: Drop, A: Access<S, P>, R: App<State = S, Load 
     fields: &mut WorkerFields<P>,
     turn: &Turn<S, P>,
     hand: &mut Delivery,
-    first: (Colour, Event, Option<P>),
-    outs: &Outs<P>,
+    outs: &mut Outs<P>,
     access: &mut A,
     app: &R,
 ) -> Made
+    requires some { ¬ (outs.old ≡ []) }
     requires empty { hand.old ≡ Nothing }
     requires on { StepsOn S.Trail S.fits_under A.Access R.App app.now access.old fields.old
-        (Turning turn.now Nothing (first ∷ outs.now)) }
+        (Turning turn.now Nothing outs.old) }
     ensures done { StepDone S.Trail S.fits_under A.Access R.App app.now access.old
-        fields.old (Turning turn.now Nothing (first ∷ outs.now))
-        result access.new fields.new (Turning turn.now hand.new outs.now) }
+        fields.old (Turning turn.now Nothing outs.old)
+        result access.new fields.new (Turning turn.now hand.new outs.new) }
 {
-    let (colour, event, load) = first;
+    let Some((colour, event, load)) = outs.take_first() else {
+        unreachable!()
+    };
     match access.register(colour, event, load) {
         Ok(answer) => {
             *hand = Delivery::after(colour, &answer);
@@ -141,7 +146,7 @@ fn run_next<S: Fits<P> + Drop, P: Drop, A: Access<S, P>, R: App<State = S, Load 
 /// Finishes a turn of which nothing is left.
 pub(crate) fn finish_turn<S: Fits<P> + Drop, P: Drop, A: Access<S, P>, R: App<State = S, Load = P>>(
     fields: &mut WorkerFields<P>,
-    phase: &mut Phase<S, P>,
+    phase: &mut KeptPhase<S, P>,
     access: &mut A,
     app: &R,
 ) -> Made
@@ -152,7 +157,7 @@ pub(crate) fn finish_turn<S: Fits<P> + Drop, P: Drop, A: Access<S, P>, R: App<St
         fields.old phase.old
         result access.new fields.new phase.new }
 {
-    let turn = mem::replace(phase, Phase::Free { place: 0 }).into_turn();
+    let turn = phase.end();
     let colour = turn.colour();
     match access.finish(turn) {
         After::More { started, worth } => {
@@ -161,7 +166,7 @@ pub(crate) fn finish_turn<S: Fits<P> + Drop, P: Drop, A: Access<S, P>, R: App<St
                 started,
                 worth,
             };
-            phase.go_to(Phase::Pushing {
+            phase.go_to(Stage::Pushing {
                 core: fields.core,
                 mark,
             });

@@ -6,8 +6,8 @@ use crate::access::Access;
 use crate::app::App;
 use crate::gate::Gate;
 use crate::idle_worker::IdleWorker;
+use crate::kept_phase::KeptPhase;
 use crate::made::Made;
-use crate::phase::Phase;
 use crate::rule::step_by_phase;
 use crate::worker_fields::WorkerFields;
 use mely_event::{Colour, Event, Fits, Memory, Trail};
@@ -23,7 +23,7 @@ use std::marker::Model;
 /// by [`rest`](Worker::rest) or [`into_lost`](Worker::into_lost).
 pub struct Worker<S, P> {
     pub(crate) fields: WorkerFields<P>,
-    pub(crate) phase: Phase<S, P>,
+    pub(crate) phase: KeptPhase<S, P>,
 }
 
 impl<S, P> Model for Worker<S, P> {
@@ -71,7 +71,7 @@ impl<S, P> Worker<S, P> {
                 victims,
                 lost,
             },
-            phase: Phase::Free { place: 0 },
+            phase: KeptPhase::free(0),
         })
     }
 
@@ -79,7 +79,7 @@ impl<S, P> Worker<S, P> {
     pub fn is_free(&self) -> bool
         ensures { IsTrue result ↔ IsTrue (is_free self.now.phase) }
     {
-        matches!(self.phase, Phase::Free { .. })
+        self.phase.is_free()
     }
 
     /// Whether it met want of memory. It then ends its turn, puts back its
