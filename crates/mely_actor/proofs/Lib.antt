@@ -3,3 +3,4 @@ mod AccountLemmas
 mod StatesLemmas
 mod KeptLemmas
 pub mod SilentLemmas
+pub mod AlongLemmas

@@ -24,6 +24,6 @@ mod load;
 mod running;
 mod sends;
 
-pub use actor::Actor;
+pub use actor::{Actor, Place};
 pub use running::{Ended, run_actors};
 pub use sends::Sends;

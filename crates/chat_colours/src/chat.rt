@@ -1,0 +1,106 @@
+//! The room and the clients, as actors.
+ghost use Rattle.std.specs.Prelude.{◌≡◌, ◌<◌, ◌≤◌, ◌+◌, length, map};
+ghost use Rattle.chat_colours.specs.declared.chat.TheConstants.{CLIENTS};
+ghost use Rattle.chat_colours.specs.Chats.{IsSeat, MayHear, event_of, sends_of};
+
+use crate::message::Message;
+use crate::script::Line;
+use crate::seat::{Heard, Seat};
+use mely_actor::{Actor, Place, Sends};
+use mely_event::{Colour, Event, Memory};
+use std::alloc::Global;
+use std::snapshot::Snapshot;
+
+/// How many clients there are. The room is colour 0, and their colours are 1 and those behind it.
+pub const CLIENTS: u16 = 4;
+
+/// How many lines a script has at most: their numbers and places are below this.
+pub const LINES: u16 = 256;
+
+/// A chat over a script.
+#[derive(Drop)]
+pub struct Chat {
+    pub script: Snapshot<Vec<Line>>,
+
+    // Two numbers of lines fit into the number of an event.
+    ghost few: { length script.value.items ≤ 256 },
+}
+
+impl Actor for Chat {
+    type Value = Seat;
+
+    type Message = Message;
+
+    ghost colours_of = { λ chat. CLIENTS + 1 };
+
+    ghost rows_of = { λ chat. 4 };
+
+    ghost event_of = { event_of };
+
+    ghost sound = { λ chat colour message. MayHear chat.script.value.items colour message };
+
+    ghost sends_of = { sends_of };
+
+    ghost kept = { λ chat colour received sent seat. IsSeat colour received sent seat.heard.items };
+
+    fn event(message: &Message) -> Event {
+        let (handler, arg) = match message {
+            Message::Say(number, _) => (1, *number),
+            Message::Line(number, _) => (2, *number),
+            Message::Hear(place, number, _) => (3, *place * 256 + *number),
+        };
+        Event { handler, arg }
+    }
+
+    fn begin(&self, alloc: Global, _colour: Colour) -> Result<Seat, Memory> {
+        Ok(Seat {
+            heard: Vec::new(alloc),
+        })
+    }
+
+    fn on(
+        &self,
+        at: Place,
+        seat: &mut Seat,
+        message: Message,
+        sends: &mut Sends<Message>,
+    ) -> Result<(), Memory> {
+        match message {
+            Message::Say(number, text) => {
+                sends.send(Colour(0), Message::Line(number, text));
+                Ok(())
+            }
+            Message::Line(number, text) => {
+                if at.number >= LINES as usize {
+                    return Ok(());
+                }
+                let place = at.number as u16;
+                let kept = keep(seat, place, number, &text);
+                sends.send(Colour(1), Message::Hear(place, number, text));
+                kept
+            }
+            Message::Hear(place, number, text) => {
+                let kept = keep(seat, place, number, &text);
+                if at.colour.0 < CLIENTS {
+                    sends.send(Colour(at.colour.0 + 1), Message::Hear(place, number, text));
+                }
+                kept
+            }
+        }
+    }
+}
+
+/// Keeps a copy of a line.
+///
+/// # Errors
+///
+/// There was no memory.
+fn keep(seat: &mut Seat, place: u16, number: u16, text: &Vec<u8>) -> Result<(), Memory> {
+    let text = text.clone()?;
+    seat.heard.push(Heard {
+        place,
+        number,
+        text,
+    })?;
+    Ok(())
+}
