@@ -1,8 +1,7 @@
 -- What colours have received is what was posted and what the messages received send.
 use Rattle.std.proofs.Common.{◌≡◌, ◌≢◌, ◌<◌, ◌+◌, ◌==◌, ℕ, zero, suc, Bool, true, false, List, [], ◌∷◌, ◌++◌, Option, Some, drop, take, nat_lt, length, if◌then◌else◌, refl, sym, ◌∙◌, ap, arith, inl, inr, eq-eqb, ne_eqb}
 use Rattle.std.proofs.lemmas.Bool.{cases_eq, lt-ltb}
-use Rattle.std.proofs.lemmas.List.{append-nil, drop-drop, length-append}
-use Rattle.std.proofs.lemmas.List.Elements.{filter-append}
+use Rattle.std.proofs.lemmas.List.{drop-drop}
 use Rattle.std.proofs.lemmas.List.Sums.{sum_by-append, sum_by-cons}
 use Rattle.std.specs.List.{AllByRecursion}
 use Rattle.std.specs.Prelude.{sum_by, slice_get}
@@ -19,6 +18,7 @@ use Rattle.mely_weave.specs.Side.{shard_of}
 use Rattle.mely_worker.specs.declared.app.App.{Ghosts as AppWords}
 use Rattle.mely_app.specs.Puts.{HasPutAll, sum_colours}
 use Rattle.mely_app.proofs.PutsLemmas.{put_as_counted, colours_same, colours_both}
+use Rattle.mely_actor.proofs.MessageLemmas.{behind_message, behind_post}
 use Rattle.mely_actor.proofs.RunLemmas.{all_drop, message_told, post_told}
 use Rattle.mely_actor.specs.Received.{count_sent}
 use Rattle.mely_actor.specs.Sending.{along, as_events, is_message, messages_in, post_next, told, without_loads}
@@ -206,17 +206,6 @@ module _ {M : Type 0} (event_of : M → Event) (c : Colour) (number : Event → 
 module _ (c : Colour) (number : Event → ℕ) (sends : ℕ → Event → List (Colour × Event)) (one : ℕ → ℕ) where
   abbrev pub along_it : List Event → Event → ℕ
   along_it before event = if event.handler == 0 then one event.arg else count_sent c number (sends (length (messages_in before)) event)
-
-  behind_post : (before : List Event) (event : Event) → event.handler ≡ 0 → messages_in (before ++ event ∷ []) ≡ messages_in before
-  behind_post before event none =
-      filter-append is_message before (event ∷ []) ∙ ap (λ (n : ℕ). messages_in before ++ (if nat_lt 0 n then event ∷ [] else [])) none ∙ append-nil (messages_in before)
-
-  behind_message : (before : List Event) (event : Event) → 0 < event.handler → length (messages_in (before ++ event ∷ [])) ≡ length (messages_in before) + 1
-  behind_message before event own =
-      let both = ap length (filter-append is_message before (event ∷ []) ∙ ap (λ (b : Bool). messages_in before ++ (if b then event ∷ [] else [])) (lt-ltb 0 event.handler own)) in
-      let all = length-append (messages_in before) (event ∷ []) in
-      let single : length (event ∷ []) ≡ 1 = refl in
-      omega (arith, both, all, single)
 
   pub along_split : (before events : List Event) → sum_along along_it before events ≡ sum_by (of_posts one) events + count_sent c number (along sends (length (messages_in before)) (messages_in events))
   along_split before [] = refl

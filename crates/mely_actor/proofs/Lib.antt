@@ -1,3 +1,4 @@
+mod MessageLemmas
 mod RunLemmas
 mod AccountLemmas
 mod StatesLemmas
