@@ -1,7 +1,7 @@
 //! The room and the clients, as actors.
-ghost use Rattle.std.specs.Prelude.{◌≡◌, ◌<◌, ◌≤◌, ◌+◌, length, map};
+ghost use Rattle.std.specs.Prelude.{◌≡◌, ◌+◌, ◌++◌, ◌∷◌, [], OnOk, map};
 ghost use Rattle.chat_colours.specs.declared.chat.TheConstants.{CLIENTS};
-ghost use Rattle.chat_colours.specs.Chats.{IsSeat, MayHear, event_of, sends_of};
+ghost use Rattle.chat_colours.specs.Chats.{IsSeat, MayHear, event_of, note_of, sends_of};
 
 use crate::message::Message;
 use crate::script::Line;
@@ -15,15 +15,12 @@ use std::snapshot::Snapshot;
 pub const CLIENTS: u16 = 4;
 
 /// How many lines a script has at most: their numbers and places are below this.
-pub const LINES: u16 = 256;
+pub const LINES: usize = 256;
 
-/// A chat over a script.
+/// A chat over a script, of which contracts alone know.
 #[derive(Drop)]
 pub struct Chat {
     pub script: Snapshot<Vec<Line>>,
-
-    // Two numbers of lines fit into the number of an event.
-    ghost few: { length script.value.items ≤ 256 },
 }
 
 impl Actor for Chat {
@@ -45,9 +42,11 @@ impl Actor for Chat {
 
     fn event(message: &Message) -> Event {
         let (handler, arg) = match message {
-            Message::Say(number, _) => (1, *number),
-            Message::Line(number, _) => (2, *number),
-            Message::Hear(place, number, _) => (3, *place * 256 + *number),
+            Message::Say(number, _) => (1, u16::from(*number)),
+            Message::Line(number, _) => (2, u16::from(*number)),
+            Message::Hear(place, number, _) => {
+                (3, u16::from(*place) * 256 + u16::from(*number))
+            }
         };
         Event { handler, arg }
     }
@@ -71,10 +70,10 @@ impl Actor for Chat {
                 Ok(())
             }
             Message::Line(number, text) => {
-                if at.number >= LINES as usize {
+                if at.number >= LINES {
                     return Ok(());
                 }
-                let place = at.number as u16;
+                let place = at.number as u8;
                 let kept = keep(seat, place, number, &text);
                 sends.send(Colour(1), Message::Hear(place, number, text));
                 kept
@@ -95,7 +94,10 @@ impl Actor for Chat {
 /// # Errors
 ///
 /// There was no memory.
-fn keep(seat: &mut Seat, place: u16, number: u16, text: &Vec<u8>) -> Result<(), Memory> {
+fn keep(seat: &mut Seat, place: u8, number: u8, text: &Vec<u8>) -> Result<(), Memory>
+    ensures { OnOk result (map note_of seat.new.heard.items
+        ≡ map note_of seat.old.heard.items ++ (place, number, text.now.items) ∷ []) }
+{
     let text = text.clone()?;
     seat.heard.push(Heard {
         place,

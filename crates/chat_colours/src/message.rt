@@ -4,12 +4,12 @@
 #[derive(Drop)]
 pub enum Message {
     /// A client is to say a line.
-    Say(u16, Vec<u8>),
+    Say(u8, Vec<u8>),
 
     /// The room is told a line.
-    Line(u16, Vec<u8>),
+    Line(u8, Vec<u8>),
 
     /// A client hears a line: its place in the room's order, its number in the script, and what it
     /// says.
-    Hear(u16, u16, Vec<u8>),
+    Hear(u8, u8, Vec<u8>),
 }

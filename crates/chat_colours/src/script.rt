@@ -1,4 +1,8 @@
 //! The script of a chat.
+ghost use Rattle.std.specs.Prelude.{◌≡◌, ◌≤◌, IfOk, IfSome, length};
+ghost use Rattle.std.specs.List.{AllByRecursion};
+ghost use Rattle.chat_colours.specs.Chats.{IsByClient};
+
 use crate::chat::{CLIENTS, LINES};
 use mely_event::Memory;
 use std::alloc::Global;
@@ -18,7 +22,9 @@ pub struct Line {
 /// # Errors
 ///
 /// There was no memory.
-fn read_line(alloc: Global, line: &str) -> Result<Option<Line>, Memory> {
+fn read_line(alloc: Global, line: &str) -> Result<Option<Line>, Memory>
+    ensures { IfOk result (λ read. IfSome read IsByClient) }
+{
     let Some((client, said)) = line.split_once(' ') else {
         return Ok(None);
     };
@@ -39,7 +45,11 @@ fn read_line(alloc: Global, line: &str) -> Result<Option<Line>, Memory> {
 /// # Errors
 ///
 /// There was no memory.
-pub fn read_script(alloc: Global, bytes: &[u8]) -> Result<Option<Vec<Line>>, Memory> {
+pub fn read_script(alloc: Global, bytes: &[u8]) -> Result<Option<Vec<Line>>, Memory>
+    ensures few { IfOk result (λ read. IfSome read (λ lines. length lines.items ≤ 256)) }
+    ensures clients { IfOk result (λ read. IfSome read (λ lines.
+        AllByRecursion IsByClient lines.items)) }
+{
     let Ok(text) = str::from_utf8(bytes) else {
         return Ok(None);
     };
@@ -48,7 +58,7 @@ pub fn read_script(alloc: Global, bytes: &[u8]) -> Result<Option<Vec<Line>>, Mem
         let Some(line) = read_line(alloc, line)? else {
             return Ok(None);
         };
-        if lines.len() >= LINES as usize {
+        if lines.len() >= LINES {
             return Ok(None);
         }
         lines.push(line)?;

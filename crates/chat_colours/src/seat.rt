@@ -4,10 +4,10 @@
 #[derive(Drop)]
 pub struct Heard {
     /// Its place in the room's order.
-    pub place: u16,
+    pub place: u8,
 
     /// Its number in the script.
-    pub number: u16,
+    pub number: u8,
 
     /// What it says.
     pub text: Vec<u8>,

@@ -1,4 +1,9 @@
 //! A run of the chat.
+ghost use Rattle.std.specs.Prelude.{◌≡◌, ◌≤◌, IfOk, length};
+ghost use Rattle.std.specs.List.{AllByRecursion};
+ghost use Rattle.chat_colours.specs.Chats.{IsByClient, said};
+ghost use Rattle.chat_colours.specs.Talked.{IsTalked};
+
 use crate::chat::{CLIENTS, Chat};
 use crate::message::Message;
 use crate::script::Line;
@@ -16,12 +21,15 @@ use std::thread::Threads;
 /// # Errors
 ///
 /// There was no memory.
-fn post_lines(alloc: Global, lines: Vec<Line>) -> Result<Vec<(Colour, Message)>, Memory> {
+fn post_lines(alloc: Global, lines: Vec<Line>) -> Result<Vec<(Colour, Message)>, Memory>
+    requires { length lines.items ≤ 256 }
+    ensures { IfOk result (λ posts. posts.items ≡ said 0 lines.items) }
+{
     let mut posts = Vec::new(alloc);
     let mut number = 0u16;
     'lines: for line in lines {
         let Line { client, text } = line;
-        posts.push((Colour(client), Message::Say(number, text)))?;
+        posts.push((Colour(client), Message::Say(number as u8, text)))?;
         number = number.saturating_add(1);
     }
     Ok(posts)
@@ -36,7 +44,11 @@ pub fn talk<R: Threads + Wait + Sync>(
     rt: &R,
     alloc: Global,
     lines: Vec<Line>,
-) -> Result<Ended<Seat>, Memory> {
+) -> Result<Ended<Seat>, Memory>
+    requires few { length lines.items ≤ 256 }
+    requires clients { AllByRecursion IsByClient lines.items }
+    ensures { IfOk result (λ ended. IsTalked lines.items ended.values.items) }
+{
     let shape = Shape {
         cores: 4,
         shards: 4,
