@@ -58,10 +58,10 @@ module _ (script : List ScriptLine) (number : Event → ℕ) (c : Colour) where
           let one = heard_one (record { 0 = 1 }) (Hear before k text) in
           let none : (if 1 == c.0 then of_heard number (event_of (Hear before k text)) else 0) ≡ 0 = ap (λ (b : Bool). if b then of_heard number (event_of (Hear before k text)) else 0) (ne_eqb 1 c.0 (λ e. apart (sym e))) in
           omega (arith, one, none, rest)
-      with_one false rest = rest
+      with_one false rest = omega (arith, rest)
 
   -- to the first client it is all
-  room_first : (before : ℕ) (received : List Message) → c.0 ≡ 1 → AllByRecursion (MayHear script room) received → heard_of (along (says room) before received) ≡ sum_by (λ send. number (event_of send.1)) (along (says room) before received)
+  room_first : (before : ℕ) (received : List Message) → c.0 ≡ 1 → AllByRecursion (MayHear script room) received → heard_of (along (says room) before received) ≡ sum_by (λ (send : Colour × Message). number (event_of send.1)) (along (says room) before received)
   room_first before [] first may = refl
   room_first before (Say k text ∷ more) first may = absurd (let low = may.0.0 in omega (arith, low))
   room_first before (Hear p k text ∷ more) first may = absurd (let low = may.0.0 in omega (arith, low))
@@ -69,14 +69,14 @@ module _ (script : List ScriptLine) (number : Event → ℕ) (c : Colour) where
       let rest = room_first (before + 1) more first may.1 in
       heard_append (says room before (Line k text)) (along (says room) (before + 1) more) ∙ with_one (nat_lt before 256) rest ∙ sym (sum_by-append (λ (send : Colour × Message). number (event_of send.1)) (says room before (Line k text)) (along (says room) (before + 1) more))
     where
-      with_one : (b : Bool) → heard_of (along (says room) (before + 1) more) ≡ sum_by (λ send. number (event_of send.1)) (along (says room) (before + 1) more)
-          → heard_of (if b then (record { 0 = 1 }, Hear before k text) ∷ [] else []) + heard_of (along (says room) (before + 1) more) ≡ sum_by (λ send. number (event_of send.1)) (if b then (record { 0 = 1 }, Hear before k text) ∷ [] else []) + sum_by (λ send. number (event_of send.1)) (along (says room) (before + 1) more)
+      with_one : (b : Bool) → heard_of (along (says room) (before + 1) more) ≡ sum_by (λ (send : Colour × Message). number (event_of send.1)) (along (says room) (before + 1) more)
+          → heard_of (if b then (record { 0 = 1 }, Hear before k text) ∷ [] else []) + heard_of (along (says room) (before + 1) more) ≡ sum_by (λ (send : Colour × Message). number (event_of send.1)) (if b then (record { 0 = 1 }, Hear before k text) ∷ [] else []) + sum_by (λ (send : Colour × Message). number (event_of send.1)) (along (says room) (before + 1) more)
       with_one true rest =
           let one = heard_one (record { 0 = 1 }) (Hear before k text) in
           let all : (if 1 == c.0 then number (event_of (Hear before k text)) else 0) ≡ number (event_of (Hear before k text)) = ap (λ (b : Bool). if b then number (event_of (Hear before k text)) else 0) (eq-eqb 1 c.0 (sym first)) in
           let other = sum_by-cons (λ (send : Colour × Message). number (event_of send.1)) (record { 0 = 1 }, Hear before k text) [] in
           omega (arith, one, all, other, rest)
-      with_one false rest = rest
+      with_one false rest = omega (arith, rest)
 
   module _ (d : Colour) (low : 0 < d.0) where
     -- a client passes nothing on but to the next one
@@ -97,7 +97,7 @@ module _ (script : List ScriptLine) (number : Event → ℕ) (c : Colour) where
             let one = heard_one (record { 0 = d.0 + 1 }) (Hear p k text) in
             let none : (if d.0 + 1 == c.0 then of_heard number (event_of (Hear p k text)) else 0) ≡ 0 = ap (λ (b : Bool). if b then of_heard number (event_of (Hear p k text)) else 0) (ne_eqb (d.0 + 1) c.0 apart) in
             omega (arith, one, none, rest)
-        with_one false rest = rest
+        with_one false rest = omega (arith, rest)
 
     -- to the next one it passes on all that it hears
     client_next : (before : ℕ) (received : List Message) → d.0 + 1 ≡ c.0 → nat_lt d.0 CLIENTS ≡ true → AllByRecursion (MayHear script d) received → heard_of (along (says d) before received) ≡ sum_by (of_heard number) (map event_of received)
@@ -133,7 +133,7 @@ if_talked One Other (Ok a) one so = so a one
 if_talked One Other (Err e) one so = tt
 
 module _ {A : Type 0} (a : ActorWords A Seat Message) (chat : A) (script : List ScriptLine) (setup : Setup) (histories : List (List Entry)) (seats : List Seat) (colours : colours_of setup ≡ CLIENTS + 1) (events : a.event_of ≡ event_of) (sounds : (c : Colour) (message : Message) → a.sound chat c message → MayHear script c message)
-    (keeps : (c : Colour) (received : List Message) (sent : List (Colour × Message)) (seat : Seat) → a.kept chat c received sent seat → IsSeat c received sent seat.heard.items) (kept : AreKept a chat setup (said 0 script) histories seats) where
+    (keeps : (c : Colour) (received : List Message) (sent : List (Colour × Message)) (seat : Seat) → a.kept chat c received sent seat → IsSeat c received sent seat.heard.items) (posts : List (Colour × Message)) (posts_are : posts ≡ said 0 script) (kept : AreKept a chat setup posts histories seats) where
   all_so : {X : Type 0} (One Other : X → Type 0) (xs : List X) → ((x : X) → One x → Other x) → AllByRecursion One xs → AllByRecursion Other xs
   all_so One Other [] so all = tt
   all_so One Other (x ∷ xs) so all = (so x all.0, all_so One Other xs so all.1)
@@ -153,8 +153,8 @@ module _ {A : Type 0} (a : ActorWords A Seat Message) (chat : A) (script : List 
 
   received_is : (number : Event → ℕ) (c : Colour) → c.0 < CLIENTS + 1 → sum_by (of_heard number) (map event_of (kept.received c)) ≡ sum_colours (CLIENTS + 1) (to_hear number c)
   received_is number c low =
-      let counted = subst (λ (e : Message → Event). sum_by (of_heard number) (map e (kept.received c)) ≡ count_sent c (of_heard number) (as_events e (said 0 script)) + sum_colours (colours_of setup) (λ d. count_sent c (of_heard number) (as_events e (kept.sent d)))) events (kept.counted c (omega (arith, low, colours)) (of_heard number)) in
-      let none = none_posted script number c 0 script in
+      let counted = subst (λ (e : Message → Event). sum_by (of_heard number) (map e (kept.received c)) ≡ count_sent c (of_heard number) (as_events e posts) + sum_colours (colours_of setup) (λ d. count_sent c (of_heard number) (as_events e (kept.sent d)))) events (kept.counted c (omega (arith, low, colours)) (of_heard number)) in
+      let none = ap (heard_of script number c) posts_are ∙ none_posted script number c 0 script in
       let many = ap (λ n. sum_colours n (to_hear number c)) colours in
       omega (arith, counted, none, many)
 
@@ -169,7 +169,7 @@ module _ {A : Type 0} (a : ActorWords A Seat Message) (chat : A) (script : List 
 
   -- what the room sent
   abbrev by_it : (Event → ℕ) → ℕ
-  by_it number = sum_by (λ send. number (event_of send.1)) (kept.sent room)
+  by_it number = sum_by (λ (send : Colour × Message). number (event_of send.1)) (kept.sent room)
 
   abbrev heard_by : (Event → ℕ) → ℕ → ℕ
   heard_by number c = sum_by (of_heard number) (map event_of (kept.received (record { 0 = c })))

@@ -52,8 +52,10 @@ says colour before (Hear place number text) = if nat_lt colour.0 CLIENTS
 abbrev pub sends_of : {A : Type 0} → A → Colour → ℕ → Event → List (Colour × Event)
 sends_of chat colour before event =
     if event.handler == 1 then (room, record { handler = 2; arg = event.arg }) ∷ []
-    else if event.handler == 2 then (if nat_lt before 256 then (record { 0 = 1 },
-    record { handler = 3; arg = before * 256 + event.arg }) ∷ [] else [])
+    else if event.handler == 2 then (if nat_lt before 256 then (
+      record { 0 = 1 },
+      record { handler = 3; arg = before * 256 + event.arg },
+    ) ∷ [] else [])
     else (if nat_lt colour.0 CLIENTS then (record { 0 = colour.0 + 1 }, event) ∷ [] else [])
 
 -- a line that was heard: its place, its number and its text

@@ -17,9 +17,10 @@ pub const CLIENTS: u16 = 4;
 /// How many lines a script has at most: their numbers and places are below this.
 pub const LINES: usize = 256;
 
-/// A chat over a script, of which contracts alone know.
+/// A chat, with where it keeps lines, over a script of which contracts alone know.
 #[derive(Drop)]
 pub struct Chat {
+    pub alloc: Global,
     pub script: Snapshot<Vec<Line>>,
 }
 
@@ -44,9 +45,7 @@ impl Actor for Chat {
         let (handler, arg) = match message {
             Message::Say(number, _) => (1, u16::from(*number)),
             Message::Line(number, _) => (2, u16::from(*number)),
-            Message::Hear(place, number, _) => {
-                (3, u16::from(*place) * 256 + u16::from(*number))
-            }
+            Message::Hear(place, number, _) => { (3, u16::from(*place) * 256 + u16::from(*number)) }
         };
         Event { handler, arg }
     }
@@ -74,12 +73,12 @@ impl Actor for Chat {
                     return Ok(());
                 }
                 let place = at.number as u8;
-                let kept = keep(seat, place, number, &text);
+                let kept = keep(self.alloc, seat, place, number, &text);
                 sends.send(Colour(1), Message::Hear(place, number, text));
                 kept
             }
             Message::Hear(place, number, text) => {
-                let kept = keep(seat, place, number, &text);
+                let kept = keep(self.alloc, seat, place, number, &text);
                 if at.colour.0 < CLIENTS {
                     sends.send(Colour(at.colour.0 + 1), Message::Hear(place, number, text));
                 }
@@ -94,15 +93,16 @@ impl Actor for Chat {
 /// # Errors
 ///
 /// There was no memory.
-fn keep(seat: &mut Seat, place: u8, number: u8, text: &Vec<u8>) -> Result<(), Memory>
+fn keep(alloc: Global, seat: &mut Seat, place: u8, number: u8, text: &[u8]) -> Result<(), Memory>
     ensures { OnOk result (map note_of seat.new.heard.items
-        ≡ map note_of seat.old.heard.items ++ (place, number, text.now.items) ∷ []) }
+        ≡ map note_of seat.old.heard.items ++ (place, number, text.now) ∷ []) }
 {
-    let text = text.clone()?;
+    let mut copy = Vec::new(alloc);
+    copy.extend_from_slice(text)?;
     seat.heard.push(Heard {
         place,
         number,
-        text,
+        text: copy,
     })?;
     Ok(())
 }

@@ -17,9 +17,9 @@ mod seat;
 mod talking;
 
 use script::read_script;
+use seat::Heard;
 use std::io;
 use std::io::Read;
-use seat::Heard;
 use std::process::ExitCode;
 use talking::talk;
 
@@ -41,8 +41,15 @@ fn main(rt: HostRuntime) -> io::Result<ExitCode> {
     };
     for (colour, seat) in ended.values.iter().enumerate() {
         let who = if colour == 0 { "the room" } else { "a client" };
-        let order = if is_in_order(&seat.heard) { "in" } else { "out of" };
-        println!(rt; "{who} has {} lines, {order} the room's order", seat.heard.len())?;
+        let order = if is_in_order(&seat.heard) {
+            "in"
+        } else {
+            "out of"
+        };
+        println!(rt;
+            "{who} has {} lines, {order} the room's order",
+            seat.heard.len()
+        )?;
     }
     if let Some(last) = ended.values.last() {
         for number in 0..many {

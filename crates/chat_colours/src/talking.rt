@@ -64,6 +64,7 @@ pub fn talk<R: Threads + Wait + Sync>(
         unreachable!()
     };
     let chat = Chat {
+        alloc,
         script: Snapshot::of(&lines),
     };
     let posts = post_lines(alloc, lines)?;

@@ -1,5 +1,5 @@
 -- What a message does to what a colour has, it does to the fold of what the colour has received.
-use Rattle.std.proofs.Common.{◌≡◌, ℕ, List, [], ◌∷◌, ◌++◌, Option, sym, ◌∙◌, ap, subst, fold}
+use Rattle.std.proofs.Common.{◌≡◌, ℕ, List, [], ◌∷◌, ◌++◌, Option, length, sym, ◌∙◌, ap, subst, fold}
 use Rattle.std.proofs.lemmas.List.{append-nil}
 use Rattle.std.proofs.lemmas.List.Elements.{filter_map-append}
 use Rattle.std.proofs.lemmas.List.Sums.{fold-append}
@@ -8,6 +8,7 @@ use Rattle.std.specs.Global.{Global}
 use Rattle.std.specs.List.{filter_map}
 use Rattle.std.specs.Ordering.{nat_cmp}
 use Rattle.std.specs.Prelude.{Result, Ok, Err, OnOk, String}
+use Rattle.mely_event.specs.declared.colour.Colour.{Colour}
 use Rattle.kv_colours.specs.declared.message.Message.{Message}
 use Rattle.kv_colours.specs.declared.message.Message.TheVariants.{Put, Get, Answer}
 use Rattle.kv_colours.specs.Stores.{IsStored, after_one, answer_in}
@@ -39,5 +40,6 @@ module _ (received : List Message) (entries : List (ℕ × String Global)) (answ
     answers_are = is ∙ ap (λ l. l ++ (key, found) ∷ []) stored.answers_are ∙ sym (filter_map-append answer_in received (Answer key found ∷ []));
   })
 
-pub get_done : {A E : Type 0} (entries : List (ℕ × String Global)) (answers : List (ℕ × Option (String Global))) (message : Message) (key client : ℕ) (answer : Result A E) → message ≡ Get key client → OnOk answer ((received : List Message) → IsStored received entries answers → IsStored (received ++ message ∷ []) entries answers)
-get_done entries answers message key client answer get = on_ok _ answer (λ received stored. subst (λ m. IsStored (received ++ m ∷ []) entries answers) (sym get) (get_kept received entries answers stored key client))
+pub get_done : {A E : Type 0} (entries : List (ℕ × String Global)) (answers : List (ℕ × Option (String Global))) (message : Message) (key client number : ℕ) (answer : Result A E) → message ≡ Get key client
+    → OnOk answer ((received : List Message) (sent : List (Colour × Message)) → length received ≡ number → IsStored received entries answers → IsStored (received ++ message ∷ []) entries answers)
+get_done entries answers message key client number answer get = on_ok _ answer (λ received sent many stored. subst (λ m. IsStored (received ++ m ∷ []) entries answers) (sym get) (get_kept received entries answers stored key client))

@@ -41,7 +41,7 @@ impl Actor for Store {
 
     ghost sends_of = { λ store colour number event. replies_of event };
 
-    ghost kept = { λ store colour received sent slot. IsStored received sent slot.map.entries
+    ghost kept = { λ store colour received sent slot. IsStored received slot.map.entries
         slot.answers.items };
 
     fn event(message: &Message) -> Event {
