@@ -22,8 +22,9 @@ use Rattle.chat_colours.specs.declared.message.Message.TheVariants.{Say, Line, H
 use Rattle.chat_colours.specs.declared.script.Line.{Line as ScriptLine}
 use Rattle.chat_colours.specs.declared.seat.Seat.{Seat}
 use Rattle.chat_colours.specs.declared.chat.TheConstants.{CLIENTS}
-use Rattle.chat_colours.specs.Chats.{IsSeat, MayHear, event_of, room, said, says}
-use Rattle.chat_colours.specs.Talked.{IsTalked, of_heard}
+use Rattle.chat_colours.specs.Chats.{IsByClient, IsSeat, MayHear, event_of, room, said, says}
+use Rattle.chat_colours.specs.Talked.{IsTalked, line_events, of_heard}
+use Rattle.chat_colours.proofs.ToldLemmas.{client_tells, none_says, of_said, posted_all, posted_elsewhere, posted_to, room_elsewhere, to_it}
 
 module _ (script : List ScriptLine) (number : Event → ℕ) (c : Colour) where
   -- the numbers of lines that are sent to the colour to be heard
@@ -133,7 +134,7 @@ if_talked One Other (Ok a) one so = so a one
 if_talked One Other (Err e) one so = tt
 
 module _ {A : Type 0} (a : ActorWords A Seat Message) (chat : A) (script : List ScriptLine) (setup : Setup) (histories : List (List Entry)) (seats : List Seat) (colours : colours_of setup ≡ CLIENTS + 1) (events : a.event_of ≡ event_of) (sounds : (c : Colour) (message : Message) → a.sound chat c message → MayHear script c message)
-    (keeps : (c : Colour) (received : List Message) (sent : List (Colour × Message)) (seat : Seat) → a.kept chat c received sent seat → IsSeat c received sent seat.heard.items) (posts : List (Colour × Message)) (posts_are : posts ≡ said 0 script) (kept : AreKept a chat setup posts histories seats) where
+    (keeps : (c : Colour) (received : List Message) (sent : List (Colour × Message)) (seat : Seat) → a.kept chat c received sent seat → IsSeat c received sent seat.heard.items) (posts : List (Colour × Message)) (posts_are : posts ≡ said 0 script) (by : AllByRecursion IsByClient script) (kept : AreKept a chat setup posts histories seats) where
   all_so : {X : Type 0} (One Other : X → Type 0) (xs : List X) → ((x : X) → One x → Other x) → AllByRecursion One xs → AllByRecursion Other xs
   all_so One Other [] so all = tt
   all_so One Other (x ∷ xs) so all = (so x all.0, all_so One Other xs so all.1)
@@ -150,6 +151,43 @@ module _ {A : Type 0} (a : ActorWords A Seat Message) (chat : A) (script : List 
   -- what a colour has sent to another to be heard
   abbrev to_hear : (Event → ℕ) → Colour → Colour → ℕ
   to_hear number c d = heard_of script number c (kept.sent d)
+
+  -- what a colour received is what was posted to it and what was sent to it
+  counted_is : (f : Event → ℕ) (c : Colour) → c.0 < CLIENTS + 1 → sum_by f (map event_of (kept.received c)) ≡ to_it c f (said 0 script) + sum_colours (CLIENTS + 1) (λ d. to_it c f (kept.sent d))
+  counted_is f c low =
+      let counted = subst (λ (e : Message → Event). sum_by f (map e (kept.received c)) ≡ count_sent c f (as_events e posts) + sum_colours (colours_of setup) (λ d. count_sent c f (as_events e (kept.sent d)))) events (kept.counted c (omega (arith, low, colours)) f) in
+      let all = ap (to_it c f) posts_are in
+      let many = ap (λ n. sum_colours n (λ d. to_it c f (kept.sent d))) colours in
+      omega (arith, counted, all, many)
+
+  -- a client is to say what is posted to it
+  client_says : (number : Event → ℕ) (d : ℕ) → d < CLIENTS + 1 → sum_by (of_said number) (map event_of (kept.received (record { 0 = d }))) ≡ posted_to script number d 0 script
+  client_says number d low =
+      let c : Colour = record { 0 = d } in
+      let all = counted_is (of_said number) c low in
+      let none : (e : Colour) → e.0 < CLIENTS + 1 → to_it c (of_said number) (kept.sent e) ≡ 0 = λ e below. (ap (to_it c (of_said number)) (passed e below) ∙ none_says script number c e 0 (kept.received e)) in
+      let zeroth = none (record { 0 = 0 }) (omega arith) in
+      let first = none (record { 0 = 1 }) (omega arith) in
+      let second = none (record { 0 = 2 }) (omega arith) in
+      let third = none (record { 0 = 3 }) (omega arith) in
+      let fourth = none (record { 0 = 4 }) (omega arith) in
+      omega (arith, all, zeroth, first, second, third, fourth)
+
+  client_told : (number : Event → ℕ) (d : ℕ) → 0 < d → d < CLIENTS + 1 → to_it room number (kept.sent (record { 0 = d })) ≡ posted_to script number d 0 script
+  client_told number d some low = ap (to_it room number) (passed (record { 0 = d }) low) ∙ client_tells script number (record { 0 = d }) some 0 (kept.received (record { 0 = d })) (may (record { 0 = d }) low) ∙ client_says number d low
+
+  -- the room is told each line of the script
+  room_told : (number : Event → ℕ) → sum_by number (map event_of (kept.received room)) ≡ sum_by number (line_events 0 script)
+  room_told number =
+      let all = counted_is number room (omega arith) in
+      let posted = posted_elsewhere script number 0 script by in
+      let zeroth = ap (to_it room number) (passed room (omega arith)) ∙ room_elsewhere script number 0 (kept.received room) (may room (omega arith)) in
+      let first = client_told number 1 (omega arith) (omega arith) in
+      let second = client_told number 2 (omega arith) (omega arith) in
+      let third = client_told number 3 (omega arith) (omega arith) in
+      let fourth = client_told number 4 (omega arith) (omega arith) in
+      let lines = posted_all script number 0 script by in
+      omega (arith, all, posted, zeroth, first, second, third, fourth, lines)
 
   received_is : (number : Event → ℕ) (c : Colour) → c.0 < CLIENTS + 1 → sum_by (of_heard number) (map event_of (kept.received c)) ≡ sum_colours (CLIENTS + 1) (to_hear number c)
   received_is number c low =
@@ -233,5 +271,6 @@ module _ {A : Type 0} (a : ActorWords A Seat Message) (chat : A) (script : List 
     sent = kept.sent;
     of_script = may;
     seat = λ c seat there. keeps c (kept.received c) (kept.sent c) seat (kept.kept c seat there);
+    told = room_told;
     heard = λ c some low number. at number c.0 some low;
   }

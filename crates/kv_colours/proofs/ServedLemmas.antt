@@ -37,10 +37,11 @@ if_served One Other (Ok a) one so = so a one
 if_served One Other (Err e) one so = tt
 
 pub are_served : {A : Type 0} (a : ActorWords A Slot Message) (store : A) (setup : Setup) (posts : List (Colour × Message)) (histories : List (List Entry)) (slots : List Slot) → colours_of setup ≡ BUCKETS + CLIENTS → a.event_of ≡ event_of → ((d : Colour) (n : ℕ) (event : Event) → a.sends_of store d n event ≡ replies_of event)
-    → ((c : Colour) (message : Message) → a.sound store c message → IsPlaced c message) → ((c : Colour) (received : List Message) (sent : List (Colour × Message)) (slot : Slot) → a.kept store c received sent slot → IsStored received slot.map.entries slot.answers.items) → AreKept a store setup posts histories slots → IsServed posts slots
+    → ((c : Colour) (message : Message) → a.sound store c message → IsPlaced c message) → ((c : Colour) (received : List Message) (sent : List (Colour × Message)) (slot : Slot) → a.kept store c received sent slot → IsStored received sent slot.map.entries slot.answers.items) → AreKept a store setup posts histories slots → IsServed posts slots
 are_served a store setup posts histories slots colours events sends sounds keeps kept = record {
   colours = kept.many ∙ colours;
   received = kept.received;
+  sent = kept.sent;
   placed = λ c low. all_so (a.sound store c) (IsPlaced c) (kept.received c) (sounds c) (kept.sound c (omega (arith, low, colours)));
   stored = λ c slot at. keeps c (kept.received c) (kept.sent c) slot (kept.kept c slot at);
   asked = λ c low number.
