@@ -1,5 +1,8 @@
 //! The clients and the buckets, as actors.
-ghost use Rattle.std.specs.Prelude.{◌≡◌, ◌<◌, ◌≤◌, ◌+◌};
+ghost use Rattle.std.specs.Prelude.{◌≡◌, ◌≤◌, ◌+◌, [], IfOk, length};
+ghost use Rattle.std.specs.List.{AllByRecursion};
+ghost use Rattle.mely_actor.specs.Sending.{MaySend, as_events};
+ghost use Rattle.kv_loop.specs.declared.message.Message.TheVariants.{Next};
 ghost use Rattle.kv_loop.specs.declared.asking.TheConstants.{BUCKETS, CLIENTS};
 ghost use Rattle.kv_loop.specs.Asks.{IsPlaced, asks_of, event_of};
 
@@ -33,6 +36,9 @@ pub struct Slot {
 
     /// How many messages of clients it received.
     pub received: u64,
+
+    /// How many of them found their key.
+    pub found: u64,
 
     /// What was computed for them, summed up as far as 32 bits go round.
     pub sum: u32,
@@ -76,6 +82,7 @@ impl Actor for Asking {
         Ok(Slot {
             map: HashMap::new(alloc),
             received: 0,
+            found: 0,
             sum: 0,
         })
     }
@@ -96,10 +103,12 @@ impl Actor for Asking {
                 slot.map.insert(key, value)?;
                 key
             }
-            Message::Get(key) => match slot.map.get(&key) {
-                Some(_) => key,
-                None => key,
-            },
+            Message::Get(key) => {
+                if slot.map.get(&key).is_some() {
+                    slot.found = slot.found.saturating_add(1);
+                }
+                key
+            }
         };
         slot.sum = slot.sum.wrapping_add(drawn_after(key as u32, self.rounds));
         slot.received = slot.received.saturating_add(1);
@@ -108,7 +117,13 @@ impl Actor for Asking {
 }
 
 /// A client sends one message to the bucket of its key, and has itself ask on where more are left.
-fn ask(client: Colour, left: u16, sends: &mut Sends<Message>) {
+fn ask(client: Colour, left: u16, sends: &mut Sends<Message>)
+    requires client { IsPlaced client (Next left) }
+    requires empty { sends.old ≡ [] }
+    ensures sent { as_events event_of sends.new
+        ≡ asks_of client (record { handler = 1; arg = left }) }
+    ensures allowed { AllByRecursion (MaySend (BUCKETS + CLIENTS) 3 event_of IsPlaced) sends.new }
+{
     if left == 0 {
         return;
     }
@@ -141,7 +156,11 @@ fn drawn_after(seed: u32, rounds: u32) -> u32 {
 /// # Errors
 ///
 /// There was no memory.
-fn begin_all(alloc: Global, messages: u16) -> Result<Vec<(Colour, Message)>, Memory> {
+fn begin_all(alloc: Global, messages: u16) -> Result<Vec<(Colour, Message)>, Memory>
+    ensures few { IfOk result (λ posts. length posts.items ≤ CLIENTS) }
+    ensures may { IfOk result (λ posts. AllByRecursion
+        (MaySend (BUCKETS + CLIENTS) 3 event_of IsPlaced) posts.items) }
+{
     let mut posts = Vec::new(alloc);
     'clients: for client in 0..CLIENTS {
         posts.push((Colour(BUCKETS + client), Message::Next(messages)))?;
@@ -159,7 +178,8 @@ pub fn run<R: Threads + Wait + Sync>(
     alloc: Global,
     order: &Order,
 ) -> Result<Vec<Slot>, Memory>
-    requires { (1 ≤ order.now.workers) × (order.now.workers ≤ 8) }
+    requires some { 1 ≤ order.now.workers }
+    requires few { order.now.workers ≤ 8 }
 {
     let shape = Shape {
         cores: order.workers,

@@ -40,11 +40,17 @@ fn main(rt: HostRuntime) -> io::Result<ExitCode> {
         return Ok(ExitCode::from(7));
     };
     let mut received = 0u64;
+    let mut found = 0u64;
     let mut sum = 0u32;
     for slot in &slots {
         received = received.saturating_add(slot.received);
+        found = found.saturating_add(slot.found);
         sum = sum.wrapping_add(slot.sum);
     }
     println!(rt; "{received} messages received, sum {sum}")?;
+    if found > received {
+        eprintln!(rt; "kv_loop: more was found than was asked for")?;
+        return Ok(ExitCode::from(1));
+    }
     Ok(ExitCode::SUCCESS)
 }
