@@ -57,8 +57,8 @@ amount_in (Transfer to amount) = 0
 
 -- Each account has what the messages make of it that it has received, and paid what they say, no
 -- more than it had: where what came in is of 64 bits, it is what is there and what was paid. And
--- what it received is what was posted to it and what was sent to it, no more and no less, counted by
--- the events.
+-- what it received is what was posted to it and what was sent to it, no more and no less, counted
+-- by the events.
 pub record AreBalanced (posts : List (Colour × Message)) (balances : List ℕ) : Type 0 where
   pub accounts : length balances ≡ ACCOUNTS
   pub received : Colour → List Message

@@ -13,8 +13,8 @@ use Rattle.chat_colours.specs.declared.seat.Heard.{Heard}
 abbrev pub room : Colour
 room = record { 0 = 0 }
 
--- under which event a message stands in the histories: by the line's number in the script, and where
--- it is heard by its place in the room's order too
+-- under which event a message stands in the histories: by the line's number in the script, and
+-- where it is heard by its place in the room's order too
 abbrev pub event_of : Message → Event
 event_of (Say number text) = record { handler = 1; arg = number }
 event_of (Line number text) = record { handler = 2; arg = number }
@@ -72,8 +72,8 @@ notes before (Line number text) =
     if nat_lt before 256 then (before, number, text.items) ∷ [] else []
 notes before (Hear place number text) = (place, number, text.items) ∷ []
 
--- what was sent is what the messages received have the colour send, and what is kept is what is kept
--- of them, in that order
+-- what was sent is what the messages received have the colour send, and what is kept is what is
+-- kept of them, in that order
 pub record IsSeat (colour : Colour) (received : List Message) (sent : List (Colour × Message))
     (heard : List Heard) : Type 0 where
   pub passed : sent ≡ along (says colour) 0 received

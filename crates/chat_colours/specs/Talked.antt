@@ -19,11 +19,11 @@ line_events number [] = []
 line_events number (line ∷ lines) =
     record { handler = 2; arg = number } ∷ line_events (number + 1) lines
 
--- Each colour keeps what it was told, and sent what that has it send: so the room sent each line that
--- it was told, at its place in the order in which they came. What it was told, and what clients heard,
--- is of the script, by its number. The room was told each line of the script, and each client has
--- heard what the room sent, no more and no less: so it is counted, whatever number a line has by its
--- place and its number in the script.
+-- Each colour keeps what it was told, and sent what that has it send: so the room sent each line
+-- that it was told, at its place in the order in which they came. What it was told, and what
+-- clients heard, is of the script, by its number. The room was told each line of the script, and
+-- each client has heard what the room sent, no more and no less: so it is counted, whatever number
+-- a line has by its place and its number in the script.
 pub record IsTalked (script : List ScriptLine) (seats : List Seat) : Type 0 where
   pub many : length seats ≡ CLIENTS + 1
   pub received : Colour → List Message

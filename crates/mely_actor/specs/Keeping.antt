@@ -5,9 +5,9 @@ use Rattle.mely_event.specs.declared.colour.Colour.{Colour}
 use Rattle.mely_event.specs.declared.event.Event.{Event}
 use Rattle.mely_actor.specs.Sending.{along, as_events, messages_in}
 
--- the colour has received these messages and sent those: the events of what it received are those of
--- messages among these events, in that order; each might be sent to it; what it sent has the events
--- that they send; and the value keeps the author's fact over both
+-- the colour has received these messages and sent those: the events of what it received are those
+-- of messages among these events, in that order; each might be sent to it; what it sent has the
+-- events that they send; and the value keeps the author's fact over both
 pub record Keeps {M V : Type 0} (event_of : M → Event) (sound : Colour → M → Type 0)
     (sends_of : Colour → ℕ → Event → List (Colour × Event))
     (kept : Colour → List M → List (Colour × M) → V → Type 0) (colour : Colour)
