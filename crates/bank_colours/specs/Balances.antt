@@ -1,5 +1,5 @@
--- What an account has.
-use Rattle.std.specs.Prelude.{◌≡◌, ◌==◌, ◌+◌, ◌-◌, ◌^◌, ◌<◌, ℕ, List, [], ◌∷◌, Some, fold, if◌then◌else◌, length, map, min, slice_get, sum_by}
+-- What an account has and has paid.
+use Rattle.std.specs.Prelude.{◌≡◌, ◌==◌, ◌+◌, ◌-◌, ◌^◌, ◌<◌, ℕ, List, [], ◌∷◌, ◌++◌, Some, fold, if◌then◌else◌, length, map, min, slice_get, sum_by}
 use Rattle.mely_app.specs.Puts.{sum_colours}
 use Rattle.mely_actor.specs.Received.{count_sent}
 use Rattle.mely_actor.specs.Sending.{as_events}
@@ -29,18 +29,47 @@ abbrev pub after_one : ℕ → Message → ℕ
 after_one balance (Deposit amount) = min (balance + amount) (2 ^ 64 - 1)
 after_one balance (Transfer to amount) = balance - amount
 
--- after all of them
+-- what a message pays to whom: a transfer as much as is there
+abbrev pub paid_by : ℕ → Message → List (Colour × Message)
+paid_by balance (Deposit amount) = []
+paid_by balance (Transfer to amount) = (record { 0 = to }, Deposit (min balance amount)) ∷ []
+
+-- the balance after all of them
 abbrev pub balance_of : List Message → ℕ
 balance_of received = fold after_one 0 received
 
--- Each account has what the messages make of it that it has received; and these are what was posted
--- to it and a deposit for each transfer to it, no more and no less, counted by the events.
+-- what they pay one after another, from a balance on
+abbrev pub payments : ℕ → List Message → List (Colour × Message)
+payments balance [] = []
+payments balance (message ∷ more) =
+    paid_by balance message ++ payments (after_one balance message) more
+
+-- the balance is what the messages received make of it, and what was sent is what they pay
+pub record IsAccount (received : List Message) (sent : List (Colour × Message))
+    (balance : ℕ) : Type 0 where
+  pub balanced : balance ≡ balance_of received
+  pub paid : sent ≡ payments 0 received
+
+-- how much money a message brings
+abbrev pub amount_in : Message → ℕ
+amount_in (Deposit amount) = amount
+amount_in (Transfer to amount) = 0
+
+-- Each account has what the messages make of it that it has received, and paid what they say, no
+-- more than it had: where what came in is of 64 bits, it is what is there and what was paid. And
+-- what it received is what was posted to it and what was sent to it, no more and no less, counted
+-- by the events.
 pub record AreBalanced (posts : List (Colour × Message)) (balances : List ℕ) : Type 0 where
   pub accounts : length balances ≡ ACCOUNTS
   pub received : Colour → List Message
-  pub balanced : (c : Colour) (balance : ℕ) → slice_get balances c.0 ≡ Some balance
-      → balance ≡ balance_of (received c)
+  pub sent : Colour → List (Colour × Message)
+  pub account : (c : Colour) (balance : ℕ) → slice_get balances c.0 ≡ Some balance
+      → IsAccount (received c) (sent c) balance
+  pub conserved : (c : Colour) (balance : ℕ) → slice_get balances c.0 ≡ Some balance
+      → sum_by amount_in (received c) < 2 ^ 64
+      → sum_by amount_in (received c)
+      ≡ balance + sum_by (λ payment. amount_in payment.1) (sent c)
   pub counted : (c : Colour) → c.0 < ACCOUNTS → (number : Event → ℕ)
       → sum_by number (map event_of (received c))
-      ≡ count_sent c number (as_events event_of posts) + sum_colours ACCOUNTS
-      (λ d. sum_by (λ event. count_sent c number (sends_of event)) (map event_of (received d)))
+      ≡ count_sent c number (as_events event_of posts)
+      + sum_colours ACCOUNTS (λ d. count_sent c number (as_events event_of (sent d)))

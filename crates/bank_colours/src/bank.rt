@@ -3,10 +3,10 @@ ghost use Rattle.std.specs.Prelude.{◌≡◌, ◌<◌, IfOk, length};
 ghost use Rattle.std.specs.List.{AllByRecursion};
 ghost use Rattle.mely_actor.specs.Sending.{MaySend};
 ghost use Rattle.bank_colours.specs.declared.bank.TheConstants.{ACCOUNTS};
-ghost use Rattle.bank_colours.specs.Balances.{AreBalanced, IsSound, balance_of, event_of, sends_of};
+ghost use Rattle.bank_colours.specs.Balances.{AreBalanced, IsAccount, IsSound, event_of, sends_of};
 
 use crate::message::Message;
-use mely_actor::{Actor, Ended, Sends, run_actors};
+use mely_actor::{Actor, Ended, Place, Sends, run_actors};
 use mely_event::{Colour, Event, Handlers, Memory};
 use mely_history::{Setup, Shape};
 use std::alloc::Global;
@@ -33,9 +33,9 @@ impl Actor for Bank {
 
     ghost sound = { λ bank colour message. IsSound message };
 
-    ghost sends_of = { λ bank colour event. sends_of event };
+    ghost sends_of = { λ bank colour number event. sends_of event };
 
-    ghost kept = { λ bank colour received balance. balance ≡ balance_of received };
+    ghost kept = { λ bank colour received sent balance. IsAccount received sent balance };
 
     fn event(message: &Message) -> Event {
         match message {
@@ -53,7 +53,7 @@ impl Actor for Bank {
 
     fn on(
         &self,
-        _colour: Colour,
+        _place: Place,
         balance: &mut u64,
         message: Message,
         sends: &mut Sends<Message>,

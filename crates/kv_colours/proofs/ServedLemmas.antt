@@ -36,14 +36,15 @@ pub if_served : {A E : Type 0} (One Other : A → Type 0) (answer : Result A E) 
 if_served One Other (Ok a) one so = so a one
 if_served One Other (Err e) one so = tt
 
-pub are_served : {A : Type 0} (a : ActorWords A Slot Message) (store : A) (setup : Setup) (posts : List (Colour × Message)) (histories : List (List Entry)) (slots : List Slot) → colours_of setup ≡ BUCKETS + CLIENTS → a.event_of ≡ event_of → ((d : Colour) (event : Event) → a.sends_of store d event ≡ replies_of event)
-    → ((c : Colour) (message : Message) → a.sound store c message → IsPlaced c message) → ((c : Colour) (received : List Message) (slot : Slot) → a.kept store c received slot → IsStored received slot.map.entries slot.answers.items) → AreKept a store setup posts histories slots → IsServed posts slots
+pub are_served : {A : Type 0} (a : ActorWords A Slot Message) (store : A) (setup : Setup) (posts : List (Colour × Message)) (histories : List (List Entry)) (slots : List Slot) → colours_of setup ≡ BUCKETS + CLIENTS → a.event_of ≡ event_of → ((d : Colour) (n : ℕ) (event : Event) → a.sends_of store d n event ≡ replies_of event)
+    → ((c : Colour) (message : Message) → a.sound store c message → IsPlaced c message) → ((c : Colour) (received : List Message) (sent : List (Colour × Message)) (slot : Slot) → a.kept store c received sent slot → IsStored received sent slot.map.entries slot.answers.items) → AreKept a store setup posts histories slots → IsServed posts slots
 are_served a store setup posts histories slots colours events sends sounds keeps kept = record {
   colours = kept.many ∙ colours;
   received = kept.received;
+  sent = kept.sent;
   placed = λ c low. all_so (a.sound store c) (IsPlaced c) (kept.received c) (sounds c) (kept.sound c (omega (arith, low, colours)));
-  stored = λ c slot at. keeps c (kept.received c) slot (kept.kept c slot at);
+  stored = λ c slot at. keeps c (kept.received c) (kept.sent c) slot (kept.kept c slot at);
   asked = λ c low number.
-      let counts = quiet_counts a store setup posts histories slots kept c number (omega (arith, low, colours)) (λ d event. ap (count_sent c number) (sends d event) ∙ no_reply c number event low) in
+      let counts = quiet_counts a store setup posts histories slots kept c number (omega (arith, low, colours)) (λ d n event. ap (count_sent c number) (sends d n event) ∙ no_reply c number event low) in
       subst (λ (e : Message → Event). sum_by number (map e (kept.received c)) ≡ count_sent c number (as_events e posts)) events counts;
 }

@@ -1,6 +1,6 @@
 -- What a message does to what a colour has, it does to the fold of what the colour has received.
-use Rattle.std.proofs.Common.{◌≡◌, ℕ, List, [], ◌∷◌, ◌++◌, Option, sym, ◌∙◌, ap, subst, fold}
-use Rattle.std.proofs.lemmas.List.{append-nil}
+use Rattle.std.proofs.Common.{◌≡◌, ◌+◌, ℕ, List, [], ◌∷◌, ◌++◌, Option, Some, length, map, sym, ◌∙◌, ap, fold, append_assoc}
+use Rattle.std.proofs.lemmas.List.{append-nil, map-append}
 use Rattle.std.proofs.lemmas.List.Elements.{filter_map-append}
 use Rattle.std.proofs.lemmas.List.Sums.{fold-append}
 use Rattle.std.specs.BTreeMap.{insert_entry}
@@ -8,36 +8,52 @@ use Rattle.std.specs.Global.{Global}
 use Rattle.std.specs.List.{filter_map}
 use Rattle.std.specs.Ordering.{nat_cmp}
 use Rattle.std.specs.Prelude.{Result, Ok, Err, OnOk, String}
+use Rattle.mely_event.specs.declared.colour.Colour.{Colour}
 use Rattle.kv_colours.specs.declared.message.Message.{Message}
 use Rattle.kv_colours.specs.declared.message.Message.TheVariants.{Put, Get, Answer}
-use Rattle.kv_colours.specs.Stores.{IsStored, after_one, answer_in}
+use Rattle.kv_colours.specs.declared.store.TheConstants.{BUCKETS}
+use Rattle.kv_colours.specs.Stores.{IsStored, Reply, after_one, answer_in, found_in, replies, reply_in, reply_to, text_of}
 
--- a fact on an answer, whichever it is
-on_ok : {A E : Type 0} (P : Type 0) (answer : Result A E) → P → OnOk answer P
-on_ok P (Ok a) is = is
-on_ok P (Err e) is = tt
+-- one message more replies by what the others made of the entries
+replies_push : (entries : List (ℕ × String Global)) (received : List Message) (message : Message) → replies entries (received ++ message ∷ []) ≡ replies entries received ++ reply_to (fold after_one entries received) message
+replies_push entries [] message = append-nil (reply_to entries message)
+replies_push entries (one ∷ more) message =
+    ap (λ l. reply_to entries one ++ l) (replies_push (after_one entries one) more message)
+    ∙ sym (append_assoc (reply_to entries one) (replies (after_one entries one) more) (reply_to (fold after_one (after_one entries one) more) message))
 
-module _ (received : List Message) (entries : List (ℕ × String Global)) (answers : List (ℕ × Option (String Global))) (stored : IsStored received entries answers) where
-  next_map : (message : Message) → fold after_one [] (received ++ message ∷ []) ≡ after_one entries message
-  next_map message = fold-append after_one [] received (message ∷ []) ∙ ap (λ es. after_one es message) (sym stored.map_is)
+-- what was sent, as replies
+abbrev all_in : List (Colour × Message) → List (Option Reply)
+all_in sent = map (λ (send : Colour × Message). reply_in send.0 send.1) sent
 
-  pub put_kept : (message : Message) (key : ℕ) (value : String Global) (after : List (ℕ × String Global)) → after ≡ insert_entry nat_cmp entries key value → message ≡ Put key value → IsStored (received ++ message ∷ []) after answers
-  put_kept message key value after is put = subst (λ m. IsStored (received ++ m ∷ []) after answers) (sym put) (record {
-    map_is = is ∙ sym (next_map (Put key value));
-    answers_are = stored.answers_are ∙ sym (filter_map-append answer_in received (Put key value ∷ []) ∙ append-nil (filter_map answer_in received));
-  })
+module _ (received : List Message) (sent new : List (Colour × Message)) (entries : List (ℕ × String Global)) (answers : List (ℕ × Option (String Global))) (message : Message) (stored : IsStored received sent entries answers) where
+  next_map : fold after_one [] (received ++ message ∷ []) ≡ after_one entries message
+  next_map = fold-append after_one [] received (message ∷ []) ∙ ap (λ es. after_one es message) (sym stored.map_is)
 
-  pub get_kept : (key client : ℕ) → IsStored (received ++ Get key client ∷ []) entries answers
-  get_kept key client = record {
-    map_is = sym (next_map (Get key client));
-    answers_are = stored.answers_are ∙ sym (filter_map-append answer_in received (Get key client ∷ []) ∙ append-nil (filter_map answer_in received));
+  next_answers : filter_map answer_in (received ++ message ∷ []) ≡ answers ++ filter_map answer_in (message ∷ [])
+  next_answers = filter_map-append answer_in received (message ∷ []) ∙ ap (λ l. l ++ filter_map answer_in (message ∷ [])) (sym stored.answers_are)
+
+  -- one message more
+  pub stored_more : (after : List (ℕ × String Global)) (told : List (ℕ × Option (String Global))) → after ≡ after_one entries message → told ≡ answers ++ filter_map answer_in (message ∷ []) → all_in new ≡ reply_to entries message → IsStored (received ++ message ∷ []) (sent ++ new) after told
+  stored_more after told is tells replies_so = record {
+    replied = map-append (λ (send : Colour × Message). reply_in send.0 send.1) sent new ∙ ap (λ l. l ++ all_in new) stored.replied ∙ ap (λ l. replies [] received ++ l) (replies_so ∙ ap (λ es. reply_to es message) stored.map_is) ∙ sym (replies_push [] received message);
+    map_is = is ∙ sym next_map;
+    answers_are = tells ∙ sym next_answers;
   }
 
-  pub answer_kept : (message : Message) (key : ℕ) (found : Option (String Global)) (after : List (ℕ × Option (String Global))) → after ≡ answers ++ (key, found) ∷ [] → message ≡ Answer key found → IsStored (received ++ message ∷ []) entries after
-  answer_kept message key found after is told = subst (λ m. IsStored (received ++ m ∷ []) entries after) (sym told) (record {
-    map_is = sym (next_map (Answer key found));
-    answers_are = is ∙ ap (λ l. l ++ (key, found) ∷ []) stored.answers_are ∙ sym (filter_map-append answer_in received (Answer key found ∷ []));
-  })
+-- the same on an answer, of a message that asks
+pub get_done : {A E : Type 0} (entries : List (ℕ × String Global)) (answers : List (ℕ × Option (String Global))) (message : Message) (key client number : ℕ) (found : Option (String Global)) (new : List (Colour × Message)) (answer : Result A E) → message ≡ Get key client → new ≡ (record { 0 = BUCKETS + client }, Answer key found) ∷ [] → OnOk answer (text_of found ≡ found_in entries key)
+    → OnOk answer ((received : List Message) (sent : List (Colour × Message)) → length received ≡ number → IsStored received sent entries answers → IsStored (received ++ message ∷ []) (sent ++ new) entries answers)
+get_done entries answers message key client number found new (Err e) get sends finds = tt
+get_done entries answers message key client number found new (Ok a) get sends finds = λ received sent many stored.
+    stored_more received sent new entries answers message stored entries answers (ap (after_one entries) (sym get)) (sym (append-nil answers) ∙ ap (λ (m : Message). answers ++ filter_map answer_in (m ∷ [])) (sym get))
+    (ap all_in sends ∙ ap (λ (text : Option (List ℕ)). Some (record { 0 = BUCKETS + client }, key, text) ∷ []) finds ∙ ap (reply_to entries) (sym get))
 
-pub get_done : {A E : Type 0} (entries : List (ℕ × String Global)) (answers : List (ℕ × Option (String Global))) (message : Message) (key client : ℕ) (answer : Result A E) → message ≡ Get key client → OnOk answer ((received : List Message) → IsStored received entries answers → IsStored (received ++ message ∷ []) entries answers)
-get_done entries answers message key client answer get = on_ok _ answer (λ received stored. subst (λ m. IsStored (received ++ m ∷ []) entries answers) (sym get) (get_kept received entries answers stored key client))
+pub put_done : (received : List Message) (sent new : List (Colour × Message)) (entries after : List (ℕ × String Global)) (answers : List (ℕ × Option (String Global))) (message : Message) (key : ℕ) (value : String Global) → IsStored received sent entries answers → after ≡ insert_entry nat_cmp entries key value → new ≡ [] → message ≡ Put key value
+    → IsStored (received ++ message ∷ []) (sent ++ new) after answers
+put_done received sent new entries after answers message key value stored is none put =
+    stored_more received sent new entries answers message stored after answers (is ∙ ap (after_one entries) (sym put)) (sym (append-nil answers) ∙ ap (λ (m : Message). answers ++ filter_map answer_in (m ∷ [])) (sym put)) (ap all_in none ∙ ap (reply_to entries) (sym put))
+
+pub answer_done : (received : List Message) (sent new : List (Colour × Message)) (entries : List (ℕ × String Global)) (answers told : List (ℕ × Option (String Global))) (message : Message) (key : ℕ) (found : Option (String Global)) → IsStored received sent entries answers → told ≡ answers ++ (key, found) ∷ [] → new ≡ [] → message ≡ Answer key found
+    → IsStored (received ++ message ∷ []) (sent ++ new) entries told
+answer_done received sent new entries answers told message key found stored is none answer =
+    stored_more received sent new entries answers message stored entries told (ap (after_one entries) (sym answer)) (is ∙ ap (λ (m : Message). answers ++ filter_map answer_in (m ∷ [])) (sym answer)) (ap all_in none ∙ ap (reply_to entries) (sym answer))

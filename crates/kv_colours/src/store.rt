@@ -1,10 +1,10 @@
 //! The store, as actors.
-ghost use Rattle.std.specs.Prelude.{◌≡◌, ◌<◌, ◌+◌};
+ghost use Rattle.std.specs.Prelude.{◌≡◌, ◌<◌, ◌+◌, OnOk};
 ghost use Rattle.kv_colours.specs.declared.store.TheConstants.{BUCKETS, CLIENTS};
-ghost use Rattle.kv_colours.specs.Stores.{IsPlaced, IsStored, event_of, replies_of};
+ghost use Rattle.kv_colours.specs.Stores.{IsPlaced, IsStored, event_of, found_in, replies_of, text_of};
 
 use crate::message::Message;
-use mely_actor::{Actor, Sends};
+use mely_actor::{Actor, Place, Sends};
 use mely_event::{Colour, Event, Memory};
 use std::alloc::Global;
 use std::collections::BTreeMap;
@@ -39,9 +39,9 @@ impl Actor for Store {
 
     ghost sound = { λ store colour message. IsPlaced colour message };
 
-    ghost sends_of = { λ store colour event. replies_of event };
+    ghost sends_of = { λ store colour number event. replies_of event };
 
-    ghost kept = { λ store colour received slot. IsStored received slot.map.entries
+    ghost kept = { λ store colour received sent slot. IsStored received sent slot.map.entries
         slot.answers.items };
 
     fn event(message: &Message) -> Event {
@@ -62,7 +62,7 @@ impl Actor for Store {
 
     fn on(
         &self,
-        _colour: Colour,
+        _place: Place,
         slot: &mut Slot,
         message: Message,
         sends: &mut Sends<Message>,
@@ -83,7 +83,9 @@ impl Actor for Store {
 }
 
 /// A copy of what the slot has under a key. Without memory for it nothing is found.
-fn look(slot: &Slot, key: u64) -> (Option<String>, Result<(), Memory>) {
+fn look(slot: &Slot, key: u64) -> (Option<String>, Result<(), Memory>)
+    ensures { OnOk result.1 (text_of result.0 ≡ found_in slot.now.map.entries key) }
+{
     match slot.map.get(&key) {
         Some(value) => match value.clone() {
             Ok(copy) => (Some(copy), Ok(())),

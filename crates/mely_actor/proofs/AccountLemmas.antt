@@ -1,8 +1,8 @@
 -- What colours have received is what was posted and what the messages received send.
-use Rattle.std.proofs.Common.{◌≡◌, ◌≢◌, ◌<◌, ◌+◌, ◌==◌, ℕ, zero, suc, Bool, true, false, List, [], ◌∷◌, Option, Some, drop, take, nat_lt, if◌then◌else◌, refl, sym, ◌∙◌, ap, arith, inl, inr, eq-eqb, ne_eqb}
+use Rattle.std.proofs.Common.{◌≡◌, ◌≢◌, ◌<◌, ◌+◌, ◌==◌, ℕ, zero, suc, Bool, true, false, List, [], ◌∷◌, ◌++◌, Option, Some, drop, take, nat_lt, length, if◌then◌else◌, refl, sym, ◌∙◌, ap, arith, inl, inr, eq-eqb, ne_eqb}
 use Rattle.std.proofs.lemmas.Bool.{cases_eq, lt-ltb}
 use Rattle.std.proofs.lemmas.List.{drop-drop}
-use Rattle.std.proofs.lemmas.List.Sums.{sum_by-cons}
+use Rattle.std.proofs.lemmas.List.Sums.{sum_by-append, sum_by-cons}
 use Rattle.std.specs.List.{AllByRecursion}
 use Rattle.std.specs.Prelude.{sum_by, slice_get}
 use Rattle.mely_event.specs.declared.colour.Colour.{Colour}
@@ -18,9 +18,10 @@ use Rattle.mely_weave.specs.Side.{shard_of}
 use Rattle.mely_worker.specs.declared.app.App.{Ghosts as AppWords}
 use Rattle.mely_app.specs.Puts.{HasPutAll, sum_colours}
 use Rattle.mely_app.proofs.PutsLemmas.{put_as_counted, colours_same, colours_both}
+use Rattle.mely_actor.proofs.MessageLemmas.{behind_message, behind_post}
 use Rattle.mely_actor.proofs.RunLemmas.{all_drop, message_told, post_told}
 use Rattle.mely_actor.specs.Received.{count_sent}
-use Rattle.mely_actor.specs.Sending.{as_events, is_message, messages_in, post_next, told, without_loads}
+use Rattle.mely_actor.specs.Sending.{along, as_events, is_message, messages_in, post_next, told, without_loads}
 
 -- ---- numbers of events
 
@@ -184,22 +185,6 @@ posts_same f h (event ∷ events) same =
     let other = sum_by-cons (of_posts h) event events in
     omega (arith, here, rest, one, other)
 
--- an event is one of the library's own or a message
-by_kind : (h : ℕ → ℕ) (number : Event → ℕ) (event : Event) → (if event.handler == 0 then h event.arg else number event) ≡ of_posts h event + of_messages number event
-by_kind h number event = elim (cases_eq event.handler 0) [
-  | inl none ↦
-      let left : (if event.handler == 0 then h event.arg else number event) ≡ h event.arg = ap (λ (b : Bool). if b then h event.arg else number event) (eq-eqb event.handler 0 none) in
-      let one : of_posts h event ≡ h event.arg = ap (λ (b : Bool). if b then h event.arg else 0) (eq-eqb event.handler 0 none) in
-      let other : of_messages number event ≡ 0 = ap (λ (n : ℕ). if nat_lt 0 n then number event else 0) none in
-      omega (arith, left, one, other)
-  | inr apart ↦
-      let own : 0 < event.handler = omega (arith, apart) in
-      let left = not_post event (h event.arg) (number event) own in
-      let one = not_post event (h event.arg) 0 own in
-      let other = is_own event (number event) 0 own in
-      omega (arith, left, one, other)
-]
-
 module _ {M : Type 0} (event_of : M → Event) (c : Colour) (number : Event → ℕ) where
   -- what is counted of what is left, and of the first of it
   abbrev pub count_left : List (Colour × M) → ℕ
@@ -217,11 +202,41 @@ module _ {M : Type 0} (event_of : M → Event) (c : Colour) (number : Event → 
   left_more (post ∷ []) = refl
   left_more (post ∷ next ∷ more) = refl
 
+-- what is sent along events, where the library's own send nothing of it
+module _ (c : Colour) (number : Event → ℕ) (sends : ℕ → Event → List (Colour × Event)) (one : ℕ → ℕ) where
+  abbrev pub along_it : List Event → Event → ℕ
+  along_it before event = if event.handler == 0 then one event.arg else count_sent c number (sends (length (messages_in before)) event)
+
+  pub along_split : (before events : List Event) → sum_along along_it before events ≡ sum_by (of_posts one) events + count_sent c number (along sends (length (messages_in before)) (messages_in events))
+  along_split before [] = refl
+  along_split before (event ∷ events) = elim (cases_eq event.handler 0) [
+    | inl none ↦
+        let rest = along_split (before ++ event ∷ []) events in
+        let same : count_sent c number (along sends (length (messages_in (before ++ event ∷ []))) (messages_in events)) ≡ count_sent c number (along sends (length (messages_in before)) (messages_in events)) = ap (λ (l : List Event). count_sent c number (along sends (length l) (messages_in events))) (behind_post before event none) in
+        let skips : messages_in (event ∷ events) ≡ messages_in events = ap (λ (n : ℕ). if nat_lt 0 n then event ∷ messages_in events else messages_in events) none in
+        let skipped = ap (λ (l : List Event). count_sent c number (along sends (length (messages_in before)) l)) skips in
+        let here : along_it before event ≡ one event.arg = ap (λ (b : Bool). if b then one event.arg else count_sent c number (sends (length (messages_in before)) event)) (eq-eqb event.handler 0 none) in
+        let posts : of_posts one event ≡ one event.arg = ap (λ (b : Bool). if b then one event.arg else 0) (eq-eqb event.handler 0 none) in
+        let all = sum_by-cons (of_posts one) event events in
+        omega (arith, rest, same, skipped, here, posts, all)
+    | inr apart ↦
+        let own : 0 < event.handler = omega (arith, apart) in
+        let rest = along_split (before ++ event ∷ []) events in
+        let same : count_sent c number (along sends (length (messages_in (before ++ event ∷ []))) (messages_in events)) ≡ count_sent c number (along sends (length (messages_in before) + 1) (messages_in events)) = ap (λ (n : ℕ). count_sent c number (along sends n (messages_in events))) (behind_message before event own) in
+        let keeps : messages_in (event ∷ events) ≡ event ∷ messages_in events = ap (λ (b : Bool). if b then event ∷ messages_in events else messages_in events) (lt-ltb 0 event.handler own) in
+        let kept = ap (λ (l : List Event). count_sent c number (along sends (length (messages_in before)) l)) keeps in
+        let both = sum_by-append (λ (s : Colour × Event). if s.0.0 == c.0 then number s.1 else 0) (sends (length (messages_in before)) event) (along sends (length (messages_in before) + 1) (messages_in events)) in
+        let here : along_it before event ≡ count_sent c number (sends (length (messages_in before)) event) = not_post event (one event.arg) (count_sent c number (sends (length (messages_in before)) event)) own in
+        let posts : of_posts one event ≡ 0 = not_post event (one event.arg) 0 own in
+        let all = sum_by-cons (of_posts one) event events in
+        omega (arith, rest, same, kept, both, here, posts, all)
+  ]
+
 -- ---- what colours have received
 
-module _ {R S P F M : Type 0} (t : TrailWords S F) (fits : F → Colour → Event → Option P → Type 0) (y : AppWords R P S F) (app : R) (setup : Setup) (frame : F) (event_of : M → Event) (sends_of : Colour → Event → List (Colour × Event)) (posts : List (Colour × M))
+module _ {R S P F M : Type 0} (t : TrailWords S F) (fits : F → Colour → Event → Option P → Type 0) (y : AppWords R P S F) (app : R) (setup : Setup) (frame : F) (event_of : M → Event) (sends_of : Colour → ℕ → Event → List (Colour × Event)) (posts : List (Colour × M))
     (posts_own : AllByRecursion (λ post. 0 < (event_of post.1).handler) posts)
-    (as_told : (run : HandlerRun S P) → IsRunOf t fits y app setup frame run → without_loads run.puts ≡ told event_of sends_of posts run.colour run.event)
+    (as_told : (run : HandlerRun S P) → IsRunOf t fits y app setup frame run → without_loads run.puts ≡ told event_of sends_of posts run.colour (length (messages_in (t.trail_of run.state))) run.event)
     (own : (run : HandlerRun S P) → IsRunOf t fits y app setup frame run → 0 < run.event.handler → AllByRecursion (λ put. 0 < put.1.handler) run.puts)
     (first : (run : HandlerRun S P) → IsRunOf t fits y app setup frame run → run.event.handler ≡ 0 → run.colour.0 ≡ 0) (some : 0 < colours_of setup)
     (load : Option P) (histories : List (List Entry)) (all : HasPutAll t fits y app setup frame (record { 0 = 0 }, record { handler = 0; arg = 0 }, load) histories)
@@ -240,20 +255,24 @@ module _ {R S P F M : Type 0} (t : TrailWords S F) (fits : F → Colour → Even
       let flat = colours_same (colours_of setup) (λ d. sum_along (λ _ e. f d e) [] (of d)) (λ d. sum_by (f d) (of d)) (λ d low. along-flat (f d) [] (of d)) in
       omega (arith, put, flat)
 
+  -- how many messages were run before
+  abbrev before_it : HandlerRun S P → ℕ
+  before_it run = length (messages_in (t.trail_of run.state))
+
   messages_counts : (c : Colour) (number : Event → ℕ) (run : HandlerRun S P) → IsRunOf t fits y app setup frame run
-      → count_puts c (of_messages number) run.puts ≡ (if run.event.handler == 0 then count_left event_of c number (take 1 (drop run.event.arg posts)) else count_sent c number (sends_of run.colour run.event))
+      → count_puts c (of_messages number) run.puts ≡ (if run.event.handler == 0 then count_left event_of c number (take 1 (drop run.event.arg posts)) else count_sent c number (sends_of run.colour (before_it run) run.event))
   messages_counts c number run is = elim (cases_eq run.event.handler 0) [
     | inl none ↦
         count_without c (of_messages number) run.puts
-        ∙ ap (count_sent c (of_messages number)) (as_told run is ∙ post_told event_of sends_of posts run.colour run.event none)
+        ∙ ap (count_sent c (of_messages number)) (as_told run is ∙ post_told event_of sends_of posts run.colour (before_it run) run.event none)
         ∙ post_messages event_of c run.colour run.event.arg number (drop run.event.arg posts) (all_drop _ run.event.arg posts posts_own)
-        ∙ sym (ap (λ (b : Bool). if b then count_left event_of c number (take 1 (drop run.event.arg posts)) else count_sent c number (sends_of run.colour run.event)) (eq-eqb run.event.handler 0 none))
+        ∙ sym (ap (λ (b : Bool). if b then count_left event_of c number (take 1 (drop run.event.arg posts)) else count_sent c number (sends_of run.colour (before_it run) run.event)) (eq-eqb run.event.handler 0 none))
     | inr apart ↦
         let is_message : 0 < run.event.handler = omega (arith, apart) in
         own_messages c number run.puts (own run is is_message)
         ∙ count_without c number run.puts
-        ∙ ap (count_sent c number) (as_told run is ∙ message_told event_of sends_of posts run.colour run.event is_message)
-        ∙ sym (not_post run.event (count_left event_of c number (take 1 (drop run.event.arg posts))) (count_sent c number (sends_of run.colour run.event)) is_message)
+        ∙ ap (count_sent c number) (as_told run is ∙ message_told event_of sends_of posts run.colour (before_it run) run.event is_message)
+        ∙ sym (not_post run.event (count_left event_of c number (take 1 (drop run.event.arg posts))) (count_sent c number (sends_of run.colour (before_it run) run.event)) is_message)
   ]
 
   posts_counts : (c : Colour) (h : ℕ → ℕ) (run : HandlerRun S P) → IsRunOf t fits y app setup frame run
@@ -261,7 +280,7 @@ module _ {R S P F M : Type 0} (t : TrailWords S F) (fits : F → Colour → Even
   posts_counts c h run is = elim (cases_eq run.event.handler 0) [
     | inl none ↦
         count_without c (of_posts h) run.puts
-        ∙ ap (count_sent c (of_posts h)) (as_told run is ∙ post_told event_of sends_of posts run.colour run.event none)
+        ∙ ap (count_sent c (of_posts h)) (as_told run is ∙ post_told event_of sends_of posts run.colour (before_it run) run.event none)
         ∙ post_posts event_of c run.colour run.event.arg h (drop run.event.arg posts) (all_drop _ run.event.arg posts posts_own)
         ∙ ap (λ (n : ℕ). if n == c.0 then if_more (drop run.event.arg posts) (h (run.event.arg + 1)) else 0) (first run is none)
         ∙ sym (ap (λ (b : Bool). if b then (if 0 == c.0 then if_more (drop run.event.arg posts) (h (run.event.arg + 1)) else 0) else 0) (eq-eqb run.event.handler 0 none))
@@ -303,16 +322,15 @@ module _ {R S P F M : Type 0} (t : TrailWords S F) (fits : F → Colour → Even
       omega (arith, step, same, split)
 
   -- what a colour received is what was posted to it and what the messages received send
-  pub received_counts : (c : Colour) (number : Event → ℕ) → sum_by number (messages_in (of c)) ≡ count_sent c number (as_events event_of posts) + sum_colours (colours_of setup) (λ d. sum_by (λ event. count_sent c number (sends_of d event)) (messages_in (of d)))
+  pub received_counts : (c : Colour) (number : Event → ℕ) → sum_by number (messages_in (of c)) ≡ count_sent c number (as_events event_of posts) + sum_colours (colours_of setup) (λ d. count_sent c number (along (sends_of d) 0 (messages_in (of d))))
   received_counts c number =
       let one : ℕ → ℕ = λ k. count_left event_of c number (take 1 (drop k posts)) in
-      let sent : Colour → Event → ℕ = λ d event. count_sent c number (sends_of d event) in
-      let put = counted c (of_messages number) (λ d e. if e.handler == 0 then one e.arg else sent d e) (messages_counts c number) in
+      let put = put_as_counted t fits y app setup frame c (of_messages number) (λ d before e. along_it c number (sends_of d) one before e) (messages_counts c number) begin histories all.0 all.1 of each in
       let none : count_put c (of_messages number) begin ≡ 0 = if_none (0 == c.0) in
       let here = sum_messages number (of c) in
-      let apart = colours_same (colours_of setup) (λ d. sum_by (λ (e : Event). if e.handler == 0 then one e.arg else sent d e) (of d)) (λ d. sum_by (of_posts one) (of d) + sum_by (sent d) (messages_in (of d)))
-      (λ d low. sum_split (λ (e : Event). if e.handler == 0 then one e.arg else sent d e) (of_posts one) (of_messages (sent d)) (of d) (by_kind one (sent d)) ∙ ap (λ n. sum_by (of_posts one) (of d) + n) (sum_messages (sent d) (of d))) in
-      let both = colours_both (colours_of setup) (λ d. sum_by (of_posts one) (of d)) (λ d. sum_by (sent d) (messages_in (of d))) in
+      let apart = colours_same (colours_of setup) (λ d. sum_along (along_it c number (sends_of d) one) [] (of d)) (λ d. sum_by (of_posts one) (of d) + count_sent c number (along (sends_of d) 0 (messages_in (of d))))
+      (λ d low. along_split c number (sends_of d) one [] (of d)) in
+      let both = colours_both (colours_of setup) (λ d. sum_by (of_posts one) (of d)) (λ d. count_sent c number (along (sends_of d) 0 (messages_in (of d)))) in
       let alone = colours_first (colours_of setup) (λ d. sum_by (of_posts one) (of d)) some (λ d far. none_on d far one) in
       let posted = all_posted c number in
       omega (arith, put, none, here, apart, both, alone, posted)

@@ -1,5 +1,5 @@
 -- What a run of the app leaves is what a run of actors leaves.
-use Rattle.std.proofs.Common.{◌≡◌, ◌<◌, ◌≤◌, ◌+◌, ℕ, Bool, true, false, List, [], ◌∷◌, Option, None, Some, map, nat_lt, refl, sym, ◌∙◌, ap, subst, arith, ltb-true, ltb-false}
+use Rattle.std.proofs.Common.{◌≡◌, ◌<◌, ◌≤◌, ◌+◌, ℕ, Bool, true, false, List, [], ◌∷◌, Option, None, Some, length, map, nat_lt, refl, sym, ◌∙◌, ap, subst, arith, ltb-true, ltb-false}
 use Rattle.std.proofs.lemmas.Option.{slice_get_within, get_or_from_slice_get, same_Some}
 use Rattle.std.specs.List.{AllByRecursion}
 use Rattle.std.specs.Prelude.{slice_get, slice_index_or, sum_by}
@@ -22,11 +22,10 @@ use Rattle.mely_actor.specs.declared.actor.Actor.{Ghosts as ActorWords}
 use Rattle.mely_actor.specs.declared.load.Load.{Load}
 use Rattle.mely_actor.specs.declared.load.Load.TheVariants.{Posts, Message}
 use Rattle.mely_actor.specs.declared.load.Plan.{Plan}
-use Rattle.mely_actor.specs.Keeping.{Keeps}
 use Rattle.mely_actor.specs.KeptState.{KeptState}
 use Rattle.mely_actor.specs.Loads.{FitsLoad, PutsAsTold}
 use Rattle.mely_actor.specs.Received.{AreKept, AreMade, AreValues, KeepsOver, count_sent}
-use Rattle.mely_actor.specs.Sending.{MaySend, as_events, messages_in}
+use Rattle.mely_actor.specs.Sending.{MaySend, along, as_events, messages_in}
 use Rattle.mely_actor.proofs.AccountLemmas.{received_counts}
 
 -- the states that were made are initial
@@ -51,7 +50,7 @@ posts_own colours rows event_of sound (post ∷ posts) all = (all.0.own, posts_o
 
 module _ {A V M R : Type 0} (a : ActorWords A V M) (plan : Plan A M) (setup : Setup) (t : TrailWords (KeptState A M V) (Plan A M)) (trails : (s : KeptState A M V) → t.trail_of s ≡ s.log.events) (colours : (s : KeptState A M V) → t.colour_of s ≡ s.log.colour) (frames : (s : KeptState A M V) → t.frame_of s ≡ s.plan)
     (fits : Plan A M → Colour → Event → Option (Load M) → Type 0) (fits_are : (colour : Colour) (event : Event) (load : Option (Load M)) → fits plan colour event load → FitsLoad (a.colours_of plan.actor) a.event_of (a.sound plan.actor) plan.posts.items colour event load) (y : AppWords R (Load M) (KeptState A M V) (Plan A M)) (app : R)
-    (runs_are : (before : KeptState A M V) (event : Event) (load : Option (Load M)) (after : KeptState A M V) (puts : List (Colour × Event × Option (Load M))) → y.runs app before event load after puts → PutsAsTold a.event_of (a.sends_of plan.actor) before.plan.posts.items before.log.colour event puts)
+    (runs_are : (before : KeptState A M V) (event : Event) (load : Option (Load M)) (after : KeptState A M V) (puts : List (Colour × Event × Option (Load M))) → y.runs app before event load after puts → PutsAsTold a.event_of (a.sends_of plan.actor) before.plan.posts.items before.log.colour (length (messages_in before.log.events)) event puts)
     (may : AllByRecursion (MaySend (a.colours_of plan.actor) (a.rows_of plan.actor) a.event_of (a.sound plan.actor)) plan.posts.items) (load : Option (Load M)) (histories : List (List Entry)) (states : List (KeptState A M V)) (values : List V) (ran : RanAll t setup (record { 0 = 0 }) (record { handler = 0; arg = 0 }) histories states) (frame : Plan A M) (of_frame : frame ≡ plan) (framed : AllFramed t frame states)
     (puts : HasPutAll t fits y app setup frame (record { 0 = 0 }, record { handler = 0; arg = 0 }, load) histories) (taken : AreValues a states values) where
   pub registered : Colour → List Event
@@ -69,7 +68,7 @@ module _ {A V M R : Type 0} (a : ActorWords A V M) (plan : Plan A M) (setup : Se
       (there.0, there.1, registered_is d there.0 there.1)
 
   abbrev pub Kept : Colour → V → Type 0
-  Kept c value = Keeps a.event_of (a.sound plan.actor) (a.kept plan.actor) c (registered c) value
+  Kept c value = KeepsOver a plan.actor c (registered c) value
 
   keeps_at : (c : Colour) → c.0 < colours_of setup → (value : V) × (slice_get values c.0 ≡ Some value) × Kept c value
   keeps_at c low =
@@ -86,32 +85,37 @@ module _ {A V M R : Type 0} (a : ActorWords A V M) (plan : Plan A M) (setup : Se
       let two = subst (λ d. KeepsOver a plan.actor d state.0.log.events value.0) of_colour one in
       (value.0, value.1, subst (λ events. KeepsOver a plan.actor c events value.0) of_events two)
 
-  picked : (c : Colour) (b : Bool) → nat_lt c.0 (colours_of setup) ≡ b → List M
-  picked c true is = (keeps_at c (ltb-true c.0 (colours_of setup) is)).2.received
-  picked c false is = []
+  -- what a colour received and sent
+  picked : (c : Colour) (b : Bool) → nat_lt c.0 (colours_of setup) ≡ b → List M × List (Colour × M)
+  picked c true is = let there = keeps_at c (ltb-true c.0 (colours_of setup) is) in (there.2.received, there.2.sent)
+  picked c false is = ([], [])
 
-  received : Colour → List M
-  received c = picked c (nat_lt c.0 (colours_of setup)) refl
+  both_of : Colour → List M × List (Colour × M)
+  both_of c = picked c (nat_lt c.0 (colours_of setup)) refl
 
-  received_so : (c : Colour) (Is : List M → Type 0) → c.0 < colours_of setup → ((low : c.0 < colours_of setup) → Is (keeps_at c low).2.received) → Is (received c)
-  unfolding received picked
-  received_so c Is low each = go (nat_lt c.0 (colours_of setup)) refl
+  both_so : (c : Colour) (Is : List M → List (Colour × M) → Type 0) → c.0 < colours_of setup → ((low : c.0 < colours_of setup) → Is (keeps_at c low).2.received (keeps_at c low).2.sent) → Is (both_of c).0 (both_of c).1
+  unfolding both_of picked
+  both_so c Is low each = go (nat_lt c.0 (colours_of setup)) refl
     where
-      go : (b : Bool) (is : nat_lt c.0 (colours_of setup) ≡ b) → Is (picked c b is)
+      go : (b : Bool) (is : nat_lt c.0 (colours_of setup) ≡ b) → Is (picked c b is).0 (picked c b is).1
       go true is = each (ltb-true c.0 (colours_of setup) is)
       go false is = absurd (let high = ltb-false c.0 (colours_of setup) is in omega (arith, low, high))
 
-  events_are : (c : Colour) → c.0 < colours_of setup → map a.event_of (received c) ≡ messages_in (registered c)
-  events_are c low = received_so c (λ l. map a.event_of l ≡ messages_in (registered c)) low (λ there. (keeps_at c there).2.are)
+  events_are : (c : Colour) → c.0 < colours_of setup → map a.event_of (both_of c).0 ≡ messages_in (registered c)
+  events_are c low = both_so c (λ l sent. map a.event_of l ≡ messages_in (registered c)) low (λ there. (keeps_at c there).2.are)
 
-  run_told : (run : HandlerRun (KeptState A M V) (Load M)) → IsRunOf t fits y app setup plan run → PutsAsTold a.event_of (a.sends_of plan.actor) plan.posts.items run.colour run.event run.puts
+  sent_are : (c : Colour) → c.0 < colours_of setup → as_events a.event_of (both_of c).1 ≡ along (a.sends_of plan.actor c) 0 (messages_in (registered c))
+  sent_are c low = both_so c (λ l sent. as_events a.event_of sent ≡ along (a.sends_of plan.actor c) 0 (messages_in (registered c))) low (λ there. (keeps_at c there).2.told)
+
+  run_told : (run : HandlerRun (KeptState A M V) (Load M)) → IsRunOf t fits y app setup plan run → PutsAsTold a.event_of (a.sends_of plan.actor) plan.posts.items run.colour (length (messages_in (t.trail_of run.state))) run.event run.puts
   run_told run is =
       let told_there = runs_are run.state run.event run.load run.becomes run.puts is.ran in
-      let one = subst (λ (p : Plan A M). PutsAsTold a.event_of (a.sends_of plan.actor) p.posts.items run.state.log.colour run.event run.puts) (sym (frames run.state) ∙ is.framed) told_there in
-      subst (λ d. PutsAsTold a.event_of (a.sends_of plan.actor) plan.posts.items d run.event run.puts) (sym (colours run.state) ∙ is.coloured) one
+      let one = subst (λ (p : Plan A M). PutsAsTold a.event_of (a.sends_of plan.actor) p.posts.items run.state.log.colour (length (messages_in run.state.log.events)) run.event run.puts) (sym (frames run.state) ∙ is.framed) told_there in
+      let two = subst (λ d. PutsAsTold a.event_of (a.sends_of plan.actor) plan.posts.items d (length (messages_in run.state.log.events)) run.event run.puts) (sym (colours run.state) ∙ is.coloured) one in
+      subst (λ events. PutsAsTold a.event_of (a.sends_of plan.actor) plan.posts.items run.colour (length (messages_in events)) run.event run.puts) (sym (trails run.state)) two
 
   counts : (c : Colour) (number : Event → ℕ)
-      → sum_by number (messages_in (registered c)) ≡ count_sent c number (as_events a.event_of plan.posts.items) + sum_colours (colours_of setup) (λ d. sum_by (λ event. count_sent c number (a.sends_of plan.actor d event)) (messages_in (registered d)))
+      → sum_by number (messages_in (registered c)) ≡ count_sent c number (as_events a.event_of plan.posts.items) + sum_colours (colours_of setup) (λ d. count_sent c number (along (a.sends_of plan.actor d) 0 (messages_in (registered d))))
   counts c number = received_counts t fits y app setup plan a.event_of (a.sends_of plan.actor) plan.posts.items (posts_own (a.colours_of plan.actor) (a.rows_of plan.actor) a.event_of (a.sound plan.actor) plan.posts.items may) (λ run is. (run_told run is).as_told) (λ run is. (run_told run is).own)
       (λ run is none. posts_first (a.colours_of plan.actor) a.event_of (a.sound plan.actor) plan.posts.items run.colour run.event run.load (fits_are run.colour run.event run.load is.fit) none) setup.colours_in.0 load histories (subst (λ f. HasPutAll t fits y app setup f (record { 0 = 0 }, record { handler = 0; arg = 0 }, load) histories) of_frame puts) registered each_there c number
 
@@ -121,20 +125,22 @@ module _ {A V M R : Type 0} (a : ActorWords A V M) (plan : Plan A M) (setup : Se
     shards = ran.shards;
     legal = ran.legal;
     drained = ran.drained;
-    received = received;
+    received = λ c. (both_of c).0;
     registered = λ c history low there. events_are c low ∙ ap messages_in (sym (registered_is c history there));
-    sound = λ c low. received_so c (AllByRecursion (a.sound plan.actor c)) low (λ there. (keeps_at c there).2.each_sound);
+    sound = λ c low. both_so c (λ l sent. AllByRecursion (a.sound plan.actor c) l) low (λ there. (keeps_at c there).2.each_sound);
+    sent = λ c. (both_of c).1;
+    told = λ c low. sent_are c low ∙ ap (along (a.sends_of plan.actor c) 0) (sym (events_are c low));
     kept = λ c value at.
         let within = slice_get_within values c.0 value at in
         let many = ran.colours in
         let as_many = taken.many in
-        received_so c (λ l. a.kept plan.actor c l value) (omega (arith, within, many, as_many)) (λ low.
+        both_so c (λ l sent. a.kept plan.actor c l sent value) (omega (arith, within, many, as_many)) (λ low.
         let there = keeps_at c low in
-        subst (λ v. a.kept plan.actor c there.2.received v) (same_Some there.0 value (sym there.1 ∙ at)) there.2.keeps);
+        subst (λ v. a.kept plan.actor c there.2.received there.2.sent v) (same_Some there.0 value (sym there.1 ∙ at)) there.2.keeps);
     counted = λ c low number.
         let here = ap (sum_by number) (events_are c low) in
         let all = counts c number in
-        let same = colours_same (colours_of setup) (λ d. sum_by (λ event. count_sent c number (a.sends_of plan.actor d event)) (map a.event_of (received d))) (λ d. sum_by (λ event. count_sent c number (a.sends_of plan.actor d event)) (messages_in (registered d)))
-        (λ d below. ap (sum_by (λ event. count_sent c number (a.sends_of plan.actor d event))) (events_are d below)) in
+        let same = colours_same (colours_of setup) (λ d. count_sent c number (as_events a.event_of (both_of d).1)) (λ d. count_sent c number (along (a.sends_of plan.actor d) 0 (messages_in (registered d))))
+        (λ d below. ap (count_sent c number) (sent_are d below)) in
         omega (arith, here, all, same);
   }

@@ -75,12 +75,12 @@ pub sent_without : {M : Type 0} (event_of : M → Event) (sends : List (Colour �
 sent_without event_of [] = refl
 sent_without event_of (send ∷ sends) = ap (λ (l : List (Colour × Event)). (send.0, event_of send.1) ∷ l) (sent_without event_of sends)
 
-module _ {M : Type 0} (event_of : M → Event) (sends_of : Colour → Event → List (Colour × Event)) (posts : List (Colour × M)) (colour : Colour) (event : Event) where
-  pub message_told : 0 < event.handler → told event_of sends_of posts colour event ≡ sends_of colour event
-  message_told own = ap (λ (b : Bool). if b then post_next event_of colour event.arg (drop event.arg posts) else sends_of colour event) (ne_eqb event.handler 0 (λ e. omega (arith, e, own)))
+module _ {M : Type 0} (event_of : M → Event) (sends_of : Colour → ℕ → Event → List (Colour × Event)) (posts : List (Colour × M)) (colour : Colour) (number : ℕ) (event : Event) where
+  pub message_told : 0 < event.handler → told event_of sends_of posts colour number event ≡ sends_of colour number event
+  message_told own = ap (λ (b : Bool). if b then post_next event_of colour event.arg (drop event.arg posts) else sends_of colour number event) (ne_eqb event.handler 0 (λ e. omega (arith, e, own)))
 
-  pub post_told : event.handler ≡ 0 → told event_of sends_of posts colour event ≡ post_next event_of colour event.arg (drop event.arg posts)
-  post_told is = ap (λ (b : Bool). if b then post_next event_of colour event.arg (drop event.arg posts) else sends_of colour event) (eq-eqb event.handler 0 is)
+  pub post_told : event.handler ≡ 0 → told event_of sends_of posts colour number event ≡ post_next event_of colour event.arg (drop event.arg posts)
+  post_told is = ap (λ (b : Bool). if b then post_next event_of colour event.arg (drop event.arg posts) else sends_of colour number event) (eq-eqb event.handler 0 is)
 
 -- what was put behind nothing, and then behind that
 pub two_posts : {M : Type 0} (event_of : M → Event) (to : Colour) (message : M) (event : Event) (next : Colour × Event × Option (Load M)) (none one both : List (Colour × Event × Option (Load M))) → none ≡ [] → event ≡ event_of message

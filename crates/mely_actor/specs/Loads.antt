@@ -62,8 +62,8 @@ ArePosts event_of colour done (post ∷ next ∷ more) puts = (left : _) × (lef
 
 -- what a handler may put: what is told by the event, and where that is of a message, messages only
 pub record PutsAsTold {M : Type 0} (event_of : M → Event)
-    (sends_of : Colour → Event → List (Colour × Event)) (posts : List (Colour × M))
-    (colour : Colour) (event : Event)
+    (sends_of : Colour → ℕ → Event → List (Colour × Event)) (posts : List (Colour × M))
+    (colour : Colour) (number : ℕ) (event : Event)
     (puts : List (Colour × Event × Option (Load M))) : Type 0 where
-  pub as_told : without_loads puts ≡ told event_of sends_of posts colour event
+  pub as_told : without_loads puts ≡ told event_of sends_of posts colour number event
   pub own : 0 < event.handler → AllByRecursion (λ put. 0 < put.1.handler) puts

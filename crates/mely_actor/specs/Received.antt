@@ -14,7 +14,7 @@ use Rattle.mely_actor.specs.declared.actor.Actor.{Ghosts as ActorWords}
 use Rattle.mely_actor.specs.declared.load.Plan.{Plan}
 use Rattle.mely_actor.specs.Keeping.{Keeps}
 use Rattle.mely_actor.specs.KeptState.{KeptState}
-use Rattle.mely_actor.specs.Sending.{as_events, messages_in}
+use Rattle.mely_actor.specs.Sending.{along, as_events, messages_in}
 
 -- the numbers of the events that are sent to the colour
 abbrev pub count_sent : Colour → (Event → ℕ) → List (Colour × Event) → ℕ
@@ -33,7 +33,7 @@ module _ {A V M : Type 0} (a : ActorWords A V M) where
   -- what the value of a colour keeps, if these events were run there
   abbrev pub KeepsOver : A → Colour → List Event → V → Type 0
   KeepsOver actor colour events value =
-      Keeps a.event_of (a.sound actor) (a.kept actor) colour events value
+      Keeps a.event_of (a.sound actor) (a.sends_of actor) (a.kept actor) colour events value
 
   -- each value keeps its fact over what the trail of its state has
   pub record AreValues (states : List (KeptState A M V)) (values : List V) : Type 0 where
@@ -44,10 +44,10 @@ module _ {A V M : Type 0} (a : ActorWords A V M) where
 
   -- There is a value for each colour, and a legal history for each shard, in which nothing runs or
   -- waits. What each colour received is what its history says was registered on it, without the
-  -- library's own events, each message once, in that order; each might be sent to it; and the value
-  -- keeps the author's fact over exactly that. What a colour received is what was posted to it and
-  -- what the messages received, on all colours, send to it: so it is counted, whatever number an
-  -- event has.
+  -- library's own events, each message once, in that order; each might be sent to it; what it sent
+  -- has the events that these send; and the value keeps the author's fact over exactly what was
+  -- received and sent. What a colour received is what was posted to it and what all colours sent to
+  -- it, by the events: so it is counted, whatever number an event has.
   pub record AreKept (actor : A) (setup : Setup) (posts : List (Colour × M))
       (histories : List (List Entry)) (values : List V) : Type 0 where
     pub many : length values ≡ colours_of setup
@@ -61,11 +61,12 @@ module _ {A V M : Type 0} (a : ActorWords A V M) where
         → map a.event_of (received c) ≡ messages_in (registered_of history c)
     pub sound : (c : Colour) → c.0 < colours_of setup
         → AllByRecursion (a.sound actor c) (received c)
+    pub sent : Colour → List (Colour × M)
+    pub told : (c : Colour) → c.0 < colours_of setup → as_events a.event_of (sent c)
+        ≡ along (a.sends_of actor c) 0 (map a.event_of (received c))
     pub kept : (c : Colour) (value : V) → slice_get values c.0 ≡ Some value
-        → a.kept actor c (received c) value
+        → a.kept actor c (received c) (sent c) value
     pub counted : (c : Colour) → c.0 < colours_of setup → (number : Event → ℕ)
         → sum_by number (map a.event_of (received c))
         ≡ count_sent c number (as_events a.event_of posts)
-        + sum_colours (colours_of setup) (λ d. sum_by
-        (λ event. count_sent c number (a.sends_of actor d event))
-        (map a.event_of (received d)))
+        + sum_colours (colours_of setup) (λ d. count_sent c number (as_events a.event_of (sent d)))

@@ -1,5 +1,5 @@
 -- What may be sent, under which events it stands in the histories, and how messages are posted.
-use Rattle.std.specs.Prelude.{◌==◌, ◌+◌, ◌<◌, ℕ, List, [], ◌∷◌, Option, Bool, drop, map, filter, nat_lt, if◌then◌else◌}
+use Rattle.std.specs.Prelude.{◌==◌, ◌+◌, ◌<◌, ℕ, List, [], ◌∷◌, ◌++◌, Option, Bool, drop, map, filter, nat_lt, if◌then◌else◌}
 use Rattle.mely_event.specs.declared.colour.Colour.{Colour}
 use Rattle.mely_event.specs.declared.event.Event.{Event}
 
@@ -31,12 +31,19 @@ post_next event_of colour done (post ∷ []) = (post.0, event_of post.1) ∷ []
 post_next event_of colour done (post ∷ next ∷ more) = (post.0, event_of post.1)
     ∷ (colour, record { handler = 0; arg = done + 1 }) ∷ []
 
--- what an event puts, told by its colour and itself: handler 0 posts, and a message sends
-abbrev pub told : {M : Type 0} → (M → Event) → (Colour → Event → List (Colour × Event))
-    → List (Colour × M) → Colour → Event → List (Colour × Event)
-told event_of sends_of posts colour event =
+-- what an event puts, told by its colour, the number of messages before it and itself: handler 0
+-- posts, and a message sends
+abbrev pub told : {M : Type 0} → (M → Event) → (Colour → ℕ → Event → List (Colour × Event))
+    → List (Colour × M) → Colour → ℕ → Event → List (Colour × Event)
+told event_of sends_of posts colour number event =
     if event.handler == 0 then post_next event_of colour event.arg (drop event.arg posts)
-    else sends_of colour event
+    else sends_of colour number event
+
+-- what each of a list gives by how many stand before it, one after another; so many stand before
+-- the first
+abbrev pub along : {X Y : Type 0} → (ℕ → X → List Y) → ℕ → List X → List Y
+along f before [] = []
+along f before (x ∷ xs) = f before x ++ along f (before + 1) xs
 
 -- what was put, without the loads
 abbrev pub without_loads : {P : Type 0} → List (Colour × Event × Option P) → List (Colour × Event)

@@ -4,6 +4,7 @@ ghost use Rattle.std.specs.List.{AllByRecursion};
 ghost use Rattle.mely_worker.specs.Access.{FitsIn};
 ghost use Rattle.mely_worker.specs.Outs.{in_place};
 ghost use Rattle.mely_actor.specs.Loads.{ArePosts, FitsLoad, PutsAsTold, Serves, as_puts};
+ghost use Rattle.mely_actor.specs.Sending.{messages_in};
 
 use crate::actor::Actor;
 use crate::kept::Kept;
@@ -35,7 +36,8 @@ impl<A: Actor + Drop> App for Acting<A> {
         (A.sound app.actor) app.actor plan };
 
     ghost runs = { λ app before event load after puts. PutsAsTold A.event_of
-        (A.sends_of app.actor) before.plan.posts.items before.log.colour event puts };
+        (A.sends_of app.actor) before.plan.posts.items before.log.colour
+        (length (messages_in before.log.events)) event puts };
 
     fn run(
         &self,
@@ -52,7 +54,8 @@ impl<A: Actor + Drop> App for Acting<A> {
             (A.sound state.old.plan.actor) state.old.plan.posts.items state.old.log.colour event
             load }
         ensures ran { PutsAsTold A.event_of (A.sends_of self.now.actor)
-            state.old.plan.posts.items state.old.log.colour event outs.new }
+            state.old.plan.posts.items state.old.log.colour
+            (length (messages_in state.old.log.events)) event outs.new }
         ensures colour { state.new.log.colour ≡ state.old.log.colour }
         ensures frame { state.new.plan ≡ state.old.plan }
         ensures trail { state.new.log.events ≡ state.old.log.events ++ event ∷ [] }

@@ -1,5 +1,5 @@
 //! What an author gives.
-ghost use Rattle.std.specs.Prelude.{◌≡◌, ◌<◌, ◌∷◌, ◌++◌, [], ℕ, List, IfOk, OnOk, map};
+ghost use Rattle.std.specs.Prelude.{◌≡◌, ◌<◌, ◌∷◌, ◌++◌, [], ℕ, List, IfOk, OnOk, length, map};
 ghost use Rattle.std.specs.List.{AllByRecursion};
 ghost use Rattle.mely_event.specs.declared.colour.Colour.{Colour};
 ghost use Rattle.mely_event.specs.declared.event.Event.{Event};
@@ -9,11 +9,21 @@ use crate::sends::Sends;
 use mely_event::{Colour, Event, Memory};
 use std::alloc::Global;
 
+/// Where a message is received.
+#[derive(Clone, Copy)]
+pub struct Place {
+    /// The colour that receives it.
+    pub colour: Colour,
+
+    /// How many messages the colour has received before.
+    pub number: usize,
+}
+
 /// The actors of a program: a value for each colour, and what a message does to it.
 ///
 /// Contracts learn how many colours and handlers it uses, under which event a message stands in the
-/// histories, which messages a colour may be sent, what a message sends, and what a value keeps
-/// over the messages that its colour has received.
+/// histories, which messages a colour may be sent, to whom a message sends, and what a value keeps
+/// over the messages that its colour has received and those that it has sent.
 pub trait Actor {
     /// What a colour has.
     type Value: Drop;
@@ -35,24 +45,27 @@ pub trait Actor {
     /// What may be sent to a colour.
     ghost sound: { Self → Colour → Self.Message → Type 0 };
 
-    /// To whom a message of this event sends, when the colour receives it, and under which events.
-    ghost sends_of: { Self → Colour → Event → List (Colour × Event) };
+    /// To whom a message of this event sends, when the colour receives it and has received so many
+    /// messages before, and under which events.
+    ghost sends_of: { Self → Colour → ℕ → Event → List (Colour × Event) };
 
-    /// What the value of a colour keeps over the messages that the colour has received, in order.
-    ghost kept: { Self → Colour → List Self.Message → Self.Value → Type 0 };
+    /// What the value of a colour keeps over the messages that the colour has received, and those
+    /// that it has sent, each in order.
+    ghost kept: { Self → Colour → List Self.Message → List (Colour × Self.Message) → Self.Value
+        → Type 0 };
 
     /// Under which event a message stands in the histories.
     fn event(message: &Self::Message) -> Event
         ensures { result ≡ event_of message.now };
 
-    /// The value of a colour that has received nothing.
+    /// The value of a colour that has received and sent nothing.
     ///
     /// # Errors
     ///
     /// There was no memory.
     fn begin(&self, alloc: Global, colour: Colour) -> Result<Self::Value, Memory>
         requires { colour.0 < colours_of self.now }
-        ensures { IfOk result (λ value. kept self.now colour [] value) };
+        ensures { IfOk result (λ value. kept self.now colour [] [] value) };
 
     /// A colour receives a message. It sends the same whether there is memory or not.
     ///
@@ -61,19 +74,20 @@ pub trait Actor {
     /// There was no memory. Nothing is known of the value then, and the run will not end with Ok.
     fn on(
         &self,
-        colour: Colour,
+        place: Place,
         value: &mut Self::Value,
         message: Self::Message,
         sends: &mut Sends<Self::Message>,
     ) -> Result<(), Memory>
-        requires colour { colour.0 < colours_of self.now }
-        requires sound { sound self.now colour message }
+        requires colour { place.colour.0 < colours_of self.now }
+        requires sound { sound self.now place.colour message }
         requires empty { sends.old ≡ [] }
         ensures kept { OnOk result ((received : List Self.Message)
-            → kept self.now colour received value.old
-            → kept self.now colour (received ++ message ∷ []) value.new) }
+            (sent : List (Colour × Self.Message)) → length received ≡ place.number
+            → kept self.now place.colour received sent value.old
+            → kept self.now place.colour (received ++ message ∷ []) (sent ++ sends.new) value.new) }
         ensures sent { as_events event_of sends.new
-            ≡ sends_of self.now colour (event_of message) }
+            ≡ sends_of self.now place.colour place.number (event_of message) }
         ensures allowed { AllByRecursion (MaySend (colours_of self.now) (rows_of self.now)
             event_of (sound self.now)) sends.new };
 }

@@ -1,11 +1,11 @@
 //! The state of a colour.
-ghost use Rattle.std.specs.Prelude.{◌≡◌, ◌≤◌, ◌<◌, ◌-◌, ◌++◌, ◌∷◌, [], Some, IfSome};
+ghost use Rattle.std.specs.Prelude.{◌≡◌, ◌≤◌, ◌<◌, ◌-◌, ◌++◌, ◌∷◌, [], Some, IfSome, length};
 ghost use Rattle.std.specs.List.{AllByRecursion};
 ghost use Rattle.mely_actor.specs.Keeping.{Keeps};
 ghost use Rattle.mely_actor.specs.Loads.{FitsLoad};
-ghost use Rattle.mely_actor.specs.Sending.{MaySend, as_events};
+ghost use Rattle.mely_actor.specs.Sending.{MaySend, as_events, messages_in};
 
-use crate::actor::Actor;
+use crate::actor::{Actor, Place};
 use crate::load::{Load, Plan};
 use crate::sends::Sends;
 use mely_event::{Colour, Event, Fits, Memory, Trail, TrailLog};
@@ -13,33 +13,35 @@ use std::alloc::Global;
 use std::marker::Model;
 use std::snapshot::Snapshot;
 
-/// The state of a colour: its trail, and the value that the author's fact is about. Where a message
-/// wanted memory the value has failed, and keeps nothing from then on.
+/// The state of a colour: its trail, with the number of messages in it, and the value that the
+/// author's fact is about. Where a message wanted memory the value has failed, and keeps nothing
+/// from then on.
 #[derive(Drop)]
 pub struct Kept<A: Actor> {
     log: TrailLog,
     plan: Snapshot<Plan<A, A::Message>>,
+    count: usize,
     value: A::Value,
     failed: bool,
 }
 
 impl<A: Actor> Model for Kept<A> {
-    ghost use Rattle.std.specs.Prelude.{◌≡◌, false};
     ghost use Rattle.mely_actor.specs.KeptState.{KeptState};
-    ghost use Rattle.mely_actor.specs.Keeping.{Keeps};
+    ghost use Rattle.mely_actor.specs.Keeping.{IsKept};
 
     ghost Value = { KeptState A A.Message A.Value };
 
     ghost view = { λ kept. record {
       log = kept.log;
       plan = kept.plan.value;
+      count = kept.count;
       value = kept.value;
       failed = kept.failed;
     } };
 
-    ghost invariant = { λ kept. kept.failed ≡ false
-        → Keeps A.event_of (A.sound kept.plan.value.actor) (A.kept kept.plan.value.actor)
-        kept.log.colour kept.log.events kept.value };
+    ghost invariant = { λ kept. IsKept A.event_of (A.sound kept.plan.value.actor)
+        (A.sends_of kept.plan.value.actor) (A.kept kept.plan.value.actor)
+        kept.log.colour kept.log.events kept.count kept.failed kept.value };
 }
 
 impl<A: Actor> Kept<A> {
@@ -53,10 +55,11 @@ impl<A: Actor> Kept<A> {
         plan: &Plan<A, A::Message>,
         value: A::Value,
     ) -> Kept<A>
-        requires { A.kept plan.now.actor colour [] value }
+        requires { A.kept plan.now.actor colour [] [] value }
         ensures { result ≡ record {
           log = record { colour = colour; events = []; spare = 0 };
           plan = plan.now;
+          count = 0;
           value = value;
           failed = false;
         } }
@@ -64,6 +67,7 @@ impl<A: Actor> Kept<A> {
         Kept {
             log: TrailLog::new(alloc, colour),
             plan: Snapshot::of(plan),
+            count: 0,
             value,
             failed: false,
         }
@@ -97,13 +101,19 @@ impl<A: Actor> Kept<A> {
         } }
         ensures plan { self.new.plan ≡ self.old.plan }
         ensures sent { as_events A.event_of sends.new
-            ≡ A.sends_of actor.now self.old.log.colour event }
+            ≡ A.sends_of actor.now self.old.log.colour
+            (length (messages_in self.old.log.events)) event }
         ensures allowed { AllByRecursion (MaySend (A.colours_of actor.now) (A.rows_of actor.now)
             A.event_of (A.sound actor.now)) sends.new }
     {
+        let place = Place {
+            colour: self.log.colour(),
+            number: self.count,
+        };
+        // no more than the trail has, which fits into memory
+        self.count = self.log.trail().len().min(place.number) + 1;
         self.log.push(event);
-        let colour = self.log.colour();
-        if actor.on(colour, &mut self.value, message, sends).is_err() {
+        if actor.on(place, &mut self.value, message, sends).is_err() {
             self.failed = true;
         }
     }
@@ -125,11 +135,13 @@ impl<A: Actor> Kept<A> {
     /// The value, where none of its messages wanted memory.
     pub(crate) fn into_value(self) -> Option<A::Value>
         ensures { IfSome result (λ value. Keeps A.event_of (A.sound self.plan.actor)
-            (A.kept self.plan.actor) self.log.colour self.log.events value) }
+            (A.sends_of self.plan.actor) (A.kept self.plan.actor) self.log.colour self.log.events
+            value) }
     {
         let Kept {
             log: _,
             plan: _,
+            count: _,
             value,
             failed,
         } = self;

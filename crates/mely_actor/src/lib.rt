@@ -2,7 +2,7 @@
 //! message, and one fact about them.
 //!
 //! An [`Actor`] says how the value of a colour begins and what a message does to it, and what it
-//! keeps over the messages that it has received. [`run_actors`] posts the first messages, as many
+//! keeps over the messages that it has received and those that it has sent. [`run_actors`] posts the first messages, as many
 //! as are given, runs all on threads until nothing is left, and hands out the values.
 //!
 //! ```text
@@ -12,9 +12,10 @@
 //! ```
 //!
 //! What is promised is [`AreKept`](../specs/Received.antt): what each colour received is what its
-//! history says was registered, in that order; its value keeps the author's fact over exactly that;
-//! and what was received is what was posted and what the messages received had sent, no more and no
-//! less. The order in which messages of different senders come to a colour isn't promised.
+//! history says was registered, in that order; its value keeps the author's fact over exactly that
+//! and what it sent; and what was received is what was posted and what was sent, no more and no
+//! less, by the events under which messages stand in the histories. The order in which messages of
+//! different senders come to a colour isn't promised.
 #![tactic(auto)]
 
 mod acting;
@@ -24,6 +25,6 @@ mod load;
 mod running;
 mod sends;
 
-pub use actor::Actor;
+pub use actor::{Actor, Place};
 pub use running::{Ended, run_actors};
 pub use sends::Sends;

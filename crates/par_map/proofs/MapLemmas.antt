@@ -76,8 +76,8 @@ sent_one c place (x ∷ xs) low high = elim (cases_eq place c.0) [
       omega (arith, rest, here, all)
 ]
 
-module _ {A U M : Type 0} (a : ActorWords A (Option U) M) (of : M → U) (actor : A) (items : List M) (setup : Setup) (histories : List (List Entry)) (values : List (Option U)) (colours : colours_of setup ≡ length items) (events : (item : M) → a.event_of item ≡ one_event) (silent : (d : Colour) (event : Event) → a.sends_of actor d event ≡ [])
-    (sounds : (c : Colour) (item : M) → a.sound actor c item → slice_get items c.0 ≡ Some item) (keeps : (c : Colour) (received : List M) (value : Option U) → a.kept actor c received value → IsDone of received value) (posts : List (Colour × M)) (posts_are : posts ≡ numbered 0 items) (kept : AreKept a actor setup posts histories values) where
+module _ {A U M : Type 0} (a : ActorWords A (Option U) M) (of : M → U) (actor : A) (items : List M) (setup : Setup) (histories : List (List Entry)) (values : List (Option U)) (colours : colours_of setup ≡ length items) (events : (item : M) → a.event_of item ≡ one_event) (silent : (d : Colour) (n : ℕ) (event : Event) → a.sends_of actor d n event ≡ [])
+    (sounds : (c : Colour) (item : M) → a.sound actor c item → slice_get items c.0 ≡ Some item) (keeps : (c : Colour) (received : List M) (sent : List (Colour × M)) (value : Option U) → a.kept actor c received sent value → IsDone of received value) (posts : List (Colour × M)) (posts_are : posts ≡ numbered 0 items) (kept : AreKept a actor setup posts histories values) where
   all_events : (posts : List (Colour × M)) → as_events a.event_of posts ≡ as_events (λ _. one_event) posts
   all_events [] = refl
   all_events (post ∷ posts) = ap (λ e. (post.0, e) ∷ as_events a.event_of posts) (events post.1) ∙ ap (λ (l : List (Colour × Event)). (post.0, one_event) ∷ l) (all_events posts)
@@ -92,7 +92,7 @@ module _ {A U M : Type 0} (a : ActorWords A (Option U) M) (of : M → U) (actor 
       let one = one_of (kept.received c) many in
       let sound = subst (AllByRecursion (a.sound actor c)) one.1 (kept.sound c low) in
       let is : one.0 ≡ item = same_Some one.0 item (sym (sounds c one.0 sound.0) ∙ at) in
-      keeps c (kept.received c) value (kept.kept c value there) item (one.1 ∙ ap (λ (x : M). x ∷ []) is)
+      keeps c (kept.received c) (kept.sent c) value (kept.kept c value there) item (one.1 ∙ ap (λ (x : M). x ∷ []) is)
 
   pub all_done : values ≡ map (λ item. Some (of item)) items
   all_done = is_mapped (λ item. Some (of item)) values items (kept.many ∙ colours) at_each

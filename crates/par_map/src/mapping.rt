@@ -5,7 +5,7 @@ ghost use Rattle.mely_actor.specs.Sending.{MaySend, as_events};
 ghost use Rattle.par_map.specs.Mapped.{IsDone, numbered, one_event};
 
 use crate::task::Task;
-use mely_actor::{Actor, Ended, Sends, run_actors};
+use mely_actor::{Actor, Ended, Place, Sends, run_actors};
 use mely_event::{Colour, Event, Handlers, Memory};
 use mely_history::{Setup, Shape};
 use std::alloc::Global;
@@ -33,9 +33,9 @@ impl<T: Task> Actor for Mapping<T> {
 
     ghost sound = { λ actor colour item. slice_get actor.items.value.items colour.0 ≡ Some item };
 
-    ghost sends_of = { λ actor colour event. [] };
+    ghost sends_of = { λ actor colour number event. [] };
 
-    ghost kept = { λ actor colour received value. IsDone T.of received value };
+    ghost kept = { λ actor colour received sent value. IsDone T.of received value };
 
     fn event(_message: &T::Item) -> Event {
         Event { handler: 1, arg: 0 }
@@ -47,7 +47,7 @@ impl<T: Task> Actor for Mapping<T> {
 
     fn on(
         &self,
-        _colour: Colour,
+        _place: Place,
         value: &mut Option<T::Out>,
         message: T::Item,
         _sends: &mut Sends<T::Item>,

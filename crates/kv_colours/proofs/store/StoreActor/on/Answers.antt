@@ -1,11 +1,12 @@
-use Rattle.kv_colours.proofs.StoredLemmas.{put_kept, get_done, answer_kept}
+use Rattle.std.proofs.Common.{◌++◌, ◌∷◌, [], ap, ◌∙◌}
+use Rattle.kv_colours.proofs.StoredLemmas.{answer_done, get_done, put_done}
 use Rattle.kv_colours.proofs.store.StoreActor.on.Goals as goal
 
 pub returns-in-Get-clause-kept : goal.returns-in-Get-clause-kept
-returns-in-Get-clause-kept c = get_done _ _ _ _ _ _ c.in-Get.is
+returns-in-Get-clause-kept c = get_done c.args.slot.now.map.entries c.args.slot.now.answers.items c.args.message c.in-Get.key c.in-Get.client c.args._place.number _ c.send.new.self _ c.in-Get.is (c.send.ensures ∙ ap (λ l. l ++ _ ∷ []) c.requires.empty) c.look.ensures
 
 pub returns-in_ok-insert-in-Put-clause-kept : goal.returns-in_ok-insert-in-Put-clause-kept
-returns-in_ok-insert-in-Put-clause-kept c = λ received stored. put_kept received _ _ stored _ _ _ _ c.in_ok-insert-in-Put.ensures.entries c.in-Put.is
+returns-in_ok-insert-in-Put-clause-kept c = λ received sent many stored. put_done received sent _ _ _ _ _ _ _ stored c.in_ok-insert-in-Put.ensures.entries c.requires.empty c.in-Put.is
 
 pub returns-in_ok-push-in-Answer-clause-kept : goal.returns-in_ok-push-in-Answer-clause-kept
-returns-in_ok-push-in-Answer-clause-kept c = λ received stored. answer_kept received _ _ stored _ _ _ _ c.in_ok-push-in-Answer.ensures.items c.in-Answer.is
+returns-in_ok-push-in-Answer-clause-kept c = λ received sent many stored. answer_done received sent _ _ _ _ _ _ _ stored c.in_ok-push-in-Answer.ensures.items c.requires.empty c.in-Answer.is

@@ -1,0 +1,3 @@
+mod SeatLemmas
+mod ToldLemmas
+mod HeardLemmas

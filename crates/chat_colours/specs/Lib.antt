@@ -1,0 +1,2 @@
+pub mod Chats
+pub mod Talked
