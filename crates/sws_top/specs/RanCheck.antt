@@ -9,8 +9,9 @@ use Rattle.mely_history.specs.declared.shape.Shape.{Shape}
 use Rattle.sws_link.specs.Counts.{HasCause}
 use Rattle.sws_link.specs.declared.Source.{Ghosts as SourceWords}
 use Rattle.sws_link.specs.declared.Sink.{Ghosts as SinkWords}
+use Rattle.sws_replay.specs.Accepted.{IsServerSetup}
 use Rattle.sws_top.specs.declared.faults.TopFault.{TopFault}
-use Rattle.sws_top.specs.Checked.{IsServerSetup, report_text}
+use Rattle.sws_top.specs.Checked.{report_text}
 use Rattle.sws_top.specs.Faults.{check_fault_of}
 use Rattle.sws_top.specs.Texts.{WritesText}
 
