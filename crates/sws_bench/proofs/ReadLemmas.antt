@@ -80,10 +80,10 @@ all_read site number count ended serves =
     sym (sum-map (λ (s : Served MemLinkState). s.read) ended.served.items)
     ∙ ap sum (maps_same (λ (s : Served MemLinkState). s.read) (λ (conn : ScriptConn). length (all_bytes (script_of conn).items)) ended.served.items _ serves.many
     (λ i conn s at there.
-        let made = made_from number 0 count i conn at in
-        read_alone site made.0 s (subst (λ (c : ScriptConn). IsServedAlone (by_http site) c s) made.1 (serves.each i conn s at there))
-        ∙ ap (λ (bytes : List ℕ). length bytes) (sym (all_bytes-conn_from made.0))
-        ∙ ap (λ (c : ScriptConn). length (all_bytes (script_of c).items)) (sym made.1)))
+    let made = made_from number 0 count i conn at in
+    read_alone site made.0 s (subst (λ (c : ScriptConn). IsServedAlone (by_http site) c s) made.1 (serves.each i conn s at there))
+    ∙ ap (λ (bytes : List ℕ). length bytes) (sym (all_bytes-conn_from made.0))
+    ∙ ap (λ (c : ScriptConn). length (all_bytes (script_of c).items)) (sym made.1)))
 
 -- what was read in a bench's run
 pub bench_read_is : (number count : ℕ) (site : SiteState) (conns : List ScriptConn) (ended : Ended MemWorldState MemLinkState) (served : List (Served MemLinkState)) → conns ≡ bench_conns number count → ServesAll (by_http site) conns ended → served ≡ ended.served.items

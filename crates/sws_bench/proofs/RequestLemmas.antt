@@ -79,28 +79,67 @@ record IsWhole (digits : List ℕ) : Type 0 where
 -- by each number of a file that is asked for
 each_whole : AllByRecursion (λ j. IsWhole (decimal j)) (range_with_len 0 20)
 unfolding cut_of lines_of head_lines up_to_empty print_request digits
-each_whole =
-    (record { cut = refl; printed = refl; target = refl; ascii = refl },
-    (record { cut = refl; printed = refl; target = refl; ascii = refl },
-    (record { cut = refl; printed = refl; target = refl; ascii = refl },
-    (record { cut = refl; printed = refl; target = refl; ascii = refl },
-    (record { cut = refl; printed = refl; target = refl; ascii = refl },
-    (record { cut = refl; printed = refl; target = refl; ascii = refl },
-    (record { cut = refl; printed = refl; target = refl; ascii = refl },
-    (record { cut = refl; printed = refl; target = refl; ascii = refl },
-    (record { cut = refl; printed = refl; target = refl; ascii = refl },
-    (record { cut = refl; printed = refl; target = refl; ascii = refl },
-    (record { cut = refl; printed = refl; target = refl; ascii = refl },
-    (record { cut = refl; printed = refl; target = refl; ascii = refl },
-    (record { cut = refl; printed = refl; target = refl; ascii = refl },
-    (record { cut = refl; printed = refl; target = refl; ascii = refl },
-    (record { cut = refl; printed = refl; target = refl; ascii = refl },
-    (record { cut = refl; printed = refl; target = refl; ascii = refl },
-    (record { cut = refl; printed = refl; target = refl; ascii = refl },
-    (record { cut = refl; printed = refl; target = refl; ascii = refl },
-    (record { cut = refl; printed = refl; target = refl; ascii = refl },
-    (record { cut = refl; printed = refl; target = refl; ascii = refl },
-    tt))))))))))))))))))))
+each_whole = (
+  record { cut = refl; printed = refl; target = refl; ascii = refl },
+  (
+    record { cut = refl; printed = refl; target = refl; ascii = refl },
+    (
+      record { cut = refl; printed = refl; target = refl; ascii = refl },
+      (
+        record { cut = refl; printed = refl; target = refl; ascii = refl },
+        (
+          record { cut = refl; printed = refl; target = refl; ascii = refl },
+          (
+            record { cut = refl; printed = refl; target = refl; ascii = refl },
+            (
+              record { cut = refl; printed = refl; target = refl; ascii = refl },
+              (
+                record { cut = refl; printed = refl; target = refl; ascii = refl },
+                (
+                  record { cut = refl; printed = refl; target = refl; ascii = refl },
+                  (
+                    record { cut = refl; printed = refl; target = refl; ascii = refl },
+                    (
+                      record { cut = refl; printed = refl; target = refl; ascii = refl },
+                      (
+                        record { cut = refl; printed = refl; target = refl; ascii = refl },
+                        (
+                          record { cut = refl; printed = refl; target = refl; ascii = refl },
+                          (
+                            record { cut = refl; printed = refl; target = refl; ascii = refl },
+                            (
+                              record { cut = refl; printed = refl; target = refl; ascii = refl },
+                              (
+                                record { cut = refl; printed = refl; target = refl; ascii = refl },
+                                (
+                                  record { cut = refl; printed = refl; target = refl; ascii = refl },
+                                  (
+                                    record { cut = refl; printed = refl; target = refl; ascii = refl },
+                                    (
+                                      record { cut = refl; printed = refl; target = refl; ascii = refl },
+                                      (
+                                        record { cut = refl; printed = refl; target = refl; ascii = refl },
+                                        tt,
+                                      ),
+                                    ),
+                                  ),
+                                ),
+                              ),
+                            ),
+                          ),
+                        ),
+                      ),
+                    ),
+                  ),
+                ),
+              ),
+            ),
+          ),
+        ),
+      ),
+    ),
+  ),
+)
 
 -- what holds of each of some numbers in a row
 numbered : (P : ℕ → Type 0) (from count : ℕ) → AllByRecursion P (range_with_len from count) → (j : ℕ) → from ≤ j → j < from + count → P j

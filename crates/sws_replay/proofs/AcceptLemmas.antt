@@ -72,19 +72,21 @@ says_rules connections log shape setup of_server =
 -- a server that has served these connections has left the histories of an accepted journal
 accepted : (expected : Expected) (shape : Shape) (conns : List ScriptConn) (log : Bool) (lines : List LogLine) (histories : List (List Entry)) → AreServed expected shape conns log lines histories → AreFit shape.shards histories
     → length histories + entries_in histories < line_limit → IsServerJournal (length conns) log shape (journal histories)
-accepted expected shape conns log lines histories served fit few =
-    (histories, λ (setup : Setup) (of_server : IsServerSetup (length conns) log shape setup).
-        let rules : rules_of served.setup ≡ rules_of setup = served.rules ∙ sym (says_rules (length conns) log shape setup of_server) in
-        let legal = legal_too served.setup setup rules (served.colours ∙ sym of_server.colours) histories served.legal in
-        record {
-          journal_of = record {
-            fit = subst (λ (s : Shape). AreFit s.shards histories) (sym of_server.shape_is) fit;
-            is = refl;
-            few = few;
-          };
-          legal = legal;
-          drained = all_drained histories served.drained;
-        })
+accepted expected shape conns log lines histories served fit few = (
+  histories,
+  λ (setup : Setup) (of_server : IsServerSetup (length conns) log shape setup).
+      let rules : rules_of served.setup ≡ rules_of setup = served.rules ∙ sym (says_rules (length conns) log shape setup of_server) in
+      let legal = legal_too served.setup setup rules (served.colours ∙ sym of_server.colours) histories served.legal in
+      record {
+        journal_of = record {
+          fit = subst (λ (s : Shape). AreFit s.shards histories) (sym of_server.shape_is) fit;
+          is = refl;
+          few = few;
+        };
+        legal = legal;
+        drained = all_drained histories served.drained;
+      },
+)
 
 pub replayed_accepted : (expected : Expected) (shape : Shape) (conns : List ScriptConn) (log : Bool) (text : List ℕ) → IsReplay expected shape conns log true text → EndsAccepted expected shape conns log text
 replayed_accepted expected shape conns log text is = record {

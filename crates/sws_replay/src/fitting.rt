@@ -8,14 +8,12 @@ use mely_history::Entry;
 /// Three numbers of 16 bits are within their range.
 fn three_fit(first: u16, second: u16, third: u16)
     ensures { (first < 65536) × (second < 65536) × (third < 65536) }
-{
-}
+{}
 
 /// The numbers of a registration are within their ranges.
 fn four_fit(colour: u16, handler: u8, arg: u16, by: u16)
     ensures { (colour < 65536) × (handler < 256) × (arg < 65536) × (by < 65536) }
-{
-}
+{}
 
 /// The numbers of an entry are within the ranges of a journal's.
 fn entry_fits(entry: &Entry)

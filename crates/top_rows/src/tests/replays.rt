@@ -210,5 +210,8 @@ fn two_workers_replay_at_once(rt: HostRuntime) {
     );
     assert_eq!(rt; wrote, Ok(()));
     assert!(rt; !room.was_missed());
-    assert_eq!(rt; sink.written(), b"conn 0 done 0\nconn 1 done 0\n".as_slice());
+    assert_eq!(rt;
+        sink.written(),
+        b"conn 0 done 0\nconn 1 done 0\n".as_slice()
+    );
 }
