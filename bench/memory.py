@@ -38,6 +38,7 @@ SITE = os.path.join(TOP, "crates", "sws_main", "data", "site")
 HEAD = "GET / HTTP/1.1\r\nHost: localhost:8080\r\nUser-Agent: Mozilla/5.0\r\nAccept: text/html\r\n\r\n"
 THREE = "sws-script 1\nconn\nsend GET / HTTP/1.1~Host: x~~\nconn\nsend GET /empty.css HTTP/1.1~Host: x~~\nconn\n"
 SCHEDULED = "sws-schedule 1\nstep 0 6\nstep 1 12\nend\nsws-script 1\nconn\n"
+LOGGED = SCHEDULED + "send GET / HTTP/1.1~Host: x~~\nconn\nsend GET /empty.css HTTP/1.1~Host: x~~\n"
 ASKED = b"GET / HTTP/1.1\r\nHost: x\r\n\r\n"
 SECONDS = 20
 # Below the ports that this machine gives to clients; each job has a hundred of its own.
@@ -223,8 +224,11 @@ def sweep_commands(program, library, folder, given):
         ("answer", [SITE], HEAD),
         ("replay", [SITE, "--workers", "2"], THREE),
         ("replay", [SITE, "--workers", "2", "--cost", "5", "--schedule"], SCHEDULED),
+        ("replay", [SITE, "--journal", "--log"], THREE),
+        ("replay", [SITE, "--workers", "2", "--cost", "5", "--schedule", "--log"], LOGGED),
         ("bench", ["4", "1"], ""),
         ("serve", [SITE, "--connections", "2", "--workers", "2"], ""),
+        ("serve", [SITE, "--connections", "2", "--log"], ""),
     ):
         made = Sweep(program, library, folder, given.places)
         sweep([program, name] + options, text, made, given)

@@ -9,5 +9,6 @@ mod JudgeLemmas
 mod BeginLemmas
 mod OutsideLemmas
 mod ReaderLemmas
+mod ExtentLemmas
 mod ExactLemmas
 mod EndLemmas

@@ -1,6 +1,7 @@
 pub mod Journals
 pub mod Reports
 pub mod Verdicts
+pub mod Extent
 pub mod Reading
 pub mod Hearing
 pub mod Walks

@@ -2,6 +2,7 @@
 ghost use Rattle.std.specs.Prelude.{◌≡◌, ◌≢◌, ◌+◌, ◌≤◌, ◌++◌, ℕ, List, length, OnOk, IfErr, Err, MatchResult};
 ghost use Rattle.sws_link.specs.Counts.{HasCause};
 ghost use Rattle.mely_history.specs.declared.setup.Setup.{Setup as SetupValue};
+ghost use Rattle.mely_check.specs.Extent.{IsFrom, ReadsTold};
 ghost use Rattle.mely_check.specs.Verdicts.{Finds, Accepts, IsExact};
 ghost use Rattle.mely_check.specs.Hearing.{Walk, start, HearsRun};
 ghost use Rattle.mely_check.specs.Readers.{Stands, IsOpen, Refuses, Knows, reach};
@@ -18,6 +19,9 @@ use sws_link::{Got, Source};
 const PIECE: usize = 4_096;
 
 /// Reads a journal to its end, and says whether it is that of a legal and drained run of the setup.
+///
+/// A line that no journal has there ends the reading: the piece in which that line ends, of at most
+/// 4,096 bytes, is the last that is read.
 ///
 /// A journal has the setup's shards, numbered from 0, each with a line for each entry that it says
 /// it has. What is read is not kept: of each colour there are its owner, its take and the weights
@@ -39,6 +43,7 @@ pub fn check_journal<R: Source>(
     ensures finds { Finds setup.now (R.left source.old) result }
     ensures accepts { Accepts setup.now (R.left source.old) result }
     ensures exact { IsExact setup.now (R.left source.old) result }
+    ensures reads { ReadsTold (R.left source.old) (R.left source.new) result }
     ensures cause { HasCause (R.faults source.old) (R.faults source.new)
         (result ≡ Err CheckFault.Read) }
 {
@@ -61,6 +66,7 @@ pub fn hear_journal<R: Source, L: Listener>(
     ensures finds { Finds setup.now (R.left source.old) result }
     ensures accepts { Accepts setup.now (R.left source.old) result }
     ensures exact { IsExact setup.now (R.left source.old) result }
+    ensures reads { ReadsTold (R.left source.old) (R.left source.new) result }
     ensures heard { HearsRun setup.now (R.left source.old) (λ walk. L.Heard walk listener.new)
         result }
     ensures frame { L.frame_of listener.new ≡ L.frame_of listener.old }
@@ -81,6 +87,7 @@ fn find<R: Source, L: Listener>(
     ensures finds { Finds setup.now (R.left source.old) result }
     ensures heard { HearsRun setup.now (R.left source.old) (λ walk. L.Heard walk listener.new)
         result }
+    ensures reads { ReadsTold (R.left source.old) (R.left source.new) result }
     ensures frame { L.frame_of listener.new ≡ L.frame_of listener.old }
     ensures cause { HasCause (R.faults source.old) (R.faults source.new)
         (result ≡ Err CheckFault.Read) }
@@ -123,6 +130,7 @@ fn take_all<L: Listener>(
     ensures frame { L.frame_of listener.new ≡ L.frame_of listener.old }
     ensures open_line { OnOk result (IsOpen reader.new) }
     ensures further { OnOk result (reach reader.old + length bytes.now ≤ reach reader.new) }
+    ensures from { IfErr result (IsFrom reader.old.place.number) }
     ensures shards { reader.new.place.shards ≡ reader.old.place.shards }
     ensures sound { IfErr result (λ fault. fault ≢ CheckFault.Read) }
 {

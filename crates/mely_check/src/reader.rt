@@ -24,6 +24,7 @@ pub(crate) struct Reader {
 impl Reader {
     ghost use Rattle.mely_history.specs.Setup.{shape_of};
     ghost use Rattle.mely_history.specs.declared.setup.Setup.{Setup as SetupValue};
+    ghost use Rattle.mely_check.specs.Extent.{IsFrom};
     ghost use Rattle.mely_check.specs.Journals.{IsLine};
     ghost use Rattle.mely_check.specs.Hearing.{Walk};
     ghost use Rattle.mely_check.specs.Walks.{IsAt};
@@ -64,6 +65,8 @@ impl Reader {
         ensures further { OnOk result (reach self.old + 1 ≤ reach self.new) }
         ensures shards { self.new.place.shards ≡ self.old.place.shards }
         ensures frame { L.frame_of listener.new ≡ L.frame_of listener.old }
+        ensures later { OnOk result (self.old.place.number ≤ self.new.place.number) }
+        ensures from { IfErr result (IsFrom self.old.place.number) }
         ensures sound { IfErr result (λ fault. fault ≢ CheckFault.Read) }
     {
         if byte != b'\n' && self.line.len() + 1 == MAX_LINE {
@@ -95,6 +98,7 @@ impl Reader {
         ensures frame { L.frame_of listener.new ≡ L.frame_of listener.old }
         ensures empty { OnOk result (self.new.line.items ≡ []) }
         ensures counted { OnOk result (self.new.place.number ≡ self.old.place.number + 1) }
+        ensures from { IfErr result (IsFrom self.old.place.number) }
         ensures sound { IfErr result (λ fault. fault ≢ CheckFault.Read) }
         ensures shards { self.new.place.shards ≡ self.old.place.shards }
     {
@@ -132,6 +136,7 @@ impl Reader {
         ensures ends { (setup : SetupValue) (text : List ℕ) → Knows nobody setup text self.now
             → self.now.place.shards ≡ (shape_of setup).shards → Ends setup text self.now result }
         ensures whole { OnOk result (IsEnded self.now) }
+        ensures from { IfErr result (IsFrom self.now.place.number) }
         ensures sound { IfErr result (λ fault. fault ≢ CheckFault.Read) }
     {
         if !self.line.is_empty() || !self.place.is_whole() {

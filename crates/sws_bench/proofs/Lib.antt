@@ -4,5 +4,7 @@ mod PieceLemmas
 mod ConnLemmas
 mod InputLemmas
 mod OutcomeLemmas
+mod RequestLemmas
 mod SummaryLemmas
+mod ReadLemmas
 mod WriteLemmas

@@ -44,7 +44,7 @@ not_limited : (limit : ℕ) (input : Input) → length input.bytes < limit → l
 not_limited limit input short = λ i. cond (lt-leb limit (length input.bytes) short i) (record { bytes = take limit input.bytes; stop = at_limit }) input
 
 -- all that it sends counts, and its input ends behind it
-scripted_input-conn_from : (state : ℕ) → scripted_input (script_of (conn_from state)) ≡ whole (bytes_from state)
+pub scripted_input-conn_from : (state : ℕ) → scripted_input (script_of (conn_from state)) ≡ whole (bytes_from state)
 unfolding conn_from
 scripted_input-conn_from state =
     let parts = pieces (piece_size state) (bytes_from state) in

@@ -29,7 +29,7 @@ use Rattle.sws_bench.proofs.OutcomeLemmas.{ends_done}
 
 -- ---- two lists, place by place
 
-maps_same : {A B C : Type 0} (f : A → C) (g : B → C) (xs : List A) (ys : List B) → length xs ≡ length ys → ((i : ℕ) (b : B) (a : A) → slice_get ys i ≡ Some b → slice_get xs i ≡ Some a → f a ≡ g b) → map f xs ≡ map g ys
+pub maps_same : {A B C : Type 0} (f : A → C) (g : B → C) (xs : List A) (ys : List B) → length xs ≡ length ys → ((i : ℕ) (b : B) (a : A) → slice_get ys i ≡ Some b → slice_get xs i ≡ Some a → f a ≡ g b) → map f xs ≡ map g ys
 maps_same f g [] [] long each = refl
 maps_same f g [] (b ∷ ys) long each = absurd (omega arith)
 maps_same f g (a ∷ xs) [] long each = absurd (omega arith)
@@ -80,6 +80,17 @@ module _ (site : SiteState) (conns : List ScriptConn) (ended : Ended MemWorldSta
       let many = serves.many in
       omega (arith, all, many)
 
+  few_read : All (λ s. s.read ≤ 2 ^ 40) ended.served.items
+  few_read =
+      All-from_recursion (λ (s : Served MemLinkState). s.read ≤ 2 ^ 40) ended.served.items
+      (all_have (λ (s : Served MemLinkState). s.read ≤ 2 ^ 40) ended.served.items conns serves.many (λ i conn s at there. let few = (serves.each i conn s at there).few_read in omega arith))
+
+  read_fits : length conns ≤ 1024 → sum_by (λ s. s.read) ended.served.items < 2 ^ 64
+  read_fits few =
+      let all = sum_by-le (λ (s : Served MemLinkState). s.read) (2 ^ 40) ended.served.items few_read in
+      let many = serves.many in
+      omega (arith, all, many)
+
   pub written_is : sum_by (λ s. s.written) ended.served.items ≡ sum (map (λ conn. length (alone (by_http site) conn).bytes) conns)
   written_is =
       sym (sum-map (λ (s : Served MemLinkState). s.written) ended.served.items)
@@ -124,6 +135,13 @@ module _ (number count : ℕ) (site : SiteState) (conns : List ScriptConn) (ende
       let long = many number count conns of_conns in
       let fits = written_fits site conns ended serves (omega arith) in
       let same = ap (λ (ss : List (Served MemLinkState)). sum_by (λ s. s.written) ss) shown in
+      omega (arith, fits, same)
+
+  pub bench_read_fits : count ≤ 1024 → sum_by (λ s. s.read) served < 2 ^ 64
+  bench_read_fits few =
+      let long = many number count conns of_conns in
+      let fits = read_fits site conns ended serves (omega arith) in
+      let same = ap (λ (ss : List (Served MemLinkState)). sum_by (λ s. s.read) ss) shown in
       omega (arith, fits, same)
 
   pub bench_ends_are : (ends : List End) → map (λ end. Some end) ends ≡ map (λ s. s.end) served → ends ≡ bench_ends number count

@@ -24,7 +24,7 @@ use sws_report::write_summary;
 struct Tally {
     /// How each of them ended.
     ends: Vec<End>,
-    /// How many bytes they sent in all.
+    /// How many bytes their links gave in all.
     read: u64,
     /// How many bytes were written to them in all.
     written: u64,
@@ -78,26 +78,27 @@ fn run_bench<R: Threads + Wait + Sync>(
     ensures written { IfOk result (λ tally. tally.written ≡ bench_written number connections) }
 {
     let site = bench_site(alloc)?;
-    let made = generate(alloc, connections, number)?;
-    match run_script(rt, alloc, &site, shape, &made.conns, false) {
-        Ok(ended) => tally_of(alloc, &ended.served, made.bytes),
+    let conns = generate(alloc, connections, number)?;
+    match run_script(rt, alloc, &site, shape, &conns, false) {
+        Ok(ended) => tally_of(alloc, &ended.served),
         Err(_) => Err(Memory),
     }
 }
 
-/// What has become of connections that sent so many bytes, each of which has ended.
-fn tally_of(alloc: Global, served: &[Served<MemLink>], read: u64) -> Result<Tally, Memory>
+/// What has become of connections, each of which has ended.
+fn tally_of(alloc: Global, served: &[Served<MemLink>]) -> Result<Tally, Memory>
     requires ended { All (λ conn. IsSome conn.end) served.now }
-    requires few { sum_by (λ conn. conn.written) served.now < 2 ^ 64 }
+    requires few_read { sum_by (λ conn. conn.read) served.now < 2 ^ 64 }
+    requires few_written { sum_by (λ conn. conn.written) served.now < 2 ^ 64 }
     ensures ends { IfOk result (λ tally. map (λ end. Some end) tally.ends.items
         ≡ map (λ conn. conn.end) served.now) }
-    ensures read { IfOk result (λ tally. tally.read ≡ read) }
+    ensures read { IfOk result (λ tally. tally.read ≡ sum_by (λ conn. conn.read) served.now) }
     ensures written { IfOk result (λ tally.
         tally.written ≡ sum_by (λ conn. conn.written) served.now) }
 {
     Ok(Tally {
         ends: ends_of(alloc, served)?,
-        read,
+        read: read_of(served),
         written: written_of(served),
     })
 }
@@ -114,6 +115,18 @@ fn ends_of(alloc: Global, served: &[Served<MemLink>]) -> Result<Vec<End>, AllocE
         ends.push(end)?;
     }
     Ok(ends)
+}
+
+/// How many bytes connections took of their links in all.
+fn read_of(served: &[Served<MemLink>]) -> u64
+    requires { sum_by (λ conn. conn.read) served.now < 2 ^ 64 }
+    ensures { result ≡ sum_by (λ conn. conn.read) served.now }
+{
+    let mut read = 0;
+    for conn in served {
+        read += conn.read;
+    }
+    read
 }
 
 /// How many bytes were written to connections in all.

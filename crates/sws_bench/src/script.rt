@@ -3,20 +3,13 @@ ghost use Rattle.std.specs.Prelude.{◌≡◌, ◌≤◌, ◌<◌, ◌++◌, ℕ
 ghost use Rattle.std.specs.List.{flat_map};
 ghost use Rattle.sws_script.specs.Inputs.{IsInput};
 ghost use Rattle.sws_bench.specs.Draws.{behind, draws_from};
-ghost use Rattle.sws_bench.specs.BenchScript.{request, pieces, sends, bytes_from, conn_from, behind_conn, bench_conns, bench_bytes};
+ghost use Rattle.sws_bench.specs.BenchScript.{request, pieces, sends, conn_from, behind_conn, bench_conns};
 
 use crate::draws::Draws;
 use itoa::Buffer;
 use std::alloc::{AllocError, Global};
 use sws_link::Memory;
 use sws_script::{Bytes, Item, ScriptConn, Sequence};
-
-/// Connections, and how many bytes they send in all.
-#[derive(Drop)]
-pub(crate) struct Generated {
-    pub(crate) conns: Vec<ScriptConn>,
-    pub(crate) bytes: u64,
-}
 
 /// So many connections with the requests that the number draws: they are those of a
 /// script, in whichever run.
@@ -25,8 +18,8 @@ pub fn bench_script(alloc: Global, connections: u16, number: u32) -> Result<Vec<
     ensures input { IfOk result (λ conns. (cores : ℕ)
         → IsInput false cores (record { steps = []; conns = conns.items })) }
 {
-    let generated = generate(alloc, connections, number)?;
-    Ok(generated.conns)
+    let conns = generate(alloc, connections, number)?;
+    Ok(conns)
 }
 
 /// So many connections, by the draws that begin with the number.
@@ -34,37 +27,32 @@ pub(crate) fn generate(
     alloc: Global,
     connections: u16,
     number: u32,
-) -> Result<Generated, AllocError>
-    ensures conns { IfOk result (λ made. made.conns.items ≡ bench_conns number connections) }
-    ensures bytes { IfOk result (λ made. made.bytes ≡ bench_bytes number connections) }
+) -> Result<Vec<ScriptConn>, AllocError>
+    ensures { IfOk result (λ conns. conns.items ≡ bench_conns number connections) }
 {
     let mut draws = Draws::new(number);
     let mut conns = Vec::new(alloc);
-    let mut bytes = 0;
     'connections: for _ in 0..connections {
-        let (conn, sent) = conn(alloc, &mut draws)?;
+        let conn = conn(alloc, &mut draws)?;
         conns.push(conn)?;
-        bytes += sent as u64;
     }
-    Ok(Generated { conns, bytes })
+    Ok(conns)
 }
 
-/// The next connection, and how many bytes it sends.
-fn conn(alloc: Global, draws: &mut Draws) -> Result<(ScriptConn, usize), AllocError>
-    ensures conn { IfOk result (λ made. made.0 ≡ conn_from draws.old.state) }
-    ensures sent { IfOk result (λ made. made.1 ≡ length (bytes_from draws.old.state)) }
+/// The next connection.
+fn conn(alloc: Global, draws: &mut Draws) -> Result<ScriptConn, AllocError>
+    ensures conn { IfOk result (λ conn. conn ≡ conn_from draws.old.state) }
     ensures state { OnOk result (draws.new.state ≡ behind_conn draws.old.state) }
 {
     let count = 1 + draws.next() % 8;
     let bytes = requests(alloc, draws, count)?;
     let size = 1 + draws.next() % 64;
     let items = pieces(alloc, &bytes, size as usize)?;
-    let conn = ScriptConn {
+    Ok(ScriptConn {
         step: None,
         cut: None,
         items: Sequence::new(items),
-    };
-    Ok((conn, bytes.len()))
+    })
 }
 
 /// So many requests, one behind the other.

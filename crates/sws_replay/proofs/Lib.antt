@@ -4,3 +4,4 @@ mod WorldLemmas
 mod RunLemmas
 mod LogLemmas
 mod TextLemmas
+pub mod AcceptLemmas

@@ -92,6 +92,7 @@ module _ {T G H : Type 0} (x : WorldWords MemWorldState MemLinkState) (l : LinkW
         end = end_is;
         fine = not_memory (alone (of_talk y hall) conn).end (ap (λ (e : Option End). is_out_of_memory e) (sym end_is) ∙ enough);
         bytes = ap (λ (t : LinkContents). t.written) (sym (tells_is link follows.tells follows.told)) ∙ follows.bytes;
+        consumes = serves.consumes;
         written = left.written ∙ serves.written (inr refl);
         few_written = left.few_written;
         read = left.read ∙ serves.read;

@@ -4,6 +4,7 @@ use Rattle.std.specs.Prelude.{slice_get}
 use Rattle.std.specs.List.{AllByRecursion}
 use Rattle.mely_history.specs.declared.shape.Shape.{Shape}
 use Rattle.sws_steps.specs.declared.End.{End}
+use Rattle.mely_check.specs.Journals.{IsFitHistory}
 use Rattle.sws_engine.specs.ServerRun.{IsServerRun}
 use Rattle.sws_engine.specs.declared.ended.Ended.{Ended}
 use Rattle.sws_engine.specs.declared.ended.Served.{Served}
@@ -129,19 +130,19 @@ module _ (expected : Expected) (shape : Shape) (conns : List ScriptConn) (log : 
   whole : shown ++ (lines ++ behind) ≡ transcript_of expected conns ++ lines ++ behind
   whole = sym (append_assoc shown lines behind) ∙ ap (λ (t : List ℕ). t ++ lines ++ behind) same
 
-  pub replayed : (asked : Bool) → Puts before after answer (shown ++ (lines ++ journal_part asked (histories_of ended))) → WritesOne (IsReplay expected shape conns log asked) before after result
-  replayed false puts =
+  pub replayed : (asked : Bool) → (asked ≡ true → AllByRecursion IsFitHistory (histories_of ended)) → Puts before after answer (shown ++ (lines ++ journal_part asked (histories_of ended))) → WritesOne (IsReplay expected shape conns log asked) before after result
+  replayed false fit puts =
       subst (WritesOne (IsReplay expected shape conns log false) before after) (sym is)
       (writes_one (IsReplay expected shape conns log false) (shown ++ (lines ++ [])) before after answer (ended.log.items, ran.logged, without) puts)
-  replayed true puts =
+  replayed true fit puts =
       subst (WritesOne (IsReplay expected shape conns log true) before after) (sym is)
-      (writes_one (IsReplay expected shape conns log true) (shown ++ (lines ++ behind)) before after answer (ended.log.items, histories_of ended, ran.logged, ran.served, whole) puts)
+      (writes_one (IsReplay expected shape conns log true) (shown ++ (lines ++ behind)) before after answer (ended.log.items, histories_of ended, ran.logged, ran.served, record { many = ran.served.shards; fit = fit refl }, whole) puts)
 
 -- the text of a replay of HTTP by a schedule
 module _ (site : SiteState) (shape : Shape) (conns : List ScriptConn) (log : Bool) (ended : Ended MemWorldState MemLinkState) (ran : RunsWell (by_http site) shape conns log ended) (before after : Option (List ℕ)) (answer : Put) (result : Result (Unit {0}) RunFault) (is : result ≡ result_of answer) where
-  pub by_schedule : (input : Input) → input.conns ≡ conns → IsServerRun shape log site (map script_of conns) input.steps (histories_of ended)
+  pub by_schedule : (input : Input) → input.conns ≡ conns → IsServerRun shape log site (map script_of conns) input.steps (histories_of ended) → (true ≡ true → AllByRecursion IsFitHistory (histories_of ended))
       → Puts before after answer (transcript (map shown_of ended.served.items) ++ (log_text ended.log.items ++ journal (histories_of ended))) → WritesOne (IsScheduledReplay site shape input log) before after result
-  by_schedule input conns_are run puts =
+  by_schedule input conns_are run fit puts =
       let all = ended.log.items in
       let text_is : transcript (map shown_of ended.served.items) ++ (log_text all ++ journal (histories_of ended)) ≡ transcript_of (by_http site) input.conns ++ log_text all ++ journal (histories_of ended) =
       sym (append_assoc (transcript (map shown_of ended.served.items)) (log_text all) (journal (histories_of ended)))
@@ -151,4 +152,4 @@ module _ (site : SiteState) (shape : Shape) (conns : List ScriptConn) (log : Boo
       let served_is = subst (λ (c : List ScriptConn). AreServed (by_http site) shape c log all (histories_of ended)) (sym conns_are) ran.served in
       subst (WritesOne (IsScheduledReplay site shape input log) before after) (sym is)
       (writes_one (IsScheduledReplay site shape input log) (transcript (map shown_of ended.served.items) ++ (log_text all ++ journal (histories_of ended))) before after answer
-      (all, histories_of ended, run_is, logged_is, served_is, text_is) puts)
+      (all, histories_of ended, run_is, logged_is, served_is, record { many = ran.served.shards; fit = fit refl }, text_is) puts)

@@ -11,27 +11,49 @@ use Rattle.sws_conn.specs.Http.{http}
 use Rattle.sws_conn.specs.Logs.{log_of, log_of-is}
 use Rattle.sws_conn.specs.Outcome.{outcome_of}
 use Rattle.sws_conn.specs.Path.{path_of}
+use Rattle.sws_conn.specs.Responses.{responses_of}
 use Rattle.sws_site.specs.Site.{SiteState}
 
--- the outcome of a scripted connection, and its path; and the lines of an access log that all
--- answers to the bytes of a connection give, by its number
+-- the outcome of a scripted connection, and its path; the responses to the bytes of a connection;
+-- and the lines of an access log that all answers to these give, by its number
 pub record Expected : Type 0 where
   pub outcome : Script → Outcome
   pub path : Script → List Handler
+  pub responses : List ℕ → List ℕ
   pub log : ℕ → List ℕ → List LogLine
 
 -- as a talk has it, out of what its hall has
 abbrev pub of_talk : {T L G H : Type 0} → TalkWords T L G H → H → Expected
-of_talk y hall = record { outcome = y.outcome hall; path = y.path hall; log = y.log hall }
+of_talk y hall = record {
+  outcome = y.outcome hall;
+  path = y.path hall;
+  responses = y.responses hall;
+  log = y.log hall;
+}
 
 -- of HTTP, out of a site
 abbrev pub by_http : SiteState → Expected
-by_http site = record { outcome = outcome_of site; path = path_of site; log = log_of site }
+by_http site = record {
+  outcome = outcome_of site;
+  path = path_of site;
+  responses = responses_of site;
+  log = log_of site;
+}
 
 -- it is what the talks of HTTP expect, as any protocol's do
 pub by_http-is : (site : SiteState)
-    → record { outcome = outcome_of site; path = path_of site; log = logs.log_of http site }
+    → record {
+      outcome = outcome_of site;
+      path = path_of site;
+      responses = http.responses_of site;
+      log = logs.log_of http site;
+    }
     ≡ by_http site
 by_http-is site =
-    ap (λ lines. record { outcome = outcome_of site; path = path_of site; log = lines })
+    ap (λ lines. record {
+      outcome = outcome_of site;
+      path = path_of site;
+      responses = responses_of site;
+      log = lines;
+    })
     (λ i conn bytes. log_of-is site conn bytes i)

@@ -6,3 +6,4 @@ pub mod Histories
 pub mod Runs
 pub mod Showing
 pub mod Replays
+pub mod Accepted

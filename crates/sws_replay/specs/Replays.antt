@@ -2,6 +2,7 @@
 use Rattle.std.specs.Prelude.{◌≡◌, ◌⊎◌, Bool, true, false, ℕ, List, [], ◌++◌, map, Option, Some, None, Result, Ok, Err}
 use Rattle.mely_history.specs.declared.entry.Entry.{Entry}
 use Rattle.mely_history.specs.declared.shape.Shape.{Shape}
+use Rattle.mely_check.specs.Journals.{AreFit}
 use Rattle.sws_engine.specs.ServerRun.{IsServerRun}
 use Rattle.sws_link.specs.Contents.{IsPrefix}
 use Rattle.sws_link.specs.declared.Put.{Put}
@@ -22,14 +23,14 @@ use Rattle.sws_replay.specs.Transcripts.{transcript_of}
 
 -- the text of a replay, with its log and with its journal where these are asked for: behind the
 -- transcript, the lines of the log, and behind them the journal of histories by which the
--- connections were served
+-- connections were served, whose numbers are within the ranges of a journal's
 abbrev pub IsReplay : Expected → Shape → List ScriptConn → (log journal : Bool) → List ℕ → Type 0
 IsReplay expected shape conns log false text =
     (lines : List LogLine) × IsLog expected conns log lines
     × (text ≡ transcript_of expected conns ++ log_text lines)
 IsReplay expected shape conns log true text =
     (lines : List LogLine) × (histories : List (List Entry)) × IsLog expected conns log lines
-    × AreServed expected shape conns log lines histories
+    × AreServed expected shape conns log lines histories × AreFit shape.shards histories
     × (text ≡ transcript_of expected conns ++ log_text lines ++ journal histories)
 
 -- the one text of a replay of HTTP by a schedule: behind the transcript, the lines of the log where
@@ -39,7 +40,7 @@ IsScheduledReplay site shape input log text =
     (lines : List LogLine) × (histories : List (List Entry))
     × IsServerRun shape log site (map script_of input.conns) input.steps histories
     × IsLog (by_http site) input.conns log lines
-    × AreServed (by_http site) shape input.conns log lines histories
+    × AreServed (by_http site) shape input.conns log lines histories × AreFit shape.shards histories
     × (text ≡ transcript_of (by_http site) input.conns ++ log_text lines ++ journal histories)
 
 -- a front of such a text

@@ -8,8 +8,10 @@ use Rattle.sws_engine.specs.declared.ended.Served.{Served}
 use Rattle.sws_engine.specs.declared.ended.Verdict.TheVariants as verdict
 use Rattle.sws_link.specs.LinkItems.{all_bytes}
 use Rattle.sws_link.specs.MemLink.{MemLinkState}
+use Rattle.sws_link.specs.MemLinks.{bytes_tell}
 use Rattle.sws_link.specs.MemWorld.{MemWorldState}
 use Rattle.sws_steps.specs.Protocol.{most_input}
+use Rattle.sws_steps.specs.Talks.{Consumes}
 use Rattle.sws_script.specs.Scripted.{script_of}
 use Rattle.sws_script.specs.declared.input.ScriptConn.{ScriptConn}
 use Rattle.sws_replay.specs.Expected.{Expected}
@@ -26,6 +28,8 @@ pub record IsServedAlone (expected : Expected) (conn : ScriptConn)
   pub end : s.end ≡ Some (alone expected conn).end
   pub fine : (alone expected conn).end ≢ Memory
   pub bytes : link.bytes.written ≡ (alone expected conn).bytes
+  -- what was written begins the responses to a front of what was taken
+  pub consumes : Consumes expected.responses (bytes_tell link.calls.failing link.bytes)
   -- the counts are those of what was written and taken, and what was taken and is left
   -- is all that its lines give
   pub written : s.written ≡ length link.bytes.written

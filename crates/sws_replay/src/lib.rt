@@ -28,6 +28,7 @@
 #![tactic(auto)]
 
 mod fault;
+mod fitting;
 pub mod laws;
 mod replaying;
 mod running;

@@ -1,6 +1,7 @@
 //! What is written of a run.
-ghost use Rattle.std.specs.Prelude.{◌≡◌, ◌≤◌, ◌++◌, length, map};
+ghost use Rattle.std.specs.Prelude.{◌≡◌, ◌≤◌, ◌++◌, true, length, map};
 ghost use Rattle.std.specs.List.{AllByRecursion};
+ghost use Rattle.mely_check.specs.Journals.{IsFitHistory};
 ghost use Rattle.sws_link.specs.declared.Put.TheVariants as put;
 ghost use Rattle.sws_link.specs.Contents.{Puts};
 ghost use Rattle.sws_link.specs.Counts.{HasCause};
@@ -10,6 +11,7 @@ ghost use Rattle.sws_replay.specs.Runs.{histories_of};
 ghost use Rattle.sws_replay.specs.Showing.{IsShowable, journal_part, shown_of};
 ghost use Rattle.sws_engine.specs.Limits.{conn_limit};
 
+use crate::fitting::journal_fits;
 use mely_history::Entry;
 use std::alloc::Global;
 use sws_engine::{Ended, Served};
@@ -25,8 +27,10 @@ pub fn write_run<O: Sink>(alloc: Global, out: &mut O, ended: &Ended<MemWorld>, j
     ensures text { Puts (O.written out.old) (O.written out.new) result
         (transcript (map shown_of ended.now.served.items)
         ++ (log_text ended.now.log.items ++ journal_part journal (histories_of ended.now))) }
+    ensures fit { journal ≡ true → AllByRecursion IsFitHistory (histories_of ended.now) }
     ensures cause { HasCause (O.faults out.old) (O.faults out.new) (result ≡ put.Failed) }
 {
+    journal_fits(&ended.histories, journal);
     match write_transcript(alloc, out, &ended.served) {
         Put::Done => write_behind(alloc, out, &ended.log, &ended.histories, journal),
         stopped => stopped,

@@ -32,6 +32,7 @@ use Rattle.sws_site.proofs.LimitLemmas.{limit_of-none}
 use Rattle.sws_site.specs.Limits.{limit_of}
 use Rattle.sws_site.specs.Site.{SiteState}
 use Rattle.sws_gopher.specs.Menus.{Place, place_of}
+use Rattle.sws_replay.specs.Accepted.{IsServerSetup}
 use Rattle.sws_replay.specs.Replays.{IsReplay}
 use Rattle.sws_words.specs.Orders.{Order, answer, replay, serve, bench, check, gopher}
 use Rattle.sws_words.specs.Orders as orders
@@ -41,7 +42,7 @@ use Rattle.sws_top.specs.declared.faults.TopFault.TheVariants.{Usage, BadScript,
 use Rattle.sws_top.specs.declared.outcomes.Outcome.{Outcome}
 use Rattle.sws_top.specs.Answered.{AnswersInput}
 use Rattle.sws_top.specs.Causes.{TellsInput, HasLost, HasCauses, IsSound, NothingFailed, IsDone}
-use Rattle.sws_top.specs.Checked.{IsServerSetup, TellsDrainedRun, report_text}
+use Rattle.sws_top.specs.Checked.{TellsDrainedRun, report_text}
 use Rattle.sws_top.specs.Faults.{refusal_of, fault_of_run, EndsAnswering}
 use Rattle.sws_top.specs.Hands.{Hands}
 use Rattle.sws_top.specs.Ran.{IsUntouched, Ran, RanAs}

@@ -8,3 +8,4 @@ mod ServeLemmas
 mod CauseLemmas
 mod LostLemmas
 mod UsageLemmas
+mod PrintedLemmas

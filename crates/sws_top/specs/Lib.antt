@@ -16,4 +16,5 @@ pub mod RanCheck
 pub mod RanServe
 pub mod RanGopher
 pub mod Ran
+pub mod Printed
 pub mod Causes

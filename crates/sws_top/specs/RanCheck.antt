@@ -1,5 +1,6 @@
 -- What a run of `check --connections N ..` did.
 use Rattle.std.specs.Prelude.{◌≡◌, ℕ, Bool, Option, Some, Result, Ok, Err}
+use Rattle.mely_check.specs.Extent.{ReadsTold}
 use Rattle.mely_check.specs.Verdicts.{Finds, Accepts, IsExact}
 use Rattle.mely_check.specs.declared.fault.CheckFault.{CheckFault}
 use Rattle.mely_check.specs.declared.fault.CheckFault.TheVariants.{Read}
@@ -9,8 +10,9 @@ use Rattle.mely_history.specs.declared.shape.Shape.{Shape}
 use Rattle.sws_link.specs.Counts.{HasCause}
 use Rattle.sws_link.specs.declared.Source.{Ghosts as SourceWords}
 use Rattle.sws_link.specs.declared.Sink.{Ghosts as SinkWords}
+use Rattle.sws_replay.specs.Accepted.{IsServerSetup}
 use Rattle.sws_top.specs.declared.faults.TopFault.{TopFault}
-use Rattle.sws_top.specs.Checked.{IsServerSetup, report_text}
+use Rattle.sws_top.specs.Checked.{report_text}
 use Rattle.sws_top.specs.Faults.{check_fault_of}
 use Rattle.sws_top.specs.Texts.{WritesText}
 
@@ -23,7 +25,8 @@ WritesFound o out now fault (Ok report) =
 WritesFound o out now fault (Err why) = (fault ≡ Some (check_fault_of why)) × (now ≡ out)
 
 -- The source was read as a journal of the server with so many connections, with the log or without
--- it. What was found of its bytes is so of them and of no others, and was written.
+-- it, no further than shows what was found. That is so of its bytes and of no others, and was
+-- written.
 pub record RanCheck {R O : Type 0} (r : SourceWords R) (o : SinkWords O) (source source_now : R)
     (out out_now : O) (fault : Option TopFault) (connections : ℕ) (log : Bool)
     (shape : Shape) : Type 0 where
@@ -33,5 +36,6 @@ pub record RanCheck {R O : Type 0} (r : SourceWords R) (o : SinkWords O) (source
   pub finds : Finds setup (r.left source) found
   pub accepts : Accepts setup (r.left source) found
   pub exact : IsExact setup (r.left source) found
+  pub reads : ReadsTold (r.left source) (r.left source_now) found
   pub cause : HasCause (r.faults source) (r.faults source_now) (found ≡ Err Read)
   pub writes : WritesFound o out out_now fault found

@@ -25,6 +25,7 @@ abbrev pub by_gopher : Place → Expected
 by_gopher place = record {
   outcome = outcome_of gopher place;
   path = path_of gopher place;
+  responses = gopher.responses_of place;
   log = λ conn bytes. [];
 }
 

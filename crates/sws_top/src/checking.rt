@@ -1,6 +1,6 @@
 //! The command `check`: a printed journal, checked.
 ghost use Rattle.std.specs.Prelude.{◌≡◌, ◌≤◌};
-ghost use Rattle.sws_top.specs.Checked.{IsServerSetup};
+ghost use Rattle.sws_replay.specs.Accepted.{IsServerSetup};
 ghost use Rattle.sws_top.specs.Faults.{fault_of};
 ghost use Rattle.sws_top.specs.RanCheck.{RanCheck};
 ghost use Rattle.sws_top.specs.Ranges.{IsRunShape};

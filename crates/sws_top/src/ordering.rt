@@ -1,10 +1,11 @@
 //! The top call: from the words to the command that they order.
-ghost use Rattle.std.specs.Prelude.{◌≡◌, ℕ, Some, None, map, string_bytes};
+ghost use Rattle.std.specs.Prelude.{◌≡◌, ℕ, List, Some, None, map, string_bytes};
 ghost use Rattle.sws_words.specs.Orders.{order_of, Order as OrderValue};
 ghost use Rattle.sws_words.specs.Told.{order_view};
 ghost use Rattle.sws_top.specs.Causes.{HasCauses, IsDone, IsSound, MayLose, NothingFailed};
 ghost use Rattle.sws_top.specs.Faults.{status_of};
 ghost use Rattle.sws_top.specs.Hands.{hands};
+ghost use Rattle.sws_top.specs.Printed.{PrintsJournal};
 ghost use Rattle.sws_top.specs.Ran.{IsRefused, Ran, RanAs};
 ghost use Rattle.sws_top.specs.Ranges.{IsInRange};
 
@@ -68,6 +69,13 @@ where
         ⟦<GopherConn<'static, W::Link> as Talk<W::Link>>⟧
         (hands folder.old source.old out.old) (hands folder.new source.new out.new)
         world result order }
+
+    // what it prints as a journal is one that `check` accepts
+    ensures accepted { (order : OrderValue) (sent : List ℕ)
+        → order_of (map string_bytes words.now) ≡ Some order
+        → result.fault ≡ None → O.written out.old ≡ Some sent
+        → PrintsJournal R.Source O.Sink (hands folder.old source.old out.old)
+        (hands folder.new source.new out.new) sent order }
     ensures causes { HasCauses F.Folder R.Source W.World O.Sink
         (hands folder.old source.old out.old) (hands folder.new source.new out.new)
         world result }

@@ -25,14 +25,15 @@ const TWO_CORES: Shape = Shape {
     group: 4,
 };
 
-/// A run of these links by a schedule, of which that of this number finds no memory to write. Where
-/// the number is 0, none does.
+/// A run of these links by a schedule, with the log or without it, of which that of this number finds
+/// no memory to write. Where the number is 0, none does.
 fn starve<R: AllocGlobal + Abort + Wait>(
     rt: &R,
     shape: &Shape,
     links: Vec<MemLink>,
     refuses: u16,
     schedule: &[(u16, u32)],
+    log: bool,
 ) -> Ended<Starving>
     requires few { length links.items ≤ conn_limit }
     requires initial { AllByRecursion IsInitialMemLink links.items }
@@ -45,8 +46,8 @@ fn starve<R: AllocGlobal + Abort + Wait>(
         refuses,
         given: 0,
     };
-    setup_of(rt, shape, u32::from(world.total()) + 2);
-    serve_steps(rt, rt.alloc(), &site, shape, world, schedule, false)
+    setup_of(rt, shape, u32::from(world.total()) + 2 + u32::from(log));
+    serve_steps(rt, rt.alloc(), &site, shape, world, schedule, log)
 }
 
 /// The server's setup of so many colours.
@@ -75,15 +76,15 @@ fn finished(history: &[Entry], sought: Colour) -> u64 {
 
 /// What a run leaves that had begun, whatever it was refused: legal histories, of each colour a
 /// trail of what was finished, the world, and each link that it gave.
-fn stands(rt: &(impl AllocGlobal + Abort), ended: &Ended<Starving>, shape: &Shape) {
-    let setup = setup_of(rt, shape, 4);
+fn stands(rt: &(impl AllocGlobal + Abort), ended: &Ended<Starving>, shape: &Shape, log: bool) {
+    let setup = setup_of(rt, shape, 4 + u32::from(log));
     for history in &ended.histories {
         assert!(rt; judge(&setup, history) == Judged::Legal);
     }
     for (colour, trail) in ended.trails.iter().enumerate() {
         let mut count = 0u64;
         for history in &ended.histories {
-            count = count.wrapping_add(finished(history, Colour((colour % 4) as u16)));
+            count = count.wrapping_add(finished(history, Colour((colour % 8) as u16)));
         }
         assert!(rt; trail.len() as u64 == count, "colour {colour}");
     }
@@ -101,7 +102,7 @@ fn stands(rt: &(impl AllocGlobal + Abort), ended: &Ended<Starving>, shape: &Shap
 
 #[test]
 fn a_link_without_memory_ends_its_own_connection(rt: HostRuntime) {
-    let ended = starve(&rt, &PLAIN, links_of(&rt, &[ASKS; 2]), 2, &[]);
+    let ended = starve(&rt, &PLAIN, links_of(&rt, &[ASKS; 2]), 2, &[], false);
     assert!(rt; ended.verdict == Verdict::Memory);
     assert!(rt; ended.served.len() == 2);
     let ends = [End::Done, End::Memory];
@@ -113,7 +114,7 @@ fn a_link_without_memory_ends_its_own_connection(rt: HostRuntime) {
             None => panic!(rt; "a link is gone"),
         }
     }
-    stands(&rt, &ended, &PLAIN);
+    stands(&rt, &ended, &PLAIN, false);
 }
 
 /// A client of one request, and one of two.
@@ -142,26 +143,56 @@ fn has_front(
     }
 }
 
-/// Two workers serve a connection of one request and one of two, by a
-/// schedule in which one is stolen. Whatever request for memory is refused in the run: it answers `Ok` with all of it, or `Memory`
-/// with fronts. By itself the test refuses none: it is for `bench/memory.py --tests`.
-#[test]
-fn a_run_that_is_refused_memory_leaves_fronts(rt: HostRuntime) {
-    let links = links_of(&rt, &ONE_AND_TWO);
-    let ended = starve(&rt, &TWO_CORES, links, 0, &[(0, 6), (1, 12)]);
+/// The lines of the log are of the first answers of each connection, in their order, and of all of
+/// them where the run was not refused.
+fn has_first_lines(rt: &impl Abort, ended: &Ended<Starving>, answers: [u16; 2]) {
+    let mut turns = [0u16; 2];
+    for line in &ended.log {
+        let conn = usize::from(line.conn);
+        assert!(rt; conn < 2);
+        turns[conn % 2] = turns[conn % 2].wrapping_add(1);
+        assert!(rt; line.turn == turns[conn % 2]);
+    }
+    if ended.verdict == Verdict::Ok {
+        assert!(rt; turns == answers);
+    }
+    assert!(rt; turns[0] <= answers[0] && turns[1] <= answers[1]);
+}
+
+/// Two workers serve a connection of one request and one of two, by a schedule in which one is stolen,
+/// with the log or without it. Whatever request for memory is refused in the run: it answers `Ok` with
+/// all of it, or `Memory` with fronts.
+fn leaves_fronts(rt: &(impl AllocGlobal + Abort + Wait), log: bool) {
+    let links = links_of(rt, &ONE_AND_TWO);
+    let ended = starve(rt, &TWO_CORES, links, 0, &[(0, 6), (1, 12)], log);
     match ended.verdict {
         Verdict::Ok | Verdict::Memory => {}
         Verdict::World => panic!(rt; "the world doesn't fail"),
         Verdict::Apart { conn: _ } => panic!(rt; "a connection is amiss"),
     }
+    let answers = if log { [1, 2] } else { [0, 0] };
+    has_first_lines(rt, &ended, answers);
     if ended.histories.is_empty() {
         assert!(rt; ended.verdict == Verdict::Memory);
         assert!(rt; ended.world.is_some());
         assert!(rt; (ended.served.len(), ended.trails.len()) == (0, 0));
         return;
     }
-    stands(&rt, &ended, &TWO_CORES);
-    assert!(rt; (ended.served.len(), ended.trails.len()) == (2, 4));
-    has_front(&rt, &ended, 0, &[A]);
-    has_front(&rt, &ended, 1, &[EMPTY, A]);
+    stands(rt, &ended, &TWO_CORES, log);
+    let trails = if log { 5 } else { 4 };
+    assert!(rt; (ended.served.len(), ended.trails.len()) == (2, trails));
+    has_front(rt, &ended, 0, &[A]);
+    has_front(rt, &ended, 1, &[EMPTY, A]);
+}
+
+/// By itself the test refuses no memory: it is for `bench/memory.py --tests`.
+#[test]
+fn a_run_that_is_refused_memory_leaves_fronts(rt: HostRuntime) {
+    leaves_fronts(&rt, false);
+}
+
+/// The same with the log.
+#[test]
+fn a_run_with_its_log_that_is_refused_memory_leaves_fronts(rt: HostRuntime) {
+    leaves_fronts(&rt, true);
 }

@@ -1,30 +1,50 @@
-//! A world of two links, of which the first waits for the second.
+//! Where two workers meet: a world of two links, of which the first waits for the second, and talks of
+//! which each waits for another.
+use std::alloc::Global;
 use std::sync::atomic::{AtomicU64, Ordering};
 use std::thread;
 use std::time::Duration;
-use sws_link::{Accepted, Link, LinkRead, LinkWrite, MemLink, MemWorld, Opened, Polled, World};
+use sws_conn::Window;
+use sws_link::{
+    Accepted, Link, LinkRead, LinkWrite, MemLink, MemWorld, Memory, Opened, Polled, World,
+};
+use sws_steps::{Note, Speech, SpeechConn};
 
 /// How often a read that is held looks again.
 const TURNS: u32 = 100_000;
 
-/// Where the reads of the two links meet.
+/// Where two reads meet.
 #[derive(Drop)]
 pub(super) struct Room<'r> {
-    pub(super) clock: &'r HostRuntime,
-    pub(super) has_come: AtomicU64,
-    pub(super) is_missed: AtomicU64,
+    clock: &'r HostRuntime,
+    come: AtomicU64,
+    is_missed: AtomicU64,
 }
 
-impl Room<'_> {
-    /// Whether the first read was held for longer than it may be.
+impl<'r> Room<'r> {
+    /// A room in which nobody is yet.
+    pub(super) fn new(clock: &'r HostRuntime) -> Room<'r> {
+        Room {
+            clock,
+            come: AtomicU64::new(0),
+            is_missed: AtomicU64::new(0),
+        }
+    }
+
+    /// Whether a read was held for longer than it may be.
     pub(super) fn was_missed(&self) -> bool {
         self.is_missed.load(Ordering::SeqCst) != 0
     }
 
-    /// Waits until the other has come.
-    fn wait(&self) {
+    /// Comes.
+    fn enter(&self) {
+        self.come.fetch_add(1, Ordering::SeqCst);
+    }
+
+    /// Waits until so many have come, but no longer than a few seconds.
+    fn wait(&self, count: u64) {
         for _ in 0..TURNS {
-            if self.has_come.load(Ordering::SeqCst) == 1 {
+            if self.come.load(Ordering::SeqCst) >= count {
                 return;
             }
             thread::sleep(self.clock, Duration::from_micros(10));
@@ -57,9 +77,9 @@ impl Link for Late<'_> {
 
     fn read(&mut self, into: &mut [u8]) -> LinkRead {
         if self.is_first {
-            self.room.wait();
+            self.room.wait(1);
         } else {
-            self.room.has_come.store(1, Ordering::SeqCst);
+            self.room.enter();
         }
         self.link.read(into)
     }
@@ -120,4 +140,92 @@ impl<'r> World for Meeting<'r> {
             Accepted::Failed => Accepted::Failed,
         }
     }
+}
+
+/// What a talk says whose reads wait for those of another: nothing. Its first byte is a request, which
+/// closes.
+#[derive(Drop)]
+pub(super) struct Meets<'r> {
+    window: Window,
+    room: &'r Room<'r>,
+}
+
+/// A connection whose first read waits until another connection is at its own.
+pub(super) type MeetingConn<'r> = SpeechConn<Meets<'r>, MemLink>;
+
+impl<'r> Speech for Meets<'r> {
+    type Hall = &'r Room<'r>;
+
+    type Contents = ();
+
+    ghost use Rattle.std.specs.Prelude.{[]};
+    ghost use Rattle.sws_steps.specs.Protocol.{no_note};
+    ghost use Rattle.hang_up.specs.Silence.{silence};
+    ghost use Rattle.hang_up.specs.SilenceLaws.{silence-orderly};
+
+    ghost contents_of = { λ hall. tt };
+
+    ghost Answer = { Unit {0} };
+
+    ghost protocol = { silence };
+
+    ghost hall_of = { λ _. tt };
+
+    ghost bytes_of = { λ speech. speech.window };
+
+    ghost parts_of = { λ _. record { head = []; body = [] } };
+
+    ghost note_of = { λ _. no_note };
+
+    fn make(alloc: Global, hall: &'r Room<'r>) -> Result<Meets<'r>, Memory> {
+        Ok(Meets {
+            window: Window::new(alloc)?,
+            room: hall,
+        })
+    }
+
+    fn input_limit(&self) -> u64 {
+        16
+    }
+
+    fn answer_limit(&self) -> u8 {
+        1
+    }
+
+    fn logs(&self) -> bool {
+        false
+    }
+
+    fn fill<L: Link>(&mut self, link: &mut L, most: usize) -> LinkRead {
+        self.room.enter();
+        self.room.wait(2);
+        self.window.fill(link, most)
+    }
+
+    fn has_request(&mut self) -> bool {
+        !self.window.bytes().is_empty()
+    }
+
+    fn answer(&mut self, _last: bool) -> bool {
+        if self.has_request() {
+            self.window.drop_front(1);
+        }
+        true
+    }
+
+    fn front(&self) -> &[u8] {
+        b""
+    }
+
+    fn left(&self) -> u64 {
+        0
+    }
+
+    fn note(&self) -> Note {
+        Note::none()
+    }
+
+    fn advance(&mut self, _count: usize) {}
+
+    ghost orderly = { silence-orderly };
 }

@@ -3,6 +3,7 @@ ghost use Rattle.std.specs.Prelude.{◌≡◌, ◌≤◌, ◌+◌, None, length}
 ghost use Rattle.mely_history.specs.Setup.{first_out_of_range};
 ghost use Rattle.sws_script.specs.Inputs.{IsInput};
 
+use super::meeting::{MeetingConn, Room};
 use super::scripts::{SHORT, SHORT_SHOWN, STOLEN, STOLEN_SHOWN, THREE, THREE_SHOWN};
 use mely_event::Handlers;
 use mely_history::{Setup, Shape};
@@ -12,7 +13,7 @@ use std::test::Fail;
 use std::thread::Threads;
 use sws_conn::End;
 use sws_link::{MemSink, Sink, SureFolder, SureSink};
-use sws_replay::{RunFault, replay, replay_by_schedule, run_script};
+use sws_replay::{RunFault, replay, replay_by_schedule, replay_talks, run_script};
 use sws_script::{Input, parse};
 use sws_site::Site;
 
@@ -183,4 +184,34 @@ fn a_sink_that_fails_is_told(rt: HostRuntime) {
     assert_eq!(rt; wrote, Err(RunFault::Write));
     assert!(rt; sink.written().starts_with(b"conn 0 done 79\n"));
     assert_eq!(rt; THREE_SHOWN.strip_prefix(sink.written()).is_some(), true);
+}
+
+/// Two connections of one byte each.
+const TWO_BYTES: &[u8] = b"sws-script 1\nconn\nsend a\nconn\nsend b\n";
+
+/// Each of two connections waits at its first read for the other, which one worker alone never reads:
+/// so a replay on two workers has two threads. Those of HTTP and of a bench are made by the same call
+/// of connections that none can see from outside.
+#[test]
+fn two_workers_replay_at_once(rt: HostRuntime) {
+    let room = Room::new(&rt);
+    let input = read(&rt, TWO_BYTES, false, &TWO);
+    let conns = input.conns.as_slice();
+    let mut sink = SureSink::new(rt.alloc());
+    let wrote = replay_talks::<HostRuntime, MeetingConn<'_>, SureSink>(
+        &rt,
+        rt.alloc(),
+        &room,
+        &TWO,
+        conns,
+        false,
+        false,
+        &mut sink,
+    );
+    assert_eq!(rt; wrote, Ok(()));
+    assert!(rt; !room.was_missed());
+    assert_eq!(rt;
+        sink.written(),
+        b"conn 0 done 0\nconn 1 done 0\n".as_slice()
+    );
 }

@@ -6,7 +6,6 @@ use super::meeting::{Meeting, Room};
 use super::{INDEX, INDEX_SENT, bytes_of, run, small_files};
 use std::alloc::{AllocError, Global};
 use std::sync::Wait;
-use std::sync::atomic::AtomicU64;
 use std::test::Fail;
 use std::thread::Threads;
 use sws_conn::End;
@@ -136,11 +135,7 @@ fn serve_meeting<T: AllocGlobal + Threads + Wait + Sync>(
 /// One worker alone never gets the first client's request.
 #[test]
 fn two_workers_serve_at_once(rt: HostRuntime) -> Result<(), Fail> {
-    let room = Room {
-        clock: &rt,
-        has_come: AtomicU64::new(0),
-        is_missed: AtomicU64::new(0),
-    };
+    let room = Room::new(&rt);
     let line = "serve S --port 1 --connections 2 --workers 2 --cost 0";
     let (status, written) = serve_meeting(&rt, &room, line)?;
     assert_eq!(rt; status, 0);

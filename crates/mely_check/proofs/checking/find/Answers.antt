@@ -1,8 +1,9 @@
-use Rattle.std.proofs.Common.{◌∙◌, refl}
+use Rattle.std.proofs.Common.{◌∙◌, refl, length-take, arith}
 use Rattle.std.proofs.Common.{Ok, Err}
 use Rattle.mely_check.specs.Hearing.{Walk}
 use Rattle.mely_check.proofs.ReaderLemmas.{piece_read, piece_refused, text_ended, first_read, unheard}
 use Rattle.mely_check.proofs.EndLemmas.{end_heard}
+use Rattle.mely_check.proofs.ExtentLemmas.{reads_piece}
 use Rattle.mely_check.proofs.checking.find.Goals as goal
 
 pub returns-in-Err-clause-finds : goal.returns-in-Err-clause-finds
@@ -10,6 +11,15 @@ returns-in-Err-clause-finds g c =
     let left = g.R.Source.left in
     piece_refused (λ walk. g.L.Listener.Heard walk c.pieces.listener) c.args.setup.now c.pieces.reader.place.shards (left c.args.source.now) (left c.pieces.source) (left c.read.new.self) c.in-Took.count c.read.new.into c.pieces.reader c.in-Err.fault
     c.pieces.invariant.shards c.pieces.invariant.read c.in-Took.ensures.bytes c.in-Err.ensures.goes
+
+pub returns-in-Err-clause-reads : goal.returns-in-Err-clause-reads
+returns-in-Err-clause-reads g c =
+    let left = g.R.Source.left in
+    let room = c.read.auto.into ∙ c.pieces.invariant.room in
+    let within = c.in-Took.ensures.within in
+    let long = length-take c.in-Took.count c.read.new.into in
+    reads_piece (λ walk. g.L.Listener.Heard walk c.pieces.listener) c.args.setup.now (left c.args.source.now) (left c.pieces.source) (left c.read.new.self) c.in-Took.count c.read.new.into c.pieces.reader c.in-Err.fault
+    c.pieces.invariant.read c.in-Took.ensures.bytes c.in-Err.ensures.goes (omega (arith, long, room)) c.in-Err.ensures.from
 
 pub returns-in-Err-end-clause-finds : goal.returns-in-Err-end-clause-finds
 returns-in-Err-end-clause-finds g c =

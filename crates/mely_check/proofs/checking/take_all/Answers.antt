@@ -20,6 +20,7 @@ loop-byte-preserved g c =
     let more = c.in-Ok.ensures.further in
     record {
       open_line = c.in-Ok.ensures.open_line;
+      later = (let so_far = before.later in let one = c.in-Ok.ensures.later in omega (arith, so_far, one));
       further = omega (arith, reached, more);
       stands = λ text stands.
           subst (λ (t : List ℕ). Stands t c.take.new.self) (byte_more text bytes at c.loop-byte-test.true) (c.in-Ok.ensures.goes (text ++ take at bytes) (before.stands text stands));

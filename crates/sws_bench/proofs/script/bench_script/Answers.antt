@@ -7,4 +7,4 @@ use Rattle.sws_bench.proofs.script.bench_script.Goals as goal
 pub returns-clause-input : goal.returns-clause-input
 returns-clause-input c = λ cores.
     let P : List ScriptConn → Type 0 = λ conns. IsInput false cores (record { steps = []; conns = conns }) in
-    subst P (sym c.in_ok-generated.ensures.conns) (bench_conns_are_an_input c.args.number c.args.connections cores)
+    subst P (sym c.in_ok-conns.ensures) (bench_conns_are_an_input c.args.number c.args.connections cores)

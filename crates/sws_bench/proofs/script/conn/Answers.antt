@@ -9,10 +9,6 @@ returns-clause-conn c =
     c.next.ensures.state c.next.ensures.value c.in_ok-bytes.ensures.bytes c.in_ok-bytes.ensures.state c.next-2.ensures.value
     (c.new.ensures ∙ c.in_ok-items.ensures ∙ ap (λ (b : List ℕ). sends (pieces (1 + c.next-2.result % 64) b)) c.deref.ensures.value)
 
-pub returns-clause-sent : goal.returns-clause-sent
-returns-clause-sent c =
-    c.len.ensures ∙ sym c.deref.ensures.len ∙ ap (λ (b : List ℕ). length b) (c.deref.ensures.value ∙ bytes_made c.args.draws.now.state c.next.new.self.state c.next.result c.in_ok-bytes.bytes.items c.next.ensures.state c.next.ensures.value c.in_ok-bytes.ensures.bytes)
-
 pub returns-clause-state : goal.returns-clause-state
 returns-clause-state c =
     state_made c.args.draws.now.state c.next.new.self.state c.next.result c.requests.new.draws.state _ c.next.ensures.state c.next.ensures.value c.in_ok-bytes.ensures.state c.next-2.ensures.state

@@ -8,6 +8,4 @@ abbrev pub invariant-connections : goal.invariant-connections
 invariant-connections l = record {
   state : l.draws.state ≡ conn_state l.number l.counter;
   conns : l.conns.items ≡ map (λ conn. conn_from (conn_state l.number conn)) (range_with_len 0 l.counter);
-  bytes : l.bytes ≡ sum (map (λ conn. length (bytes_from (conn_state l.number conn))) (range_with_len 0 l.counter));
-  few : l.bytes ≤ 272 * l.counter;
 }

@@ -14,4 +14,4 @@ returns c = λ site shape input log one other first second.
     let histories = one_run _ _ _ _ _ _ _ first.2 second.2 in
     let served = subst (λ (h : List (List Entry)). AreServed (by_http site) shape input.conns log second.0 h) (sym histories) second.4 in
     let lines = one_log (by_http site) shape input.conns log first.0 second.0 first.1 first.3 second.3 first.4 served in
-    first.5 ∙ (ap₂ (λ all h. transcript_of (by_http site) input.conns ++ log_text all ++ journal h) lines histories ∙ sym second.5)
+    first.6 ∙ (ap₂ (λ all h. transcript_of (by_http site) input.conns ++ log_text all ++ journal h) lines histories ∙ sym second.6)

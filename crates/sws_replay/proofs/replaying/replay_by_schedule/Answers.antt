@@ -18,4 +18,4 @@ write_run-requires-clause-showable g c = all_showable (by_http c.args.site.now) 
 pub returns-clause-writes : goal.returns-clause-writes
 returns-clause-writes g c =
     by_schedule c.args.site.now c.args.shape.now c.as_slice-conns.result.now c.args.log c.in_ok-ended.ended c.in_ok-ended.ensures.ran _ _ c.write_run.result c.fault_of.result c.fault_of.ensures c.args.input.now (sym c.as_slice-conns.ensures)
-    (subst (λ (steps : List (ℕ × ℕ)). IsServerRun c.args.shape.now c.args.log c.args.site.now (map script_of c.as_slice-conns.result.now) steps (histories_of c.in_ok-ended.ended)) c.as_slice.ensures c.in_ok-ended.ensures.scheduled) c.write_run.ensures.text
+    (subst (λ (steps : List (ℕ × ℕ)). IsServerRun c.args.shape.now c.args.log c.args.site.now (map script_of c.as_slice-conns.result.now) steps (histories_of c.in_ok-ended.ended)) c.as_slice.ensures c.in_ok-ended.ensures.scheduled) c.write_run.ensures.fit c.write_run.ensures.text

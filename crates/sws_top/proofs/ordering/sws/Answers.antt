@@ -4,8 +4,10 @@ use Rattle.sws_words.specs.Orders.{Order}
 use Rattle.sws_words.specs.Told.{order_view}
 use Rattle.sws_top.specs.Causes.{IsSound, MayLose}
 use Rattle.sws_top.specs.Hands.{hands}
+use Rattle.sws_top.specs.Printed.{PrintsJournal}
 use Rattle.sws_top.proofs.CauseLemmas.{causes_of, done_of}
 use Rattle.sws_top.proofs.LostLemmas.{lost_by}
+use Rattle.sws_top.proofs.PrintedLemmas.{prints_journal}
 use Rattle.sws_top.proofs.RangeLemmas.{order_in_range}
 use Rattle.sws_top.proofs.UsageLemmas.{no_usage}
 use Rattle.sws_top.proofs.ordering.sws.Goals as goal
@@ -44,3 +46,12 @@ returns-in-Ok-clause-usage g c = λ usage.
     let before = hands c.args.folder.now c.args.source.now c.args.out.now in
     let now = hands c.run.new.folder c.run.new.source c.run.new.out in
     absurd (no_usage g.F.Folder g.R.Source g.W.World g.W.Link.Link g.O.Sink _ _ before now c.args.world c.run.result usage (order_view c.in-Ok.order) c.run.ensures.ran)
+
+pub returns-in-Ok-clause-accepted : goal.returns-in-Ok-clause-accepted
+returns-in-Ok-clause-accepted g c = λ order sent is none told.
+    let before = hands c.args.folder.now c.args.source.now c.args.out.now in
+    let now = hands c.run.new.folder c.run.new.source c.run.new.out in
+    let read = order_view c.in-Ok.order in
+    let same : order ≡ read = (let there = c.in-Ok.ensures.read in cc) in
+    subst (λ (k : Order). PrintsJournal g.R.Source g.O.Sink before now sent k) (sym same)
+    (prints_journal g.F.Folder g.R.Source g.W.World g.W.Link.Link g.O.Sink _ _ before now c.args.world c.run.result sent none told read c.run.ensures.ran)
