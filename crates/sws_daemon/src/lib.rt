@@ -23,5 +23,5 @@ mod shelf;
 pub use command::command;
 pub use keeper::LaneKeeper;
 pub use order::{Order, WordsFault, read_order};
-pub use serving::{Served, ServeFault, serve_folder};
+pub use serving::{ServeFault, Served, serve_at, serve_folder};
 pub use shelf::{LoadFault, Shelf};

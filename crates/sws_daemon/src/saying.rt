@@ -22,17 +22,17 @@ impl<'d> Voice<'d> {
     }
 
     /// Says what has gone well.
-    pub fn tell<D: fmt::Display>(&self, line: D) {
+    pub fn tell<D: fmt::Display + Drop>(&self, line: D) {
         if !self.quiet {
             let log = Logged::new(self.rt, LevelFilter::Info, Console(self.rt));
-            info!(log; target: "swsd"; "{line}");
+            info!(log; target: "swsd", "{line}");
         }
     }
 
     /// Says what has not.
-    pub fn warn<D: fmt::Display>(&self, line: D) {
+    pub fn warn<D: fmt::Display + Drop>(&self, line: D) {
         let log = Logged::new(self.rt, LevelFilter::Warn, Console(self.rt));
-        warn!(log; target: "swsd"; "{line}");
+        warn!(log; target: "swsd", "{line}");
     }
 
     /// Says where the program listens, and by how many lanes and workers.
@@ -54,6 +54,7 @@ impl<'d> Voice<'d> {
 }
 
 /// The line of a generation.
+#[derive(Drop)]
 pub struct GenerationLine<'t> {
     pub number: u64,
     pub lane: usize,

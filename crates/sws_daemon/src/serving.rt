@@ -174,11 +174,14 @@ pub fn serve_at<T: AllocGlobal + Threads + Wait + Sync + Clock>(
     for number in 0..usize::from(lanes) {
         let keeper = LaneKeeper::new(rt, threads, entrance, number, &shelf, voice, &count)?;
         let lane = Lane::new(LaneWorld::new(rt, entrance, number)?);
-        jobs.push(Job {
+        let job = Job {
             lane,
             keeper,
             terms,
-        })?;
+        };
+        if jobs.push(job).is_err() {
+            return Err(ServeFault::Memory);
+        }
     }
     let address = listener.local_addr()?;
     voice.tell_of_start(address, lanes, accepting, terms.shape.cores);

@@ -84,7 +84,10 @@ fn load(rt: &HostRuntime, path: &str, hidden: bool) -> Result<Arc<Site>, LoadFau
         Opened::Memory => return Err(LoadFault::Memory),
     }
     let site = Site::load(rt.alloc(), &mut folder, None)?;
-    Ok(Arc::new(rt.alloc(), site)?)
+    match Arc::new(rt.alloc(), site) {
+        Ok(site) => Ok(site),
+        Err(_) => Err(LoadFault::Memory),
+    }
 }
 
 /// The site of a folder, as it was when it was last seen to have changed.
