@@ -7,18 +7,38 @@ use crate::shelf::Shelf;
 use std::alloc::AllocError;
 use std::rt::Clock;
 use std::sync::atomic::{AtomicU64, Ordering};
-use std::sync::{Arc, Wait};
+use std::sync::{Arc, Mutex, Wait};
 use std::thread;
 use std::time::{Duration, Instant};
 use sws_engine::Verdict;
 use sws_lane::{Keeper, Told};
 use sws_link::Opened;
 use sws_log::{LogLine, write_log};
-use sws_net::{Door, Entrance, Output, StdSink};
+use sws_net::{Entrance, LaneWorld, Output, StdSink};
 use sws_site::Site;
 
 /// After how many generations in a row that failed, with nothing served, a lane ends.
 const MOST_FAILURES: u32 = 10;
+
+/// What all lanes share beside the door and the site.
+#[derive(Drop)]
+pub struct Common {
+    /// How many generations there were.
+    count: AtomicU64,
+
+    /// Held by whoever writes lines of a log, so that those of two lanes don't mix.
+    pen: Mutex<()>,
+}
+
+impl Common {
+    /// Before the first generation.
+    pub fn new() -> Common {
+        Common {
+            count: AtomicU64::new(0),
+            pen: Mutex::new(()),
+        }
+    }
+}
 
 /// Keeps a lane going behind a door: it waits before the door until it may enter, looks whether the
 /// folder has changed, and says how each generation ended.
@@ -32,8 +52,7 @@ pub struct LaneKeeper<'d, T: Wait + Clock> {
     site: Arc<Site>,
     voice: Voice<'d>,
 
-    /// How many generations there were in all lanes.
-    count: &'d AtomicU64,
+    common: &'d Common,
 
     /// The number of the generation of this lane, from 1, and when it began.
     number: u64,
@@ -45,7 +64,7 @@ pub struct LaneKeeper<'d, T: Wait + Clock> {
 }
 
 impl<'d, T: Wait + Clock> LaneKeeper<'d, T> {
-    /// Of the lane of this number. `count` counts the generations of all lanes.
+    /// Of the lane of this number.
     ///
     /// # Errors
     ///
@@ -57,7 +76,7 @@ impl<'d, T: Wait + Clock> LaneKeeper<'d, T> {
         lane: usize,
         shelf: &'d Shelf,
         voice: Voice<'d>,
-        count: &'d AtomicU64,
+        common: &'d Common,
     ) -> Result<Self, AllocError> {
         Ok(LaneKeeper {
             rt,
@@ -67,7 +86,7 @@ impl<'d, T: Wait + Clock> LaneKeeper<'d, T> {
             shelf,
             site: shelf.site(threads)?,
             voice,
-            count,
+            common,
             number: 0,
             began: None,
             failures: 0,
@@ -78,6 +97,21 @@ impl<'d, T: Wait + Clock> LaneKeeper<'d, T> {
     /// The status of the fault that has ended the lane, where one has.
     pub fn fault(&self) -> Option<u8> {
         self.fault
+    }
+
+    /// A world for the lane in place of one that was lost; nothing where the lane is at its end. A
+    /// lane that has no memory for it is.
+    pub fn new_world(&mut self) -> Option<LaneWorld<'d>> {
+        if self.fault.is_some() || self.entrance.door.is_closed() {
+            return None;
+        }
+        match LaneWorld::new(self.rt, self.entrance, self.lane) {
+            Ok(world) => Some(world),
+            Err(_) => {
+                self.fault = Some(7);
+                None
+            }
+        }
     }
 
     /// Closes the door where the stop file is there.
@@ -123,6 +157,7 @@ impl<'d, T: Wait + Clock> LaneKeeper<'d, T> {
             return;
         };
         let mut sink = StdSink::new(&output);
+        let _pen = self.common.pen.lock(self.threads);
         let _ = write_log(self.rt.alloc(), &mut sink, lines);
         if !sink.finish() {
             self.voice.warn("the lines of the log can't be written");
@@ -177,7 +212,7 @@ impl<'d, T: Wait + Clock> Keeper for LaneKeeper<'d, T> {
             return false;
         }
         self.renew();
-        self.number = self.count.fetch_add(1, Ordering::SeqCst).saturating_add(1);
+        self.number = self.common.count.fetch_add(1, Ordering::SeqCst).saturating_add(1);
         self.began = Instant::now(self.rt).ok();
         true
     }

@@ -1,7 +1,7 @@
 //! All lanes of the program, from the listener to the totals.
 ghost use Rattle.sws_lane.specs.Terms.{AreTerms};
 
-use crate::keeper::LaneKeeper;
+use crate::keeper::{Common, LaneKeeper};
 use crate::order::Order;
 use crate::saying::Voice;
 use crate::shelf::{LoadFault, Shelf};
@@ -12,7 +12,6 @@ use std::io;
 use std::net::TcpListener;
 use std::rt::Clock;
 use std::sync::Wait;
-use std::sync::atomic::AtomicU64;
 use std::thread::{self, Threads};
 use sws_lane::{Lane, Terms, Totals, keep_serving};
 use sws_net::{Door, Entrance, LaneWorld, StopFile};
@@ -81,8 +80,7 @@ pub struct Served {
 /// A lane at work.
 #[derive(Drop)]
 struct Job<'d, T: Wait + Clock> {
-    lane: Lane<LaneWorld<'d>>,
-    keeper: LaneKeeper<'d, T>,
+    lane: Lane<LaneWorld<'d>, LaneKeeper<'d, T>>,
     terms: Terms,
     ghost in_range: { AreTerms terms },
 }
@@ -108,12 +106,18 @@ fn terms_of(order: &Order) -> Terms
     }
 }
 
-/// Serves one generation after another.
-fn serve_lane<T: AllocGlobal + Threads + Wait + Sync + Clock>(
-    threads: &T,
-    job: &mut Job<'_, T>,
-) {
-    keep_serving(threads, threads.alloc(), &job.terms, &mut job.keeper, &mut job.lane);
+/// Serves one generation after another. Where one has lost its world, the next has a new one.
+fn serve_lane<T: AllocGlobal + Threads + Wait + Sync + Clock>(threads: &T, job: &mut Job<'_, T>) {
+    for _ in threads.forever() {
+        keep_serving(threads, threads.alloc(), &job.terms, &mut job.lane);
+        if job.lane.world.is_some() {
+            return;
+        }
+        job.lane.world = job.lane.keeper.new_world();
+        if job.lane.world.is_none() {
+            return;
+        }
+    }
 }
 
 /// Listens where the order says, and serves its folder until its stop file is there.
@@ -169,16 +173,12 @@ pub fn serve_at<T: AllocGlobal + Threads + Wait + Sync + Clock>(
         age: age.saturating_mul(1000),
         grace: grace.saturating_mul(1000),
     };
-    let count = AtomicU64::new(0);
+    let common = Common::new();
     let mut jobs = Vec::new(rt.alloc());
     for number in 0..usize::from(lanes) {
-        let keeper = LaneKeeper::new(rt, threads, entrance, number, &shelf, voice, &count)?;
-        let lane = Lane::new(LaneWorld::new(rt, entrance, number)?);
-        let job = Job {
-            lane,
-            keeper,
-            terms,
-        };
+        let keeper = LaneKeeper::new(rt, threads, entrance, number, &shelf, voice, &common)?;
+        let lane = Lane::new(LaneWorld::new(rt, entrance, number)?, keeper);
+        let job = Job { lane, terms };
         if jobs.push(job).is_err() {
             return Err(ServeFault::Memory);
         }
@@ -199,7 +199,7 @@ fn sum_up<T: Wait + Clock>(jobs: &[Job<'_, T>], is_stopped: bool) -> Served {
     };
     for job in jobs {
         served.totals.add(&job.lane.totals);
-        if let (Some(fault), false) = (job.keeper.fault(), is_stopped) {
+        if let (Some(fault), false) = (job.lane.keeper.fault(), is_stopped) {
             served.fault = Some(fault);
         }
     }

@@ -3,7 +3,7 @@ use Rattle.std.specs.Prelude.{option_map, sum_by}
 use Rattle.std.specs.List.{slice_get}
 use Rattle.std.proofs.Common.{◌≡◌, ◌⊎◌, inl, inr, ℕ, zero, suc, ◌+◌, ◌<◌, Bool, List, [], ◌∷◌, ◌++◌, length, map, drop, Option, Some, None, refl, sym, ap, ◌∙◌, subst, arith, append_assoc, zero-add}
 use Rattle.std.proofs.lemmas.List.Sums.{sum_by-append}
-use Rattle.std.proofs.lemmas.Option.{slice_get_within}
+use Rattle.std.proofs.lemmas.Option.{slice_get_past, slice_get_within}
 use Rattle.sws_link.specs.Contents.{IsPrefix}
 use Rattle.sws_link.specs.Links.{LinkContents, input_of}
 use Rattle.sws_link.specs.Worlds.{Coming, WorldContents, after_open, initial_contents}
@@ -36,9 +36,9 @@ get_in (x ∷ xs) zero within = (x, refl)
 get_in (x ∷ xs) (suc i) within = get_in xs i (omega arith)
 
 get_dropped : {A : Type 0} (xs : List A) (n i : ℕ) → slice_get (drop n xs) i ≡ slice_get xs (n + i)
-get_dropped xs zero i = ap (slice_get xs) (omega arith)
-get_dropped [] (suc n) i = refl
-get_dropped (x ∷ xs) (suc n) i = get_dropped xs n i ∙ ap (slice_get (x ∷ xs)) (omega arith)
+get_dropped xs zero i = let e : i ≡ 0 + i = omega arith in ap (λ k. slice_get xs k) e
+get_dropped [] (suc n) i = slice_get_past [] i (omega arith) ∙ sym (slice_get_past [] (suc n + i) (omega arith))
+get_dropped (x ∷ xs) (suc n) i = let e : suc (n + i) ≡ suc n + i = omega arith in get_dropped xs n i ∙ ap (λ k. slice_get (x ∷ xs) k) e
 
 length_mapped : {A B : Type 0} (f : A → B) (xs : List A) → length (map f xs) ≡ length xs
 length_mapped f [] = refl
@@ -122,6 +122,12 @@ module _ {W L T G : Type 0} (x : WorldWords W L) (l : LinkWords L) (y : TalkWord
   -- ---- a generation
 
   module _ (site : SiteState) (first : W) (coming : List Coming) (told : (x.tells first).coming ≡ Some coming) where
+    left_unrun : (ended : Option (Ended W L)) → ended ≡ None → (last : W) → world_by first ended ≡ Some last
+        → (x.tells last).coming ≡ Some (drop (accepted_by ended) coming)
+    left_unrun ended none last there =
+        subst (λ (e : Option (Ended W L)). world_by first e ≡ Some last → (x.tells last).coming ≡ Some (drop (accepted_by e) coming)) (sym none)
+        (λ there. let same : first ≡ last = cc in subst (λ (w : W). (x.tells w).coming ≡ Some coming) same told) there
+
     left_by : (answer : Opened) (ended : Option (Ended W L)) → RunsBy x l y terms answer site first ended → (last : W) → world_by first ended ≡ Some last
         → (x.tells last).coming ≡ Some (drop (accepted_by ended) coming)
     left_by opened.Ready ended (run, is, all) last there =
@@ -129,12 +135,6 @@ module _ {W L T G : Type 0} (x : WorldWords W L) (l : LinkWords L) (y : TalkWord
         (λ there. left_run site first run coming told all.leaves last there) there
     left_by opened.Failed ended none last there = left_unrun ended none last there
     left_by opened.Memory ended none last there = left_unrun ended none last there
-
-    left_unrun : (ended : Option (Ended W L)) → ended ≡ None → (last : W) → world_by first ended ≡ Some last
-        → (x.tells last).coming ≡ Some (drop (accepted_by ended) coming)
-    left_unrun ended none last there =
-        subst (λ (e : Option (Ended W L)). world_by first e ≡ Some last → (x.tells last).coming ≡ Some (drop (accepted_by e) coming)) (sym none)
-        (λ there. let same : first ≡ last = cc in subst (λ (w : W). (x.tells w).coming ≡ Some coming) same told) there
 
     conn_by : (answer : Opened) (ended : Option (Ended W L)) → RunsBy x l y terms answer site first ended → (i : ℕ) (s : Served L) (link : L)
         → slice_get (served_by ended) i ≡ Some s → s.link ≡ Some link → IsServedInTurn x l y site coming i s link

@@ -54,21 +54,21 @@ all_accepted generations = sum_by (λ one. accepted_by one.ended) generations
 
 -- the totals after these generations: how many of them were served, how many connections have a
 -- link, how many of them ended in each way, and how many bytes were read and written
-pub record AreTotals {W L : Type 0} (before : Totals) (generations : List (Generation W L))
+pub record AreTotals {W L : Type 0} (before : Totals) (gs : List (Generation W L))
     (now : Totals) : Type 0 where
   pub generations : now.generations
-      ≡ capped (before.generations + count_by (λ one. is_some one.ended) generations)
+      ≡ capped (before.generations + count_by (λ one. is_some one.ended) gs)
   pub connections : now.connections
-      ≡ capped (before.connections + count_by (λ s. is_some s.link) (all_served generations))
+      ≡ capped (before.connections + count_by (λ s. is_some s.link) (all_served gs))
   pub done : now.done
-      ≡ capped (before.done + count_by (λ s. is_done s.end) (all_served generations))
+      ≡ capped (before.done + count_by (λ s. is_done s.end) (all_served gs))
   pub idle : now.idle
-      ≡ capped (before.idle + count_by (λ s. is_idle s.end) (all_served generations))
+      ≡ capped (before.idle + count_by (λ s. is_idle s.end) (all_served gs))
   pub fault : now.fault
-      ≡ capped (before.fault + count_by (λ s. is_fault s.end) (all_served generations))
-  pub read : now.read ≡ capped (before.read + sum_by (λ s. s.read) (all_served generations))
+      ≡ capped (before.fault + count_by (λ s. is_fault s.end) (all_served gs))
+  pub read : now.read ≡ capped (before.read + sum_by (λ s. s.read) (all_served gs))
   pub written : now.written
-      ≡ capped (before.written + sum_by (λ s. s.written) (all_served generations))
+      ≡ capped (before.written + sum_by (λ s. s.written) (all_served gs))
 
 -- ---- one generation
 
@@ -111,8 +111,10 @@ module _ {W L T G : Type 0} (x : WorldWords W L) (l : LinkWords L) (y : TalkWord
   AreGenerations (Some world) (one ∷ more) last = IsGeneration world one
       × AreGenerations (world_by one.first one.ended) more last
 
-  -- ---- the connections of all of them
+-- ---- the connections of all of them
 
+module _ {W L T G : Type 0} (x : WorldWords W L) (l : LinkWords L)
+    (y : TalkWords T L G SiteState) where
   -- the connection has the k-th of the links to come, and what it was sent begins the responses to
   -- its input out of this site, and is all of them where it is done
   pub record IsServedInTurn (site : SiteState) (coming : List Coming) (k : ℕ) (s : Served L)

@@ -13,14 +13,14 @@ module _ {W L T G K : Type 0} (x : WorldWords W L) (l : LinkWords L)
     (y : TalkWords T L G SiteState) (k : KeeperWords K) (terms : Terms) where
   -- generations were served one after another over the lane's world, with the totals their sums,
   -- each out of the site that the keeper had when it began
-  pub record KeepsServing (keeper keeper_now : K) (lane lane_now : Lane W) : Type 0 where
+  pub record KeepsServing (lane lane_now : Lane W K L) : Type 0 where
     pub generations : List (Generation W L)
     pub each : AreGenerations x l y terms lane.world generations lane_now.world
     pub totals : AreTotals lane.totals generations lane_now.totals
-    pub sites : k.begun keeper_now
-        ≡ option_map (λ begun. begun ++ map (λ one. one.site) generations) (k.begun keeper)
+    pub sites : k.begun lane_now.keeper
+        ≡ option_map (λ begun. begun ++ map (λ one. one.site) generations) (k.begun lane.keeper)
 
   -- they were, and their connections are in turn those that the world tells to come
-  pub record Keeps (keeper keeper_now : K) (lane lane_now : Lane W) : Type 0 where
-    pub served : KeepsServing keeper keeper_now lane lane_now
-    pub in_turn : InTurn x l y terms lane.world served.generations
+  pub record Keeps (lane lane_now : Lane W K L) : Type 0 where
+    pub served : KeepsServing lane lane_now
+    pub in_turn : InTurn x l y lane.world served.generations

@@ -2,6 +2,7 @@
 ghost use Rattle.std.specs.Prelude.{◌≡◌, Some};
 ghost use Rattle.sws_lane.specs.Totals.{no_totals};
 
+use crate::keeper::Keeper;
 use crate::totals::Totals;
 use mely_history::Shape;
 use sws_link::World;
@@ -20,22 +21,26 @@ pub struct Terms {
     pub log: bool,
 }
 
-/// A world, and what has come of the generations that were served over it.
+/// A world, who keeps the lane going, and what has come of the generations that were served over the
+/// world.
 #[derive(Drop)]
-pub struct Lane<W: World> {
+pub struct Lane<W: World, K: Keeper> {
     /// The world, unless a generation has lost it.
     pub world: Option<W>,
+    pub keeper: K,
     pub totals: Totals,
 }
 
-impl<W: World> Lane<W> {
+impl<W: World, K: Keeper> Lane<W, K> {
     /// A lane over this world, of which nothing was served.
-    pub fn new(world: W) -> Lane<W>
+    pub fn new(world: W, keeper: K) -> Lane<W, K>
         ensures world { result.world ≡ Some world }
+        ensures keeper { result.keeper ≡ keeper }
         ensures nothing { result.totals ≡ no_totals }
     {
         Lane {
             world: Some(world),
+            keeper,
             totals: Totals::new(),
         }
     }

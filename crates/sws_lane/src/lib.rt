@@ -10,8 +10,8 @@
 //! input, out of the site of its generation.
 //!
 //! ```text
-//! let mut lane = Lane::new(world);
-//! keep_serving(&rt, alloc, &terms, &mut keeper, &mut lane);
+//! let mut lane = Lane::new(world, keeper);
+//! keep_serving(&rt, alloc, &terms, &mut lane);
 //! println!(rt; "{}", lane.totals.connections)?;
 //! ```
 #![tactic(auto)]

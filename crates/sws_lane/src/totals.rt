@@ -84,10 +84,18 @@ impl Totals {
     fn count<L>(&mut self, served: &Served<L>)
         ensures { AddsUp self.old (served.now ∷ []) self.new }
     {
-        self.connections = self.connections.saturating_add(served.link.is_some() as u64);
-        self.done = self.done.saturating_add((served.end == Some(End::Done)) as u64);
-        self.idle = self.idle.saturating_add((served.end == Some(End::Idle)) as u64);
-        self.fault = self.fault.saturating_add((served.end == Some(End::Fault)) as u64);
+        self.connections = self
+            .connections
+            .saturating_add(served.link.is_some() as u64);
+        self.done = self
+            .done
+            .saturating_add((served.end == Some(End::Done)) as u64);
+        self.idle = self
+            .idle
+            .saturating_add((served.end == Some(End::Idle)) as u64);
+        self.fault = self
+            .fault
+            .saturating_add((served.end == Some(End::Fault)) as u64);
         self.read = self.read.saturating_add(served.read);
         self.written = self.written.saturating_add(served.written);
     }
