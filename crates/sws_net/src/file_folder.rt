@@ -20,16 +20,25 @@ pub struct FileFolder<'r> {
     /// The current file.
     file: Option<File>,
     faults: u64,
+    /// Whether entries are given whose names begin with a dot.
+    hidden: bool,
 }
 
 impl<'r> FileFolder<'r> {
-    /// A folder that was not opened yet.
+    /// A folder that was not opened yet, of which all files are given.
     pub fn new(rt: &'r HostRuntime) -> Self {
+        FileFolder::with_hidden(rt, true)
+    }
+
+    /// A folder that was not opened yet. What has a name that begins with a dot is given only where
+    /// it is asked for.
+    pub fn with_hidden(rt: &'r HostRuntime, hidden: bool) -> Self {
         FileFolder {
             rt,
             walk: None,
             file: None,
             faults: 0,
+            hidden,
         }
     }
 }
@@ -57,7 +66,7 @@ impl<'r> Folder for FileFolder<'r> {
     ghost faults = { λ folder. kept_count folder.faults };
 
     fn open(&mut self, path: &str) -> Opened {
-        match FileWalk::new(self.rt, path) {
+        match FileWalk::new(self.rt, path, self.hidden) {
             Ok(walk) => {
                 self.walk = Some(walk);
                 self.file = None;

@@ -102,11 +102,14 @@ pub struct FileWalk<'r> {
     levels: Vec<Level>,
     /// The name of the file that was opened last.
     name: String,
+    /// Whether entries are given whose names begin with a dot.
+    hidden: bool,
 }
 
 impl<'r> FileWalk<'r> {
-    /// A walk that begins in the folder of this path.
-    pub fn new(rt: &'r HostRuntime, path: &str) -> io::Result<FileWalk<'r>> {
+    /// A walk that begins in the folder of this path. Entries whose names begin with a dot, and what
+    /// is below them, are given only where these are asked for.
+    pub fn new(rt: &'r HostRuntime, path: &str, hidden: bool) -> io::Result<FileWalk<'r>> {
         let folder = open_folder(rt, path)?;
         let mut levels = Vec::new(rt.alloc());
         levels.push(Level::new(rt, folder, String::new(rt.alloc()))?)?;
@@ -114,6 +117,7 @@ impl<'r> FileWalk<'r> {
             rt,
             levels,
             name: String::new(rt.alloc()),
+            hidden,
         })
     }
 
@@ -131,6 +135,9 @@ impl<'r> FileWalk<'r> {
                 Some(entry) => {
                     let entry = entry?;
                     let name = level.name_of(self.rt, &entry)?;
+                    if !self.hidden && entry.file_name().starts_with('.') {
+                        continue;
+                    }
                     if let Some(file) = self.enter(entry, name)? {
                         return Ok(Some(file));
                     }

@@ -10,6 +10,7 @@
 //! | [`StdSource`] | a source | a reader, such as standard input |
 //! | [`StdSink`] | a sink | a writer, such as standard output, by an [`Output`] that collects small pieces |
 //! | [`TcpWorld`] | a world | a socket that listens, and epoll |
+//! | [`LaneWorld`] | a world | the same, over a socket that several worlds share behind a [`Door`] |
 //! | [`TcpLink`] | a link | a socket, by a [`KeptLink`] |
 //!
 //! What a link keeps back of a response is proved over any [`Socket`] that tells what it carries, as
@@ -28,11 +29,14 @@
 #![tactic(auto)]
 
 mod departures;
+mod door;
 mod errors;
 mod file_folder;
 mod file_walk;
+mod folder_mark;
 mod kept;
 mod kept_link;
+mod lane_world;
 mod leaving;
 mod lobby;
 mod mem_socket;
@@ -42,16 +46,21 @@ mod signs;
 mod socket;
 mod std_sink;
 mod std_source;
+mod stop_file;
 mod tcp_link;
 mod tcp_socket;
 mod tcp_world;
 
+pub use door::Door;
 pub use file_folder::FileFolder;
+pub use folder_mark::FolderMark;
 pub use kept_link::KeptLink;
+pub use lane_world::{Entrance, LaneWorld};
 pub use mem_socket::MemSocket;
 pub use output::Output;
 pub use socket::Socket;
 pub use std_sink::StdSink;
 pub use std_source::StdSource;
+pub use stop_file::StopFile;
 pub use tcp_link::TcpLink;
 pub use tcp_world::TcpWorld;

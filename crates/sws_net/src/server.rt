@@ -47,13 +47,14 @@ pub enum Came {
 pub struct Server {
     alloc: Global,
     poll: Poll,
-    listener: TcpListener,
+    /// What connections come from; nothing once no further one is to come.
+    listener: Option<TcpListener>,
     events: Events,
     lobby: Lobby,
     signs: Signs,
     departures: Departures,
 
-    /// How many connections were taken from the lobby's door.
+    /// How many connections were taken from the lobby's exit.
     taken: u64,
 
     /// Whether a connection may be waiting to be accepted.
@@ -67,10 +68,13 @@ pub struct Server {
 
     /// When it was last looked which links have shown nothing for long.
     swept: u64,
+
+    /// Whether all links were cut.
+    is_cut: bool,
 }
 
 /// The time in milliseconds.
-fn time_of(clock: &impl Clock) -> io::Result<u64> {
+pub fn time_of(clock: &impl Clock) -> io::Result<u64> {
     let time = clock.monotonic()?;
     Ok(u64::try_from(time.as_millis()).unwrap_or(u64::MAX))
 }
@@ -78,20 +82,26 @@ fn time_of(clock: &impl Clock) -> io::Result<u64> {
 impl Server {
     /// Listens at the port, on all of the machine's addresses, for so many links.
     pub fn new(rt: &HostRuntime, port: u16, total: u16) -> io::Result<Server> {
+        let address = SocketAddr::new(IpAddr::V4(Ipv4Addr::new(0, 0, 0, 0)), port);
+        Server::over(rt, TcpListener::bind(rt, address)?, total)
+    }
+
+    /// Takes so many connections from this listener, which doesn't block and may have owners
+    /// beside this one.
+    pub fn over(rt: &HostRuntime, listener: TcpListener, total: u16) -> io::Result<Server> {
         let alloc = rt.alloc();
         let now = time_of(rt)?;
-        let address = SocketAddr::new(IpAddr::V4(Ipv4Addr::new(0, 0, 0, 0)), port);
+        let mut listener = listener;
         let events = Events::with_capacity(alloc, EVENTS)?;
         let lobby = Lobby::new(alloc, total)?;
         let signs = Signs::new(alloc, total, now)?;
         let poll = Poll::new(rt)?;
-        let mut listener = TcpListener::bind(rt, address)?;
         poll.registry()
             .register(&mut listener, Token(LISTENER), Interest::READABLE)?;
         Ok(Server {
             alloc,
             poll,
-            listener,
+            listener: Some(listener),
             events,
             lobby,
             signs,
@@ -101,36 +111,74 @@ impl Server {
             is_to_retry: false,
             now,
             swept: now,
+            is_cut: false,
         })
     }
 
-    /// Which of those that wait may be ready. Where none showed it, the machine is asked; that
-    /// waits for one to be due where each link that is there waits and no connection may be waiting
-    /// to be accepted, and else not at all.
+    /// Lets the listener go: no further connection comes. Its other owners keep it.
+    pub fn stop_listening(&mut self) {
+        if let Some(mut listener) = self.listener.take() {
+            let _ = self.poll.registry().deregister(&mut listener);
+        }
+        self.may_accept = false;
+        self.is_to_retry = false;
+    }
+
+    /// Cuts all links that are still there: their calls fail from now on.
+    pub fn cut(&mut self) {
+        self.is_cut = true;
+        self.lobby.cut();
+    }
+
+    /// How many of so many links that were accepted are still there.
+    pub fn there(&self, accepted: u16) -> u64 {
+        u64::from(accepted).saturating_sub(self.lobby.gone())
+    }
+
+    /// The time of the last wait, in milliseconds.
+    pub fn now(&self) -> u64 {
+        self.now
+    }
+
+    /// Which of those that wait may be ready; where all were cut, the first of them is. Where none
+    /// showed it, the machine is asked; that waits for one to be due, at most for `most`
+    /// milliseconds, where each link that is there waits and no connection may be waiting to be
+    /// accepted, and else not at all.
     pub fn look(
         &mut self,
         rt: &HostRuntime,
         waiting: &[u16],
         accepted: u16,
         is_last: bool,
+        most: u64,
     ) -> io::Result<Option<u16>>
         ensures { IfOk result (λ named. IfSome named (λ conn. Contains waiting.now conn)) }
     {
+        if self.is_cut && !waiting.is_empty() {
+            return Ok(Some(waiting[0]));
+        }
         if let Some(conn) = self.signs.take_ready(&self.lobby, waiting, self.now) {
             return Ok(Some(conn));
         }
         if self.may_accept && !is_last {
             return Ok(None);
         }
-        let there = u64::from(accepted).saturating_sub(self.lobby.gone());
-        self.wait(rt, waiting, waiting.len() as u64 >= there)?;
+        let all_wait = waiting.len() as u64 >= self.there(accepted);
+        self.wait(rt, waiting, all_wait, most)?;
         Ok(self.signs.take_ready(&self.lobby, waiting, self.now))
     }
 
-    /// Asks the machine what has happened, and waits for it where all wait.
-    fn wait(&mut self, rt: &HostRuntime, waiting: &[u16], all_wait: bool) -> io::Result<()> {
+    /// Asks the machine what has happened, and waits for it where all wait, for at most so long.
+    fn wait(
+        &mut self,
+        rt: &HostRuntime,
+        waiting: &[u16],
+        all_wait: bool,
+        most: u64,
+    ) -> io::Result<()> {
         self.take_departures(rt)?;
         let patience = if all_wait { self.patience(waiting) } else { 0 };
+        let patience = patience.min(most);
         let is_nothing = self.poll(rt, patience)?;
         if is_nothing && all_wait || self.now.saturating_sub(self.swept) >= TICK {
             self.swept = self.now;
@@ -191,6 +239,13 @@ impl Server {
         }
     }
 
+    /// Sees out the connections that links have ended, without waiting, and answers whether all
+    /// are.
+    pub fn glance(&mut self, rt: &HostRuntime) -> bool {
+        let has_failed = self.take_departures(rt).is_err() || self.poll(rt, 0).is_err();
+        has_failed || self.departures.is_empty()
+    }
+
     /// Notes what the last wait brought, and answers whether that was nothing.
     fn note(&mut self) -> bool {
         let mut is_nothing = true;
@@ -198,7 +253,7 @@ impl Server {
             is_nothing = false;
             let Token(place) = event.token();
             if place == LISTENER {
-                self.may_accept = true;
+                self.may_accept = self.listener.is_some();
             } else {
                 let link = place - 1;
                 let is_broken = event.is_error();
@@ -225,7 +280,10 @@ impl Server {
         if !self.may_accept {
             return Came::NotYet;
         }
-        match self.listener.accept() {
+        let Some(listener) = &self.listener else {
+            return Came::NotYet;
+        };
+        match listener.accept() {
             Ok((stream, _)) => match self.admit(stream, number) {
                 Ok(link) => Came::Link(link),
                 Err(_) => Came::NotYet,

@@ -74,6 +74,9 @@ impl Socket for TcpSocket {
         let Some(open) = &self.open else {
             unreachable!()
         };
+        if open.presence.is_cut() {
+            return LinkRead::Failed;
+        }
         if self.is_drained && !open.presence.has_hung_up() {
             self.is_drained = false;
             open.presence.wait_for(Way::Reading);
@@ -100,6 +103,9 @@ impl Socket for TcpSocket {
         let Some(open) = &self.open else {
             unreachable!()
         };
+        if open.presence.is_cut() {
+            return LinkWrite::Failed;
+        }
         match send_parts(&open.stream, first, second) {
             Ok(0) => {
                 open.presence.wait_for(Way::Writing);

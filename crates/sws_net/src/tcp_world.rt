@@ -124,7 +124,7 @@ impl<'r> World for Listening<'r> {
         let is_last = self.accepted >= self.total;
         let answer = match &mut self.server {
             None => Ok(None),
-            Some(server) => server.look(self.rt, waiting, self.accepted, is_last),
+            Some(server) => server.look(self.rt, waiting, self.accepted, is_last, u64::MAX),
         };
         match answer {
             Ok(Some(conn)) => Polled::Ready(conn),

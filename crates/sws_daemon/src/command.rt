@@ -1,0 +1,86 @@
+//! The program, from its words to its status.
+use crate::order::{WordsFault, read_order};
+use crate::serving::{Served, serve_folder};
+use std::env;
+use std::io::ErrorKind;
+use std::process::ExitCode;
+use std::rt::Clock;
+use std::sync::Wait;
+use std::thread::{self, Threads};
+
+/// Runs the program on the machine, with threads of the second handle, which is the same runtime:
+/// only where a program begins does it have threads to give. What is said of a fault goes to
+/// standard error, and the totals to standard output.
+pub fn command<T: AllocGlobal + Threads + Wait + Sync + Clock>(
+    rt: &HostRuntime,
+    threads: &T,
+) -> ExitCode {
+    ExitCode::from(run(rt, threads))
+}
+
+/// The words, the program's name first.
+fn words(rt: &HostRuntime) -> Result<Vec<String>, WordsFault> {
+    match env::args(rt) {
+        Ok(args) => Ok(args.collect(rt.alloc())?),
+        Err(error) if error.kind() == ErrorKind::OutOfMemory => Err(WordsFault::Memory),
+        Err(_) => Err(WordsFault::NotText),
+    }
+}
+
+/// How many processors the machine has for this program.
+fn processors<T: Threads>(threads: &T) -> usize {
+    match thread::available_parallelism(threads) {
+        Ok(count) => count.get(),
+        Err(_) => 1,
+    }
+}
+
+/// Runs the program, and answers its status.
+fn run<T: AllocGlobal + Threads + Wait + Sync + Clock>(rt: &HostRuntime, threads: &T) -> u8 {
+    let order = match words(rt) {
+        Ok(words) => read_order(rt.alloc(), &words, processors(threads)),
+        Err(fault) => Err(fault),
+    };
+    let order = match order {
+        Ok(order) => order,
+        Err(fault) => return refuse(rt, &fault),
+    };
+    match serve_folder(rt, threads, order) {
+        Ok(served) => end(rt, &served),
+        Err(fault) => {
+            let _ = eprintln!(rt; "swsd: {fault}");
+            fault.status()
+        }
+    }
+}
+
+/// Says why the words are no order, and answers the status: 0 where help or version was asked for.
+fn refuse(rt: &HostRuntime, fault: &WordsFault) -> u8 {
+    match fault {
+        WordsFault::Told(error) => {
+            let _ = error.print(rt);
+            if error.use_stderr() { 2 } else { 0 }
+        }
+        WordsFault::Memory => {
+            let _ = eprint!(rt; "{fault}");
+            7
+        }
+        WordsFault::Listen(_) => {
+            let _ = eprint!(rt; "{fault}");
+            2
+        }
+        WordsFault::NotText => {
+            let _ = eprint!(rt; "{fault}");
+            2
+        }
+    }
+}
+
+/// Writes the totals, and answers the status.
+fn end(rt: &HostRuntime, served: &Served) -> u8 {
+    let totals = &served.totals;
+    let _ = println!(rt; "generations {} connections {} done {} idle {} fault {}",
+        totals.generations, totals.connections, totals.done, totals.idle, totals.fault);
+    let _ = println!(rt; "read {} written {}", totals.read, totals.written);
+    served.fault.unwrap_or(0)
+}

@@ -1,0 +1,3 @@
+pub mod GenerationLemmas
+pub mod TotalLemmas
+pub mod TurnLemmas

@@ -1,0 +1,5 @@
+pub mod Generations
+pub mod Keepers
+pub mod Keeping
+pub mod Terms
+pub mod Totals

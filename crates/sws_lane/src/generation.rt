@@ -1,0 +1,81 @@
+//! One generation of a lane.
+ghost use Rattle.std.specs.Prelude.{◌≡◌, Some};
+ghost use Rattle.sws_lane.specs.Generations.{LeavesBy};
+ghost use Rattle.sws_lane.specs.Terms.{AreTerms};
+ghost use Rattle.sws_lane.specs.Totals.{AddsUp, no_totals, one_generation};
+
+use crate::keeper::Told;
+use crate::lane::Terms;
+use crate::totals::Totals;
+use mely_worker::OpenGate;
+use std::alloc::Global;
+use std::sync::Wait;
+use std::thread::Threads;
+use sws_conn::{Conn, Talk};
+use sws_engine::{Ended, serve_all};
+use sws_link::{Opened, World};
+use sws_site::Site;
+
+/// What has come of a generation's run, and what it leaves of its world.
+fn told_of<W: World + Drop>(ended: Ended<W>) -> (Option<W>, Told)
+    ensures world { result.0 ≡ ended.world }
+    ensures counted { AddsUp one_generation ended.served.items result.1.totals }
+{
+    let Ended {
+        verdict,
+        world,
+        accepted: _,
+        failed: _,
+        served,
+        histories: _,
+        trails: _,
+        log,
+    } = ended;
+    let mut totals = Totals::of_one();
+    totals.count_all(&served);
+    let told = Told {
+        opened: Opened::Ready,
+        verdict: Some(verdict),
+        totals,
+        lines: log,
+    };
+    (world, told)
+}
+
+/// A generation that was not opened, since the world answered so.
+fn unopened<W: World + Drop>(alloc: Global, world: W, opened: Opened) -> (Option<W>, Told)
+    ensures world { result.0 ≡ Some world }
+    ensures nothing { result.1.totals ≡ no_totals }
+{
+    let told = Told {
+        opened,
+        verdict: None,
+        totals: Totals::new(),
+        lines: Vec::new(alloc),
+    };
+    (Some(world), told)
+}
+
+/// Opens the world and serves its connections out of the site. It need not return.
+pub fn serve_generation<R: Threads + Wait + Sync, W: World + Drop + Send>(
+    rt: &R,
+    alloc: Global,
+    terms: &Terms,
+    site: &Site,
+    world: W,
+) -> (Option<W>, Told)
+where
+    W::Link: Send,
+    requires { AreTerms terms.now }
+    ensures { LeavesBy W.World W.Link.Link ⟦<Conn<'static, W::Link> as Talk<W::Link>>⟧ terms.now
+        site.now world result.0 result.1.totals }
+{
+    let mut world = world;
+    match world.open(terms.port, terms.connections) {
+        Opened::Ready => {}
+        Opened::Failed => return unopened(alloc, world, Opened::Failed),
+        Opened::Memory => return unopened(alloc, world, Opened::Memory),
+    }
+    let ended = serve_all(rt, alloc, site, &terms.shape, world, &OpenGate, terms.log);
+    told_of(ended)
+}

@@ -1,0 +1,112 @@
+//! One generation after another.
+ghost use Rattle.std.specs.Prelude.{ℕ, List};
+ghost use Rattle.sws_link.specs.Contents.{IsPrefix};
+ghost use Rattle.sws_lane.specs.Keeping.{Keeps, KeepsServing};
+ghost use Rattle.sws_lane.specs.Terms.{AreTerms};
+ghost use Rattle.sws_lane.specs.declared.lane.Terms.{Terms as TermsValue};
+
+use crate::generation::serve_generation;
+use crate::keeper::Keeper;
+use crate::lane::{Lane, Terms};
+use std::alloc::Global;
+use std::sync::Wait;
+use std::thread::Threads;
+use sws_conn::{Conn, Talk};
+use sws_link::{Link, World};
+
+/// What has become of a lane, for contracts alone. It is a trait so that the loop over generations
+/// can be proved whatever that is: what a connection's talk promises has no name in a proof.
+trait Leads<S> {
+    /// By these terms it has become this.
+    ghost leads: { TermsValue → S → S → Type 0 };
+}
+
+impl<W: World, K: Keeper> Leads<Lane<W, K>> for Lane<W, K> {
+    ghost leads = { λ terms lane lane_now. KeepsServing W.World W.Link.Link
+        ⟦<Conn<'static, W::Link> as Talk<W::Link>>⟧ K.Keeper terms lane lane_now };
+}
+
+/// Serves a further generation, and answers whether it did: not where the world is gone, or the
+/// keeper wants none.
+fn serve_next<R: Threads + Wait + Sync, W: World + Drop + Send, K: Keeper>(
+    rt: &R,
+    alloc: Global,
+    terms: &Terms,
+    lane: &mut Lane<W, K>,
+) -> bool
+where
+    W::Link: Send,
+    requires { AreTerms terms.now }
+    ensures { KeepsServing W.World W.Link.Link ⟦<Conn<'static, W::Link> as Talk<W::Link>>⟧
+        K.Keeper terms.now lane.old lane.new }
+{
+    lane.totals.are_kept();
+    let Some(world) = lane.world.take() else {
+        return false;
+    };
+    if !lane.keeper.begin() {
+        lane.world = Some(world);
+        return false;
+    }
+    let (left, told) = serve_generation(rt, alloc, terms, lane.keeper.site(), world);
+    lane.world = left;
+    lane.totals.add(&told.totals);
+    lane.keeper.end(told);
+    true
+}
+
+/// Serves one generation after another, as long as there is a further one. It need not return.
+fn serve_all_generations<
+    R: Threads + Wait + Sync,
+    W: World + Drop + Send,
+    K: Keeper,
+    M: Leads<Lane<W, K>>,
+>(rt: &R, alloc: Global, terms: &Terms, lane: &mut Lane<W, K>)
+where
+    W::Link: Send,
+    requires range { AreTerms terms.now }
+    requires serves { (a b : _) → KeepsServing W.World W.Link.Link
+        ⟦<Conn<'static, W::Link> as Talk<W::Link>>⟧ K.Keeper terms.now a b → M.leads terms.now a b }
+    requires begins { M.leads terms.now lane.old lane.old }
+    requires onward { (a b c : _) → M.leads terms.now a b → M.leads terms.now b c
+        → M.leads terms.now a c }
+    ensures { M.leads terms.now lane.old lane.new }
+{
+    'generations: for _ in rt.forever() {
+        if !serve_next(rt, alloc, terms, lane) {
+            break;
+        }
+    }
+}
+
+/// What is sent to a front of an input begins what is sent to all of it, for contracts alone. A call
+/// does nothing.
+fn responses_begin<L: Link, T: Talk<L>>()
+    ensures { (hall : T.Contents) (front bytes : List ℕ) → IsPrefix front bytes
+        → IsPrefix (T.responses hall front) (T.responses hall bytes) }
+{}
+
+/// Serves one generation after another, until the keeper wants no further one or the world is gone.
+/// It need not return.
+///
+/// There is a list of generations, and each opened the world that the one before left; what
+/// [`serve_all`](sws_engine::serve_all) promises holds of each that was opened, out of the keeper's
+/// site, and the totals are their sums. Over a world that tells its links, the k-th connection over
+/// all generations is the k-th to come. What it was sent begins the responses to its input out of
+/// the site of its generation, and is all of them where it is done.
+pub fn keep_serving<R: Threads + Wait + Sync, W: World + Drop + Send, K: Keeper>(
+    rt: &R,
+    alloc: Global,
+    terms: &Terms,
+    lane: &mut Lane<W, K>,
+)
+where
+    W::Link: Send,
+    requires { AreTerms terms.now }
+    ensures { Keeps W.World W.Link.Link ⟦<Conn<'static, W::Link> as Talk<W::Link>>⟧ K.Keeper
+        terms.now lane.old lane.new }
+{
+    lane.totals.are_kept();
+    responses_begin::<W::Link, Conn<'_, W::Link>>();
+    serve_all_generations::<R, W, K, Lane<W, K>>(rt, alloc, terms, lane);
+}

@@ -1,0 +1,105 @@
+//! What a folder looks like, to tell whether it has changed.
+
+use std::fs::{self, DirEntry, Metadata, ReadDir};
+use std::io::{self, ErrorKind};
+use std::os::unix::fs::MetadataExt;
+
+/// How many folders deep a folder may lie.
+const MAX_DEPTH: usize = 32;
+
+/// How many entries are looked at at most.
+const MOST: u32 = 1_000_000;
+
+/// What is below a folder, in numbers. Where a file is made, written, renamed or taken away, one of
+/// them is mostly another; nothing is opened and read for it.
+#[derive(Clone, Copy, Debug, PartialEq, Eq)]
+pub struct FolderMark {
+    /// How many regular files and folders there are, and how many bytes the files have.
+    entries: u32,
+    bytes: u64,
+
+    /// When the last change of one of them was, in seconds and nanoseconds.
+    newest: (i64, i64),
+
+    /// Their numbers on the machine, in a sum.
+    inodes: u64,
+
+    /// The bytes of their names, in a sum that depends on their places in a name.
+    names: u64,
+}
+
+impl FolderMark {
+    /// What the folder of this path looks like. Entries whose names begin with a dot, and what is
+    /// below them, count only where these are asked for.
+    ///
+    /// # Errors
+    ///
+    /// The folder, or one below it, can't be listed, or has no end.
+    pub fn of(rt: &HostRuntime, path: &str, hidden: bool) -> io::Result<FolderMark> {
+        let alloc = rt.alloc();
+        let mut mark = FolderMark {
+            entries: 0,
+            bytes: 0,
+            newest: (0, 0),
+            inodes: 0,
+            names: 0,
+        };
+        let mut levels = Vec::new(alloc);
+        levels.push(fs::read_dir(rt, path)?)?;
+        for _ in 0..MOST {
+            let Some(level) = levels.last_mut() else {
+                return Ok(mark);
+            };
+            let below = match level.next() {
+                Some(entry) => mark.look(rt, &entry?, hidden)?,
+                None => {
+                    levels.pop();
+                    continue;
+                }
+            };
+            if let Some(below) = below {
+                if levels.len() > MAX_DEPTH {
+                    return Err(io::Error::from(ErrorKind::Other));
+                }
+                levels.push(below)?;
+            }
+        }
+        Err(io::Error::from(ErrorKind::Other))
+    }
+
+    /// Looks at an entry, and lists it where it is a folder.
+    fn look(
+        &mut self,
+        rt: &HostRuntime,
+        entry: &DirEntry,
+        hidden: bool,
+    ) -> io::Result<Option<ReadDir>> {
+        if !hidden && entry.file_name().starts_with('.') {
+            return Ok(None);
+        }
+        let found = entry.metadata()?;
+        if found.is_file() {
+            self.bytes = self.bytes.wrapping_add(found.len());
+            self.count(entry, &found);
+            return Ok(None);
+        }
+        if found.is_dir() {
+            self.count(entry, &found);
+            return Ok(Some(fs::read_dir(rt, entry.path())?));
+        }
+        Ok(None)
+    }
+
+    /// Counts an entry.
+    fn count(&mut self, entry: &DirEntry, found: &Metadata) {
+        self.entries = self.entries.wrapping_add(1);
+        self.inodes = self.inodes.wrapping_add(found.ino());
+        self.newest = self.newest.max((found.mtime(), found.mtime_nsec()));
+        self.newest = self.newest.max((found.ctime(), found.ctime_nsec()));
+        let mut sum: u64 = 1;
+        for byte in entry.file_name().as_bytes() {
+            sum = sum.wrapping_mul(31).wrapping_add(u64::from(*byte));
+        }
+        self.names = self.names.wrapping_add(sum);
+    }
+}

@@ -1,0 +1,3 @@
+mod lanes;
+mod shelves;
+mod words;

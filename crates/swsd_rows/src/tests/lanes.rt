@@ -1,0 +1,133 @@
+//! Clients on this machine at a server whose generations have two connections each.
+
+use std::fs;
+use std::io::{self, Read, Write};
+use std::net::{SocketAddr, TcpListener, TcpStream};
+use std::test::Fail;
+use std::thread;
+use sws_daemon::{Order, serve_at};
+
+/// How many clients ask.
+const CLIENTS: u64 = 40;
+
+const REQUEST: &[u8] = b"GET / HTTP/1.1\r\nHost: x\r\nConnection: close\r\n\r\n";
+
+const RESPONSE: &[u8] =
+    b"HTTP/1.1 200 OK\r\nServer: sws\r\nConnection: close\r\nContent-Type: text/html\r\nContent-Length: 3\r\n\r\nhi\n";
+
+/// Asks for the index, and reads what comes back to the end. A client that is refused has an error.
+fn ask(rt: &HostRuntime, address: SocketAddr) -> io::Result<Vec<u8>> {
+    let stream = TcpStream::connect(rt, address)?;
+    (&stream).write_all(REQUEST)?;
+    let mut back = Vec::new(rt.alloc());
+    (&stream).read_to_end(&mut back)?;
+    Ok(back)
+}
+
+/// How many of so many clients, one after another, were answered as they should be.
+fn ask_all(rt: &HostRuntime, address: SocketAddr, clients: u64) -> u64 {
+    let mut answered = 0u64;
+    for _ in 0..clients {
+        if let Ok(back) = ask(rt, address) {
+            if back.as_slice() == RESPONSE {
+                answered = answered.saturating_add(1);
+            }
+        }
+    }
+    answered
+}
+
+/// How many clients were answered beside one that says nothing from before the others come until
+/// they have gone. Then the stop file is made.
+fn ask_beside_a_silent_one(rt: &HostRuntime, address: SocketAddr, stop: &str) -> u64 {
+    let silent = TcpStream::connect(rt, address);
+    let answered = ask_all(rt, address, CLIENTS);
+    let _ = fs::write(rt, stop, b"");
+    drop(silent);
+    answered
+}
+
+/// One client is silent and another is answered, so that their generation is full; the silent one
+/// waits until the server ends its connection. Then a third one is answered, and the stop file is
+/// made. How many were answered, and how many bytes the silent one got, where its connection ended.
+fn ask_after_a_silent_one(
+    rt: &HostRuntime,
+    address: SocketAddr,
+    stop: &str,
+) -> io::Result<(u64, usize)> {
+    let silent = TcpStream::connect(rt, address)?;
+    let before = ask_all(rt, address, 1);
+    let mut back = Vec::new(rt.alloc());
+    let count = match (&silent).read_to_end(&mut back) {
+        Ok(count) => count,
+        Err(_) => 0,
+    };
+    let after = ask_all(rt, address, 1);
+    fs::write(rt, stop, b"")?;
+    Ok((before.saturating_add(after), count))
+}
+
+/// A folder of an index alone, and the order that serves it; there is no stop file yet.
+fn order_of(rt: &HostRuntime, folder: &str, stop: &str, lanes: u16, grace: u64) -> io::Result<Order> {
+    let alloc = rt.alloc();
+    fs::create_dir_all(rt, folder)?;
+    let index = format!(in alloc; "{folder}/index.html")?;
+    fs::write(rt, index.as_str(), b"hi\n")?;
+    let _ = fs::remove_file(rt, stop);
+    Ok(Order {
+        folder: String::from_str(alloc, folder)?,
+        listen: SocketAddr::from(([127, 0, 0, 1], 0)),
+        workers: 1,
+        lanes,
+        accepting: lanes.min(2),
+        connections: 2,
+        age: 600,
+        grace,
+        stop_file: Some(String::from_str(alloc, stop)?),
+        log: false,
+        quiet: true,
+        hidden: false,
+    })
+}
+
+#[test]
+fn forty_clients_are_answered_over_generations_of_two(rt: HostRuntime) -> Result<(), Fail> {
+    let order = order_of(&rt, "swsd_rows_site", "swsd_rows_stop", 3, 20)?;
+    let listener = TcpListener::bind(&rt, order.listen)?;
+    let address = listener.local_addr()?;
+    let (served, answered) = thread::join(
+        &rt,
+        || serve_at(&rt, &rt, order, &listener),
+        || ask_beside_a_silent_one(&rt, address, "swsd_rows_stop"),
+    );
+    let Ok(served) = served else {
+        panic!(rt; "the server has failed");
+    };
+    assert_eq!(rt; answered, CLIENTS);
+    assert_eq!(rt; served.fault, None);
+    assert_eq!(rt; served.totals.connections, CLIENTS + 1);
+    assert_eq!(rt; served.totals.done, CLIENTS + 1);
+    assert!(rt; served.totals.generations > CLIENTS / 2);
+    assert_eq!(rt; served.totals.read, 46 * CLIENTS);
+    Ok(())
+}
+
+#[test]
+fn a_silent_client_is_cut_once_its_generation_has_left(rt: HostRuntime) -> Result<(), Fail> {
+    let order = order_of(&rt, "swsd_rows_cut", "swsd_rows_cut_stop", 1, 2)?;
+    let listener = TcpListener::bind(&rt, order.listen)?;
+    let address = listener.local_addr()?;
+    let (served, asked) = thread::join(
+        &rt,
+        || serve_at(&rt, &rt, order, &listener),
+        || ask_after_a_silent_one(&rt, address, "swsd_rows_cut_stop"),
+    );
+    let Ok(served) = served else {
+        panic!(rt; "the server has failed");
+    };
+    assert_eq!(rt; asked?, (2, 0));
+    assert_eq!(rt; served.totals.connections, 3);
+    assert_eq!(rt; served.totals.done, 2);
+    assert_eq!(rt; served.totals.fault, 1);
+    Ok(())
+}
