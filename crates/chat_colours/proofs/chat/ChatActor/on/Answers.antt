@@ -33,7 +33,7 @@ returns-else-at-ge-LINES-clause-kept c =
     seat_kept c.keep-kept.result c.args.at.colour c.send-in-Line.new.self heard after c.args.message n
     (one_sent c.args.sends.now c.send-in-Line.new.self _ c.requires.empty c.send-in-Line.ensures ∙ line_sent c.args.at.colour n c.in-Line.number c.in-Line.text low ∙ ap (says c.args.at.colour n) (sym c.in-Line.is))
     (subst (λ l. OnOk c.keep-kept.result (map note_of after ≡ map note_of heard ++ l)) (line_noted n c.in-Line.number c.in-Line.text low ∙ ap (notes n) (sym c.in-Line.is))
-    (subst (λ text. OnOk c.keep-kept.result (map note_of after ≡ map note_of heard ++ (n, c.in-Line.number, text) ∷ [])) c.deref.ensures c.keep-kept.ensures))
+    (subst (λ text. OnOk c.keep-kept.result (map note_of after ≡ map note_of heard ++ (n, c.in-Line.number, text) ∷ [])) c.deref.ensures.value c.keep-kept.ensures))
 
 pub returns-then-at-lt-CLIENTS-clause-kept : goal.returns-then-at-lt-CLIENTS-clause-kept
 returns-then-at-lt-CLIENTS-clause-kept c =
@@ -45,7 +45,7 @@ returns-then-at-lt-CLIENTS-clause-kept c =
     seat_kept c.keep-kept-in-Hear.result c.args.at.colour c.send-then-at-lt-CLIENTS.new.self heard after c.args.message n
     (one_sent c.args.sends.now c.send-then-at-lt-CLIENTS.new.self _ c.requires.empty c.send-then-at-lt-CLIENTS.ensures ∙ next_sent c.args.at.colour n c.in-Hear.place c.in-Hear.number c.in-Hear.text low ∙ ap (says c.args.at.colour n) (sym c.in-Hear.is))
     (subst (λ l. OnOk c.keep-kept-in-Hear.result (map note_of after ≡ map note_of heard ++ l)) (ap (notes n) (sym c.in-Hear.is))
-    (subst (λ text. OnOk c.keep-kept-in-Hear.result (map note_of after ≡ map note_of heard ++ (c.in-Hear.place, c.in-Hear.number, text) ∷ [])) c.deref-in-Hear.ensures c.keep-kept-in-Hear.ensures))
+    (subst (λ text. OnOk c.keep-kept-in-Hear.result (map note_of after ≡ map note_of heard ++ (c.in-Hear.place, c.in-Hear.number, text) ∷ [])) c.deref-in-Hear.ensures.value c.keep-kept-in-Hear.ensures))
 
 pub returns-else-at-lt-CLIENTS-clause-kept : goal.returns-else-at-lt-CLIENTS-clause-kept
 returns-else-at-lt-CLIENTS-clause-kept c =
@@ -57,4 +57,4 @@ returns-else-at-lt-CLIENTS-clause-kept c =
     seat_kept c.keep-kept-in-Hear.result c.args.at.colour c.args.sends.now heard after c.args.message n
     (c.requires.empty ∙ last_sent c.args.at.colour n c.in-Hear.place c.in-Hear.number c.in-Hear.text high ∙ ap (says c.args.at.colour n) (sym c.in-Hear.is))
     (subst (λ l. OnOk c.keep-kept-in-Hear.result (map note_of after ≡ map note_of heard ++ l)) (ap (notes n) (sym c.in-Hear.is))
-    (subst (λ text. OnOk c.keep-kept-in-Hear.result (map note_of after ≡ map note_of heard ++ (c.in-Hear.place, c.in-Hear.number, text) ∷ [])) c.deref-in-Hear.ensures c.keep-kept-in-Hear.ensures))
+    (subst (λ text. OnOk c.keep-kept-in-Hear.result (map note_of after ≡ map note_of heard ++ (c.in-Hear.place, c.in-Hear.number, text) ∷ [])) c.deref-in-Hear.ensures.value c.keep-kept-in-Hear.ensures))
