@@ -79,8 +79,10 @@ fn refuse(rt: &HostRuntime, fault: &WordsFault) -> u8 {
 /// Writes the totals, and answers the status.
 fn end(rt: &HostRuntime, served: &Served) -> u8 {
     let totals = &served.totals;
-    let _ = println!(rt; "generations {} connections {} done {} idle {} fault {}",
-        totals.generations, totals.connections, totals.done, totals.idle, totals.fault);
+    let _ = println!(rt;
+        "generations {} connections {} done {} idle {} fault {}",
+        totals.generations, totals.connections, totals.done, totals.idle, totals.fault
+    );
     let _ = println!(rt; "read {} written {}", totals.read, totals.written);
     served.fault.unwrap_or(0)
 }

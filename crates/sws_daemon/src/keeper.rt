@@ -127,7 +127,9 @@ impl<'d, T: Wait + Clock> LaneKeeper<'d, T> {
     /// stays.
     fn renew(&mut self) {
         match self.shelf.look(self.rt, self.threads) {
-            Ok(true) => self.voice.tell("the folder has changed and was loaded anew"),
+            Ok(true) => self
+                .voice
+                .tell("the folder has changed and was loaded anew"),
             Ok(false) => {}
             Err(fault) => self.voice.warn_of_site(fault),
         }
@@ -212,7 +214,11 @@ impl<'d, T: Wait + Clock> Keeper for LaneKeeper<'d, T> {
             return false;
         }
         self.renew();
-        self.number = self.common.count.fetch_add(1, Ordering::SeqCst).saturating_add(1);
+        self.number = self
+            .common
+            .count
+            .fetch_add(1, Ordering::SeqCst)
+            .saturating_add(1);
         self.began = Instant::now(self.rt).ok();
         true
     }

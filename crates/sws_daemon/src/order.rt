@@ -118,8 +118,13 @@ fn places<'a>(alloc: Global) -> Result<Command<'a>, AllocError> {
         .help("The folder whose files are served")
         .required(true)
         .action(ArgAction::Set);
-    let listen = option(alloc, "listen", "ADDRESS:PORT", "Where connections come in; [::] takes IPv6 and IPv4")
-        .default_value("[::]:8080");
+    let listen = option(
+        alloc,
+        "listen",
+        "ADDRESS:PORT",
+        "Where connections come in; [::] takes IPv6 and IPv4",
+    )
+    .default_value("[::]:8080");
     Command::new(alloc, "swsd")
         .version(VERSION)
         .about(ABOUT)
@@ -130,22 +135,52 @@ fn places<'a>(alloc: Global) -> Result<Command<'a>, AllocError> {
 
 /// The options that say by how many threads, and for how long a generation takes connections.
 fn with_numbers<'a>(alloc: Global, command: Command<'a>) -> Result<Command<'a>, AllocError> {
-    let workers = option(alloc, "workers", "N", "How many threads serve a generation, 1 to 64")
-        .value_parser(value_parser!(u16).range(1..=64))
-        .default_value("1");
-    let lanes = option(alloc, "lanes", "N", "How many generations there are at a time, 1 to 256 [default: twice the processors, 4 at least]")
-        .value_parser(value_parser!(u16).range(1..=256));
-    let accepting = option(alloc, "accepting", "N", "How many of them take connections at a time, 1 to 256 [default: the processors]")
-        .value_parser(value_parser!(u16).range(1..=256));
-    let connections = option(alloc, "connections", "N", "How many connections a generation has at most, 1 to 1024")
-        .value_parser(value_parser!(u16).range(1..=1024))
-        .default_value("1024");
-    let age = option(alloc, "age", "SECONDS", "How long a generation takes connections")
-        .value_parser(value_parser!(u64).range(1..=LONGEST))
-        .default_value("600");
-    let grace = option(alloc, "grace", "SECONDS", "How much longer the connections that it has may last")
-        .value_parser(value_parser!(u64).range(0..=LONGEST))
-        .default_value("30");
+    let workers = option(
+        alloc,
+        "workers",
+        "N",
+        "How many threads serve a generation, 1 to 64",
+    )
+    .value_parser(value_parser!(u16).range(1..=64))
+    .default_value("1");
+    let lanes = option(
+        alloc,
+        "lanes",
+        "N",
+        "How many generations there are at a time, 1 to 256 [default: twice the processors, 4 at least]",
+    )
+    .value_parser(value_parser!(u16).range(1..=256));
+    let accepting = option(
+        alloc,
+        "accepting",
+        "N",
+        "How many of them take connections at a time, 1 to 256 [default: the processors]",
+    )
+    .value_parser(value_parser!(u16).range(1..=256));
+    let connections = option(
+        alloc,
+        "connections",
+        "N",
+        "How many connections a generation has at most, 1 to 1024",
+    )
+    .value_parser(value_parser!(u16).range(1..=1024))
+    .default_value("1024");
+    let age = option(
+        alloc,
+        "age",
+        "SECONDS",
+        "How long a generation takes connections",
+    )
+    .value_parser(value_parser!(u64).range(1..=LONGEST))
+    .default_value("600");
+    let grace = option(
+        alloc,
+        "grace",
+        "SECONDS",
+        "How much longer the connections that it has may last",
+    )
+    .value_parser(value_parser!(u64).range(0..=LONGEST))
+    .default_value("30");
     command
         .arg(workers)?
         .arg(lanes)?
@@ -159,7 +194,11 @@ fn with_numbers<'a>(alloc: Global, command: Command<'a>) -> Result<Command<'a>, 
 fn whole<'a>(alloc: Global) -> Result<Command<'a>, AllocError> {
     with_numbers(alloc, places(alloc)?)?
         .arg(option(alloc, "stop-file", "PATH", "Stop once this file is there"))?
-        .arg(flag(alloc, "log", "Write a line of each answer to standard output"))?
+        .arg(flag(
+            alloc,
+            "log",
+            "Write a line of each answer to standard output",
+        ))?
         .arg(flag(alloc, "quiet", "Say nothing but faults"))
 }
 
@@ -195,7 +234,9 @@ fn order_of(
     let Ok(listen) = word.parse::<SocketAddr>() else {
         return Err(WordsFault::Listen(String::from_str(alloc, word)?));
     };
-    let lanes = matches.get_one::<u16>("lanes").unwrap_or(processors.saturating_mul(2).max(4));
+    let lanes = matches
+        .get_one::<u16>("lanes")
+        .unwrap_or(processors.saturating_mul(2).max(4));
     let accepting = matches.get_one::<u16>("accepting").unwrap_or(processors);
     Ok(Order {
         folder: text(alloc, matches.get_str("folder"))?.unwrap_or(String::new(alloc)),

@@ -7,12 +7,11 @@ use crate::saying::Voice;
 use crate::shelf::{LoadFault, Shelf};
 use mely_history::Shape;
 use std::alloc::AllocError;
-use std::fmt;
-use std::io;
 use std::net::TcpListener;
 use std::rt::Clock;
 use std::sync::Wait;
 use std::thread::{self, Threads};
+use std::{fmt, io};
 use sws_lane::{Lane, Terms, Totals, keep_serving};
 use sws_net::{Door, Entrance, LaneWorld, StopFile};
 
@@ -185,9 +184,12 @@ pub fn serve_at<T: AllocGlobal + Threads + Wait + Sync + Clock>(
     }
     let address = listener.local_addr()?;
     voice.tell_of_start(address, lanes, accepting, terms.shape.cores);
-    thread::for_each_mut(threads, &mut jobs, usize::from(lanes).max(1), &|_, job| {
-        serve_lane(threads, job)
-    });
+    thread::for_each_mut(
+        threads,
+        &mut jobs,
+        usize::from(lanes).max(1),
+        &|_, job| { serve_lane(threads, job) },
+    );
     Ok(sum_up(&jobs, door.is_closed()))
 }
 

@@ -48,7 +48,10 @@ impl fmt::Display for LoadFault {
         match self {
             LoadFault::Folder => write!(f, "the folder can't be read"),
             LoadFault::TooManyFiles { count } => {
-                write!(f, "the folder has {count} files or more; a site has 4,096 at most")
+                write!(
+                    f,
+                    "the folder has {count} files or more; a site has 4,096 at most"
+                )
             }
             LoadFault::TooManyBytes { number } => write!(
                 f,

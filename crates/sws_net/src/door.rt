@@ -109,7 +109,9 @@ impl Door {
     fn sleep<R: Wait + Clock>(&self, rt: &R) {
         let guard = self.sleepers.lock(rt);
         if self.inside.load(Ordering::SeqCst) >= self.most && !self.is_closed() {
-            let _ = self.left.wait_timeout(rt, guard, Duration::from_millis(LONGEST));
+            let _ = self
+                .left
+                .wait_timeout(rt, guard, Duration::from_millis(LONGEST));
         }
     }
 

@@ -1,10 +1,9 @@
 //! Clients on this machine at a server whose generations have two connections each.
 
-use std::fs;
 use std::io::{self, Read, Write};
 use std::net::{SocketAddr, TcpListener, TcpStream};
 use std::test::Fail;
-use std::thread;
+use std::{fs, thread};
 use sws_daemon::{Order, serve_at};
 
 /// How many clients ask.
@@ -68,7 +67,13 @@ fn ask_after_a_silent_one(
 }
 
 /// A folder of an index alone, and the order that serves it; there is no stop file yet.
-fn order_of(rt: &HostRuntime, folder: &str, stop: &str, lanes: u16, grace: u64) -> io::Result<Order> {
+fn order_of(
+    rt: &HostRuntime,
+    folder: &str,
+    stop: &str,
+    lanes: u16,
+    grace: u64,
+) -> io::Result<Order> {
     let alloc = rt.alloc();
     fs::create_dir_all(rt, folder)?;
     let index = format!(in alloc; "{folder}/index.html")?;

@@ -34,7 +34,10 @@ fn a_folder_alone_is_served_by_the_machines_processors(rt: HostRuntime) -> Resul
     assert_eq!(rt; order.listen.port(), 8080);
     assert!(rt; order.listen.is_ipv6());
     assert_eq!(rt; (order.workers, order.lanes, order.accepting), (1, 8, 4));
-    assert_eq!(rt; (order.connections, order.age, order.grace), (1024, 600, 30));
+    assert_eq!(rt;
+        (order.connections, order.age, order.grace),
+        (1024, 600, 30)
+    );
     assert!(rt; order.stop_file.is_none());
     assert!(rt; !order.log && !order.quiet && !order.hidden);
     Ok(())
@@ -43,8 +46,21 @@ fn a_folder_alone_is_served_by_the_machines_processors(rt: HostRuntime) -> Resul
 #[test]
 fn words_stand_in_any_order(rt: HostRuntime) -> Result<(), Fail> {
     let words = [
-        "swsd", "--listen=127.0.0.1:80", "--lanes", "2", "--log", "--age", "10", "site",
-        "--stop-file", "stop", "--hidden", "--quiet", "--grace=0", "--workers", "64",
+        "swsd",
+        "--listen=127.0.0.1:80",
+        "--lanes",
+        "2",
+        "--log",
+        "--age",
+        "10",
+        "site",
+        "--stop-file",
+        "stop",
+        "--hidden",
+        "--quiet",
+        "--grace=0",
+        "--workers",
+        "64",
     ];
     let Ok(order) = order(rt.alloc(), &words) else {
         panic!(rt; "the words are refused");
@@ -63,11 +79,18 @@ fn a_fault_names_the_word_and_what_was_expected(rt: HostRuntime) -> Result<(), F
     let Some(said) = fault(alloc, &["swsd", "site", "--listen", "8080"]) else {
         panic!(rt; "the words are taken");
     };
-    assert_eq!(rt; said.as_str(), "error: invalid value '8080' for '--listen <ADDRESS:PORT>': expected an address with a port, as 127.0.0.1:8080 or [::]:8080\n");
+    assert_eq!(rt;
+        said.as_str(),
+        "error: invalid value '8080' for '--listen <ADDRESS:PORT>': expected an address with a port, as 127.0.0.1:8080 or [::]:8080\n"
+    );
     let Some(said) = fault(alloc, &["swsd", "site", "--workers", "65"]) else {
         panic!(rt; "the words are taken");
     };
-    assert!(rt; said.as_str().starts_with("error: invalid value '65' for '--workers <N>': 65 is not in 1..=64"));
+    assert!(rt;
+        said.as_str().starts_with(
+            "error: invalid value '65' for '--workers <N>': 65 is not in 1..=64"
+        )
+    );
     assert!(rt; fault(alloc, &["swsd"]).is_some());
     assert!(rt; fault(alloc, &["swsd", "site", "--frob"]).is_some());
     Ok(())
