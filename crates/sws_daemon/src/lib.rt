@@ -13,15 +13,15 @@
 //! | [`command`] | the program |
 #![tactic(auto)]
 
-mod command;
 mod keeper;
 mod order;
+mod program;
 mod saying;
 mod serving;
 mod shelf;
 
-pub use command::command;
 pub use keeper::LaneKeeper;
 pub use order::{Order, WordsFault, read_order};
+pub use program::command;
 pub use serving::{ServeFault, Served, serve_at, serve_folder};
 pub use shelf::{LoadFault, Shelf};

@@ -134,63 +134,113 @@ pub fn serve_folder<T: AllocGlobal + Threads + Wait + Sync + Clock>(
     serve_at(rt, threads, order, &listener)
 }
 
+/// What all lanes share: the site, the door, the file that tells them to stop, and what they count.
+#[derive(Drop)]
+struct House {
+    shelf: Shelf,
+    door: Door,
+    stop: Option<StopFile>,
+    common: Common,
+}
+
+impl House {
+    /// The folder of the order is loaded, and its door is open.
+    ///
+    /// # Errors
+    ///
+    /// `Load` where the folder can't be loaded, and `Memory` where an allocation was refused.
+    fn new(rt: &HostRuntime, order: Order) -> Result<House, ServeFault> {
+        let shelf = Shelf::new(rt, order.folder, order.hidden)?;
+        let lanes = usize::from(order.lanes);
+        let door = Door::new(rt.alloc(), lanes, usize::from(order.accepting))?;
+        Ok(House {
+            shelf,
+            door,
+            stop: order.stop_file.map(StopFile::new),
+            common: Common::new(),
+        })
+    }
+
+    /// What worlds need to know, of which each takes connections for so many seconds, and cuts those
+    /// that are left after so many more.
+    fn entrance<'d>(&'d self, listener: &'d TcpListener, age: u64, grace: u64) -> Entrance<'d> {
+        let stop = self.stop.as_ref();
+        let (age, grace) = (age.saturating_mul(1000), grace.saturating_mul(1000));
+        Entrance {
+            door: &self.door,
+            listener,
+            stop,
+            age,
+            grace,
+        }
+    }
+}
+
+/// A lane for each number below this, at work by these terms.
+///
+/// # Errors
+///
+/// There was no memory.
+fn jobs_of<'d, T: Wait + Clock>(
+    rt: &'d HostRuntime,
+    threads: &'d T,
+    house: &'d House,
+    entrance: Entrance<'d>,
+    voice: Voice<'d>,
+    lanes: u16,
+    terms: Terms,
+) -> Result<Vec<Job<'d, T>>, ServeFault>
+    requires { AreTerms terms }
+{
+    let mut jobs = Vec::new(rt.alloc());
+    'lanes: for number in 0..lanes {
+        let number = usize::from(number);
+        let keeper = LaneKeeper::new(
+            rt,
+            threads,
+            entrance,
+            number,
+            &house.shelf,
+            voice,
+            &house.common,
+        )?;
+        let lane = Lane::new(LaneWorld::new(rt, entrance, number)?, keeper);
+        if jobs.push(Job { lane, terms }).is_err() {
+            return Err(ServeFault::Memory);
+        }
+    }
+    Ok(jobs)
+}
+
+/// Runs all lanes, each in a thread of its own, until all have ended.
+fn run_jobs<T: AllocGlobal + Threads + Wait + Sync + Clock>(threads: &T, jobs: &mut [Job<'_, T>]) {
+    let count = jobs.len().max(1);
+    thread::for_each_mut(threads, jobs, count, &|_, job| serve_lane(threads, job));
+}
+
 /// Serves the folder of the order at this listener.
 ///
 /// # Errors
 ///
 /// As of [`serve_folder`].
-pub fn serve_at<T: AllocGlobal + Threads + Wait + Sync + Clock>(
-    rt: &HostRuntime,
-    threads: &T,
+pub fn serve_at<'x, T: AllocGlobal + Threads + Wait + Sync + Clock>(
+    rt: &'x HostRuntime,
+    threads: &'x T,
     order: Order,
-    listener: &TcpListener,
+    listener: &'x TcpListener,
 ) -> Result<Served, ServeFault> {
     listener.set_nonblocking(true)?;
+    let address = listener.local_addr()?;
     let terms = terms_of(&order);
     let voice = Voice::new(rt, order.quiet);
-    let Order {
-        folder,
-        listen: _,
-        workers: _,
-        lanes,
-        accepting,
-        connections: _,
-        age,
-        grace,
-        stop_file,
-        log: _,
-        quiet: _,
-        hidden,
-    } = order;
-    let shelf = Shelf::new(rt, folder, hidden)?;
-    let door = Door::new(rt.alloc(), usize::from(lanes), usize::from(accepting))?;
-    let stop = stop_file.map(StopFile::new);
-    let entrance = Entrance {
-        door: &door,
-        listener,
-        stop: stop.as_ref(),
-        age: age.saturating_mul(1000),
-        grace: grace.saturating_mul(1000),
-    };
-    let common = Common::new();
-    let mut jobs = Vec::new(rt.alloc());
-    for number in 0..usize::from(lanes) {
-        let keeper = LaneKeeper::new(rt, threads, entrance, number, &shelf, voice, &common)?;
-        let lane = Lane::new(LaneWorld::new(rt, entrance, number)?, keeper);
-        let job = Job { lane, terms };
-        if jobs.push(job).is_err() {
-            return Err(ServeFault::Memory);
-        }
-    }
-    let address = listener.local_addr()?;
+    let (lanes, accepting) = (order.lanes, order.accepting);
+    let (age, grace) = (order.age, order.grace);
+    let house = House::new(rt, order)?;
+    let entrance = house.entrance(listener, age, grace);
+    let mut jobs = jobs_of(rt, threads, &house, entrance, voice, lanes, terms)?;
     voice.tell_of_start(address, lanes, accepting, terms.shape.cores);
-    thread::for_each_mut(
-        threads,
-        &mut jobs,
-        usize::from(lanes).max(1),
-        &|_, job| { serve_lane(threads, job) },
-    );
-    Ok(sum_up(&jobs, door.is_closed()))
+    run_jobs(threads, jobs.as_mut_slice());
+    Ok(sum_up(&jobs, house.door.is_closed()))
 }
 
 /// What has come of all lanes. A fault counts only where nobody has said stop.

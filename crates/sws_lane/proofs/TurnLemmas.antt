@@ -1,11 +1,11 @@
 -- The connections of all generations, over a world that tells its links to come.
-use Rattle.std.specs.Prelude.{option_map, sum_by}
+use Rattle.std.specs.Prelude.{option_map}
 use Rattle.std.specs.List.{slice_get}
-use Rattle.std.proofs.Common.{◌≡◌, ◌⊎◌, inl, inr, ℕ, zero, suc, ◌+◌, ◌<◌, Bool, List, [], ◌∷◌, ◌++◌, length, map, drop, Option, Some, None, refl, sym, ap, ◌∙◌, subst, arith, append_assoc, zero-add}
+use Rattle.std.proofs.Common.{◌≡◌, inl, inr, ℕ, zero, suc, ◌+◌, ◌<◌, List, [], ◌∷◌, ◌++◌, length, map, drop, Option, Some, None, refl, sym, ap, ◌∙◌, subst, arith, append_assoc, zero-add}
 use Rattle.std.proofs.lemmas.List.Sums.{sum_by-append}
 use Rattle.std.proofs.lemmas.Option.{slice_get_past, slice_get_within}
 use Rattle.sws_link.specs.Contents.{IsPrefix}
-use Rattle.sws_link.specs.Links.{LinkContents, input_of}
+use Rattle.sws_link.specs.Links.{LinkContents}
 use Rattle.sws_link.specs.Worlds.{Coming, WorldContents, after_open, initial_contents}
 use Rattle.sws_link.specs.declared.Link.{Ghosts as LinkWords}
 use Rattle.sws_link.specs.declared.Opened.{Opened}
