@@ -1,5 +1,5 @@
 -- What drawing a journal answers, and what was written then.
-use Rattle.std.specs.Prelude.{◌≡◌, ◌⊎◌, ℕ, ◌^◌, ◌<◌, List, length, Option, Some, None, Result, Ok, Err, ⊤, MatchResult}
+use Rattle.std.specs.Prelude.{◌≡◌, ◌⊎◌, ℕ, ◌^◌, ◌<◌, ◌≤◌, List, length, Option, Some, None, Result, Ok, Err, ⊤, MatchResult}
 use Rattle.std.specs.List.{AllByRecursion}
 use Rattle.sws_link.specs.declared.Put.{Put}
 use Rattle.sws_link.specs.declared.Put.TheVariants as put
@@ -55,9 +55,10 @@ DrawsRuns setup told answer =
 abbrev pub text_limit : ℕ
 text_limit = 65536
 
--- no history has more entries than 32 bits can count
-abbrev pub AreCountable : List (List Entry) → Type 0
-AreCountable histories = AllByRecursion (λ history. length history < 2 ^ 32) histories
+-- there are few histories, and no more entries in one than 32 bits can count
+pub record AreDrawable (histories : List (List Entry)) : Type 0 where
+  pub few : length histories ≤ 65536
+  pub short : AllByRecursion (λ history. length history < 2 ^ 32) histories
 
 -- the text is the journal of a legal and drained run, which the drawer has heard
 pub record IsKept (setup : Setup) (text : List ℕ) (drawer : Drawer) : Type 0 where
@@ -67,4 +68,4 @@ pub record IsKept (setup : Setup) (text : List ℕ) (drawer : Drawer) : Type 0 w
 -- it is the picture of the histories that the drawer has heard
 abbrev pub IsPictureOf : Drawer → List ℕ → Type 0
 IsPictureOf drawer text = (histories : List (List Entry)) → KeepsAll histories drawer
-    → AreCountable histories → text ≡ picture drawer.setup histories
+    → AreDrawable histories → text ≡ picture drawer.setup histories

@@ -48,7 +48,7 @@ abbrev pub own_colours : ℕ → ℕ → ℕ → ℕ → List ℕ
 own_colours shards colours number zero = []
 own_colours shards colours number (suc place) =
     own_colours shards colours number place
-    ++ (if nat_lt (number + shards * place) colours then number + shards * place ∷ [] else [])
+    ++ (if nat_lt (number + shards * place) colours then (number + shards * place) ∷ [] else [])
 
 -- the colours that a panel shows: those of its bars in the order in which they are taken, or those
 -- that have a class of their own

@@ -23,13 +23,17 @@ counts_scale setup number counts = record {
   width = counts.width;
 }
 
+-- the panel of a history that was kept as counts
+abbrev pub counts_panel : Setup → ℕ → ℕ → Counts → List ℕ
+counts_panel setup top number counts =
+    bucket_panel counts.cores (colours_of setup) top (counts_scale setup number counts)
+    (cells_at counts.cells.items)
+
 -- the panel of what was kept of a history
 abbrev pub plot_panel : Setup → ℕ → ℕ → Plot → List ℕ
 plot_panel setup top number (Whole short) =
     panel_text (shape_of setup).cores top number short.entries.items
-plot_panel setup top number (Counted counts) =
-    bucket_panel counts.cores (colours_of setup) top (counts_scale setup number counts)
-    (cells_at counts.cells.items)
+plot_panel setup top number (Counted counts) = counts_panel setup top number counts
 
 -- the panels from this number and this upper edge on
 abbrev pub plots_from : Setup → ℕ → ℕ → List Plot → List ℕ

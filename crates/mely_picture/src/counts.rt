@@ -32,7 +32,7 @@ pub(crate) struct Counts {
 
 impl Counts {
     ghost use Rattle.mely_history.specs.declared.entry.Entry.{Entry as EntryValue};
-    ghost use Rattle.mely_picture.specs.Plots.{IsCounted};
+    ghost use Rattle.mely_picture.specs.Plots.{IsCounted, AddsOne};
 
     /// Counts for a history of so many entries, of which none was counted.
     pub(crate) fn new(alloc: Global, setup: &Setup, entries: u64) -> Result<Counts, AllocError>
@@ -55,13 +55,31 @@ impl Counts {
             → IsCounted setup.now entries history self.old
             → IsCounted setup.now entries (history ++ entry.now ∷ []) self.new }
     {
-        let bucket = self.heard / self.width;
+        let at = self.heard;
+        self.heard = at.saturating_add(1);
+        self.count(setup, at, entry);
+    }
+
+    /// Counts the entry at a place in its cell, if it has one: what is registered from outside is of
+    /// no core.
+    fn count(&mut self, setup: &Setup, at: u32, entry: &Entry)
+        ensures cells { AddsOne setup.now self.old.width self.old.cores at entry.now
+            self.old.cells.items self.new.cells.items }
+        ensures cores { self.new.cores ≡ self.old.cores }
+        ensures entries { self.new.entries ≡ self.old.entries }
+        ensures width { self.new.width ≡ self.old.width }
+        ensures heard { self.new.heard ≡ self.old.heard }
+    {
+        let bucket = at / self.width;
         let core = entry.pass();
-        if core < self.cores && bucket < u32::from(BUCKETS) {
-            let class = usize::min(setup.place_of(entry.colour()), CLASSES - 1);
-            let cell = CLASSES * (usize::from(BUCKETS) * core as usize + bucket as usize) + class;
-            self.cells[cell] = self.cells[cell].saturating_add(1);
+        if core >= self.cores {
+            return;
         }
-        self.heard = self.heard.saturating_add(1);
+        if bucket >= u32::from(BUCKETS) {
+            return;
+        }
+        let class = usize::min(setup.place_of(entry.colour()), CLASSES - 1);
+        let cell = CLASSES * (usize::from(BUCKETS) * core as usize + bucket as usize) + class;
+        self.cells[cell] = self.cells[cell].saturating_add(1);
     }
 }

@@ -6,8 +6,8 @@ use mely_check::{Line, Listener};
 use mely_history::Setup;
 use std::alloc::{AllocError, Global};
 
-/// The most histories that are kept beside the last one.
-const MOST: usize = 65_535;
+/// The most histories that are kept.
+const MOST: usize = 65_536;
 
 /// Hears a journal, and keeps of each history what is drawn of it.
 #[derive(Drop)]
@@ -20,7 +20,7 @@ pub(crate) struct Drawer {
 
     /// The one that is being heard.
     pub(crate) open_plot: Option<Plot>,
-    ghost few: { length plots.items ≤ 65535 },
+    ghost few: { length plots.items ≤ 65536 },
 }
 
 impl Drawer {
@@ -45,7 +45,7 @@ impl Drawer {
     fn close(&mut self) -> Result<(), AllocError>
         ensures closed { OnOk result (MatchOption self.old.open_plot
             (self.new.plots.items ≡ self.old.plots.items)
-            (λ plot. length self.old.plots.items < 65535
+            (λ plot. length self.old.plots.items < 65536
             → self.new.plots.items ≡ self.old.plots.items ++ plot ∷ [])) }
         ensures setup { self.new.setup ≡ self.old.setup }
     {
@@ -58,16 +58,14 @@ impl Drawer {
     }
 
     /// What was kept of the histories.
-    pub(crate) fn into_plots(self) -> Result<Vec<Plot>, AllocError>
+    pub(crate) fn into_plots(mut self) -> Result<Vec<Plot>, AllocError>
         ensures are { IfOk result (λ plots. (histories : List (List EntryValue))
-            → KeepsAll histories self → ArePlots self.setup histories plots.items) }
+            → KeepsAll histories self → length histories ≤ 65536
+            → ArePlots self.setup histories plots.items) }
         ensures few { IfOk result (λ plots. length plots.items ≤ 65536) }
     {
-        let mut plots = self.plots;
-        if let Some(plot) = self.open_plot {
-            plots.push(plot)?;
-        }
-        Ok(plots)
+        self.close()?;
+        Ok(self.plots)
     }
 }
 

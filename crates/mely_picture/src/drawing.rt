@@ -70,5 +70,6 @@ fn picture_of(alloc: Global, drawer: Drawer) -> Result<Vec<u8>, AllocError>
 {
     let setup = drawer.setup;
     let plots = drawer.into_plots()?;
-    make_picture(alloc, &setup, &plots)
+    let picture = make_picture(alloc, &setup, &plots)?;
+    Ok(picture)
 }

@@ -2,10 +2,11 @@
 ghost use Rattle.std.specs.Prelude.{◌≡◌, ◌<◌, ◌≤◌, ◌+◌, ◌*◌, ◌++◌, ◌^◌, OnOk, length};
 ghost use Rattle.mely_picture.specs.Layout.{panel_height as height_of_panel};
 ghost use Rattle.mely_picture.specs.Texts.{heading, row_text, rows_text, panel_text};
-ghost use Rattle.mely_picture.specs.Shown.{plot_panel, plots_from};
+ghost use Rattle.mely_picture.specs.Shown.{counts_panel, plot_panel, plots_from};
 ghost use Rattle.mely_picture.specs.Drawings.{text_limit};
 
 use crate::bucket::push_bucket_panel;
+use crate::counts::Counts;
 use crate::digits::{push_numbered, push_word};
 use crate::layout::{STEP, row_top};
 use crate::mark::push_marks;
@@ -58,16 +59,32 @@ fn push_plot(
         Plot::Whole(history) => {
             push_panel(text, setup.cores(), top, number as u64, &history.entries)
         }
-        Plot::Counted(counts) => {
-            let scale = Scale {
-                number,
-                shards: setup.shards(),
-                entries: counts.entries,
-                width: counts.width,
-            };
-            push_bucket_panel(text, setup.colours(), top, &scale, counts)
-        }
+        Plot::Counted(counts) => push_counted(text, setup, top, number, counts),
     }
+}
+
+/// Adds the panel of a shard in buckets, by the counts of its history.
+fn push_counted(
+    text: &mut Vec<u8>,
+    setup: &Setup,
+    top: u64,
+    number: u32,
+    counts: &Counts,
+) -> Result<(), AllocError>
+    requires { top < 2 ^ 40 }
+    ensures { OnOk result (text.new.items
+        ≡ text.old.items ++ counts_panel setup.now top number counts.now) }
+{
+    let colours = setup.colours();
+    let shards = setup.shards();
+    let scale = Scale {
+        number,
+        shards,
+        entries: counts.entries,
+        width: counts.width,
+    };
+    push_bucket_panel(text, colours, top, &scale, counts)?;
+    Ok(())
 }
 
 /// Adds the panel of a shard: its heading, a row for each core, and the marks of its history.
