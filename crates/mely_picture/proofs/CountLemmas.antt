@@ -18,12 +18,12 @@ pub count_push : (setup : Setup) (width : ℕ) (cell : Cell) (at : ℕ) (history
     → count_from setup width cell at (history ++ e ∷ []) ≡ count_from setup width cell at history + cond (is_in setup width cell (at + length history) e) 1 0
 count_push setup width cell at [] e =
     let place : at + length {A = Entry} [] ≡ at = omega arith in
-    let one = ap (λ n. cond (is_in setup width cell n e) 1 0) place in
+    let one : cond {A = ℕ} (is_in setup width cell (at + length {A = Entry} []) e) 1 0 ≡ cond {A = ℕ} (is_in setup width cell at e) 1 0 = ap (λ n. cond {A = ℕ} (is_in setup width cell n e) 1 0) place in
     omega (arith, one)
 count_push setup width cell at (x ∷ history) e =
     let rest = count_push setup width cell (at + 1) history e in
     let same : at + 1 + length history ≡ at + length (x ∷ history) = omega arith in
-    let place = ap (λ n. cond (is_in setup width cell n e) 1 0) same in
+    let place : cond {A = ℕ} (is_in setup width cell (at + 1 + length history) e) 1 0 ≡ cond {A = ℕ} (is_in setup width cell (at + length (x ∷ history)) e) 1 0 = ap (λ n. cond {A = ℕ} (is_in setup width cell n e) 1 0) same in
     omega (arith, rest, place)
 
 -- no more are counted than there are

@@ -4,6 +4,7 @@ use Rattle.std.specs.Prelude.{MatchOption}
 use Rattle.mely_history.specs.declared.setup.Setup.{Setup}
 use Rattle.mely_history.specs.declared.entry.Entry.{Entry}
 use Rattle.mely_check.specs.Hearing.{Walk, start, within, begun_in, left_in, histories_in, MayCome, with_line}
+use Rattle.mely_check.specs.declared.reading.Line.{Line}
 use Rattle.mely_check.specs.declared.reading.Line.TheVariants as line
 use Rattle.mely_picture.specs.declared.plot.Plot.{Plot}
 use Rattle.mely_picture.specs.Plots.{IsPlot, ArePlots, IsOpenPlot, KeepsParts}
@@ -64,3 +65,16 @@ all_heard (within done last left) histories setup plots after open_plot is none 
     let long = length-append done (last ∷ []) in
     let whole = ap length is in
     subst (λ hs. ArePlots setup hs after) is (some_closed setup done last left plots after open_plot none keeps.0 keeps.1 (omega (arith, long, whole, few)) closed)
+
+-- what a line says was heard
+pub shard_said : (said : Line) (number count : ℕ) (walk : Walk) (setup : Setup) (plots after : List Plot) (open_plot : Option Plot) (plot : Plot) → said ≡ line.Shard number count → number < 65536 → IsClosed plots open_plot after
+    → IsPlot setup count [] plot → MayCome walk said → KeepsParts walk setup plots open_plot → KeepsParts (with_line walk said) setup after (Some plot)
+shard_said said number count walk setup plots after open_plot plot is few closed plot_is may keeps =
+    subst (λ s. KeepsParts (with_line walk s) setup after (Some plot)) (sym is) (shard_heard walk number count setup plots after open_plot plot (subst (MayCome walk) is may) few keeps closed plot_is)
+
+pub entry_said : (said : Line) (e : Entry) (walk : Walk) (setup : Setup) (plots : List Plot) (open_plot : Option Plot) (old new : Plot) → said ≡ line.Entry e → open_plot ≡ Some old
+    → ((entries : ℕ) (history : List Entry) → IsPlot setup entries history old → length history < entries → IsPlot setup entries (history ++ e ∷ []) new) → MayCome walk said → KeepsParts walk setup plots open_plot
+    → KeepsParts (with_line walk said) setup plots (Some new)
+entry_said said e walk setup plots open_plot old new is open_is added may keeps =
+    subst (λ s. KeepsParts (with_line walk s) setup plots (Some new)) (sym is)
+    (entry_heard walk e setup plots old new (subst (MayCome walk) is may) (subst (KeepsParts walk setup plots) open_is keeps) added)

@@ -43,12 +43,16 @@ shown_width history = if nat_le (length history) exact_limit then length history
 abbrev pub widest : List (List Entry) → ℕ
 widest histories = fold (λ most history. max most (shown_width history)) 0 histories
 
+-- the colour, if there are so many
+abbrev pub if_there : ℕ → ℕ → List ℕ
+if_there colours colour = if nat_lt colour colours then colour ∷ [] else []
+
 -- those of a shard's first colours that there are, each of which has a class of its own
 abbrev pub own_colours : ℕ → ℕ → ℕ → ℕ → List ℕ
 own_colours shards colours number zero = []
 own_colours shards colours number (suc place) =
     own_colours shards colours number place
-    ++ (if nat_lt (number + shards * place) colours then (number + shards * place) ∷ [] else [])
+    ++ if_there colours (number + shards * place)
 
 -- the colours that a panel shows: those of its bars in the order in which they are taken, or those
 -- that have a class of their own

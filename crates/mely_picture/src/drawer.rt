@@ -25,7 +25,8 @@ pub(crate) struct Drawer {
 
 impl Drawer {
     ghost use Rattle.mely_history.specs.declared.entry.Entry.{Entry as EntryValue};
-    ghost use Rattle.mely_check.specs.Hearing.{start};
+    ghost use Rattle.mely_check.specs.Hearing.{Walk, start, MayCome, with_line};
+    ghost use Rattle.mely_check.specs.declared.reading.Line.TheVariants as line;
     ghost use Rattle.mely_picture.specs.Plots.{Keeps, ArePlots, KeepsAll};
 
     /// A drawer that has heard nothing.
@@ -57,6 +58,20 @@ impl Drawer {
         Ok(())
     }
 
+    /// Goes on behind the line with which a shard begins that has so many entries.
+    fn begin(&mut self, number: u16, count: u64) -> Result<(), AllocError>
+        ensures heard { (walk : Walk) → MayCome walk (line.Shard number count)
+            → Keeps walk self.old
+            → OnOk result (Keeps (with_line walk (line.Shard number count)) self.new) }
+        ensures setup { self.new.setup ≡ self.old.setup }
+    {
+        let _ = number;
+        self.close()?;
+        let plot = Plot::new(self.alloc, &self.setup, count)?;
+        self.open_plot = Some(plot);
+        Ok(())
+    }
+
     /// What was kept of the histories.
     pub(crate) fn into_plots(mut self) -> Result<Vec<Plot>, AllocError>
         ensures are { IfOk result (λ plots. (histories : List (List EntryValue))
@@ -80,10 +95,8 @@ impl Listener for Drawer {
 
     fn hear(&mut self, said: &Line) -> Result<(), AllocError> {
         match *said {
-            Line::Shard(_, count) => {
-                self.close()?;
-                let plot = Plot::new(self.alloc, &self.setup, count)?;
-                self.open_plot = Some(plot);
+            Line::Shard(number, count) => {
+                self.begin(number, count)?;
                 Ok(())
             }
             Line::Entry(entry) => {

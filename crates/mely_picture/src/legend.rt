@@ -3,7 +3,7 @@ ghost use Rattle.std.specs.Prelude.{◌≡◌, ◌<◌, ◌≤◌, ◌+◌, ◌+
 ghost use Rattle.std.specs.List.{flat_map};
 ghost use Rattle.mely_picture.specs.Marks.{taken_colour, with_new, has};
 ghost use Rattle.mely_picture.specs.Texts.{legend_item, legend_from};
-ghost use Rattle.mely_picture.specs.Pictures.{own_colours};
+ghost use Rattle.mely_picture.specs.Pictures.{if_there, own_colours};
 ghost use Rattle.mely_picture.specs.Shown.{plot_colours, shown_legend};
 ghost use Rattle.mely_picture.specs.Drawings.{text_limit};
 
@@ -55,10 +55,22 @@ fn add_own(colours: &mut Vec<u16>, shards: u16, count: u32, number: u32) -> Resu
 {
     for place in 0..OWN_CLASSES {
         let colour = u64::from(number) + u64::from(shards) * u64::from(place);
-        if colour < u64::from(count) {
-            add_number(colours, colour as u16)?;
-        }
+        add_within(colours, count, colour)?;
     }
+    Ok(())
+}
+
+/// Adds a colour, if there are so many and it isn't there yet.
+fn add_within(colours: &mut Vec<u16>, count: u32, colour: u64) -> Result<(), AllocError>
+    requires { count ≤ 65536 }
+    ensures are { OnOk result (colours.new.items
+        ≡ with_new colours.old.items (if_there count colour)) }
+    ensures few { OnOk result (length colours.new.items ≤ length colours.old.items + 1) }
+{
+    if colour >= u64::from(count) {
+        return Ok(());
+    }
+    add_number(colours, colour as u16)?;
     Ok(())
 }
 
