@@ -122,8 +122,8 @@ one_more setup width cores cell at e cells core bucket class n old other value i
         get_or-set_at cells n (place_of cell) value 0 same within ∙ is_value ∙ full (old + 1) less ∙ ap (λ k. k + 1) (is_old ∙ zero_read ∙ sym there)
     cases false is =
         let other_place : place_of cell ≢ n = λ same.
-            let parts = same_place core bucket class cell bucket_low class_low cell_bucket cell_class (sym is_n ∙ sym same) in
-            true_false (sym is ∙ is_in_cell setup width cell at e (sym is_bucket ∙ parts.0) (sym is_core ∙ parts.1) (sym is_class ∙ parts.2)) in
+        let parts = same_place core bucket class cell bucket_low class_low cell_bucket cell_class (sym is_n ∙ sym same) in
+        true_false (sym is ∙ is_in_cell setup width cell at e (sym is_bucket ∙ parts.0) (sym is_core ∙ parts.1) (sym is_class ∙ parts.2)) in
         get_or-set_other cells n (place_of cell) value 0 other_place ∙ none (get_or cells (place_of cell) 0)
 
 -- ---- a history

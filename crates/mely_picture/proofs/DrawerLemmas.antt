@@ -1,9 +1,9 @@
 -- One line more of a journal that is heard.
-use Rattle.std.proofs.Common.{◌≡◌, ◌<◌, ◌≤◌, ℕ, ◌+◌, ◌-◌, List, [], ◌∷◌, ◌++◌, length, Option, None, Some, refl, sym, ap, ◌∙◌, subst, arith, length-append}
+use Rattle.std.proofs.Common.{◌≡◌, ◌<◌, ◌≤◌, ℕ, ◌+◌, ◌-◌, List, [], ◌∷◌, ◌++◌, length, Option, None, Some, sym, ap, ◌∙◌, subst, arith, length-append}
 use Rattle.std.specs.Prelude.{MatchOption}
 use Rattle.mely_history.specs.declared.setup.Setup.{Setup}
 use Rattle.mely_history.specs.declared.entry.Entry.{Entry}
-use Rattle.mely_check.specs.Hearing.{Walk, start, within, begun_in, left_in, histories_in, MayCome, with_line}
+use Rattle.mely_check.specs.Hearing.{Walk, start, within, left_in, histories_in, MayCome, with_line}
 use Rattle.mely_check.specs.declared.reading.Line.{Line}
 use Rattle.mely_check.specs.declared.reading.Line.TheVariants as line
 use Rattle.mely_picture.specs.declared.plot.Plot.{Plot}

@@ -1,5 +1,5 @@
 -- What is drawn of what was kept is the picture of the histories.
-use Rattle.std.proofs.Common.{◌≡◌, ◌<◌, ◌≤◌, ℕ, zero, suc, ◌+◌, ◌-◌, ◌*◌, ◌^◌, max, Bool, true, false, List, [], ◌∷◌, ◌++◌, length, map, take, drop, get_or, fold, codes, refl, sym, ap, ◌∙◌, arith}
+use Rattle.std.proofs.Common.{◌≡◌, ◌<◌, ◌≤◌, ℕ, zero, suc, ◌+◌, ◌-◌, ◌*◌, ◌^◌, max, List, [], ◌∷◌, ◌++◌, length, map, take, drop, get_or, fold, codes, refl, sym, ap, ◌∙◌, arith}
 use Rattle.std.specs.Prelude.{if◌then◌else◌}
 use Rattle.std.specs.List.{AllByRecursion, flat_map, range_with_len}
 use Rattle.std.specs.Bool.{nat_le as leb}
@@ -16,11 +16,11 @@ use Rattle.mely_picture.specs.declared.plot.Plot.TheVariants.{Whole, Counted}
 use Rattle.mely_picture.specs.Marks.{with_new, taken_colour}
 use Rattle.mely_picture.specs.Layout.{panels_top, panel_height, row_top}
 use Rattle.mely_picture.specs.Texts.{numbered, panel_text, rows_text}
-use Rattle.mely_picture.specs.Buckets.{width_of, Cell, count_from, shares_of}
+use Rattle.mely_picture.specs.Buckets.{width_of, count_from, shares_of}
 use Rattle.mely_picture.specs.BucketTexts.{column_from, columns_text, core_text, cores_text, bucket_heading, bucket_panel}
 use Rattle.mely_picture.specs.Pictures.{scale_of, history_panel, panels_from, shown_width, widest, own_colours, shown_colours, colours_from, whole_picture, picture}
 use Rattle.mely_picture.specs.Plots.{cells_at, AreCounts, IsCounted, IsPlot, ArePlots}
-use Rattle.mely_picture.specs.Shown.{counts_scale, plot_panel, plots_from, plot_width, widest_plot, plot_colours, plots_colours, shown_legend, shown_picture}
+use Rattle.mely_picture.specs.Shown.{counts_scale, plot_panel, plots_from, plot_width, plot_colours, plots_colours, shown_legend, shown_picture}
 
 -- ---- counts
 
@@ -111,11 +111,11 @@ plot_is : (setup : Setup) (number top : ℕ) (history : List Entry) (plot : Plot
 plot_is setup number top history (Whole short) is low =
     ap (panel_text (shape_of setup).cores top number) is.1
     ∙ sym (whole_first (length history) (panel_text (shape_of setup).cores top number history)
-      (bucket_panel (shape_of setup).cores (colours_of setup) top (scale_of setup number (length history)) (shares_of setup history)) is.0)
+    (bucket_panel (shape_of setup).cores (colours_of setup) top (scale_of setup number (length history)) (shares_of setup history)) is.0)
 plot_is setup number top history (Counted counts) is low =
     counted_is setup number top history counts is.1 low
     ∙ sym (buckets_second (length history) (panel_text (shape_of setup).cores top number history)
-      (bucket_panel (shape_of setup).cores (colours_of setup) top (scale_of setup number (length history)) (shares_of setup history)) is.0)
+    (bucket_panel (shape_of setup).cores (colours_of setup) top (scale_of setup number (length history)) (shares_of setup history)) is.0)
 
 width_is : (setup : Setup) (history : List Entry) (plot : Plot) → IsPlot setup (length history) history plot → plot_width plot ≡ shown_width history
 width_is setup history (Whole short) is = ap length is.1 ∙ sym (whole_first (length history) (length history) 32 is.0)

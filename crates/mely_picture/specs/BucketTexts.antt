@@ -1,7 +1,6 @@
 -- The text of a panel in buckets: a row for each core, in it for each bucket a column, and in that
 -- a part for each class of colours that has entries there, one upon another.
 use Rattle.std.specs.Prelude.{◌==◌, ℕ, zero, suc, ◌+◌, ◌-◌, ◌*◌, min, List, [], ◌∷◌, ◌++◌, codes, nat_lt, if◌then◌else◌}
-use Rattle.std.specs.Fmt.{decimal}
 use Rattle.mely_picture.specs.declared.part.Scale.{Scale}
 use Rattle.mely_picture.specs.declared.part.Part.{Part}
 use Rattle.mely_picture.specs.Layout.{row_top, hue_of}

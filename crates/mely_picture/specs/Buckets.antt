@@ -1,5 +1,5 @@
 -- A long history in buckets: how many entries each core made in each of them, by their colours.
-use Rattle.std.specs.Prelude.{◌==◌, ◌&&◌, ℕ, ◌+◌, ◌-◌, ◌/◌, ◌<◌, min, Bool, cond, List, [], ◌∷◌, length, map}
+use Rattle.std.specs.Prelude.{◌==◌, ◌&&◌, ℕ, ◌+◌, ◌-◌, ◌/◌, min, Bool, cond, List, [], ◌∷◌, length, map}
 use Rattle.std.specs.List.{range_with_len}
 use Rattle.mely_event.specs.declared.colour.Colour.{Colour}
 use Rattle.mely_history.specs.Setup.{place}

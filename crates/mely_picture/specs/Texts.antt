@@ -1,12 +1,12 @@
 -- The text of a picture: SVG 1.1 (W3C), with a style that follows the reader's light or dark.
-use Rattle.std.specs.Prelude.{ℕ, zero, suc, ◌+◌, ◌-◌, ◌*◌, ◌/◌, max, List, [], ◌∷◌, ◌++◌, length, codes, fold}
+use Rattle.std.specs.Prelude.{ℕ, zero, suc, ◌+◌, ◌-◌, ◌*◌, List, [], ◌∷◌, ◌++◌, length, codes}
 use Rattle.std.specs.List.{flat_map}
 use Rattle.std.specs.Fmt.{decimal}
 use Rattle.mely_history.specs.declared.entry.Entry.{Entry}
 use Rattle.mely_picture.specs.declared.bar.Bar.{Bar}
 use Rattle.mely_picture.specs.declared.arrow.Arrow.{Arrow}
-use Rattle.mely_picture.specs.Marks.{Mark, bar, arrow, marks, taken_colour, with_new}
-use Rattle.mely_picture.specs.Layout.{left_of, picture_width, legend_left, legend_top, panels_top, panel_height, row_top, hue_of}
+use Rattle.mely_picture.specs.Marks.{Mark, bar, arrow, marks}
+use Rattle.mely_picture.specs.Layout.{left_of, legend_left, legend_top, row_top, hue_of}
 
 -- a word, and the decimal digits of a number
 abbrev pub numbered : List ℕ → ℕ → List ℕ

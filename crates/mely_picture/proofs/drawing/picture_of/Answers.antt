@@ -1,4 +1,4 @@
-use Rattle.std.proofs.Common.{sym, ap, ◌∙◌}
+use Rattle.std.proofs.Common.{ap, ◌∙◌}
 use Rattle.mely_picture.specs.Shown.{shown_picture}
 use Rattle.mely_picture.proofs.PlotLemmas.{picture_same}
 use Rattle.mely_picture.proofs.drawing.picture_of.Goals as goal

@@ -1,4 +1,4 @@
-use Rattle.std.proofs.Common.{◌≤◌, ◌+◌, ◌*◌, length, ap, ◌∙◌, arith}
+use Rattle.std.proofs.Common.{◌≤◌, ◌+◌, ◌*◌, length, arith}
 use Rattle.mely_picture.proofs.ListLemmas.{next_of}
 use Rattle.mely_picture.proofs.LegendLemmas.{plot_more}
 use Rattle.mely_picture.proofs.legend.shown_colours.Goals as goal

@@ -1,4 +1,4 @@
-use Rattle.std.proofs.Common.{◌+◌, ◌*◌, ◌++◌, length, sym, ap, ◌∙◌}
+use Rattle.std.proofs.Common.{◌+◌, ◌*◌, ◌++◌, length, ap, ◌∙◌}
 use Rattle.mely_history.specs.Setup.{shape_of}
 use Rattle.mely_picture.specs.Layout.{picture_width, panels_top, panel_height}
 use Rattle.mely_picture.specs.Shown.{widest_plot, plots_from}

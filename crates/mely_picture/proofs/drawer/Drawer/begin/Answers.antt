@@ -5,10 +5,10 @@ use Rattle.mely_picture.specs.Plots.{IsPlot, KeepsParts}
 use Rattle.mely_picture.proofs.DrawerLemmas.{shard_heard}
 use Rattle.mely_picture.proofs.drawer.Drawer.begin.Goals as goal
 
-pub returns-in_ok-plot-clause-heard : goal.returns-in_ok-plot-clause-heard
-returns-in_ok-plot-clause-heard c = λ walk may keeps.
+pub returns-clause-heard : goal.returns-clause-heard
+returns-clause-heard c = λ walk may keeps.
     let before = c.args.self.now in
     let few = c.ranges.number.fits in
     subst (λ s. KeepsParts (with_line walk (line.Shard c.args.number c.args.count)) s c.close.new.self.plots.items (Some c.in_ok-plot.plot)) (sym c.in_ok-close.ensures.setup)
     (shard_heard walk c.args.number c.args.count before.setup before.plots.items c.close.new.self.plots.items before.open_plot c.in_ok-plot.plot may (omega (arith, few)) keeps c.in_ok-close.ensures.closed
-      (subst (λ s. IsPlot s c.args.count [] c.in_ok-plot.plot) c.in_ok-close.ensures.setup c.in_ok-plot.ensures))
+    (subst (λ s. IsPlot s c.args.count [] c.in_ok-plot.plot) c.in_ok-close.ensures.setup c.in_ok-plot.ensures))
