@@ -1,7 +1,10 @@
+mod CountLemmas
+mod BucketLemmas
+mod PlotLemmas
+mod DrawerLemmas
 mod ListLemmas
 mod MarkLemmas
 mod LegendLemmas
 mod PanelLemmas
-mod LineLemmas
 mod TurnLemmas
 mod DrawingLemmas

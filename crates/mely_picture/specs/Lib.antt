@@ -2,5 +2,9 @@ pub mod Marks
 pub mod Turns
 pub mod Layout
 pub mod Texts
-pub mod Lines
+pub mod Buckets
+pub mod BucketTexts
+pub mod Pictures
+pub mod Plots
+pub mod Shown
 pub mod Drawings

@@ -1,12 +1,12 @@
 -- The text of a picture: SVG 1.1 (W3C), with a style that follows the reader's light or dark.
-use Rattle.std.specs.Prelude.{ℕ, zero, suc, ◌+◌, ◌-◌, ◌*◌, ◌/◌, max, List, [], ◌∷◌, ◌++◌, length, codes, fold}
+use Rattle.std.specs.Prelude.{ℕ, zero, suc, ◌+◌, ◌-◌, ◌*◌, List, [], ◌∷◌, ◌++◌, length, codes}
 use Rattle.std.specs.List.{flat_map}
 use Rattle.std.specs.Fmt.{decimal}
 use Rattle.mely_history.specs.declared.entry.Entry.{Entry}
 use Rattle.mely_picture.specs.declared.bar.Bar.{Bar}
 use Rattle.mely_picture.specs.declared.arrow.Arrow.{Arrow}
-use Rattle.mely_picture.specs.Marks.{Mark, bar, arrow, marks, taken_colour, with_new}
-use Rattle.mely_picture.specs.Layout.{left_of, picture_width, legend_left, legend_top, panels_top, panel_height, row_top, hue_of}
+use Rattle.mely_picture.specs.Marks.{Mark, bar, arrow, marks}
+use Rattle.mely_picture.specs.Layout.{left_of, legend_left, legend_top, row_top, hue_of}
 
 -- a word, and the decimal digits of a number
 abbrev pub numbered : List ℕ → ℕ → List ℕ
@@ -86,13 +86,6 @@ panel_text cores top number history =
     heading top number (length history) ++ rows_text top (length history) cores
     ++ flat_map (mark_text top) (marks history)
 
--- the panels from this number and this upper edge on
-abbrev pub panels_from : ℕ → ℕ → ℕ → List (List Entry) → List ℕ
-panels_from cores top number [] = []
-panels_from cores top number (history ∷ histories) =
-    panel_text cores top number history
-    ++ panels_from cores (top + panel_height cores) (number + 1) histories
-
 -- ---- the whole
 
 -- a colour of the legend, at its place there
@@ -108,14 +101,6 @@ legend_item at colour =
 abbrev pub legend_from : ℕ → List ℕ → List ℕ
 legend_from at [] = []
 legend_from at (colour ∷ colours) = legend_item at colour ++ legend_from (at + 1) colours
-
--- the colours of all bars, each once, in the order in which they are taken first
-abbrev pub drawn_colours : List (List Entry) → List ℕ
-drawn_colours histories = with_new [] (flat_map (λ history. flat_map taken_colour history) histories)
-
--- how many entries the longest history has
-abbrev pub longest : List (List Entry) → ℕ
-longest histories = fold (λ most history. max most (length history)) 0 histories
 
 -- the style: of the page, of the text, of the rows, of bars, of what stands on them, of arrows
 abbrev pub style : List ℕ
@@ -139,15 +124,3 @@ opening width height =
     numbered (codes "<svg xmlns='http://www.w3.org/2000/svg' width='") width
     ++ numbered (codes "' height='") height ++ numbered (codes "' viewBox='0 0 ") width
     ++ numbered (codes " ") height ++ (codes "' font-family='sans-serif' font-size='12'>" ++ 10 ∷ [])
-
--- the picture with a legend of these colours
-abbrev pub picture_with : ℕ → List ℕ → List (List Entry) → List ℕ
-picture_with cores colours histories =
-    let top = panels_top (length colours) in
-    opening (picture_width (longest histories)) (top + panel_height cores * length histories)
-    ++ style ++ page ++ legend_from 0 colours ++ panels_from cores top 0 histories
-    ++ (codes "</svg>" ++ 10 ∷ [])
-
--- the picture of a run with so many cores: a legend, and a panel for each shard's history
-abbrev pub picture : ℕ → List (List Entry) → List ℕ
-picture cores histories = picture_with cores (drawn_colours histories) histories

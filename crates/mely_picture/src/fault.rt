@@ -9,9 +9,6 @@ pub enum DrawFault {
     /// It was not accepted, the source failed, or an allocation was refused.
     Check(CheckFault),
 
-    /// It has more than 65,536 bytes, about 5,000 entries.
-    TooLong,
-
     /// The sink failed.
     Write,
 }
@@ -20,12 +17,6 @@ impl fmt::Display for DrawFault {
     fn fmt<W: fmt::Write>(&self, f: &mut fmt::Formatter<W>) -> fmt::Result {
         match self {
             DrawFault::Check(fault) => write!(f, "{fault}"),
-            DrawFault::TooLong => {
-                write!(
-                    f,
-                    "the journal has more than 65536 bytes, too many to be drawn"
-                )
-            }
             DrawFault::Write => write!(f, "the picture could not be written"),
         }
     }

@@ -1,27 +1,77 @@
 //! The legend of a picture.
-ghost use Rattle.std.specs.Prelude.{◌≡◌, ◌<◌, ◌≤◌, ◌+◌, ◌++◌, IfOk, OnOk, length, map};
+ghost use Rattle.std.specs.Prelude.{◌≡◌, ◌<◌, ◌≤◌, ◌+◌, ◌++◌, ◌∷◌, [], IfOk, OnOk, length};
 ghost use Rattle.std.specs.List.{flat_map};
 ghost use Rattle.mely_picture.specs.Marks.{taken_colour, with_new, has};
-ghost use Rattle.mely_picture.specs.Texts.{legend_item, legend_from, drawn_colours as colours_drawn};
-ghost use Rattle.mely_picture.specs.Drawings.{AreShort};
+ghost use Rattle.mely_picture.specs.Texts.{legend_item, legend_from};
+ghost use Rattle.mely_picture.specs.Pictures.{if_there, own_colours};
+ghost use Rattle.mely_picture.specs.Shown.{plot_colours, shown_legend};
+ghost use Rattle.mely_picture.specs.Drawings.{text_limit};
 
 use crate::digits::{push_numbered, push_word};
 use crate::layout::hue_of;
-use mely_history::Entry;
+use crate::plot::Plot;
+use mely_history::{Entry, Setup};
 use std::alloc::{AllocError, Global};
 
-/// The colours of all bars, each once, in the order in which they are taken first.
-pub fn drawn_colours(alloc: Global, histories: &[Vec<Entry>]) -> Result<Vec<u16>, AllocError>
-    requires { AreShort (map (λ history. history.items) histories.now) }
-    ensures are { IfOk result (λ colours. colours.items
-        ≡ colours_drawn (map (λ history. history.items) histories.now)) }
+/// How many colours of a shard have a class of their own.
+const OWN_CLASSES: u32 = 16;
+
+/// The colours that the panels show, each once, in the order in which they come first.
+pub fn shown_colours(alloc: Global, setup: &Setup, plots: &[Plot]) -> Result<Vec<u16>, AllocError>
+    requires { length plots.now ≤ text_limit }
+    ensures are { IfOk result (λ colours. colours.items ≡ shown_legend setup.now plots.now) }
     ensures few { IfOk result (λ colours. length colours.items ≤ 4294967296) }
 {
     let mut colours = Vec::new(alloc);
-    for history in histories {
-        add_colours(&mut colours, history)?;
+    for (number, plot) in plots.iter().enumerate() {
+        add_plot(&mut colours, setup, number as u32, plot)?;
     }
     Ok(colours)
+}
+
+/// Adds the colours that a panel shows and that aren't there yet.
+fn add_plot(
+    colours: &mut Vec<u16>,
+    setup: &Setup,
+    number: u32,
+    plot: &Plot,
+) -> Result<(), AllocError>
+    ensures are { OnOk result (colours.new.items
+        ≡ with_new colours.old.items (plot_colours setup.now number plot.now)) }
+    ensures few { OnOk result (length colours.new.items ≤ length colours.old.items + 65536) }
+{
+    match plot {
+        Plot::Whole(history) => add_colours(colours, &history.entries),
+        Plot::Counted(_) => add_own(colours, setup.shards(), setup.colours(), number),
+    }
+}
+
+/// Adds the colours of a shard that have a class of their own, where there are so many colours.
+fn add_own(colours: &mut Vec<u16>, shards: u16, count: u32, number: u32) -> Result<(), AllocError>
+    requires { count ≤ 65536 }
+    ensures are { OnOk result (colours.new.items
+        ≡ with_new colours.old.items (own_colours shards count number 16)) }
+    ensures few { OnOk result (length colours.new.items ≤ length colours.old.items + 16) }
+{
+    for place in 0..OWN_CLASSES {
+        let colour = u64::from(number) + u64::from(shards) * u64::from(place);
+        add_within(colours, count, colour)?;
+    }
+    Ok(())
+}
+
+/// Adds a colour, if there are so many and it isn't there yet.
+fn add_within(colours: &mut Vec<u16>, count: u32, colour: u64) -> Result<(), AllocError>
+    requires { count ≤ 65536 }
+    ensures are { OnOk result (colours.new.items
+        ≡ with_new colours.old.items (if_there count colour)) }
+    ensures few { OnOk result (length colours.new.items ≤ length colours.old.items + 1) }
+{
+    if colour >= u64::from(count) {
+        return Ok(());
+    }
+    add_number(colours, colour as u16)?;
+    Ok(())
 }
 
 /// Adds the colours of a history's bars that aren't there yet.
@@ -44,15 +94,22 @@ fn add_colour(colours: &mut Vec<u16>, entry: &Entry) -> Result<(), AllocError>
     ensures few { OnOk result (length colours.new.items ≤ length colours.old.items + 1) }
 {
     match *entry {
-        Entry::Take { colour, .. } => {
-            if is_there(colours, colour.0) {
-                return Ok(());
-            }
-            colours.push(colour.0)?;
-            Ok(())
-        }
+        Entry::Take { colour, .. } => add_number(colours, colour.0),
         _ => Ok(()),
     }
+}
+
+/// Adds a number, if it isn't there yet.
+fn add_number(numbers: &mut Vec<u16>, number: u16) -> Result<(), AllocError>
+    ensures are { OnOk result (numbers.new.items
+        ≡ with_new numbers.old.items (number ∷ [])) }
+    ensures few { OnOk result (length numbers.new.items ≤ length numbers.old.items + 1) }
+{
+    if is_there(numbers, number) {
+        return Ok(());
+    }
+    numbers.push(number)?;
+    Ok(())
 }
 
 /// Whether a number is one of these.

@@ -6,8 +6,12 @@
 //! a bar from each take to its finish, with its colour and its count, and an arrow from row to row
 //! for each steal. Under the pointer a bar says its entries, colour, core and count.
 //!
-//! [`draw_journal`] draws what [`mely_check`] accepts, and [`make_picture`] histories as they lie in
-//! memory.
+//! A history of more than 4,096 entries is drawn in buckets: in each core's row there are up to 128
+//! columns, each of the same number of entries, and in a column the share that the core made of them,
+//! by colours.
+//!
+//! [`draw_journal`] draws what [`mely_check`] accepts, and reads it once: what it keeps grows with the
+//! picture, and not with the journal.
 //!
 //! ```text
 //! match draw_journal(alloc, &setup, &mut source, &mut sink) {
@@ -19,20 +23,22 @@
 
 mod arrow;
 mod bar;
+mod bucket;
+mod counts;
 mod digits;
+mod drawer;
 mod drawing;
 mod fault;
-mod keeping;
 pub mod laws;
 mod layout;
 mod legend;
 mod mark;
 mod panel;
+mod part;
 mod picture;
-mod reading;
+mod plot;
 
 pub use arrow::Arrow;
 pub use bar::Bar;
 pub use drawing::draw_journal;
 pub use fault::DrawFault;
-pub use picture::make_picture;

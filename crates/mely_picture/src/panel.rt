@@ -1,13 +1,18 @@
 //! The panels of a picture, one for each shard.
-ghost use Rattle.std.specs.Prelude.{◌≡◌, ◌<◌, ◌≤◌, ◌+◌, ◌*◌, ◌++◌, ◌^◌, OnOk, length, map};
+ghost use Rattle.std.specs.Prelude.{◌≡◌, ◌<◌, ◌≤◌, ◌+◌, ◌*◌, ◌++◌, ◌^◌, OnOk, length};
 ghost use Rattle.mely_picture.specs.Layout.{panel_height as height_of_panel};
-ghost use Rattle.mely_picture.specs.Texts.{heading, row_text, rows_text, panel_text, panels_from};
-ghost use Rattle.mely_picture.specs.Drawings.{text_limit, AreShort};
+ghost use Rattle.mely_picture.specs.Texts.{heading, row_text, rows_text, panel_text};
+ghost use Rattle.mely_picture.specs.Shown.{counts_panel, plot_panel, plots_from};
+ghost use Rattle.mely_picture.specs.Drawings.{text_limit};
 
+use crate::bucket::push_bucket_panel;
+use crate::counts::Counts;
 use crate::digits::{push_numbered, push_word};
 use crate::layout::{STEP, row_top};
 use crate::mark::push_marks;
-use mely_history::Entry;
+use crate::part::Scale;
+use crate::plot::Plot;
+use mely_history::{Entry, Setup};
 use std::alloc::AllocError;
 
 /// The height of a panel: its heading, a row for each core, and room below.
@@ -21,20 +26,64 @@ pub fn panel_height(cores: u16) -> u64
 /// Adds the panels of all shards, from this upper edge on.
 pub fn push_panels(
     text: &mut Vec<u8>,
-    cores: u16,
+    setup: &Setup,
     top: u64,
-    histories: &[Vec<Entry>],
+    plots: &[Plot],
 ) -> Result<(), AllocError>
     requires top { top < 2 ^ 36 }
-    requires short { AreShort (map (λ history. history.items) histories.now) }
+    requires few { length plots.now ≤ text_limit }
     ensures { OnOk result (text.new.items ≡ text.old.items
-        ++ panels_from cores top 0 (map (λ history. history.items) histories.now)) }
+        ++ plots_from setup.now top 0 plots.now) }
 {
     let mut top = top;
-    for (number, history) in histories.iter().enumerate() {
-        push_panel(text, cores, top, number as u64, history)?;
-        top += panel_height(cores);
+    for (number, plot) in plots.iter().enumerate() {
+        push_plot(text, setup, top, number as u32, plot)?;
+        top += panel_height(setup.cores());
     }
+    Ok(())
+}
+
+/// Adds the panel of a shard, by what was kept of its history.
+fn push_plot(
+    text: &mut Vec<u8>,
+    setup: &Setup,
+    top: u64,
+    number: u32,
+    plot: &Plot,
+) -> Result<(), AllocError>
+    requires { top < 2 ^ 40 }
+    ensures { OnOk result (text.new.items
+        ≡ text.old.items ++ plot_panel setup.now top number plot.now) }
+{
+    match plot {
+        Plot::Whole(history) => {
+            push_panel(text, setup.cores(), top, number as u64, &history.entries)
+        }
+        Plot::Counted(counts) => push_counted(text, setup, top, number, counts),
+    }
+}
+
+/// Adds the panel of a shard in buckets, by the counts of its history.
+fn push_counted(
+    text: &mut Vec<u8>,
+    setup: &Setup,
+    top: u64,
+    number: u32,
+    counts: &Counts,
+) -> Result<(), AllocError>
+    requires { top < 2 ^ 40 }
+    ensures { OnOk result (text.new.items
+        ≡ text.old.items ++ counts_panel setup.now top number counts.now) }
+{
+    let colours = setup.colours();
+    let shards = setup.shards();
+    let scale = Scale {
+        number,
+        shards,
+        entries: counts.entries,
+        width: counts.width,
+    };
+    push_bucket_panel(text, colours, top, &scale, counts)?;
     Ok(())
 }
 
@@ -70,7 +119,7 @@ fn push_heading(text: &mut Vec<u8>, top: u64, number: u64, entries: u64) -> Resu
 }
 
 /// Adds a row for each core.
-fn push_rows(text: &mut Vec<u8>, top: u64, entries: u64, cores: u16) -> Result<(), AllocError>
+pub fn push_rows(text: &mut Vec<u8>, top: u64, entries: u64, cores: u16) -> Result<(), AllocError>
     requires top { top < 2 ^ 40 }
     requires short { entries ≤ text_limit }
     ensures { OnOk result (text.new.items ≡ text.old.items ++ rows_text top entries cores) }

@@ -1,14 +1,17 @@
 //! The whole of a picture.
-ghost use Rattle.std.specs.Prelude.{◌≡◌, ◌<◌, ◌≤◌, ◌++◌, ◌^◌, IfOk, OnOk, length, map};
+ghost use Rattle.std.specs.Prelude.{◌≡◌, ◌<◌, ◌≤◌, ◌++◌, ◌^◌, IfOk, OnOk, length};
 ghost use Rattle.mely_picture.specs.Layout.{picture_width as width_of_picture, panels_top as top_of_panels};
-ghost use Rattle.mely_picture.specs.Texts.{opening, longest as longest_of, picture, picture_with};
-ghost use Rattle.mely_picture.specs.Drawings.{text_limit, AreShort};
+ghost use Rattle.mely_picture.specs.Texts.{opening};
+ghost use Rattle.mely_picture.specs.Shown.{plot_width, widest_plot, shown_with, shown_picture};
+ghost use Rattle.mely_picture.specs.Drawings.{text_limit};
 
+use crate::bucket::PANEL_WIDTH;
 use crate::digits::{push_numbered, push_word};
 use crate::layout::STEP;
-use crate::legend::{drawn_colours, push_legend};
+use crate::legend::{push_legend, shown_colours};
 use crate::panel::{panel_height, push_panels};
-use mely_history::Entry;
+use crate::plot::Plot;
+use mely_history::Setup;
 use std::alloc::{AllocError, Global};
 
 /// The style: of the page, of the text, of the rows, of bars, of what stands on them, of arrows.
@@ -23,49 +26,43 @@ const PAGE: &[u8] = b"<defs><marker id='tip' markerWidth='12' markerHeight='12' 
 orient='auto' markerUnits='userSpaceOnUse'><path class='tip' d='M 0 0 L 10 5 L 0 10 z'/>\
 </marker></defs>\n<rect class='page' width='100%' height='100%'/>\n";
 
-/// The picture of a run with so many cores, as SVG: a legend, and a panel for each shard's history,
-/// in their order.
-///
-/// There are at most 65,536 histories, and in each at most as many entries.
+/// The picture of a run, as SVG: a legend, and a panel for each shard, by what was kept of their
+/// histories in their order.
 ///
 /// # Errors
 ///
 /// An allocation was refused.
-pub fn make_picture(
-    alloc: Global,
-    cores: u16,
-    histories: &[Vec<Entry>],
-) -> Result<Vec<u8>, AllocError>
-    requires { AreShort (map (λ history. history.items) histories.now) }
-    ensures { IfOk result (λ text. text.items
-        ≡ picture cores (map (λ history. history.items) histories.now)) }
+pub fn make_picture(alloc: Global, setup: &Setup, plots: &[Plot]) -> Result<Vec<u8>, AllocError>
+    requires { length plots.now ≤ text_limit }
+    ensures { IfOk result (λ text. text.items ≡ shown_picture setup.now plots.now) }
 {
-    let colours = drawn_colours(alloc, histories)?;
+    let colours = shown_colours(alloc, setup, plots)?;
     let mut text = Vec::new(alloc);
-    push_picture(&mut text, cores, &colours, histories)?;
+    push_picture(&mut text, setup, &colours, plots)?;
     Ok(text)
 }
 
 /// Adds the picture with a legend of these colours.
 fn push_picture(
     text: &mut Vec<u8>,
-    cores: u16,
+    setup: &Setup,
     colours: &[u16],
-    histories: &[Vec<Entry>],
+    plots: &[Plot],
 ) -> Result<(), AllocError>
     requires few { length colours.now ≤ 4294967296 }
-    requires short { AreShort (map (λ history. history.items) histories.now) }
+    requires few_plots { length plots.now ≤ text_limit }
     ensures { OnOk result (text.new.items ≡ text.old.items
-        ++ picture_with cores colours.now (map (λ history. history.items) histories.now)) }
+        ++ shown_with setup.now colours.now plots.now) }
 {
+    let cores = setup.cores();
     let top = panels_top(colours.len() as u64);
-    let width = picture_width(longest(histories));
-    let height = top + panel_height(cores) * histories.len() as u64;
+    let width = picture_width(widest(plots));
+    let height = top + panel_height(cores) * plots.len() as u64;
     push_opening(text, width, height)?;
     push_word(text, STYLE)?;
     push_word(text, PAGE)?;
     push_legend(text, colours)?;
-    push_panels(text, cores, top, histories)?;
+    push_panels(text, setup, top, plots)?;
     push_word(text, b"</svg>\n")?;
     Ok(())
 }
@@ -87,17 +84,27 @@ fn picture_width(longest: u64) -> u64
     u64::max(632, 92 + STEP * longest)
 }
 
-/// How many entries the longest history has.
-fn longest(histories: &[Vec<Entry>]) -> u64
-    requires { AreShort (map (λ history. history.items) histories.now) }
-    ensures value { result ≡ longest_of (map (λ history. history.items) histories.now) }
+/// How many entries the widest panel is wide.
+fn widest(plots: &[Plot]) -> u64
+    ensures value { result ≡ widest_plot plots.now }
     ensures range { result ≤ text_limit }
 {
     let mut most = 0;
-    for history in histories {
-        most = u64::max(most, history.len() as u64);
+    for plot in plots {
+        most = u64::max(most, width_of(plot));
     }
     most
+}
+
+/// How many entries a panel is wide.
+fn width_of(plot: &Plot) -> u64
+    ensures value { result ≡ plot_width plot.now }
+    ensures range { result ≤ text_limit }
+{
+    match plot {
+        Plot::Whole(history) => history.entries.len() as u64,
+        Plot::Counted(_) => PANEL_WIDTH,
+    }
 }
 
 /// Adds the beginning of a picture of this size.

@@ -2,7 +2,7 @@
 //! < JOURNAL > RUN.svg`: the picture of a run of the server.
 //!
 //! The words are those of `sws check`, and a journal that `check` refuses is refused here with its
-//! line and its status. A journal of more than 65,536 bytes isn't drawn: that is status 14.
+//! line and its status. A history of more than 4,096 entries is drawn in buckets.
 #![tactic(auto)]
 
 use mely_check::CheckFault;
@@ -29,8 +29,6 @@ const BAD_JOURNAL: u8 = 10;
 const NOT_LEGAL: u8 = 11;
 
 const NOT_DRAINED: u8 = 12;
-
-const TOO_LONG: u8 = 14;
 
 /// The words behind the program's name, as those of the command `check`.
 fn words(rt: &HostRuntime) -> Result<Vec<String>, WordFault> {
@@ -83,7 +81,6 @@ fn status_of(fault: DrawFault) -> u8 {
         DrawFault::Check(CheckFault::BadJournal { .. }) => BAD_JOURNAL,
         DrawFault::Check(CheckFault::NotLegal { .. }) => NOT_LEGAL,
         DrawFault::Check(CheckFault::NotDrained { .. }) => NOT_DRAINED,
-        DrawFault::TooLong => TOO_LONG,
         DrawFault::Write => WRITE,
     }
 }

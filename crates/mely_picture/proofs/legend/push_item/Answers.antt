@@ -1,4 +1,4 @@
-use Rattle.std.proofs.Common.{◌≡◌, ◌∷◌, [], ◌++◌, ◌+◌, ◌*◌, ◌/◌, ◌%◌, ◌-◌, refl, ap, codes}
+use Rattle.std.proofs.Common.{◌≡◌, ◌∷◌, [], ◌++◌, ◌+◌, ◌*◌, ◌/◌, ◌%◌, refl, codes}
 use Rattle.mely_picture.specs.Texts.{numbered}
 use Rattle.mely_picture.specs.Layout.{hue_of}
 use Rattle.mely_picture.proofs.ListLemmas.{start, put, join}
