@@ -1,9 +1,10 @@
 #!/usr/bin/env python3
 """Uses `sws serve` as badly as it can on this machine's loopback, and says a line a case: what was seen, and whether it is what is owed.
 
-    bench/hostile.py [--only WORD] [--program PATH]
+    bench/hostile.py [--only WORD] [--quick] [--program PATH]
 
-It wants the program built (`./sws`). What a connection is owed is what `sws answer` writes for the same bytes, or a front of it where the
+It wants the program built (`./sws`). With `--quick`, as the gate calls it, only the cases of a second or two: what the machine refuses
+(descriptors, a reset before it is accepted, kinds of files that change), half-closed clients and names that climb. What a connection is owed is what `sws answer` writes for the same bytes, or a front of it where the
 client or the server ends it early. Each case has servers of its own, which end by themselves or are ended; the whole takes some minutes,
 most of them waiting for connections that are given up after half a minute. The status is 1 where a case went otherwise.
 """
@@ -396,22 +397,57 @@ def changing_folder(_):
 
 
 def few_descriptors(site):
-    for files, count in ((40, 100), (1_024, MOST)):
-        with Server(site, count, files=files) as server:
-            clients = []
-            for _ in range(count):
-                clients.append(server.connect())
-            time.sleep(1)
-            for client in clients:
-                client.sendall(HEAD)
-                client.shutdown(socket.SHUT_WR)
-            got = []
-            for client in clients:
-                got.append(read_all(client)[0])
-                client.close()
-            status, told = server.end()
-        right = got.count(answer(site, HEAD))
-        yield right == count and status == 0, f"{count} clients at once of a server that may open {files} files: {right} answered, status {status} ({told})"
+    yield from with_few_descriptors(site, 40, 100)
+
+
+def descriptors_for_all_but_a_few(site):
+    yield from with_few_descriptors(site, 1_024, MOST)
+
+
+def with_few_descriptors(site, files, count):
+    with Server(site, count, files=files) as server:
+        clients = [server.connect() for _ in range(count)]
+        time.sleep(0.3)
+        for client in clients:
+            client.sendall(HEAD)
+            client.shutdown(socket.SHUT_WR)
+        got = []
+        for client in clients:
+            got.append(read_all(client)[0])
+            client.close()
+        status, told = server.end()
+    right = got.count(answer(site, HEAD))
+    yield right == count and status == 0, f"{count} clients at once of a server that may open {files} files: {right} answered, status {status} ({told})"
+
+
+def reset_before_it_is_accepted(site):
+    """Clients that come while the server is stopped, and reset before it can accept them; one that stays is answered."""
+    count = 20
+    with Server(site, count + 1) as server:
+        server.child.send_signal(signal.SIGSTOP)
+        for number in range(count):
+            with server.connect() as it:
+                if number % 2:
+                    it.sendall(HEAD)
+                it.setsockopt(socket.SOL_SOCKET, socket.SO_LINGER, RESET)
+        with server.connect() as it:
+            it.sendall(HEAD)
+            server.child.send_signal(signal.SIGCONT)
+            it.shutdown(socket.SHUT_WR)
+            got, _ = read_all(it)
+        # A machine may count a client that is gone as none at all: then others come in its place.
+        while server.child.poll() is None and not wait_for_end(server):
+            ask(server)
+        status, told = server.end()
+    is_right = got == answer(site, HEAD) and status == 0 and sum(told[end] for end in ("done", "idle", "fault")) == count + 1
+    yield is_right, f"{count} clients that reset before they were accepted, and one that stayed and was answered: {told}"
+
+
+def wait_for_end(server, seconds=0.5):
+    with contextlib.suppress(subprocess.TimeoutExpired):
+        server.child.wait(seconds)
+        return True
+    return False
 
 
 def more_than_are_served(site):
@@ -434,6 +470,56 @@ def more_than_are_served(site):
             client.close()
         status, told = server.end()
     yield status == 0 and answered == MOST, f"2,000 clients of a server of {MOST} connections: {answered} answered, {refused + cut} not ({told})"
+
+
+def kinds_that_change(_):
+    """Names that are a file, a link out of the folder or a folder by turns while they are loaded: all of it or a fault, and nothing from outside."""
+    with tempfile.TemporaryDirectory(prefix="sws-kinds-") as top:
+        folder, outside = os.path.join(top, "site"), os.path.join(top, "outside")
+        os.makedirs(folder)
+        os.makedirs(outside)
+        for path in (os.path.join(outside, "secret"), os.path.join(outside, "f0")):
+            with open(path, "w") as file:
+                file.write("SECRET")
+        is_over = threading.Event()
+
+        def put(name, number):
+            path, made = os.path.join(folder, name), os.path.join(top, f"made-{name}")
+            if number % 3 == 0:
+                with open(made, "w") as file:
+                    file.write("text")
+            elif number % 3 == 1:
+                os.symlink(os.path.join(outside, "secret"), made)
+            else:
+                os.makedirs(made)
+            if os.path.isdir(path) and not os.path.islink(path):
+                os.rmdir(path)
+            elif number % 3 == 2:
+                os.remove(path)
+            os.rename(made, path)
+
+        def change():
+            number = 0
+            while not is_over.is_set():
+                number += 1
+                put(f"f{number % 7}", number // 7)
+
+        for number in range(7):
+            put(f"f{number}", 0)
+        changer = threading.Thread(target=change)
+        changer.start()
+        seen = {}
+        heads = b"".join(request(b"/f%d" % number) for number in range(7))
+        try:
+            for _ in range(200):
+                done = subprocess.run([SWS, "answer", folder], input=heads, stdout=subprocess.PIPE, stderr=subprocess.PIPE, timeout=60)
+                said = "a secret" if b"SECRET" in done.stdout else "none"
+                kind = (done.returncode, done.stderr.decode().strip(), said)
+                seen[kind] = seen.get(kind, 0) + 1
+        finally:
+            is_over.set()
+            changer.join()
+        yield set(seen) <= {(0, "", "none"), (4, "sws: reading failed", "none")}, f"200 loads of names that change their kind: {seen}"
 
 
 def urgent_bytes(site):
@@ -523,9 +609,11 @@ def no_folder(site):
 
 
 CASES = [
-    targets, no_folder, reads_slowly, sends_while_it_reads_nothing, posts_much, header_bombs, pipelined, input_limit, half_closed, slow_heads, resets, urgent_bytes, sends_on_behind_the_end, few_descriptors,
-    more_than_are_served, changing_folder, silent_clients, dripping_client, stopped_client, takes_nothing,
+    targets, no_folder, reads_slowly, sends_while_it_reads_nothing, posts_much, header_bombs, pipelined, input_limit, half_closed, slow_heads, resets, urgent_bytes, sends_on_behind_the_end, few_descriptors, descriptors_for_all_but_a_few,
+    reset_before_it_is_accepted, kinds_that_change, more_than_are_served, changing_folder, silent_clients, dripping_client, stopped_client, takes_nothing,
 ]
+
+QUICK = [targets, no_folder, posts_much, half_closed, urgent_bytes, few_descriptors, reset_before_it_is_accepted, kinds_that_change]
 
 
 def make_site():
@@ -548,6 +636,7 @@ def main():
     global SWS, answer_of_head
     words = argparse.ArgumentParser(description="Uses the server as badly as it can.")
     words.add_argument("--only", default="")
+    words.add_argument("--quick", action="store_true")
     words.add_argument("--program", default=SWS)
     given = words.parse_args()
     SWS = given.program
@@ -558,7 +647,7 @@ def main():
     site, all_well = make_site(), True
     try:
         answer_of_head = answer(site, HEAD)
-        for case in CASES:
+        for case in QUICK if given.quick else CASES:
             if given.only in case.__name__:
                 for is_right, seen in case(site):
                     all_well &= is_right
