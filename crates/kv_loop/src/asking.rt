@@ -110,7 +110,9 @@ impl Actor for Asking {
                 key
             }
         };
-        slot.sum = slot.sum.wrapping_add(drawn_after(key as u32, self.rounds));
+        slot.sum = slot
+            .sum
+            .wrapping_add(drawn_after((key % 4_294_967_296) as u32, self.rounds));
         slot.received = slot.received.saturating_add(1);
         Ok(())
     }

@@ -20,9 +20,6 @@ fn order(rt: &HostRuntime) -> Option<Order> {
     let workers = words.next()?.as_str().parse::<u16>().ok()?;
     let messages = words.next()?.as_str().parse::<u16>().ok()?;
     let rounds = words.next()?.as_str().parse::<u32>().ok()?;
-    if workers == 0 || workers > 8 {
-        return None;
-    }
     Some(Order {
         workers,
         messages,
@@ -35,6 +32,10 @@ fn main(rt: HostRuntime) -> io::Result<ExitCode> {
         eprintln!(rt; "usage: kv_loop WORKERS MESSAGES ROUNDS, of at most 8 workers")?;
         return Ok(ExitCode::from(2));
     };
+    if order.workers == 0 || order.workers > 8 {
+        eprintln!(rt; "kv_loop: from 1 to 8 workers")?;
+        return Ok(ExitCode::from(2));
+    }
     let Ok(slots) = run(&rt, rt.alloc(), &order) else {
         eprintln!(rt; "kv_loop: no memory")?;
         return Ok(ExitCode::from(7));
