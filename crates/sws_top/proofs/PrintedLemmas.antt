@@ -37,7 +37,7 @@ written : {O : Type 0} (o : SinkWords O) (out now : O) (fault : Option TopFault)
 written o out now fault IsText sent writes none told = by_answer writes.answer (sym none ∙ writes.ended) (subst (λ (before : Option (List ℕ)). WritesOne IsText before (o.written now) writes.answer) told writes.writes)
   where
     by_answer : {T : Type 0} (answer : Result T RunFault) → None ≡ fault_of_run answer → WritesOne IsText (Some sent) (o.written now) answer → (text : List ℕ) × IsText text × (o.written now ≡ Some (sent ++ text))
-    by_answer (Ok value) is (bytes, same, text, is_text, put) = (text, is_text, same ∙ (λ i. Some (put i)))
+    by_answer (Ok value) is (bytes, same, behind) = (behind.0, behind.1, same ∙ (λ i. Some (behind.2 i)))
     by_answer (Err run_fault.Write) is one = cc
     by_answer (Err run_fault.Memory) is one = cc
 
@@ -49,7 +49,7 @@ module _ {R O : Type 0} (r : SourceWords R) (o : SinkWords O) (source source_now
       let one = written o out out_now fault IsText sent writes none told in
       record { input = input; read = read; expected = expected; text = one.0; ends = ends one.0 one.1; written = one.2 }
 
-  printed_replay : (site : SiteState) (shape : Shape) (input : Input) (journal schedule log : Bool) → journal || schedule ≡ true → IsInputRead r schedule shape.cores source source_now input
+  printed_replay : (site : SiteState) (shape : Shape) (input : Input) (journal schedule log : Bool) → (journal || schedule) ≡ true → IsInputRead r schedule shape.cores source source_now input
       → WritesText o out out_now fault (IsReplayText shape journal schedule log site input) → PrintsAccepted r o source source_now sent out_now schedule log shape
   printed_replay site shape input journal true log asked read writes =
       printed true log shape input (by_http site) (IsReplayText shape journal true log site input) (scheduled_accepted site shape input log) read writes
@@ -62,7 +62,7 @@ module _ {R O : Type 0} (r : SourceWords R) (o : SinkWords O) (source source_now
   printed_script expected shape log (inr (input, read, writes)) = printed false log shape input expected (IsReplay expected shape input.conns log true) (replayed_accepted expected shape input.conns log) read writes
 
 module _ {F R O : Type 0} (f : FolderWords F) (r : SourceWords R) (o : SinkWords O) (before now : Hands F R O) (fault : Option TopFault) (sent : List ℕ) (none : fault ≡ None) (told : o.written before.out ≡ Some sent) where
-  by_replay : (path : List ℕ) (shape : Shape) (date : Option ℕ) (journal schedule log : Bool) → journal || schedule ≡ true → RanReplay f r o before now fault path shape date journal schedule log
+  by_replay : (path : List ℕ) (shape : Shape) (date : Option ℕ) (journal schedule log : Bool) → (journal || schedule) ≡ true → RanReplay f r o before now fault path shape date journal schedule log
       → PrintsAccepted r o before.source now.source sent now.out schedule log shape
   by_replay path shape date journal schedule log asked (inl (cause, is, lacks, untouched)) = absurd (let other : Some cause ≡ None = sym is ∙ none in cc)
   by_replay path shape date journal schedule log asked (inr (site, loaded, inl (cause, is, lacks, untouched))) = absurd (let other : Some cause ≡ None = sym is ∙ none in cc)

@@ -27,7 +27,7 @@ module _ {F R O : Type 0} (r : SourceWords R) (o : SinkWords O) (before now : Ha
   -- what an order prints that asks for a journal, as a schedule does too: an accepted one
   abbrev pub PrintsJournal : Order → Type 0
   PrintsJournal (answer path date) = ⊤
-  PrintsJournal (replay path shape date journal schedule log) = journal || schedule ≡ true
+  PrintsJournal (replay path shape date journal schedule log) = ((journal || schedule) ≡ true)
       → PrintsAccepted r o before.source now.source sent now.out schedule log (run_shape shape)
   PrintsJournal (serve path port connections shape date log) = ⊤
   PrintsJournal (bench connections number shape) = ⊤
