@@ -1,5 +1,5 @@
 //! The site that generations begin with.
-use std::alloc::{AllocError, Global};
+use std::alloc::AllocError;
 use std::fmt;
 use std::sync::{Arc, Mutex, Wait};
 use sws_link::{Folder, Opened};
