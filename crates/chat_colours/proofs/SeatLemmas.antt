@@ -1,8 +1,7 @@
 -- One message more for the room or a client, and the lines that are posted.
-use Rattle.std.proofs.Common.{◌≡◌, ◌≤◌, ◌<◌, ◌+◌, ℕ, suc, Bool, true, false, List, [], ◌∷◌, ◌++◌, Some, if◌then◌else◌, length, map, refl, sym, ◌∙◌, ap, subst, arith, append_assoc}
+use Rattle.std.proofs.Common.{◌≡◌, ◌≤◌, ◌<◌, ◌+◌, ℕ, Bool, List, [], ◌∷◌, ◌++◌, Some, if◌then◌else◌, length, map, refl, sym, ◌∙◌, ap, arith, append_assoc}
 use Rattle.std.proofs.lemmas.Bool.{le-ltb, lt-ltb}
 use Rattle.std.proofs.lemmas.List.{append-nil, length-append}
-use Rattle.std.proofs.lemmas.Option.{slice_get_within}
 use Rattle.std.specs.List.{AllByRecursion}
 use Rattle.std.specs.Global.{Global}
 use Rattle.std.specs.Prelude.{Result, Ok, Err, OnOk, Vec, slice_get}
@@ -15,7 +14,7 @@ use Rattle.chat_colours.specs.declared.message.Message.TheVariants.{Say, Line, H
 use Rattle.chat_colours.specs.declared.script.Line.{Line as ScriptLine}
 use Rattle.chat_colours.specs.declared.seat.Heard.{Heard}
 use Rattle.chat_colours.specs.declared.chat.TheConstants.{CLIENTS}
-use Rattle.chat_colours.specs.Chats.{IsByClient, IsOfScript, IsSeat, MayHear, Note, event_of, note_of, notes, said, says}
+use Rattle.chat_colours.specs.Chats.{IsByClient, IsSeat, MayHear, Note, event_of, note_of, notes, said, says}
 
 -- a message more
 pub seat_more : (colour : Colour) (received : List Message) (sent new : List (Colour × Message)) (heard after : List Heard) (message : Message) (before : ℕ) → length received ≡ before → new ≡ says colour before message → map note_of after ≡ map note_of heard ++ notes before message → IsSeat colour received sent heard
