@@ -84,17 +84,18 @@ struct Job<'d, T: Wait + Clock> {
     ghost in_range: { AreTerms terms },
 }
 
-/// How generations are served: by at least one worker, and at most as many as a run has, and with at
-/// least one connection.
+/// How generations are served: by at least one worker, and at most as many as a run has, in the shape
+/// that serves best by so many, and with at least one connection.
 fn terms_of(order: &Order) -> Terms
     ensures { AreTerms result }
 {
     let cores = order.workers.max(1).min(64);
+    let is_alone = cores == 1;
     let shape = Shape {
         cores,
-        shards: cores,
+        shards: if is_alone { 1 } else { 64 },
         batch: 10,
-        steal_cost: 20,
+        steal_cost: if is_alone { 20 } else { 9 },
         group: 4,
     };
     Terms {
