@@ -1,13 +1,13 @@
 #!/usr/bin/env python3
-"""Measures `sws serve` beside nginx, lighttpd, h2o and the same sockets without the runtime, in one run, and prints a table.
+"""Measures `sws serve` and `swsd` beside nginx, lighttpd, h2o and the same sockets without the runtime, in one run, and prints a table.
 
     bench/serve.py [--runs N] [--connections N] [--requests N] [--at-once N] [--in-flight N,..] [--sizes BYTES,..] [--workers N,..]
                    [--server CPUS] [--client CPUS] [--only WORD] [--program FILE] [--calls]
 
-It wants the program (`./sws`, or --program), net_loop (`rt run` in crates/net_loop), and a C compiler for the client; a server that isn't
-installed is left out. Each server serves one folder to bench/load.c, which makes so many connections on this machine's loopback, so many
+It wants the program (`./sws`, or --program), `swsd` (`./swsd --version`), net_loop (`rt run` in crates/net_loop), and a C compiler for the
+client; a server that isn't there is left out. Each server serves one folder to bench/load.c, which makes so many connections on this machine's loopback, so many
 of them at once, each with so many requests, one after another and 16 at a time. `sws` with several workers is run in the shape that the
-documents advise (64 shards, cost 9) and in the default one. A figure is processor time of the server for each request (user and system),
+documents advise (64 shards, cost 9) and in the default one, `swsd` with so many lanes of one worker that take connections. A figure is processor time of the server for each request (user and system),
 the least of all runs; beside it are the requests a second by the clock, the client's processor time a request and the median of a
 request's time, each of the run with the most requests a second, which want a machine that does nothing else. --server and --client name
 the processors of each, as taskset has them. With --calls the calls of futex a request are counted too, in a run of their own under
@@ -27,6 +27,7 @@ from typing import NamedTuple
 
 TOP = os.path.dirname(os.path.dirname(os.path.abspath(__file__)))
 SWS = os.path.join(TOP, "crates", "sws_main", "out", "sws_main")
+SWSD = os.path.join(TOP, "crates", "swsd", "out", "swsd")
 NET = os.path.join(TOP, "crates", "net_loop", "out", "net_loop")
 LOAD = os.path.join(TOP, "bench", "load.c")
 
@@ -236,6 +237,13 @@ def servers(folder, site, program, pinned, client, workers):
     def net(path, order):
         return own(lambda port, connections: [*pinned, NET, site, str(port), str(connections)], client, path, order)
 
+    def swsd(count):
+        def once(path, order):
+            port = free_port()
+            lanes = ["--lanes", str(2 * count + 2), "--accepting", str(count)]
+            return other([*pinned, SWSD, site, "--listen", f"127.0.0.1:{port}", *lanes], client, port, path, order)
+        return once
+
     def nginx(cache, count):
         def once(path, order):
             port = free_port()
@@ -259,6 +267,8 @@ def servers(folder, site, program, pinned, client, workers):
     for shape in shapes(workers):
         words = sws(program, pinned, site, shape)
         named[shape.name] = lambda path, order, words=words: own(words, client, path, order)
+    if os.access(SWSD, os.X_OK):
+        named.update({f"swsd, {count} lanes at a time": swsd(count) for count in workers})
     if os.access(NET, os.X_OK):
         named["the same sockets without the runtime"] = net
     if shutil.which("nginx"):
