@@ -232,7 +232,7 @@ TEXTS = {
 
 
 # the definitions at the core of each promise, to which the page shows the way
-CORES = {"run_app": ["IsAllowed"], "answer": ["responses_of"], "serve": ["responses_of", "IsAllowed"], "replay": ["transcript_of", "step"],
+CORES = {"run_app": ["IsAllowed"], "answer": ["responses_of"], "serve": ["responses_of", "Exchanges", "IsAllowed"], "replay": ["transcript_of", "step"],
          "check": ["IsAllowed"], "gopher": ["reply_of"]}
 
 

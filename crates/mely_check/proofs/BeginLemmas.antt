@@ -4,7 +4,7 @@ use Rattle.std.specs.List.{flat_map, AllByRecursion}
 use Rattle.std.proofs.lemmas.Grind.{flat_map-append}
 use Rattle.mely_history.specs.declared.entry.Entry.{Entry}
 use Rattle.mely_history.specs.declared.entry.Entry.TheVariants.{Fin}
-use Rattle.sws_report.specs.Journal.{entry_line, shard_line, journal_from, journal}
+use Rattle.mely_journal.specs.Journal.{entry_line, shard_line, journal_from, journal}
 use Rattle.mely_check.specs.Journals.{IsFit, IsFitHistory, BeginsJournal, join_lines}
 use Rattle.mely_check.specs.Hearing.{Walk, start, within, begun_in}
 use Rattle.mely_check.specs.Walks.{walk_text, IsFitWalk, IsAt}

@@ -18,7 +18,7 @@ use Rattle.mely_history.proofs.ColourAccountLemmas.{account-other}
 use Rattle.mely_history.proofs.LegalLemmas.{over_legal}
 use Rattle.mely_history.proofs.LegalAccountLemmas.{begun_within, ended_within}
 use Rattle.mely_history.proofs.BeyondLemmas.{none_registered}
-use Rattle.sws_report.proofs.UniqueJournalLemmas.{journal-unique}
+use Rattle.mely_journal.proofs.UniqueJournalLemmas.{journal-unique}
 use Rattle.mely_check.specs.Journals.{IsFirstOutside, join_lines, entries_in}
 use Rattle.sws_link.specs.declared.Got.TheVariants.{End}
 use Rattle.sws_link.specs.Contents.{Takes}

@@ -3,7 +3,7 @@ use Rattle.std.proofs.Common.{◌≡◌, ℕ, ◌+◌, ◌<◌, ◌⊎◌, Bool,
 use Rattle.std.specs.List.{flat_map, AllByRecursion}
 use Rattle.std.proofs.lemmas.Bool.{cases_order}
 use Rattle.mely_history.specs.declared.entry.Entry.{Entry}
-use Rattle.sws_report.specs.Journal.{entry_line, shard_line, shard_text, journal_from}
+use Rattle.mely_journal.specs.Journal.{entry_line, shard_line, shard_text, journal_from}
 use Rattle.mely_check.specs.Journals.{IsFit, IsFitHistory, HasNoFeed, IsLine, IsJournal, BeginsJournal, IsFirstOutside, IsRead, join_lines, entries_in, line_limit}
 use Rattle.mely_check.proofs.ReadingLemmas.{tail_is}
 use Rattle.mely_check.proofs.LineLemmas.{line_same, IsLine-entry, IsLine-shard}

@@ -6,7 +6,7 @@ use Rattle.std.proofs.lemmas.Grind.{flat_map-append}
 use Rattle.mely_history.specs.declared.entry.Entry.{Entry}
 use Rattle.mely_history.specs.declared.entry.Entry.TheVariants.{Reg, Take, Fin, Steal}
 use Rattle.sws_text.specs.Numbers.{space_number}
-use Rattle.sws_report.specs.Journal.{entry_line, shard_line}
+use Rattle.mely_journal.specs.Journal.{entry_line, shard_line}
 use Rattle.mely_check.specs.Journals.{IsFit, HasNoFeed, IsLine, join_lines}
 use Rattle.mely_check.specs.Reading.{IsHigh}
 use Rattle.mely_check.proofs.ReadingLemmas.{IsHigh-decimal, head_is, tail_is}

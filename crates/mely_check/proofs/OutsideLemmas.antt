@@ -1,7 +1,7 @@
 -- Which line is the first outside.
 use Rattle.std.proofs.Common.{◌≡◌, ℕ, ◌<◌, ◌≤◌, List, [], ◌∷◌, ◌++◌, length, refl, sym, ap, subst, ◌∙◌, arith, append_assoc, append-nil, length-append, inl, inr}
 use Rattle.std.proofs.lemmas.Bool.{cases_lt}
-use Rattle.sws_report.specs.Journal.{entry_line, shard_line}
+use Rattle.mely_journal.specs.Journal.{entry_line, shard_line}
 use Rattle.mely_check.specs.Journals.{HasNoFeed, IsLine, IsJournal, BeginsJournal, IsFirstOutside, join_lines, line_limit}
 use Rattle.mely_check.specs.Walks.{IsAt, MayNotStand}
 use Rattle.mely_check.specs.declared.place.Place.{Place}

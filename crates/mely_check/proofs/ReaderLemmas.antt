@@ -5,7 +5,7 @@ use Rattle.std.specs.List.{flat_map}
 use Rattle.std.proofs.lemmas.List.{take_more, take-append-drop, nil_from_length}
 use Rattle.sws_link.specs.declared.Got.TheVariants.{Took, End}
 use Rattle.sws_link.specs.Contents.{Takes}
-use Rattle.sws_report.specs.Journal.{entry_line, shard_line, journal}
+use Rattle.mely_journal.specs.Journal.{entry_line, shard_line, journal}
 use Rattle.mely_check.specs.Journals.{IsFitHistory, HasNoFeed, IsLine, IsFirstOutside, AreFit, entries_in, join_lines}
 use Rattle.mely_history.specs.Setup.{shape_of, colours_of}
 use Rattle.mely_history.specs.declared.setup.Setup.{Setup}

@@ -14,7 +14,7 @@ use Rattle.sws_text.specs.Numbers.{space_number}
 use Rattle.mely_event.specs.declared.colour.Colour.{Colour}
 use Rattle.mely_event.specs.declared.event.Event.{Event}
 use Rattle.mely_history.specs.declared.entry.Entry.TheVariants.{Reg}
-use Rattle.sws_report.specs.Journal.{entry_line, shard_line}
+use Rattle.mely_journal.specs.Journal.{entry_line, shard_line}
 use Rattle.mely_check.specs.Reading.{IsHigh, IsBehind}
 
 -- ---- a word

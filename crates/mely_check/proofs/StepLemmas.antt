@@ -6,7 +6,7 @@ use Rattle.std.proofs.lemmas.Bool.{cases_lt}
 use Rattle.std.proofs.lemmas.Grind.{flat_map-append}
 use Rattle.mely_history.specs.declared.entry.Entry.{Entry}
 use Rattle.mely_history.specs.declared.entry.Entry.TheVariants.{Reg, Take, Fin, Steal}
-use Rattle.sws_report.specs.Journal.{entry_line, shard_line, journal}
+use Rattle.mely_journal.specs.Journal.{entry_line, shard_line, journal}
 use Rattle.mely_check.specs.Journals.{IsFit, IsFitHistory, IsLine, IsJournal, BeginsJournal, join_lines, entries_in}
 use Rattle.mely_check.specs.Hearing.{Walk, start, within, begun_in, left_in, MayCome, with_line}
 use Rattle.mely_check.specs.Walks.{walk_text, count_in, IsFitWalk, IsAt, MayStand, Moves, MayNotStand}

@@ -3,9 +3,9 @@ use Rattle.std.proofs.Common.{◌≡◌, ℕ, suc, ◌+◌, ◌^◌, ◌<◌, �
 use Rattle.std.specs.List.{flat_map, AllByRecursion}
 use Rattle.mely_history.specs.declared.entry.Entry.{Entry}
 use Rattle.mely_history.specs.declared.entry.Entry.TheVariants.{Reg, Take, Fin, Steal}
-use Rattle.sws_report.specs.Journal.{entry_line, shard_line, shard_text, journal_from, journal, IsSmall, AreSmall}
+use Rattle.mely_journal.specs.Journal.{entry_line, shard_line, shard_text, journal_from, journal, IsSmall, AreSmall}
 use Rattle.sws_text.specs.Numbers.{space_number}
-use Rattle.sws_report.proofs.UniqueJournalLemmas.{entry_split, shard_split, nil_is, cancel}
+use Rattle.mely_journal.proofs.UniqueJournalLemmas.{entry_split, shard_split, nil_is, cancel}
 use Rattle.mely_check.proofs.ReadingLemmas.{spaced_split, tail_is}
 use Rattle.mely_check.specs.Journals.{IsFit, IsFitHistory, AreFit}
 use Rattle.mely_check.specs.Hearing.{Walk, start, within, begun_in, left_in}

@@ -3,7 +3,7 @@ use Rattle.std.specs.Prelude.{◌≡◌, ◌≢◌, ℕ, ◌+◌, ◌^◌, ◌<�
 use Rattle.std.specs.List.{flat_map, AllByRecursion}
 use Rattle.mely_history.specs.declared.entry.Entry.{Entry}
 use Rattle.mely_history.specs.declared.entry.Entry.TheVariants.{Reg, Take, Fin, Steal}
-use Rattle.sws_report.specs.Journal.{journal}
+use Rattle.mely_journal.specs.Journal.{journal}
 
 -- the numbers of an entry are within their ranges
 abbrev pub IsFit : Entry → Type 0

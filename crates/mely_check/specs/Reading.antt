@@ -2,7 +2,7 @@
 use Rattle.std.specs.Prelude.{◌≡◌, ℕ, ◌^◌, ◌<◌, ◌≤◌, List, [], ◌∷◌, ◌++◌, Option, MatchOption, ⊤}
 use Rattle.std.specs.List.{AllByRecursion}
 use Rattle.sws_text.specs.Numbers.{space_number}
-use Rattle.sws_report.specs.Journal.{entry_line, shard_line}
+use Rattle.mely_journal.specs.Journal.{entry_line, shard_line}
 use Rattle.mely_check.specs.declared.reading.Line.{Line}
 use Rattle.mely_check.specs.declared.reading.Line.TheVariants as line
 use Rattle.mely_check.specs.Journals.{IsFit}

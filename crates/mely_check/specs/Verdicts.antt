@@ -7,7 +7,7 @@ use Rattle.mely_history.specs.Entries.{colour_of}
 use Rattle.mely_history.specs.Legal.{IsAllowed, AreLegal, IsDrained, IsDrainedOf}
 use Rattle.mely_history.specs.declared.setup.Setup.{Setup}
 use Rattle.mely_history.specs.declared.entry.Entry.{Entry}
-use Rattle.sws_report.specs.Journal.{journal}
+use Rattle.mely_journal.specs.Journal.{journal}
 use Rattle.mely_check.specs.Journals.{AreFit, IsFirstOutside, entries_in, line_limit}
 use Rattle.mely_check.specs.Reports.{IsReport}
 use Rattle.mely_check.specs.declared.fault.CheckFault.{CheckFault}

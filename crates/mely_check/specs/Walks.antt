@@ -2,7 +2,7 @@
 use Rattle.std.specs.Prelude.{◌≡◌, ℕ, ◌+◌, ◌^◌, ◌<◌, List, [], ◌∷◌, ◌++◌, length, ⊤}
 use Rattle.std.specs.List.{flat_map, AllByRecursion}
 use Rattle.mely_history.specs.declared.entry.Entry.{Entry}
-use Rattle.sws_report.specs.Journal.{entry_line, shard_line, journal}
+use Rattle.mely_journal.specs.Journal.{entry_line, shard_line, journal}
 use Rattle.mely_check.specs.Journals.{IsFit, IsFitHistory, IsLine, BeginsJournal, join_lines, entries_in, line_limit}
 use Rattle.mely_check.specs.Hearing.{Walk, start, within, begun_in, left_in, MayCome, with_line}
 use Rattle.mely_check.specs.declared.place.Place.{Place}

@@ -7,7 +7,7 @@ ghost use Rattle.mely_event.specs.declared.colour.Colour.{Colour as ColourValue}
 ghost use Rattle.mely_event.specs.declared.event.Event.{Event as EventValue};
 ghost use Rattle.mely_history.specs.declared.entry.Entry.TheVariants.{Reg};
 ghost use Rattle.mely_check.specs.Journals.{IsFit};
-ghost use Rattle.sws_report.specs.Journal.{entry_line, shard_line};
+ghost use Rattle.mely_journal.specs.Journal.{entry_line, shard_line};
 
 use mely_event::{Colour, Event};
 use mely_history::Entry as HistoryEntry;

@@ -16,7 +16,7 @@ use Rattle.mely_check.specs.Journals.{AreFit, entries_in, line_limit}
 use Rattle.mely_check.specs.Verdicts.{IsDrainedRun}
 use Rattle.sws_engine.specs.ServerRun.{server_rules}
 use Rattle.sws_log.specs.declared.line.LogLine.{LogLine}
-use Rattle.sws_report.specs.Journal.{journal}
+use Rattle.mely_journal.specs.Journal.{journal}
 use Rattle.sws_script.specs.declared.input.Input.{Input}
 use Rattle.sws_script.specs.declared.input.ScriptConn.{ScriptConn}
 use Rattle.sws_site.specs.Site.{SiteState}

@@ -14,7 +14,7 @@ use Rattle.sws_link.specs.MemLink.{MemLinkState}
 use Rattle.sws_link.specs.MemWorld.{MemWorldState}
 use Rattle.sws_link.specs.declared.Put.{Put}
 use Rattle.sws_link.specs.declared.Put.TheVariants as put
-use Rattle.sws_report.specs.Journal.{journal}
+use Rattle.mely_journal.specs.Journal.{journal}
 use Rattle.sws_report.specs.Transcript.{transcript, transcript_from, conn_text}
 use Rattle.sws_replay.proofs.GoingLemmas.{Going, Going-moved, Going-written, Going-stopped, Going-cause}
 use Rattle.sws_log.specs.Lines.{log_text}

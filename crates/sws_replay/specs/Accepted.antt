@@ -11,7 +11,7 @@ use Rattle.sws_engine.specs.Counting.{colours_over}
 use Rattle.sws_engine.specs.ServerRun.{handler_rows}
 use Rattle.sws_log.specs.Lines.{log_text}
 use Rattle.sws_log.specs.declared.line.LogLine.{LogLine}
-use Rattle.sws_report.specs.Journal.{journal}
+use Rattle.mely_journal.specs.Journal.{journal}
 use Rattle.sws_script.specs.declared.input.ScriptConn.{ScriptConn}
 use Rattle.sws_replay.specs.Expected.{Expected}
 use Rattle.sws_replay.specs.Logs.{IsLog}

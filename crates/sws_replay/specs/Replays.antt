@@ -9,7 +9,7 @@ use Rattle.sws_link.specs.declared.Put.{Put}
 use Rattle.sws_link.specs.declared.Put.TheVariants as put
 use Rattle.sws_log.specs.Lines.{log_text}
 use Rattle.sws_log.specs.declared.line.LogLine.{LogLine}
-use Rattle.sws_report.specs.Journal.{journal}
+use Rattle.mely_journal.specs.Journal.{journal}
 use Rattle.sws_script.specs.Scripted.{script_of}
 use Rattle.sws_script.specs.declared.input.Input.{Input}
 use Rattle.sws_script.specs.declared.input.ScriptConn.{ScriptConn}

@@ -5,7 +5,7 @@ use Rattle.sws_steps.specs.declared.End.{End}
 use Rattle.sws_steps.specs.declared.End.TheVariants.{Done, Memory}
 use Rattle.sws_engine.specs.declared.ended.Served.{Served}
 use Rattle.sws_link.specs.MemLink.{MemLinkState}
-use Rattle.sws_report.specs.Journal.{journal}
+use Rattle.mely_journal.specs.Journal.{journal}
 
 -- it has its link and an end other than want of memory
 pub record IsShowable (s : Served MemLinkState) : Type 0 where

@@ -1,2 +1,1 @@
-pub mod UniqueJournalLemmas
 mod SummaryLemmas

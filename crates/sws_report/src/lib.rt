@@ -20,10 +20,8 @@
 #![tactic(auto)]
 
 mod conn;
-mod journal;
-pub mod laws;
 mod summary;
 
 pub use conn::write_conn;
-pub use journal::write_journal;
+pub use mely_journal::write_journal;
 pub use summary::write_summary;

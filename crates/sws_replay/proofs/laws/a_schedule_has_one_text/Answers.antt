@@ -2,7 +2,7 @@ use Rattle.std.proofs.Common.{List, sym, ap₂, ◌∙◌, ◌++◌, subst}
 use Rattle.mely_history.specs.declared.entry.Entry.{Entry}
 use Rattle.mely_machine.proofs.OneRunLemmas.{one_run}
 use Rattle.sws_log.specs.Lines.{log_text}
-use Rattle.sws_report.specs.Journal.{journal}
+use Rattle.mely_journal.specs.Journal.{journal}
 use Rattle.sws_replay.specs.Expected.{by_http}
 use Rattle.sws_replay.specs.Histories.{AreServed}
 use Rattle.sws_replay.specs.Transcripts.{transcript_of}

@@ -6,7 +6,7 @@ ghost use Rattle.sws_link.specs.declared.Put.TheVariants as put;
 ghost use Rattle.sws_link.specs.Counts.{HasCause};
 ghost use Rattle.sws_link.specs.Contents.{Puts};
 ghost use Rattle.sws_text.specs.Numbers.{space_number};
-ghost use Rattle.sws_report.specs.Journal.{entry_line, shard_line, journal_from, journal};
+ghost use Rattle.mely_journal.specs.Journal.{entry_line, shard_line, journal_from, journal};
 
 use mely_history::Entry;
 use std::alloc::{AllocError, Global};

@@ -11,7 +11,7 @@ use Rattle.mely_event.specs.declared.event.Event.{Event}
 use Rattle.mely_history.specs.declared.entry.Entry.{Entry}
 use Rattle.mely_history.specs.declared.entry.Entry.TheVariants.{Reg, Take, Fin, Steal}
 use Rattle.sws_text.specs.Numbers.{space_number}
-use Rattle.sws_report.specs.Journal.{entry_line, shard_text, journal_from, journal, IsSmall, AreSmall}
+use Rattle.mely_journal.specs.Journal.{entry_line, shard_text, journal_from, journal, IsSmall, AreSmall}
 
 -- ---- numbers
 
