@@ -608,12 +608,36 @@ def no_folder(site):
         yield status == 4, f"{os.path.basename(name)} as the folder: status {status}"
 
 
+def most_threads(words, given=b""):
+    """The status of a command, and the most threads that were seen in it at once."""
+    with tempfile.TemporaryFile() as source:
+        source.write(given)
+        source.seek(0)
+        child = subprocess.Popen([SWS, *words], stdin=source, stdout=subprocess.DEVNULL, stderr=subprocess.DEVNULL)
+    seen, until = 0, time.monotonic() + 60
+    while child.poll() is None and time.monotonic() < until:
+        with contextlib.suppress(OSError):
+            seen = max(seen, len(os.listdir(f"/proc/{child.pid}/task")))
+    if child.poll() is None:
+        child.kill()
+    return child.wait(), seen
+
+
+def threads_are_started(site):
+    """A bench and a replay of several workers run on as many threads, and those of one worker on one."""
+    script = b"".join(b"conn %d\ngive GET / HTTP/1.1~\ngive Host: x~\ngive ~\n" % number for number in range(1024))
+    for command, given in ((["bench", "1024", "7"], b""), (["replay", site], script)):
+        for workers in (1, 4):
+            status, seen = most_threads([*command, "--workers", str(workers)], given)
+            yield status == 0 and seen == workers, f"{command[0]} on {workers} workers: {seen} threads at once, status {status}"
+
+
 CASES = [
-    targets, no_folder, reads_slowly, sends_while_it_reads_nothing, posts_much, header_bombs, pipelined, input_limit, half_closed, slow_heads, resets, urgent_bytes, sends_on_behind_the_end, few_descriptors, descriptors_for_all_but_a_few,
+    threads_are_started, targets, no_folder, reads_slowly, sends_while_it_reads_nothing, posts_much, header_bombs, pipelined, input_limit, half_closed, slow_heads, resets, urgent_bytes, sends_on_behind_the_end, few_descriptors, descriptors_for_all_but_a_few,
     reset_before_it_is_accepted, kinds_that_change, more_than_are_served, changing_folder, silent_clients, dripping_client, stopped_client, takes_nothing,
 ]
 
-QUICK = [targets, no_folder, posts_much, half_closed, urgent_bytes, few_descriptors, reset_before_it_is_accepted, kinds_that_change]
+QUICK = [threads_are_started, targets, no_folder, posts_much, half_closed, urgent_bytes, few_descriptors, reset_before_it_is_accepted, kinds_that_change]
 
 
 def make_site():

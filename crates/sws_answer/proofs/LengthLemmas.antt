@@ -44,24 +44,24 @@ file_for-short site asked within = by_name (name_of asked.target)
 
 -- the content of a response
 record HasShortContent (content : Content) : Type 0 where
-  kind : length content.kind ≤ 32
+  media_type : length content.media_type ≤ 32
   bytes : length content.bytes ≤ size_limit
 
 content_of-short : (status : Status) (file : Option File) (selection : Selection) → IsShort file → HasShortContent (content_of status file selection)
 unfolding IsShort fixed_body
-content_of-short Success None selection short = record { kind = lit≤ tt; bytes = lit≤ tt }
-content_of-short Success (Some file) selection short = record { kind = content_type-short file.0; bytes = short }
-content_of-short PartialContent None selection short = record { kind = lit≤ tt; bytes = lit≤ tt }
-content_of-short PartialContent (Some file) Whole short = record { kind = content_type-short file.0; bytes = short }
-content_of-short PartialContent (Some file) (Part first last) short = record { kind = content_type-short file.0; bytes = length-part-le file.1 first (last + 1) size_limit short }
-content_of-short PartialContent (Some file) Unsatisfied short = record { kind = content_type-short file.0; bytes = lit≤ tt }
-content_of-short NotModified file selection short = record { kind = lit≤ tt; bytes = lit≤ tt }
-content_of-short BadRequest file selection short = record { kind = lit≤ tt; bytes = lit≤ tt }
-content_of-short NotFound file selection short = record { kind = lit≤ tt; bytes = lit≤ tt }
-content_of-short MethodNotAllowed file selection short = record { kind = lit≤ tt; bytes = lit≤ tt }
-content_of-short RangeNotSatisfiable file selection short = record { kind = lit≤ tt; bytes = lit≤ tt }
-content_of-short HeaderFieldsTooLarge file selection short = record { kind = lit≤ tt; bytes = lit≤ tt }
-content_of-short NotImplemented file selection short = record { kind = lit≤ tt; bytes = lit≤ tt }
+content_of-short Success None selection short = record { media_type = lit≤ tt; bytes = lit≤ tt }
+content_of-short Success (Some file) selection short = record { media_type = content_type-short file.0; bytes = short }
+content_of-short PartialContent None selection short = record { media_type = lit≤ tt; bytes = lit≤ tt }
+content_of-short PartialContent (Some file) Whole short = record { media_type = content_type-short file.0; bytes = short }
+content_of-short PartialContent (Some file) (Part first last) short = record { media_type = content_type-short file.0; bytes = length-part-le file.1 first (last + 1) size_limit short }
+content_of-short PartialContent (Some file) Unsatisfied short = record { media_type = content_type-short file.0; bytes = lit≤ tt }
+content_of-short NotModified file selection short = record { media_type = lit≤ tt; bytes = lit≤ tt }
+content_of-short BadRequest file selection short = record { media_type = lit≤ tt; bytes = lit≤ tt }
+content_of-short NotFound file selection short = record { media_type = lit≤ tt; bytes = lit≤ tt }
+content_of-short MethodNotAllowed file selection short = record { media_type = lit≤ tt; bytes = lit≤ tt }
+content_of-short RangeNotSatisfiable file selection short = record { media_type = lit≤ tt; bytes = lit≤ tt }
+content_of-short HeaderFieldsTooLarge file selection short = record { media_type = lit≤ tt; bytes = lit≤ tt }
+content_of-short NotImplemented file selection short = record { media_type = lit≤ tt; bytes = lit≤ tt }
 
 -- the selection lies within the file, where there is one
 abbrev FitsFile : Option File → Selection → Type 0
@@ -87,10 +87,10 @@ response-short date status file selection closes is_head short fits =
       closes = closes;
       date = date;
       range = range_of file selection;
-      kind = (content_of status file selection).kind;
+      media_type = (content_of status file selection).media_type;
       len = length (content_of status file selection).bytes;
     } in
-    by_head (head_text head) (content_of status file selection).bytes (head_text-short head content.kind (omega arith) (range_of-short file selection short fits)) content.bytes is_head
+    by_head (head_text head) (content_of status file selection).bytes (head_text-short head content.media_type (omega arith) (range_of-short file selection short fits)) content.bytes is_head
   where
     by_head : (head bytes : List ℕ) → length head ≤ 256 → length bytes ≤ size_limit → (t : Bool) → length (head ++ (if t then [] else bytes)) ≤ text_limit
     by_head head bytes short few true = omega (arith, length-append head [])

@@ -155,29 +155,29 @@ length-part-le bytes first last limit short = omega (arith, length-take (last - 
 -- ---- the heads that say what is sent of a file
 
 abbrev pub part_head : Bool → ℕ → ℕ → Option HttpDate → List ℕ → List ℕ → ResponseHead
-part_head closes first last date kind bytes =
+part_head closes first last date media_type bytes =
     record {
       status = PartialContent;
       closes = closes;
       date = date;
       range = Some (Selected first last (length bytes));
-      kind = kind;
+      media_type = media_type;
       len = length (slice_range bytes first (last + 1));
     }
 
-pub part_head-same : (closes : Bool) (first last : ℕ) (date other : Option HttpDate) (kind media bytes contents : List ℕ) → date ≡ other → kind ≡ media → bytes ≡ contents
-    → head_text (part_head closes first last date kind bytes) ≡ head_text (part_head closes first last other media contents)
-part_head-same closes first last date other kind media bytes contents d k b = cc
+pub part_head-same : (closes : Bool) (first last : ℕ) (date other : Option HttpDate) (media_type media bytes contents : List ℕ) → date ≡ other → media_type ≡ media → bytes ≡ contents
+    → head_text (part_head closes first last date media_type bytes) ≡ head_text (part_head closes first last other media contents)
+part_head-same closes first last date other media_type media bytes contents d k b = cc
 
-pub part_head-short : (closes : Bool) (first last : ℕ) (date : Option HttpDate) (kind bytes : List ℕ) → length kind ≤ 32 → length bytes ≤ size_limit
-    → first ≤ last → last < length bytes → length (head_text (part_head closes first last date kind bytes)) ≤ 256
-part_head-short closes first last date kind bytes short few ordered within =
+pub part_head-short : (closes : Bool) (first last : ℕ) (date : Option HttpDate) (media_type bytes : List ℕ) → length media_type ≤ 32 → length bytes ≤ size_limit
+    → first ≤ last → last < length bytes → length (head_text (part_head closes first last date media_type bytes)) ≤ 256
+part_head-short closes first last date media_type bytes short few ordered within =
     let part = length-part-le bytes first (last + 1) size_limit few in
-    head_text-short (part_head closes first last date kind bytes) short (omega arith) (omega arith, omega arith, omega arith)
+    head_text-short (part_head closes first last date media_type bytes) short (omega arith) (omega arith, omega arith, omega arith)
 
 abbrev pub no_part_head : Bool → Option HttpDate → ℕ → ResponseHead
 no_part_head closes date len =
-    record { status = RangeNotSatisfiable; closes = closes; date = date; range = Some (NoSuch len); kind = plain_text; len = 26 }
+    record { status = RangeNotSatisfiable; closes = closes; date = date; range = Some (NoSuch len); media_type = plain_text; len = 26 }
 
 pub no_part_head-short : (closes : Bool) (date : Option HttpDate) (len : ℕ) → len ≤ size_limit → length (head_text (no_part_head closes date len)) ≤ 256
 no_part_head-short closes date len few = head_text-short (no_part_head closes date len) (lit≤ tt) (lit< tt) (omega arith)

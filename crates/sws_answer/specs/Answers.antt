@@ -39,17 +39,17 @@ text_of answer = answer.head ++ answer.body
 
 -- the content of a response, with its type
 pub record Content : Type 0 where
-  pub kind : List ℕ
+  pub media_type : List ℕ
   pub bytes : List ℕ
 
 -- there is no content
 abbrev pub no_content : Content
-no_content = record { kind = []; bytes = [] }
+no_content = record { media_type = []; bytes = [] }
 
 -- a file as content, all of it
 abbrev pub file_content : Option File → Content
 file_content None = no_content
-file_content (Some file) = record { kind = content_type file.0; bytes = file.1 }
+file_content (Some file) = record { media_type = content_type file.0; bytes = file.1 }
 
 -- the bytes from the first to the last one that are selected
 abbrev pub selected_bytes : Selection → List ℕ → List ℕ
@@ -61,11 +61,11 @@ selected_bytes Unsatisfied bytes = []
 abbrev pub part_content : Option File → Selection → Content
 part_content None selection = no_content
 part_content (Some file) selection =
-    record { kind = content_type file.0; bytes = selected_bytes selection file.1 }
+    record { media_type = content_type file.0; bytes = selected_bytes selection file.1 }
 
 -- the line of text that tells a status
 abbrev pub status_content : Status → Content
-status_content status = record { kind = plain_text; bytes = fixed_body status }
+status_content status = record { media_type = plain_text; bytes = fixed_body status }
 
 -- the content by what that of the status is
 abbrev pub content_by : Body → Status → Option File → Selection → Content
@@ -102,7 +102,7 @@ response date status file selection closes is_head =
         closes = closes;
         date = date;
         range = range_of file selection;
-        kind = content.kind;
+        media_type = content.media_type;
         len = length content.bytes;
       });
       body = if is_head then [] else content.bytes;

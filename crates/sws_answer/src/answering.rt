@@ -152,7 +152,7 @@ fn send_part<'s>(
             last: last as u32,
             len: body.len() as u32,
         }),
-        kind: page.kind(),
+        media_type: page.media_type(),
         len: part.len(),
     });
     Answer {
@@ -177,7 +177,7 @@ fn refuse_range<'s>(site: &'s Site, page: &Page<'s>, closes: bool, is_head: bool
         range: Some(ContentRange::NoSuch {
             len: page.body().len() as u32,
         }),
-        kind: b"text/plain",
+        media_type: b"text/plain",
         len: NO_SUCH_PART.len(),
     });
     Answer {

@@ -4,7 +4,7 @@ use Rattle.std.proofs.lemmas.Grind.{flat_map-append}
 use Rattle.std.specs.Prelude.{codes, decimal}
 use Rattle.httpdate.specs.declared.date.HttpDate.{HttpDate}
 use Rattle.sws_site.specs.declared.heads.ContentRange.{ContentRange}
-use Rattle.sws_site.specs.ResponseHeads.{ResponseHead, head_text, lines_text, line_end, server_line, connection_lines, date_lines, last_modified_lines, allow_lines, range_text, range_lines, kind_and_len_lines, content_lines}
+use Rattle.sws_site.specs.ResponseHeads.{ResponseHead, head_text, lines_text, line_end, server_line, connection_lines, date_lines, last_modified_lines, allow_lines, range_text, range_lines, media_type_and_len_lines, content_lines}
 use Rattle.sws_site.specs.Statuses.{Row, row_of}
 use Rattle.sws_site.proofs.HeadLengthsLemmas.{length-head_text}
 
@@ -52,20 +52,20 @@ range_line new second first old has_range given range has is is_first is_second 
     ∙ sym (ap (λ (b : Bool). old ++ lines_text (range_lines b given)) has)
 
 -- the two lines of a content
-pub content_text : (new fourth third second old kind : List ℕ) (len : ℕ)
-    → second ≡ old ++ ((codes "Content-Type: " ++ kind) ++ line_end) → third ≡ second ++ codes "Content-Length: " → fourth ≡ third ++ decimal len
-    → new ≡ fourth ++ line_end → new ≡ old ++ lines_text (kind_and_len_lines kind len)
-content_text new fourth third second old kind len is_second is_third is_fourth is_new =
+pub content_text : (new fourth third second old media_type : List ℕ) (len : ℕ)
+    → second ≡ old ++ ((codes "Content-Type: " ++ media_type) ++ line_end) → third ≡ second ++ codes "Content-Length: " → fourth ≡ third ++ decimal len
+    → new ≡ fourth ++ line_end → new ≡ old ++ lines_text (media_type_and_len_lines media_type len)
+content_text new fourth third second old media_type len is_second is_third is_fourth is_new =
     is_new
     ∙ ap (λ (x : List ℕ). x ++ line_end) (is_fourth ∙ ap (λ (x : List ℕ). x ++ decimal len) (is_third ∙ ap (λ (x : List ℕ). x ++ codes "Content-Length: ") is_second))
-    ∙ two_more old (codes "Content-Type: " ++ kind) (codes "Content-Length: ") (decimal len) line_end
+    ∙ two_more old (codes "Content-Type: " ++ media_type) (codes "Content-Length: ") (decimal len) line_end
 
 -- the lines of a head by the row of its status
 abbrev lines_by : ResponseHead → Row → List ℕ
 lines_by head row =
     (((codes "HTTP/1.1 " ++ row.text) ++ line_end) ++ ((server_line ++ line_end) ++ lines_text (connection_lines head.closes
     ++ last_modified_lines row.is_dated head.date ++ allow_lines row.lists_methods ++ range_lines row.has_range head.range
-    ++ content_lines row.body head.kind head.len))) ++ line_end
+    ++ content_lines row.body head.media_type head.len))) ++ line_end
 
 -- what is added one after another
 added : (a b c d e f g whole status server connection modified allow range content : List ℕ)
@@ -92,7 +92,7 @@ pub head_text-parts : (head : ResponseHead) (row : Row) (a b c d e f g whole : L
     → d ≡ c ++ lines_text (last_modified_lines row.is_dated head.date)
     → e ≡ d ++ lines_text (allow_lines row.lists_methods)
     → f ≡ e ++ lines_text (range_lines row.has_range head.range)
-    → g ≡ f ++ lines_text (content_lines row.body head.kind head.len)
+    → g ≡ f ++ lines_text (content_lines row.body head.media_type head.len)
     → whole ≡ g ++ line_end
     → whole ≡ head_text head
 unfolding head_text
@@ -114,7 +114,7 @@ head_text-parts head row a b c d e f g whole is_row is_a is_b is_c is_d is_e is_
     range = range_lines row.has_range head.range
 
     content : List (List ℕ)
-    content = content_lines row.body head.kind head.len
+    content = content_lines row.body head.media_type head.len
 
 -- ---- the room for it
 
@@ -126,11 +126,11 @@ length-added new old more is = ap length is ∙ length-append old more
 pub head-fits : (head : ResponseHead) (row : Row) → row ≡ row_of head.status → length (head_text head) ≤ 256
     → length ((codes "HTTP/1.1 " ++ row.text) ++ line_end) + length ((codes "Server: " ++ codes "sws") ++ line_end) + length (lines_text (connection_lines head.closes))
     + length (lines_text (last_modified_lines row.is_dated head.date)) + length (lines_text (allow_lines row.lists_methods))
-    + length (lines_text (range_lines row.has_range head.range)) + length (lines_text (content_lines row.body head.kind head.len)) + 2 ≤ 256
+    + length (lines_text (range_lines row.has_range head.range)) + length (lines_text (content_lines row.body head.media_type head.len)) + 2 ≤ 256
 head-fits head row is fits = subst Fits (sym is) (omega (arith, length-head_text head))
   where
     Fits : Row → Type 0
     Fits row =
         length ((codes "HTTP/1.1 " ++ row.text) ++ line_end) + length ((codes "Server: " ++ codes "sws") ++ line_end) + length (lines_text (connection_lines head.closes))
         + length (lines_text (last_modified_lines row.is_dated head.date)) + length (lines_text (allow_lines row.lists_methods))
-        + length (lines_text (range_lines row.has_range head.range)) + length (lines_text (content_lines row.body head.kind head.len)) + 2 ≤ 256
+        + length (lines_text (range_lines row.has_range head.range)) + length (lines_text (content_lines row.body head.media_type head.len)) + 2 ≤ 256

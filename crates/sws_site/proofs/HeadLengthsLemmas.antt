@@ -14,7 +14,7 @@ use Rattle.sws_site.specs.declared.heads.ContentRange.{ContentRange}
 use Rattle.sws_site.specs.declared.heads.ContentRange.TheVariants.{Selected, NoSuch}
 use Rattle.sws_site.specs.Statuses.{row_of}
 use Rattle.sws_site.specs.ContentTypes.{media_types, type_in, extension_of, content_type}
-use Rattle.sws_site.specs.ResponseHeads.{ResponseHead, status_line, server_line, connection_lines, date_lines, last_modified_lines, allow_lines, content_range_lines, range_lines, kind_and_len_lines, content_lines, head_lines, line_end, lines_text, head_text}
+use Rattle.sws_site.specs.ResponseHeads.{ResponseHead, status_line, server_line, connection_lines, date_lines, last_modified_lines, allow_lines, content_range_lines, range_lines, media_type_and_len_lines, content_lines, head_lines, line_end, lines_text, head_text}
 
 -- ---- words out of lists
 
@@ -98,8 +98,8 @@ range-short (Some (NoSuch len)) short =
     let a = digits-short len short in
     simp length-append (omega (arith, a))
 
-kind_and_len-short : (kind : List ℕ) (len : ℕ) → length kind ≤ 32 → len < 2 ^ 64 → length (lines_text (kind_and_len_lines kind len)) ≤ 86
-kind_and_len-short kind len short few =
+media_type_and_len-short : (media_type : List ℕ) (len : ℕ) → length media_type ≤ 32 → len < 2 ^ 64 → length (lines_text (media_type_and_len_lines media_type len)) ≤ 86
+media_type_and_len-short media_type len short few =
     let digits = length-decimal-le 20 len (lit< tt) (omega arith) few in simp length-append (omega (arith, digits))
 
 -- a head is as long as its groups of lines together
@@ -107,7 +107,7 @@ pub length-head_text : (head : ResponseHead)
     → length (head_text head)
     ≡ length (status_line head.status ++ line_end) + length (server_line ++ line_end) + length (lines_text (connection_lines head.closes))
     + length (lines_text (last_modified_lines (row_of head.status).is_dated head.date)) + length (lines_text (allow_lines (row_of head.status).lists_methods))
-    + length (lines_text (range_lines (row_of head.status).has_range head.range)) + length (lines_text (content_lines (row_of head.status).body head.kind head.len))
+    + length (lines_text (range_lines (row_of head.status).has_range head.range)) + length (lines_text (content_lines (row_of head.status).body head.media_type head.len))
     + 2
 unfolding head_text
 length-head_text head =
@@ -115,7 +115,7 @@ length-head_text head =
     let b = last_modified_lines (row_of head.status).is_dated head.date in
     let c = allow_lines (row_of head.status).lists_methods in
     let d = range_lines (row_of head.status).has_range head.range in
-    let e = content_lines (row_of head.status).body head.kind head.len in
+    let e = content_lines (row_of head.status).body head.media_type head.len in
     omega (
       arith,
       length-append (lines_text (head_lines head)) line_end,
@@ -128,8 +128,8 @@ length-head_text head =
     )
 
 -- whatever it says, a head is short
-pub head_text-short : (head : ResponseHead) → length head.kind ≤ 32 → head.len < 2 ^ 64 → IsShortRange head.range → length (head_text head) ≤ 256
-head_text-short head kind few range = by_status head.status
+pub head_text-short : (head : ResponseHead) → length head.media_type ≤ 32 → head.len < 2 ^ 64 → IsShortRange head.range → length (head_text head) ≤ 256
+head_text-short head media_type few range = by_status head.status
   where
     connection : length (lines_text (connection_lines head.closes)) ≤ 19
     connection = connection-short head.closes
@@ -140,8 +140,8 @@ head_text-short head kind few range = by_status head.status
     about : length (lines_text (content_range_lines head.range)) ≤ 55
     about = range-short head.range range
 
-    content : length (lines_text (kind_and_len_lines head.kind head.len)) ≤ 86
-    content = kind_and_len-short head.kind head.len kind few
+    content : length (lines_text (media_type_and_len_lines head.media_type head.len)) ≤ 86
+    content = media_type_and_len-short head.media_type head.len media_type few
 
     by_status : (status : Status) → length (head_text (record head { status = status })) ≤ 256
     by_status Success =

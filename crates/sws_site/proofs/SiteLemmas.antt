@@ -13,10 +13,10 @@ use Rattle.sws_site.specs.BuiltResponses.{IsBuilt, built_head, IsRefusal}
 use Rattle.sws_site.specs.Stored.{HasHeads, file_of}
 
 -- either head
-built_head-text : (status : Status) (date : Option HttpDate) (kind : List ℕ) (response : BuiltResponse) (closes : Bool) → IsBuilt status date kind response
-    → built_head response closes ≡ head_text (record { status = status; closes = closes; date = date; range = None; kind = kind; len = length response.body.items })
-built_head-text status date kind response true built = built.closing_head
-built_head-text status date kind response false built = built.open_head
+built_head-text : (status : Status) (date : Option HttpDate) (media_type : List ℕ) (response : BuiltResponse) (closes : Bool) → IsBuilt status date media_type response
+    → built_head response closes ≡ head_text (record { status = status; closes = closes; date = date; range = None; media_type = media_type; len = length response.body.items })
+built_head-text status date media_type response true built = built.closing_head
+built_head-text status date media_type response false built = built.open_head
 
 pub built_head-file : (date : Option HttpDate) (stored : StoredFile) (closes : Bool) → HasHeads date stored
     → built_head stored.response closes ≡ file_head date (file_of stored) closes
@@ -28,14 +28,14 @@ pub built_head-not_modified : (date : Option HttpDate) (response : BuiltResponse
 unfolding not_modified_head
 built_head-not_modified date response closes built none =
     built_head-text NotModified date [] response closes built
-    ∙ ap (λ (body : List ℕ). head_text (record { status = NotModified; closes = closes; date = date; range = None; kind = []; len = length body })) none
+    ∙ ap (λ (body : List ℕ). head_text (record { status = NotModified; closes = closes; date = date; range = None; media_type = []; len = length body })) none
 
 pub built_head-refusal : (status : Status) (response : BuiltResponse) (closes : Bool) → IsRefusal status response
     → built_head response closes ≡ fixed_head status closes
 unfolding fixed_head
 built_head-refusal status response closes refusal =
     built_head-text status None plain_text response closes refusal.heads
-    ∙ ap (λ (body : List ℕ). head_text (record { status = status; closes = closes; date = None; range = None; kind = plain_text; len = length body })) refusal.body
+    ∙ ap (λ (body : List ℕ). head_text (record { status = status; closes = closes; date = None; range = None; media_type = plain_text; len = length body })) refusal.body
 
 -- the line that tells the status
 pub fixed_body-text : (status : Status) (body : List ℕ) → body ≡ ([] ++ status_text status) ++ 10 ∷ [] → body ≡ fixed_body status

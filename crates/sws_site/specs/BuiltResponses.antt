@@ -7,7 +7,7 @@ use Rattle.sws_site.specs.ResponseHeads.{head_text}
 use Rattle.sws_site.specs.Fixed.{fixed_body, plain_text}
 
 -- the two heads are those of such a response with this body
-pub record IsBuilt (status : Status) (date : Option HttpDate) (kind : List ℕ)
+pub record IsBuilt (status : Status) (date : Option HttpDate) (media_type : List ℕ)
     (response : BuiltResponse) : Type 0 where
   pub open_head : response.open_head.items
       ≡ head_text (record {
@@ -15,7 +15,7 @@ pub record IsBuilt (status : Status) (date : Option HttpDate) (kind : List ℕ)
         closes = false;
         date = date;
         range = None;
-        kind = kind;
+        media_type = media_type;
         len = length response.body.items;
       })
   pub closing_head : response.closing_head.items
@@ -24,7 +24,7 @@ pub record IsBuilt (status : Status) (date : Option HttpDate) (kind : List ℕ)
         closes = true;
         date = date;
         range = None;
-        kind = kind;
+        media_type = media_type;
         len = length response.body.items;
       })
 

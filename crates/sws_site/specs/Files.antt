@@ -22,7 +22,7 @@ file_head date file closes =
       closes = closes;
       date = date;
       range = None;
-      kind = content_type file.0;
+      media_type = content_type file.0;
       len = length file.1;
     })
 
@@ -34,6 +34,6 @@ not_modified_head date closes =
       closes = closes;
       date = date;
       range = None;
-      kind = [];
+      media_type = [];
       len = 0;
     })

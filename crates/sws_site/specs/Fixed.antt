@@ -23,7 +23,7 @@ fixed_head status closes =
       closes = closes;
       date = None;
       range = None;
-      kind = plain_text;
+      media_type = plain_text;
       len = length (fixed_body status);
     })
 

@@ -10,6 +10,6 @@ head_of parts =
       closes = parts.closes;
       date = parts.date.now;
       range = parts.range;
-      kind = parts.kind.now;
+      media_type = parts.media_type.now;
       len = parts.len;
     }

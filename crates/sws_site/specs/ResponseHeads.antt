@@ -19,7 +19,7 @@ pub record ResponseHead : Type 0 where
   pub closes : Bool
   pub date : Option HttpDate
   pub range : Option ContentRange
-  pub kind : List ℕ
+  pub media_type : List ℕ
   pub len : ℕ
 
 -- RFC 9112, section 4
@@ -65,16 +65,16 @@ abbrev pub range_lines : Bool → Option ContentRange → List (List ℕ)
 range_lines has_range range = if has_range then content_range_lines range else []
 
 -- RFC 9110, sections 8.3 and 8.6
-abbrev pub kind_and_len_lines : List ℕ → ℕ → List (List ℕ)
-kind_and_len_lines kind len =
-    (codes "Content-Type: " ++ kind) ∷ (codes "Content-Length: " ++ decimal len) ∷ []
+abbrev pub media_type_and_len_lines : List ℕ → ℕ → List (List ℕ)
+media_type_and_len_lines media_type len =
+    (codes "Content-Type: " ++ media_type) ∷ (codes "Content-Length: " ++ decimal len) ∷ []
 
 -- every response but 304 has content (RFC 9110, section 15.4.5)
 abbrev pub content_lines : Body → List ℕ → ℕ → List (List ℕ)
-content_lines Nothing kind len = []
-content_lines WholeFile kind len = kind_and_len_lines kind len
-content_lines PartOfFile kind len = kind_and_len_lines kind len
-content_lines StatusText kind len = kind_and_len_lines kind len
+content_lines Nothing media_type len = []
+content_lines WholeFile media_type len = media_type_and_len_lines media_type len
+content_lines PartOfFile media_type len = media_type_and_len_lines media_type len
+content_lines StatusText media_type len = media_type_and_len_lines media_type len
 
 -- the lines of the head in their order, without their ends
 abbrev pub head_lines : ResponseHead → List (List ℕ)
@@ -86,7 +86,7 @@ head_lines head =
     ++ last_modified_lines row.is_dated head.date
     ++ allow_lines row.lists_methods
     ++ range_lines row.has_range head.range
-    ++ content_lines row.body head.kind head.len)
+    ++ content_lines row.body head.media_type head.len)
 
 -- CR LF
 abbrev pub line_end : List ℕ

@@ -2,7 +2,7 @@
 ghost use Rattle.std.specs.Prelude.{◌≡◌, ◌≤◌, IfOk, length};
 ghost use Rattle.sws_site.specs.BuiltResponses.{IsBuilt, built_head};
 
-use crate::heads::{HeadParts, MAX_KIND, write_head};
+use crate::heads::{HeadParts, MAX_MEDIA_TYPE, write_head};
 use crate::statuses::Status;
 use httpdate::HttpDate;
 use std::alloc::{AllocError, Global};
@@ -21,11 +21,11 @@ impl BuiltResponse {
         alloc: Global,
         status: Status,
         date: &Option<HttpDate>,
-        kind: &[u8],
+        media_type: &[u8],
         body: Vec<u8>,
     ) -> Result<BuiltResponse, AllocError>
-        requires { length kind.now ≤ MAX_KIND }
-        ensures built { IfOk result (IsBuilt status date.now kind.now) }
+        requires { length media_type.now ≤ MAX_MEDIA_TYPE }
+        ensures built { IfOk result (IsBuilt status date.now media_type.now) }
         ensures body { IfOk result (λ response. response.body.items ≡ body.items) }
     {
         let open = HeadParts {
@@ -33,7 +33,7 @@ impl BuiltResponse {
             closes: false,
             date,
             range: None,
-            kind,
+            media_type,
             len: body.len(),
         };
         let closing = HeadParts {

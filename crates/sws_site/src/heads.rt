@@ -1,6 +1,6 @@
 //! Writing the head of a response, line by line.
 ghost use Rattle.std.specs.Prelude.{◌≡◌, ◌≤◌, ◌+◌, ◌++◌, Option, length};
-ghost use Rattle.sws_site.specs.ResponseHeads.{lines_text, line_end, connection_lines, last_modified_lines, allow_lines, range_text, range_lines, kind_and_len_lines, content_lines, head_text};
+ghost use Rattle.sws_site.specs.ResponseHeads.{lines_text, line_end, connection_lines, last_modified_lines, allow_lines, range_text, range_lines, media_type_and_len_lines, content_lines, head_text};
 ghost use Rattle.sws_site.specs.HeadParts.{head_of};
 
 use crate::statuses::{Body, Status};
@@ -8,7 +8,7 @@ use httpdate::HttpDate;
 use sws_parts::{MAX_OWN_HEAD, OwnHead};
 
 /// The most bytes of the media type of a content.
-pub const MAX_KIND: usize = 32;
+pub const MAX_MEDIA_TYPE: usize = 32;
 
 /// Which part of a file a response is about, as its `Content-Range` says (RFC 9110, section 14.4).
 /// Bytes are counted from 0.
@@ -42,7 +42,7 @@ pub struct HeadParts<'a> {
     /// Which part of a file the response is about, if it is about a part.
     pub range: Option<ContentRange>,
     /// The media type of the content.
-    pub kind: &'a [u8],
+    pub media_type: &'a [u8],
     /// How many bytes the content has.
     pub len: usize,
 }
@@ -128,28 +128,28 @@ fn add_range(head: &mut OwnHead, has_range: bool, range: &Option<ContentRange>)
 }
 
 /// Says of which media type the content is, and how long.
-fn add_kind_and_len(head: &mut OwnHead, kind: &[u8], len: usize)
-    requires { length head.old + length (lines_text (kind_and_len_lines kind.now len))
+fn add_media_type_and_len(head: &mut OwnHead, media_type: &[u8], len: usize)
+    requires { length head.old + length (lines_text (media_type_and_len_lines media_type.now len))
         ≤ MAX_OWN_HEAD }
-    ensures { head.new ≡ head.old ++ lines_text (kind_and_len_lines kind.now len) }
+    ensures { head.new ≡ head.old ++ lines_text (media_type_and_len_lines media_type.now len) }
 {
-    add_line(head, b"Content-Type: ", kind);
+    add_line(head, b"Content-Type: ", media_type);
     head.put(b"Content-Length: ");
     head.put_number(len as u64);
     head.put(b"\r\n");
 }
 
 /// Tells of the content, where there is any.
-fn add_content(head: &mut OwnHead, body: Body, kind: &[u8], len: usize)
-    requires { length head.old + length (lines_text (content_lines body kind.now len))
+fn add_content(head: &mut OwnHead, body: Body, media_type: &[u8], len: usize)
+    requires { length head.old + length (lines_text (content_lines body media_type.now len))
         ≤ MAX_OWN_HEAD }
-    ensures { head.new ≡ head.old ++ lines_text (content_lines body kind.now len) }
+    ensures { head.new ≡ head.old ++ lines_text (content_lines body media_type.now len) }
 {
     match body {
         Body::Nothing => {}
-        Body::WholeFile => add_kind_and_len(head, kind, len),
-        Body::PartOfFile => add_kind_and_len(head, kind, len),
-        Body::StatusText => add_kind_and_len(head, kind, len),
+        Body::WholeFile => add_media_type_and_len(head, media_type, len),
+        Body::PartOfFile => add_media_type_and_len(head, media_type, len),
+        Body::StatusText => add_media_type_and_len(head, media_type, len),
     }
 }
 
@@ -169,7 +169,7 @@ pub fn write_head(parts: &HeadParts<'_>) -> OwnHead
     add_last_modified(&mut head, row.is_dated, parts.date);
     add_allow(&mut head, row.lists_methods);
     add_range(&mut head, row.has_range, &parts.range);
-    add_content(&mut head, row.body, parts.kind, parts.len);
+    add_content(&mut head, row.body, parts.media_type, parts.len);
     head.put(b"\r\n");
     head
 }

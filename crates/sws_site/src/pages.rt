@@ -7,7 +7,7 @@ ghost use Rattle.sws_site.specs.Site.{page_head};
 use crate::built_responses::BuiltResponse;
 use crate::content_types::content_type_of;
 use crate::head_kinds::HeadKind;
-use crate::heads::MAX_KIND;
+use crate::heads::MAX_MEDIA_TYPE;
 use crate::stored::StoredFile;
 use httpdate::HttpDate;
 use std::marker::Model;
@@ -43,9 +43,9 @@ impl<'s> Page<'s> {
     }
 
     /// The media type of the file, by its name.
-    pub fn kind(&self) -> &'static [u8]
-        ensures kind { result.now ≡ content_type self.now.file.0 }
-        ensures short { length result.now ≤ MAX_KIND }
+    pub fn media_type(&self) -> &'static [u8]
+        ensures media_type { result.now ≡ content_type self.now.file.0 }
+        ensures short { length result.now ≤ MAX_MEDIA_TYPE }
     {
         content_type_of(&self.file.name)
     }

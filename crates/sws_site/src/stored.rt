@@ -26,8 +26,8 @@ impl StoredFile {
         ensures heads { IfOk result (HasHeads date.now) }
         ensures file { IfOk result (λ stored. file_of stored ≡ (name.now, contents.items)) }
     {
-        let kind = content_type_of(name);
-        let response = BuiltResponse::new(alloc, Status::Success, date, kind, contents)?;
+        let media_type = content_type_of(name);
+        let response = BuiltResponse::new(alloc, Status::Success, date, media_type, contents)?;
         let name = Vec::from_slice(alloc, name)?;
         Ok(StoredFile { name, response })
     }

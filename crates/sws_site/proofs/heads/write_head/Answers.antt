@@ -68,7 +68,7 @@ put-requires c =
       length-added c.add_last_modified.new.head c.add_connection.new.head (lines_text (last_modified_lines c.row-row.result.is_dated c.args.parts.now.date.now)) c.add_last_modified.ensures,
       length-added c.add_allow.new.head c.add_last_modified.new.head (lines_text (allow_lines c.row-row.result.lists_methods)) c.add_allow.ensures,
       length-added c.add_range.new.head c.add_allow.new.head (lines_text (range_lines c.row-row.result.has_range c.args.parts.now.range)) c.add_range.ensures,
-      length-added c.add_content.new.head c.add_range.new.head (lines_text (content_lines c.row-row.result.body c.args.parts.now.kind.now c.args.parts.now.len)) c.add_content.ensures,
+      length-added c.add_content.new.head c.add_range.new.head (lines_text (content_lines c.row-row.result.body c.args.parts.now.media_type.now c.args.parts.now.len)) c.add_content.ensures,
     )
 
 pub returns : goal.returns
