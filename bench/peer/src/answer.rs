@@ -2,6 +2,9 @@
 //!
 //! It loads a folder once, reads one connection from standard input, and writes the responses. It makes the same
 //! decisions by the same crates in their original form; no promise is proved of it.
+mod media_types;
+
+use media_types::media_type;
 use std::borrow::Cow;
 use std::collections::HashMap;
 use std::io::{self, Read, Write};
@@ -22,30 +25,6 @@ struct Page {
 struct Site {
     pages: HashMap<Vec<u8>, Page>,
     date: Option<SystemTime>,
-}
-
-fn content_type(name: &str) -> &'static str {
-    let file = name.rsplit('/').next().unwrap_or("");
-    let Some((_, extension)) = file.rsplit_once('.') else {
-        return "application/octet-stream";
-    };
-    match extension.to_ascii_lowercase().as_str() {
-        "html" | "htm" => "text/html",
-        "css" => "text/css",
-        "js" => "text/javascript",
-        "txt" => "text/plain",
-        "json" => "application/json",
-        "xml" => "application/xml",
-        "svg" => "image/svg+xml",
-        "png" => "image/png",
-        "jpg" | "jpeg" => "image/jpeg",
-        "gif" => "image/gif",
-        "ico" => "image/x-icon",
-        "woff2" => "font/woff2",
-        "wasm" => "application/wasm",
-        "pdf" => "application/pdf",
-        _ => "application/octet-stream",
-    }
 }
 
 fn head(code: u16, reason: &str, closes: bool, date: Option<SystemTime>, content: Option<(&str, usize)>) -> Vec<u8> {
@@ -75,7 +54,7 @@ fn load(site: &mut Site, folder: &Path, prefix: &str) -> io::Result<()> {
             load(site, &entry.path(), &format!("{name}/"))?;
         } else if kind.is_file() {
             let body = fs::read(entry.path())?;
-            let content = Some((content_type(&name), body.len()));
+            let content = Some((media_type(name.as_bytes()), body.len()));
             let open_head = head(200, "OK", false, site.date, content);
             let closing_head = head(200, "OK", true, site.date, content);
             site.pages.insert(name.into_bytes(), Page { body, open_head, closing_head });

@@ -11,6 +11,8 @@
 //! A script follows from the seed and its number, so `--only` makes one again. What went wrong is kept in a folder that is named at
 //! the end; the status is 1 then. It ends by itself: a run of the program that doesn't end within `--seconds` is ended and
 //! told as wrong.
+mod media_types;
+
 #[path = "random/draw.rs"]
 mod draw;
 #[path = "random/head.rs"]

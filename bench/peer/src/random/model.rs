@@ -1,6 +1,7 @@
 //! What the server owes, by its definitions: the responses to a list of bytes, and the outcome of a scripted connection.
 //!
 //! Written from the documents, and plainly: every line of a response is built anew, and a connection is looked at as a whole.
+use crate::media_types::media_type;
 use super::head::{request, without_blanks, Request};
 use super::script::{self, Connection, End, Item};
 use std::collections::HashMap;
@@ -64,31 +65,6 @@ fn without_empty_lines(mut head: &[u8]) -> &[u8] {
         head = rest;
     }
     head
-}
-
-fn content_type(name: &[u8]) -> &'static str {
-    let file = name.rsplit(|byte| *byte == b'/').next().unwrap_or(b"");
-    let extension = match file.iter().rposition(|byte| *byte == b'.') {
-        Some(dot) => file[dot + 1..].to_ascii_lowercase(),
-        None => return "application/octet-stream",
-    };
-    match extension.as_slice() {
-        b"html" | b"htm" => "text/html",
-        b"css" => "text/css",
-        b"js" => "text/javascript",
-        b"txt" => "text/plain",
-        b"json" => "application/json",
-        b"xml" => "application/xml",
-        b"svg" => "image/svg+xml",
-        b"png" => "image/png",
-        b"jpg" | b"jpeg" => "image/jpeg",
-        b"gif" => "image/gif",
-        b"ico" => "image/x-icon",
-        b"woff2" => "font/woff2",
-        b"wasm" => "application/wasm",
-        b"pdf" => "application/pdf",
-        _ => "application/octet-stream",
-    }
 }
 
 fn reason_of(code: u16) -> &'static str {
@@ -273,7 +249,7 @@ fn answer(site: &Site, request: &Request<'_>, is_last: bool, to: &mut Vec<u8>) -
         closes,
         modified: site.date,
         range: None,
-        content: Some((content_type(&name), file)),
+        content: Some((media_type(&name), file)),
         sends_body,
     };
     let response = match selected(request, file.len()) {
@@ -281,7 +257,7 @@ fn answer(site: &Site, request: &Request<'_>, is_last: bool, to: &mut Vec<u8>) -
         Selected::Whole => whole,
         Selected::Bytes(first, last) => {
             let range = Some(format!("Content-Range: bytes {first}-{last}/{}", file.len()));
-            Response { code: 206, range, content: Some((content_type(&name), &file[first..=last])), ..whole }
+            Response { code: 206, range, content: Some((media_type(&name), &file[first..=last])), ..whole }
         }
         Selected::Nothing => {
             write_plain(to, 416, closes, sends_body, Some(format!("Content-Range: bytes */{}", file.len())));
