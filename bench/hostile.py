@@ -625,7 +625,7 @@ def most_threads(words, given=b""):
 
 def threads_are_started(site):
     """A bench and a replay of several workers run on as many threads, and those of one worker on one."""
-    script = b"".join(b"conn %d\ngive GET / HTTP/1.1~\ngive Host: x~\ngive ~\n" % number for number in range(1024))
+    script = b"sws-script 1\n" + b"conn\nsend GET / HTTP/1.1~Host: x~~\n" * 1024
     for command, given in ((["bench", "1024", "7"], b""), (["replay", site], script)):
         for workers in (1, 4):
             status, seen = most_threads([*command, "--workers", str(workers)], given)
