@@ -628,7 +628,11 @@ def threads_are_started(site):
     script = b"sws-script 1\n" + b"conn\nsend GET / HTTP/1.1~Host: x~~\n" * 1024
     for command, given in ((["bench", "1024", "7"], b""), (["replay", site], script)):
         for workers in (1, 4):
-            status, seen = most_threads([*command, "--workers", str(workers)], given)
+            # a run of some hundredths of a second may end between two looks
+            for _ in range(3):
+                status, seen = most_threads([*command, "--workers", str(workers)], given)
+                if seen == workers:
+                    break
             yield status == 0 and seen == workers, f"{command[0]} on {workers} workers: {seen} threads at once, status {status}"
 
 
