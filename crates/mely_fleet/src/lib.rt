@@ -10,13 +10,14 @@
 //! stand in each shard's one legal history, each once, in the order in which it made them,
 //! whatever other threads do.
 //!
+//! [`Fleet::new`](FleetOf::new) deals out the passes of each core and of other callers, one of whom
+//! posts the first event. A thread for each core then works until nothing is left to do, and once
+//! all are back the fleet is closed. [`run_crew`] is the whole of that:
+//!
 //! ```text
-//! let (fleet, passes) = Fleet::new(alloc, &setup, states, 1)?;   // passes of each core, and of one other caller
-//! fleet.post(rt, &mut outside, colour, event, load)?;
-//! // in a thread for each core:
-//! fleet.work(rt, &mut worker, &mut own, &app, &gate);            // until nothing is left to do
-//! // once all are back:
-//! let weave = fleet.close(room, passes, workers);
+//! let begin = (colour, event, load);
+//! let (weave, drained) = run_crew(&rt, alloc, &setup, states, begin, &app, &gate)?;
+//! let parts = weave.into_parts(); // the histories and the states of all colours
 //! ```
 //!
 //! Where a mark lies in a running fleet isn't promised, nor that `work` returns, that two threads

@@ -18,7 +18,7 @@
 //!
 //! ```text
 //! let mut worker = Worker::new(alloc, core, victims, batch)?;
-//! loop {
+//! for _ in rt.forever() {
 //!     match worker.step(&mut access, &app, &OpenGate) {
 //!         Made::Halted => break,
 //!         made => log(made),

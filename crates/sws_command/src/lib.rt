@@ -4,7 +4,7 @@
 //! A program whose `main` is [`command`] is the command. `sws_main` is the one that users have;
 //! others beside it run it on data of their own, since a program has one stored run.
 //!
-//! ```text
+//! ```usage
 //! sws answer FOLDER [--date SECONDS]              the responses to standard input, out of the files below a folder
 //! sws replay FOLDER [..] [--journal] [--schedule] the connections of a script on standard input, and what each is sent
 //! sws serve FOLDER --port P --connections N [..]  so many connections to a TCP port, and then a summary

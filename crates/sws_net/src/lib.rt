@@ -18,13 +18,14 @@
 //!
 //! ```text
 //! let mut world = TcpWorld::new(&rt)?;
-//! world.open(8080, 2);                         // listens on 0.0.0.0:8080 for two connections
-//! match world.accept() {
-//!     Accepted::Link(link) => links.push(link)?, // its reads and writes don't block
-//!     Accepted::NotYet => (),
-//!     Accepted::Failed => println!(rt; "the network failed")?,
+//! if world.open(8080, 2) == Opened::Ready { // listens on 0.0.0.0:8080 for two connections
+//!     match world.accept() {
+//!         Accepted::Link(link) => links.push(link)?, // its reads and writes don't block
+//!         Accepted::NotYet => (),
+//!         Accepted::Failed => println!(rt; "the network failed")?,
+//!     }
 //! }
-//! world.poll(&[0]);                            // which of those that wait may be ready
+//! world.poll(&[0]); // which of those that wait may be ready
 //! ```
 #![tactic(auto)]
 

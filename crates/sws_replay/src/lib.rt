@@ -16,7 +16,7 @@
 //!
 //! ```text
 //! let input = parse(alloc, text, false, shape.cores)?;
-//! replay(&rt, alloc, &site, &shape, input.conns.as_slice(), false, &mut sink)?;
+//! replay(&rt, alloc, &site, &shape, input.conns.as_slice(), false, false, &mut sink)?;
 //! // conn 0 done 79
 //! // | HTTP/1.1 200 OK~
 //! // | Server: sws~

@@ -10,10 +10,10 @@
 //!
 //! ```text
 //! let site = Site::load(alloc, &mut folder, Some(784111777))?;
-//! match site.lookup(b"index.html") {
-//!     Some(page) => send(page.head(HeadKind { changed: true, closes: false }), page.body()),
-//!     None => send(site.refusal(Status::NotFound, false)),
-//! }
+//! let (head, body) = match site.lookup(b"index.html") {
+//!     Some(page) => (page.head(HeadKind { changed: true, closes: false }), page.body()),
+//!     None => site.refusal(Status::NotFound, false),
+//! };
 //! ```
 #![tactic(auto)]
 

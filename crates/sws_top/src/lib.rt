@@ -6,7 +6,7 @@
 //! whoever wants to know what that program writes: what is read and written is stated for every
 //! folder, source, sink and world with a ghost model of its contents.
 //!
-//! ```text
+//! ```usage
 //! answer FOLDER ..                              one connection, from the source to the sink
 //! replay FOLDER .. [--journal] [--schedule]     a script of the source's, run in memory; its transcript is written
 //! serve FOLDER --port P --connections N ..      the connections that the world gives; a summary is written
