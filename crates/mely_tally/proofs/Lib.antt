@@ -12,4 +12,5 @@ pub mod AlongLemmas
 pub mod StepAccountLemmas
 pub mod HistoryCountsLemmas
 pub mod WeaveAccountLemmas
+mod PostAccountLemmas
 pub mod AccountLemmas

@@ -56,11 +56,11 @@ all_map Has So (x ∷ xs) so one = (so x one.0, all_map Has So xs so one.1)
 
 -- one shard changes: what is told of the history of a colour
 module _ {S P : Type 0} (a b : SideState S P) (c d : Colour) (Does : ShardState S P → ShardState S P → Type 0) (at : AtShard a b d Does) (told : List Entry → ℕ) where
-  kept : at.new.history ≡ at.old.history → told (history_at b c) ≡ told (history_at a c)
+  pub kept : at.new.history ≡ at.old.history → told (history_at b c) ≡ told (history_at a c)
   kept same = ap told (histories_stay a b d Does at same c)
 
   -- by an entry more of the colour d
-  grown : (entry : Entry) (n : ℕ) → at.new.history ≡ at.old.history ++ entry ∷ [] → told (at.old.history ++ entry ∷ []) ≡ told at.old.history + n → (d.0 ≢ c.0 → n ≡ 0) → told (history_at b c) ≡ told (history_at a c) + n
+  pub grown : (entry : Entry) (n : ℕ) → at.new.history ≡ at.old.history ++ entry ∷ [] → told (at.old.history ++ entry ∷ []) ≡ told at.old.history + n → (d.0 ≢ c.0 → n ≡ 0) → told (history_at b c) ≡ told (history_at a c) + n
   grown entry n more is other = elim (cases_eq (shard_of a.setup c) (shard_of a.setup d)) [
     | inl same ↦
         let was : history_at a c ≡ at.old.history = ap (λ (g : ℕ). history_in (slice_get a.shards g)) same ∙ history_was a b d Does at in
@@ -78,7 +78,7 @@ module _ {S P : Type 0} (a b : SideState S P) (c d : Colour) (Does : ShardState 
 chained : {S P : Type 0} (a b : SideState S P) (c : Colour) (core : ℕ) (Does : _) → AtChain a b core Does → history_at b c ≡ history_at a c
 chained {S} {P} a b c core Does at = ap (λ (s : SideState S P). history_at s c) at.becomes
 
-apart_none : (c d : Colour) (n : ℕ) → d.0 ≢ c.0 → (if d.0 == c.0 then n else 0) ≡ 0
+pub apart_none : (c d : Colour) (n : ℕ) → d.0 ≢ c.0 → (if d.0 == c.0 then n else 0) ≡ 0
 apart_none c d n apart = ap (λ (b : Bool). if b then n else 0) (ne_eqb d.0 c.0 apart)
 
 drop_none : (n : ℕ) → length (drop n (let none : List Event = [] in none)) ≡ 0

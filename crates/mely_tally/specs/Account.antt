@@ -1,14 +1,16 @@
 -- What the runs of handlers come to: on what they were run, and what they put. Lists are compared by
 -- counting: where two count the same whatever number each event has, they have the same events, each
 -- as often.
-use Rattle.std.specs.Prelude.{◌≡◌, ◌==◌, ◌+◌, ◌<◌, ℕ, List, [], ◌∷◌, ◌++◌, Option, if◌then◌else◌, sum_by, take}
+use Rattle.std.specs.Prelude.{◌≡◌, ◌==◌, ◌+◌, ◌<◌, ℕ, List, [], ◌∷◌, ◌++◌, Option, Result, Ok, Err, if◌then◌else◌, sum_by, take}
 use Rattle.std.specs.List.{AllByRecursion}
 use Rattle.mely_event.specs.declared.colour.Colour.{Colour}
 use Rattle.mely_event.specs.declared.event.Event.{Event}
 use Rattle.mely_event.specs.declared.trail.Trail.{Ghosts as TrailWords}
+use Rattle.mely_event.specs.declared.unregistered.Unregistered.{Unregistered}
 use Rattle.mely_history.specs.History.{registered_of, begun_of}
 use Rattle.mely_history.specs.Setup.{colours_of}
 use Rattle.mely_history.specs.declared.entry.Entry.{Entry}
+use Rattle.mely_history.specs.declared.registered.Registered.{Registered}
 use Rattle.mely_history.specs.declared.setup.Setup.{Setup}
 use Rattle.mely_worker.specs.Access.{events_of}
 use Rattle.mely_worker.specs.declared.app.App.{Ghosts as AppWords}
@@ -106,6 +108,13 @@ pub record Account {R S P F : Type 0} (t : TrailWords S F)
       → sum_by (count_run t c number) runs
       + sum_by (λ w. count_left t c number w.phase) weave.workers
       ≡ sum_along number [] (taken_of (history_for weave.setup weave.shards c) c)
+
+-- what was posted from outside, and this too, where it wasn't refused
+abbrev pub and_posted : {P : Type 0} → Colour × Event × Option P
+    → Result Registered (Unregistered P) → List (Colour × Event × Option P)
+    → List (Colour × Event × Option P)
+and_posted put (Ok reply) posted = posted ++ put ∷ []
+and_posted put (Err back) posted = posted
 
 -- the runs of some handlers are all that were made on the way to the weave
 abbrev pub IsAccounted : {R S P F : Type 0} → TrailWords S F

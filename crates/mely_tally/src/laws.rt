@@ -17,7 +17,7 @@ ghost use Rattle.mely_weave.specs.StandsWell.{StandsWell};
 ghost use Rattle.mely_weave.specs.Weave.{WeaveState};
 ghost use Rattle.mely_weave.specs.WeaveRun.{PostCall, StepCall};
 ghost use Rattle.mely_weave.specs.WeaveStands.{WeaveStands};
-ghost use Rattle.mely_tally.specs.Account.{IsAccounted};
+ghost use Rattle.mely_tally.specs.Account.{IsAccounted, and_posted};
 ghost use Rattle.mely_tally.specs.Tallies.{Carried, under_way, refused_in};
 ghost use Rattle.mely_tally.specs.Tells.{IgnoresSpare, HandlersKeep, StepTells, PostTells, BeginsAs, IsTakenApart, PartsFit, total_of};
 
@@ -112,13 +112,20 @@ pub fn what_is_left_in_the_parts_fits<S: Fits<P>, P>()
 {}
 
 /// All that handlers put and that was posted is accounted for, of an initial weave with nothing, and
-/// so after each step, each run of a schedule and each drain: it is registered, left of a turn, or was refused for memory; and
-/// what handlers were run on are the events that were taken, each by its place in the order of its
-/// colour.
+/// so after each post, each step, each run of a schedule and each drain: it is registered, left of a
+/// turn, or was refused for memory; and what handlers were run on are the events that were taken,
+/// each by its place in the order of its colour. A post that was refused brings nothing.
 pub fn what_handlers_put_is_accounted_for<S: Fits<P>, P, R: App<State = S, Load = P>>()
     ensures first { (app : R) (setup : Setup) (states : List S) (weave : WeaveState S P)
         → IsInitialWeave setup states weave
         → IsAccounted S.Trail S.fits_under R.App app [] weave }
+    ensures post { (app : R) (posted : List (Colour × Event × Option P)) (colour : Colour)
+        (event : Event) (load : Option P) (answer : Result Registered (Unregistered P))
+        (before after : WeaveState S P) → StandsWell S.Trail S.fits_under before
+        → PostCall S.Trail S.fits_under colour event load answer before after
+        → IsAccounted S.Trail S.fits_under R.App app posted before
+        → IsAccounted S.Trail S.fits_under R.App app
+        (and_posted (colour, event, load) answer posted) after }
     ensures step { (app : R) (posted : List (Colour × Event × Option P)) (core : ℕ) (step : Made)
         (before after : WeaveState S P) → StandsWell S.Trail S.fits_under before
         → StepsWell S.Trail S.fits_under R.App app before core step after

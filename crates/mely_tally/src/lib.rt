@@ -16,8 +16,9 @@
 //! the parts that come out, and an app's author proves it of each handler alone.
 //!
 //! What handlers put can be counted too, by its colours: an `Account` is the runs of handlers on the
-//! way to a weave, whose puts are what is registered, left to register, or was refused, and
-//! [`what_handlers_put_is_accounted_for`] carries it over steps, runs and drains.
+//! way to a weave, whose puts, with what was posted, are what is registered, left to register, or
+//! was refused, and [`what_handlers_put_is_accounted_for`] carries it over posts, steps, runs and
+//! drains.
 //!
 //! A fact that is no sum, but that every step keeps, is carried over runs and drains by the
 //! lemmas of `CarryingLemmas`.

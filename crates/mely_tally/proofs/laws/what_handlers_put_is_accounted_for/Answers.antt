@@ -1,5 +1,9 @@
 use Rattle.mely_tally.proofs.AccountLemmas.{account_first, account_step, account_run, account_drain}
+use Rattle.mely_tally.proofs.PostAccountLemmas.{account_post}
 use Rattle.mely_tally.proofs.laws.what_handlers_put_is_accounted_for.Goals as goal
+
+pub returns-clause-post : goal.returns-clause-post
+returns-clause-post g c = λ app posted colour event load answer before after well is. account_post g.S.Trail g.S.Fits.fits_under g.R.App app posted before after well colour event load answer is.posts
 
 pub returns-clause-step : goal.returns-clause-step
 returns-clause-step g c = λ app posted core step before after well is. account_step g.S.Trail g.S.Fits.fits_under g.R.App app posted before after core step well is
