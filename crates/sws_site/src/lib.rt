@@ -10,10 +10,13 @@
 //!
 //! ```text
 //! let site = Site::load(alloc, &mut folder, Some(784111777))?;
-//! let (head, body) = match site.lookup(b"index.html") {
-//!     Some(page) => (page.head(HeadKind { changed: true, closes: false }), page.body()),
-//!     None => site.refusal(Status::NotFound, false),
-//! };
+//! match site.lookup(b"index.html") {
+//!     Some(page) => send(page.head(HeadKind { changed: true, closes: false }), page.body()),
+//!     None => {
+//!         let (head, body) = site.refusal(Status::NotFound, false);
+//!         send(head, body);
+//!     }
+//! }
 //! ```
 #![tactic(auto)]
 
@@ -31,7 +34,7 @@ mod stored;
 
 pub use content_types::content_type_of;
 pub use head_kinds::HeadKind;
-pub use heads::{ContentRange, HeadParts, MAX_MEDIA_TYPE, write_head};
+pub use heads::{ContentRange, HeadParts, MAX_KIND, write_head};
 pub use pages::Page;
 pub use site_faults::SiteFault;
 pub use sites::Site;
