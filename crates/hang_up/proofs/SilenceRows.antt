@@ -4,7 +4,8 @@ use Rattle.sws_link.specs.Scripts.{Script, piece}
 use Rattle.sws_steps.specs.declared.End.TheVariants as ending
 use Rattle.sws_steps.specs.Sound.{core_before_open}
 use Rattle.sws_steps.specs.Outcome.{outcome_of}
-use Rattle.sws_steps.specs.Path.{open_link, read_piece, parse, look, close, IsPathFrom, path_of}
+use Rattle.sws_steps.specs.declared.Handler.TheVariants as handler
+use Rattle.sws_steps.specs.Path.{IsPathFrom, path_of}
 use Rattle.sws_steps.proofs.Runs.PathLemmas.{path-unique, path_of-path}
 use Rattle.hang_up.specs.Silence.{silence}
 use Rattle.hang_up.specs.SilenceLaws.{silence-orderly}
@@ -14,10 +15,10 @@ abbrev one_byte : Script
 one_byte = record { items = piece (7 ∷ []) ∷ []; step = None; cut = None }
 
 -- the close follows the look at once, and nothing is written
-silent-path : path_of silence tt one_byte ≡ open_link ∷ read_piece ∷ parse ∷ look ∷ close ∷ []
+silent-path : path_of silence tt one_byte ≡ handler.Open ∷ handler.Read ∷ handler.Parse ∷ handler.Look ∷ handler.Close ∷ []
 unfolding IsPathFrom
 silent-path = path-unique silence silence-orderly (record { standing = core_before_open tt; script = one_byte })
-    (path_of silence tt one_byte) (open_link ∷ read_piece ∷ parse ∷ look ∷ close ∷ [])
+    (path_of silence tt one_byte) (handler.Open ∷ handler.Read ∷ handler.Parse ∷ handler.Look ∷ handler.Close ∷ [])
     (path_of-path silence silence-orderly tt one_byte tt) (refl, (refl, (refl, (refl, (refl, refl)))))
 
 -- the outcome of it

@@ -9,7 +9,8 @@ use Rattle.sws_bench.specs.BenchScript.{bench_conns, bench_bytes}
 
 -- how each connection ends that is served alone
 unfoldable pub bench_ends : ℕ → ℕ → List End
-bench_ends number count = map (λ conn. (alone (by_http bench_site) conn).end) (bench_conns number count)
+bench_ends number count =
+    map (λ conn. (alone (by_http bench_site) conn).end) (bench_conns number count)
 
 -- how many bytes are written to them in all
 unfoldable pub bench_written : ℕ → ℕ → ℕ

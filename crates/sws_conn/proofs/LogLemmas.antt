@@ -12,7 +12,7 @@ use Rattle.sws_steps.proofs.Logs.ToldLemmas.{given-log}
 use Rattle.sws_conn.specs.Http.{http}
 use Rattle.sws_conn.specs.HttpLaws.{http-orderly}
 use Rattle.sws_conn.specs.Conn.{ConnState}
-use Rattle.sws_conn.specs.Path.{Handler}
+use Rattle.sws_steps.specs.declared.Handler.{Handler}
 use Rattle.sws_conn.specs.Logs.{log_of, log_of-is, HasGiven, IsLogWithin, IsLogPrefix}
 
 -- where the log is the one of all protocols

@@ -12,7 +12,7 @@ use Rattle.sws_steps.specs.Logs as logs
 use Rattle.sws_steps.specs.Told as told
 use Rattle.sws_conn.specs.Http.{http, note_of}
 use Rattle.sws_conn.specs.Conn.{ConnState}
-use Rattle.sws_conn.specs.Path.{Handler}
+use Rattle.sws_steps.specs.declared.Handler.{Handler}
 pub use Rattle.sws_steps.specs.Logs.{line_of, IsLineOf, IsLogPrefix, Step}
 pub use Rattle.sws_steps.specs.Told.{NumbersFrom, IsLogWithin}
 

@@ -10,7 +10,8 @@ ghost use Rattle.sws_steps.specs.declared.Next.{Next as NextValue};
 ghost use Rattle.sws_steps.specs.Step.{going_to, Steps};
 ghost use Rattle.sws_steps.specs.Sound.{core_before_open, IsReadyTo, IsSound};
 ghost use Rattle.sws_steps.specs.Outcome.{UnlessMemory};
-ghost use Rattle.sws_steps.specs.Path.{Handler, Scripted, IsPathFrom, open_link, read_piece, parse, resume, close, event_of, scripted_step, rest_of_path, known_path, known_rest, TakesOff};
+ghost use Rattle.sws_steps.specs.declared.Handler.{Handler};
+ghost use Rattle.sws_steps.specs.Path.{Scripted, IsPathFrom, event_of, scripted_step, rest_of_path, known_path, known_rest, TakesOff};
 ghost use Rattle.sws_steps.specs.Run.{conn_at_open, HasRun, EndsRun};
 ghost use Rattle.sws_conn.specs.Http.{http};
 ghost use Rattle.sws_conn.specs.Conn.{ConnState};
@@ -31,12 +32,12 @@ pub fn a_path_is_of_steps()
     ensures alone { (from : Scripted SiteState) (one other : List Handler)
         → IsPathFrom http from one → IsPathFrom http from other → one ≡ other }
     ensures open { (site : SiteState) (script : Script) → path_of site script
-        ≡ open_link ∷ rest_of_path http (going_to (core_before_open site) NextValue.Read) script }
+        ≡ Handler.Open ∷ rest_of_path http (going_to (core_before_open site) NextValue.Read) script }
     ensures close { (site : SiteState) (script : Script) → IsWithinLimits site.files
-        → (before : List Handler) × (path_of site script ≡ before ++ close ∷ []) }
+        → (before : List Handler) × (path_of site script ≡ before ++ Handler.Close ∷ []) }
     ensures pause { (site : SiteState) (step cut : Option ℕ) → IsWithinLimits site.files
         → path_of site (record { items = wait 1 ∷ []; step = step; cut = cut })
-        ≡ open_link ∷ read_piece ∷ resume ∷ parse ∷ close ∷ [] }
+        ≡ Handler.Open ∷ Handler.Read ∷ Handler.Resume ∷ Handler.Parse ∷ Handler.Close ∷ [] }
     ensures step { (c : Scripted SiteState) → IsWithinLimits c.standing.hall.files
         → IsReadyTo http c.standing.pending c.standing
         → rest_of_path http c.standing c.script
@@ -63,7 +64,7 @@ pub fn a_run_serves_its_link<L: Link>()
     ensures path { (site : SiteState) (first : L) (trail : List Handler) (conn : ConnState L)
         → HasRun http L.Link site first trail conn
         → UnlessMemory conn.standing.end
-        (TakesOff (open_link ∷ trail) (known_path http site (L.tells first))
+        (TakesOff (Handler.Open ∷ trail) (known_path http site (L.tells first))
         (known_rest http L.Link conn)) }
     ensures ends { (site : SiteState) (first : L) (trail : List Handler) (conn : ConnState L)
         (now : L) (end : EndValue)

@@ -32,5 +32,5 @@ mod window;
 
 pub use http::Conn;
 pub use serving::serve_one;
-pub use sws_steps::{End, Next, Talk};
+pub use sws_steps::{End, Handler, Next, Talk};
 pub use window::Window;

@@ -4,23 +4,23 @@ use Rattle.std.proofs.Common.{inl, inr}
 use Rattle.std.specs.List.{AllByRecursion}
 use Rattle.mely_event.specs.declared.colour.Colour.{Colour}
 use Rattle.sws_steps.specs.Logs.{Step}
-use Rattle.sws_conn.specs.Path.{open_link}
+use Rattle.sws_steps.specs.declared.Handler.TheVariants as handler
 use Rattle.mely_run.specs.Pieces.{Piece}
-use Rattle.sws_engine.specs.Handling.{number_of}
+use Rattle.sws_engine.specs.Tasks.{number_of}
 use Rattle.sws_engine.specs.Server.{Server}
 use Rattle.sws_engine.specs.PathPlaces.{World, Load, world, link, line, Desk, Place, polling, accepting, talking, logging}
 use Rattle.sws_engine.specs.PathStates.{AreLoads}
 
 -- no opening
 abbrev pub HasNoOpening : List Step → Type 0
-HasNoOpening path = AllByRecursion (λ step. number_of step.handler ≢ 3) path
+HasNoOpening path = AllByRecursion (λ step. number_of step.handler ≢ number_of handler.Open) path
 
 -- the path begins with the opening, and has no other
 pub record IsOpened (path : List Step) : Type 0 where
   pub first : Step
   pub later : List Step
   pub path_is : path ≡ first ∷ later
-  pub opens : first.handler ≡ open_link
+  pub opens : first.handler ≡ handler.Open
   pub once : HasNoOpening later
 
 module _ (whole : List (List Step)) where
@@ -29,48 +29,48 @@ module _ (whole : List (List Step)) where
   AreOpened = (i : ℕ) (path : List Step) → slice_get whole i ≡ Some path → IsOpened path
 
   -- the world has accepted so many links, and has the others to come
-  pub record WorldStands (s : Server) (w : World) : Type 0 where
+  pub record WorldAgrees (s : Server) (w : World) : Type 0 where
     pub accepted : w.accepted ≡ s.accepted
     pub coming : w.coming ≡ drop w.accepted whole
 
   -- no world rests, or the one that rests has accepted so many links and has the others to come
-  abbrev pub RestStands : Server → Option World → Type 0
-  RestStands s None = Unit {0}
-  RestStands s (Some w) = WorldStands s w
+  abbrev pub RestAgrees : Server → Option World → Type 0
+  RestAgrees s None = Unit {0}
+  RestAgrees s (Some w) = WorldAgrees s w
 
   -- the desk is as the server has it: who waits, whether links are to come, and the world at rest
-  pub record DeskStands (s : Server) (desk : Desk) : Type 0 where
+  pub record DeskAgrees (s : Server) (desk : Desk) : Type 0 where
     pub waiting : desk.waiting ≡ s.waiting
     pub last : desk.last ≡ s.last
     pub rests : is_some desk.resting ≡ s.rests
-    pub world : RestStands s desk.resting
+    pub world : RestAgrees s desk.resting
 
   -- a connection has the rest of its path, and the whole of it before it is open
-  abbrev pub SeatStands : Server → ℕ → Option (List Step) → Type 0
-  SeatStands s i None = slice_get s.paths i ≡ slice_get whole i
-  SeatStands s i (Some path) = (slice_get s.paths i ≡ Some path) × HasNoOpening path
+  abbrev pub SeatAgrees : Server → ℕ → Option (List Step) → Type 0
+  SeatAgrees s i None = slice_get s.paths i ≡ slice_get whole i
+  SeatAgrees s i (Some path) = (slice_get s.paths i ≡ Some path) × HasNoOpening path
 
   -- colour 0 has the desk, colour 1 accepts, and each later colour has its connection's seat, but
   -- for the last one, which is that of the log
-  abbrev pub PlaceStands : Server → Colour → Place → Type 0
-  PlaceStands s c (polling desk) = (c.0 ≡ 0) × DeskStands s desk
-  PlaceStands s c accepting = c.0 ≡ 1
-  PlaceStands s c (talking seat) = ((2 ≤ c.0) × (c.0 < length whole + 2))
-      × SeatStands s (c.0 - 2) seat
-  PlaceStands s c logging = c.0 ≡ length whole + 2
+  abbrev pub PlaceAgrees : Server → Colour → Place → Type 0
+  PlaceAgrees s c (polling desk) = (c.0 ≡ 0) × DeskAgrees s desk
+  PlaceAgrees s c accepting = c.0 ≡ 1
+  PlaceAgrees s c (talking seat) = ((2 ≤ c.0) × (c.0 < length whole + 2))
+      × SeatAgrees s (c.0 - 2) seat
+  PlaceAgrees s c logging = c.0 ≡ length whole + 2
 
   -- an event is on its colour with its load, by the handler
-  abbrev pub ComingStands : Server → Colour → ℕ → ℕ → Option Load → Type 0
-  ComingStands s c zero arg (Some (world w)) = (c.0 ≡ 0) × WorldStands s w
+  abbrev pub ComingAgrees : Server → Colour → ℕ → ℕ → Option Load → Type 0
+  ComingAgrees s c zero arg (Some (world w)) = (c.0 ≡ 0) × WorldAgrees s w
       × (arg ≡ 0 → w.accepted < length whole)
-  ComingStands s c (suc zero) arg None = c.0 ≡ 0
-  ComingStands s c (suc (suc zero)) arg (Some (world w)) = (c.0 ≡ 1) × WorldStands s w
+  ComingAgrees s c (suc zero) arg None = c.0 ≡ 0
+  ComingAgrees s c (suc (suc zero)) arg (Some (world w)) = (c.0 ≡ 1) × WorldAgrees s w
       × (w.accepted < length whole)
-  ComingStands s c (suc (suc (suc zero))) arg (Some (link path)) = (2 ≤ c.0)
+  ComingAgrees s c (suc (suc (suc zero))) arg (Some (link path)) = (2 ≤ c.0)
       × (slice_get whole (c.0 - 2) ≡ Some path)
-  ComingStands s c (suc (suc (suc (suc more)))) arg None = 2 ≤ c.0
-  ComingStands s c (suc (suc (suc (suc more)))) arg (Some line) = c.0 ≡ length whole + 2
-  ComingStands s c handler arg load = ⊥
+  ComingAgrees s c (suc (suc (suc (suc more)))) arg None = 2 ≤ c.0
+  ComingAgrees s c (suc (suc (suc (suc more)))) arg (Some line) = c.0 ≡ length whole + 2
+  ComingAgrees s c handler arg load = ⊥
 
 -- the state of a colour
 abbrev pub is_state_of : {S P : Type 0} → ℕ → Piece S P → Bool
@@ -90,16 +90,16 @@ worlds_of holds carries (c, inr (event, load)) = worlds_in_load carries load
 module _ {S P : Type 0} (IsPlace : S → Place → Type 0) (IsLoad : P → Load → Type 0) (holds : S → ℕ)
     (carries : P → ℕ) (whole : List (List Step)) where
   -- a state is at its colour as the server has it, and an event under way has its load
-  abbrev pub PieceStands : Server → Piece S P → Type 0
-  PieceStands s (c, inl state) = (place : Place) × IsPlace state place × PlaceStands whole s c place
-  PieceStands s (c, inr (event, load)) = (l : Option Load) × AreLoads IsLoad load l
-      × ComingStands whole s c event.handler event.arg l
+  abbrev pub PieceAgrees : Server → Piece S P → Type 0
+  PieceAgrees s (c, inl state) = (place : Place) × IsPlace state place × PlaceAgrees whole s c place
+  PieceAgrees s (c, inr (event, load)) = (l : Option Load) × AreLoads IsLoad load l
+      × ComingAgrees whole s c event.handler event.arg l
 
   -- each piece has what the function has, with the log or without it, there is one world, and a
   -- colour has one state
   pub record Agrees (log : Bool) (s : Server) (pieces : List (Piece S P)) : Type 0 where
     pub many : length s.paths ≡ length whole
     pub logs : s.log ≡ log
-    pub each : All (PieceStands s) pieces
+    pub each : All (PieceAgrees s) pieces
     pub one_world : sum_by (worlds_of holds carries) pieces ≤ 1
     pub one_state : (c : ℕ) → count_by (is_state_of c) pieces ≤ 1

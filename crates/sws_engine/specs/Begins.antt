@@ -14,13 +14,14 @@ use Rattle.sws_engine.specs.Initial.{AreInitialPlacesOver}
 use Rattle.sws_engine.specs.Counting.{colours_over}
 use Rattle.sws_engine.specs.Place.{PlaceState}
 use Rattle.sws_engine.specs.Limits.{conn_limit}
+use Rattle.sws_engine.specs.Tasks.{handler_count}
 
 -- the setup has the server's handlers, and a colour for polling, for accepting, for each link of a
 -- world that has begun nothing, and for a log
 pub record IsSetFor {W L : Type 0} (x : WorldWords W L) (setup : Setup) (world : W)
     (log : Bool) : Type 0 where
   pub colours : colours_of setup ≡ colours_over (x.tells world).total log
-  pub handlers : 11 ≤ length (rows_of (handlers_of setup))
+  pub handlers : handler_count ≤ length (rows_of (handlers_of setup))
   pub few : (x.tells world).total ≤ conn_limit
   pub none : (x.tells world).accepted ≡ 0
 
@@ -39,9 +40,10 @@ pub record IsScheduleOf (cores : ℕ) (schedule : List (ℕ × ℕ)) : Type 0 wh
 
 -- setup, world and states are those of so many links, before the first event
 pub record AreInitialFor {W L T G H : Type 0} (x : WorldWords W L) (y : TalkWords T L G H)
-    (setup : Setup) (world : W) (links : ℕ) (log : Bool) (states : List (PlaceState H W T)) : Type 0 where
+    (setup : Setup) (world : W) (links : ℕ) (log : Bool)
+    (states : List (PlaceState H W T)) : Type 0 where
   pub colours : colours_of setup ≡ colours_over links log
-  pub handlers : 11 ≤ length (rows_of (handlers_of setup))
+  pub handlers : handler_count ≤ length (rows_of (handlers_of setup))
   pub total : (x.tells world).total ≡ links
   pub none : (x.tells world).accepted ≡ 0
   pub first : (hall : H) × AreInitialPlacesOver y world hall links (colours_over links log) states

@@ -13,8 +13,8 @@ use Rattle.sws_log.specs.declared.line.LogLine.{LogLine}
 use Rattle.sws_steps.specs.declared.End.{End}
 use Rattle.sws_steps.specs.declared.talk.Talk.{Ghosts as TalkWords}
 use Rattle.sws_steps.specs.Logs.{bit}
-use Rattle.sws_conn.specs.Path.{Handler}
-use Rattle.sws_conn.specs.Path.{open_link, read_piece, parse, look, write_part, resume, close}
+use Rattle.sws_steps.specs.declared.Handler.{Handler}
+use Rattle.sws_steps.specs.declared.Handler.TheVariants as handler
 use Rattle.sws_conn.specs.Talks.{opened_view, due}
 use Rattle.sws_engine.specs.declared.load.WorldLoad.{WorldLoad}
 use Rattle.sws_engine.specs.declared.load.Load.{Load}
@@ -25,7 +25,7 @@ use Rattle.sws_engine.specs.declared.place.Role.{Role}
 use Rattle.sws_engine.specs.declared.place.Role.TheVariants.{Polling, Accepting, Talking, Logging}
 use Rattle.sws_engine.specs.declared.task.Task.{Task}
 use Rattle.sws_engine.specs.declared.task.Task.TheVariants as task
-use Rattle.sws_engine.specs.Tasks.{task_of}
+use Rattle.sws_engine.specs.Tasks.{task_of, number_of, event_of}
 use Rattle.sws_engine.specs.Place.{PlaceState}
 use Rattle.sws_engine.specs.Waiting.{TakenOff, waiting_with}
 
@@ -37,49 +37,40 @@ Put W L = Colour × Event × Option (Load W L)
 
 -- the poll, with the world
 abbrev pub poll_put : {W L : Type 0} → ℕ → WorldLoad W → Put W L
-poll_put arg held = (record { 0 = 0 }, record { handler = 0; arg = arg }, Some (load.World held))
+poll_put arg held = (record { 0 = 0 }, event_of task.Poll arg, Some (load.World held))
 
 -- the accept, with the world
 abbrev pub accept_put : {W L : Type 0} → WorldLoad W → Put W L
-accept_put held = (record { 0 = 1 }, record { handler = 2; arg = 0 }, Some (load.World held))
+accept_put held = (record { 0 = 1 }, event_of task.Accept 0, Some (load.World held))
 
--- colour 0 is asked to wait for connection i
+-- colour 0 is asked to wait for a connection
 abbrev pub wait_put : {W L : Type 0} → ℕ → Put W L
-wait_put i = (record { 0 = 0 }, record { handler = 1; arg = i }, None)
+wait_put conn = (record { 0 = 0 }, event_of task.Wait conn, None)
 
--- connection i is opened, with its link
+-- a connection is opened, with its link
 abbrev pub open_put : {W L : Type 0} → ℕ → L → Put W L
-open_put i link = (record { 0 = i + 2 }, record { handler = 3; arg = i }, Some (load.Link link))
+open_put conn link =
+    (record { 0 = conn + 2 }, event_of (task.Step handler.Open) conn, Some (load.Link link))
 
--- the number of the handler of a step
-abbrev pub number_of : Handler → ℕ
-number_of open_link = 3
-number_of read_piece = 4
-number_of parse = 5
-number_of look = 6
-number_of write_part = 7
-number_of close = 8
-number_of resume = 9
-
--- a step of connection i
+-- a step of a connection
 abbrev pub step_put : {W L : Type 0} → ℕ → Handler → Put W L
-step_put i step = (record { 0 = i + 2 }, record { handler = number_of step; arg = i }, None)
+step_put conn step = (record { 0 = conn + 2 }, event_of (task.Step step) conn, None)
 
 -- the next step is put on the connection's colour; where the link was not ready, colour
 -- 0 is asked to wait for it
 abbrev pub next_put : {W L : Type 0} → ℕ → Handler → Put W L
-next_put i open_link = step_put i open_link
-next_put i read_piece = step_put i read_piece
-next_put i parse = step_put i parse
-next_put i look = step_put i look
-next_put i write_part = step_put i write_part
-next_put i close = step_put i close
-next_put i resume = wait_put i
+next_put conn handler.Open = step_put conn handler.Open
+next_put conn handler.Read = step_put conn handler.Read
+next_put conn handler.Parse = step_put conn handler.Parse
+next_put conn handler.Look = step_put conn handler.Look
+next_put conn handler.Write = step_put conn handler.Write
+next_put conn handler.Close = step_put conn handler.Close
+next_put conn handler.Resume = wait_put conn
 
--- a line of connection i goes to the last colour of so many links
+-- a line of a connection goes to the last colour of so many links
 abbrev pub log_put : {W L : Type 0} → ℕ → ℕ → LogLine → Put W L
-log_put total i line =
-    (record { 0 = total + 2 }, record { handler = 10; arg = i }, Some (load.Line line))
+log_put total conn line =
+    (record { 0 = total + 2 }, event_of task.Log conn, Some (load.Line line))
 
 -- ---- polling
 
@@ -166,19 +157,19 @@ accept_puts total held now accepted.Failed =
 
 -- what is put after a step
 abbrev pub next_puts : {W L : Type 0} → ℕ → Option Handler → List (Put W L)
-next_puts i None = []
-next_puts i (Some step) = next_put i step ∷ []
+next_puts conn None = []
+next_puts conn (Some step) = next_put conn step ∷ []
 
 -- a line that was given is put where there is a log
 abbrev pub line_puts : {W L : Type 0} → Bool → ℕ → ℕ → Option LogLine → List (Put W L)
-line_puts log total i None = []
-line_puts true total i (Some line) = log_put total i line ∷ []
-line_puts false total i (Some line) = []
+line_puts log total conn None = []
+line_puts true total conn (Some line) = log_put total conn line ∷ []
+line_puts false total conn (Some line) = []
 
 -- the event is the due one: its handler and its argument are
 abbrev pub is_due : ℕ → Option Handler → Event → Bool
-is_due i None event = false
-is_due i (Some step) event = (event.handler == number_of step) && (event.arg == i)
+is_due conn None event = false
+is_due conn (Some step) event = (event.handler == number_of step) && (event.arg == conn)
 
 -- the first stray event, with one more
 abbrev pub stray_of : Option Event → Event → Option Event
@@ -189,10 +180,10 @@ stray_of (Some first) event = Some first
 abbrev pub conn_of : Colour → ℕ
 conn_of c = c.0 - 2
 
--- connection i waits now, and a world that rested polls again
-pub record RunsWait {W L : Type 0} (desk : Desk W) (i : ℕ) (after : Desk W)
+-- a connection waits now, and a world that rested polls again
+pub record RunsWait {W L : Type 0} (desk : Desk W) (conn : ℕ) (after : Desk W)
     (puts : List (Put W L)) : Type 0 where
-  pub waiting : after.waiting.items ≡ waiting_with i desk.waiting.items
+  pub waiting : after.waiting.items ≡ waiting_with conn desk.waiting.items
   pub last : after.last ≡ desk.last
   pub resting : after.resting ≡ None
   pub puts_are : puts ≡ woken_by desk.resting
@@ -217,7 +208,7 @@ module _ {W L : Type 0} (x : WorldWords W L) where
     pub last : after.last ≡ asked.last
     pub resting : after.resting ≡ rest_of asked.last (resumed_one asked).waiting
         (record { world = now; accepted = held.accepted; failed = asked.failed }) desk.resting
-    pub puts_are : puts ≡ map (λ i. step_put i resume) (resumed_one asked).resumed
+    pub puts_are : puts ≡ map (λ conn. step_put conn handler.Resume) (resumed_one asked).resumed
         ++ onward asked.last (resumed_one asked).waiting (record {
           world = now;
           accepted = held.accepted;
@@ -255,32 +246,32 @@ module _ {W L T G H : Type 0} (y : TalkWords T L G H) where
   -- the step: the opening takes the link of the load, every other step is one more of the run
   abbrev pub Stepped : T → Option Handler → Option (Load W L) → T → Type 0
   Stepped before None carried after = ⊥
-  Stepped before (Some open_link) carried after = (link : L) × (carried ≡ Some (load.Link link))
-      × y.has_run link (open_link ∷ []) after × (y.view_of after ≡ opened_view)
+  Stepped before (Some handler.Open) carried after = (link : L) × (carried ≡ Some (load.Link link))
+      × y.has_run link (handler.Open ∷ []) after × (y.view_of after ≡ opened_view)
   Stepped before (Some step) carried after = (first : L) (ran : List Handler)
       → y.has_run first ran before → y.has_run first (ran ++ step ∷ []) after
 
   -- the step gave a line or none; the next step is put, and behind it the line
-  pub record PutsNext (log : Bool) (total i : ℕ) (before after : T)
+  pub record PutsNext (log : Bool) (total conn : ℕ) (before after : T)
       (puts : List (Put W L)) : Type 0 where
     pub line : Option LogLine
     pub told : is_there line ≡ y.told after
     pub lines : (y.view_of after).lines ≡ (y.view_of before).lines + bit (is_there line)
     pub numbered : IfSome line (λ line.
-        (line.conn ≡ i) × (line.turn ≡ (y.view_of after).lines))
-    pub puts_are : puts ≡ next_puts i (due (y.view_of after)) ++ line_puts log total i line
+        (line.conn ≡ conn) × (line.turn ≡ (y.view_of after).lines))
+    pub puts_are : puts ≡ next_puts conn (due (y.view_of after)) ++ line_puts log total conn line
 
   -- the due event does its step, and the next one is put; any other event is stray,
   -- of which the first is kept
   abbrev pub RunsSeat : Bool → ℕ → Bool → ℕ → Seat T → Event → Option (Load W L) → Seat T
       → List (Put W L) → Type 0
-  RunsSeat log total true i seat event carried after puts =
+  RunsSeat log total true conn seat event carried after puts =
       Stepped seat.talk (due (y.view_of seat.talk)) carried after.talk × (after.stray ≡ seat.stray)
       × (y.hall_of after.talk ≡ y.hall_of seat.talk)
-      × (is_due i (due (y.view_of after.talk)) (record { handler = 3; arg = i }) ≡ false)
-      × PutsNext log total i seat.talk after.talk puts
+      × (is_due conn (due (y.view_of after.talk)) (event_of (task.Step handler.Open) conn) ≡ false)
+      × PutsNext log total conn seat.talk after.talk puts
       × KeepsEnd y seat.talk after.talk
-  RunsSeat log total false i seat event carried after puts = (after.talk ≡ seat.talk)
+  RunsSeat log total false conn seat event carried after puts = (after.talk ≡ seat.talk)
       × (after.stray ≡ stray_of seat.stray event) × (puts ≡ [])
 
 -- the line of a load

@@ -8,6 +8,8 @@ use Rattle.sws_engine.specs.declared.place.Seat.{Seat}
 use Rattle.sws_engine.specs.declared.place.Role.{Role}
 use Rattle.sws_engine.specs.declared.place.Role.TheVariants.{Polling, Accepting, Talking, Logging}
 use Rattle.sws_engine.specs.Counting.{colours_over}
+use Rattle.sws_engine.specs.declared.task.Task.TheVariants as task
+use Rattle.sws_engine.specs.Tasks.{event_of}
 use Rattle.sws_engine.specs.Place.{PlaceState}
 
 module _ {W L T G H : Type 0} (y : TalkWords T L G H) (first : W) where
@@ -16,8 +18,8 @@ module _ {W L T G H : Type 0} (y : TalkWords T L G H) (first : W) where
   IsInitialRole total c (Polling desk) = (c ≡ 0) × (desk.waiting.items ≡ []) × (desk.last ≡ false)
       × (desk.resting ≡ None)
   IsInitialRole total c Accepting = c ≡ 1
-  IsInitialRole total c (Talking seat) = ((2 ≤ c) × (c < total + 2)) × (y.view_of seat.talk ≡ unopened_view)
-      × (seat.stray ≡ None)
+  IsInitialRole total c (Talking seat) = ((2 ≤ c) × (c < total + 2))
+      × (y.view_of seat.talk ≡ unopened_view) × (seat.stray ≡ None)
   IsInitialRole total c Logging = c ≡ total + 2
 
   -- a state of colour c, over the first world, with the initial role of that colour
@@ -30,11 +32,12 @@ module _ {W L T G H : Type 0} (y : TalkWords T L G H) (first : W) where
   pub record AreInitialPlaces (total : ℕ) (log : Bool)
       (states : List (PlaceState H W T)) : Type 0 where
     pub many : length states ≡ colours_over total log
-    pub each : (i : ℕ) (s : PlaceState H W T) → slice_get states i ≡ Some s → IsInitialPlace total i s
+    pub each : (i : ℕ) (s : PlaceState H W T) → slice_get states i ≡ Some s
+        → IsInitialPlace total i s
 
 -- the first poll: 1 where no link is to come
 abbrev pub first_poll : ℕ → Event
-first_poll total = record { handler = 0; arg = if total == 0 then 1 else 0 }
+first_poll total = event_of task.Poll (if total == 0 then 1 else 0)
 
 -- the initial load: the world, of which no link was accepted
 abbrev pub initial_load : {W : Type 0} → W → WorldLoad W

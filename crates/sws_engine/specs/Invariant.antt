@@ -8,36 +8,38 @@ use Rattle.sws_link.specs.declared.Link.{Ghosts as LinkWords}
 use Rattle.sws_link.specs.declared.world.World.{Ghosts as WorldWords}
 use Rattle.sws_log.specs.declared.line.LogLine.{LogLine}
 use Rattle.sws_steps.specs.declared.talk.Talk.{Ghosts as TalkWords}
-use Rattle.sws_conn.specs.Path.{Handler}
+use Rattle.sws_steps.specs.declared.Handler.{Handler}
 use Rattle.sws_conn.specs.Talks.{unopened_view, reported_next, due}
 use Rattle.sws_engine.specs.declared.place.Desk.{Desk}
 use Rattle.sws_engine.specs.declared.place.Seat.{Seat}
 use Rattle.sws_engine.specs.declared.place.Role.{Role}
 use Rattle.sws_engine.specs.declared.place.Role.TheVariants.{Polling, Accepting, Talking, Logging}
 use Rattle.sws_engine.specs.Loads.{WorldStands, LinkStands, IsLineIn}
-use Rattle.sws_engine.specs.Handling.{number_of, is_due, conn_of}
+use Rattle.sws_engine.specs.declared.task.Task.TheVariants as task
+use Rattle.sws_engine.specs.Tasks.{event_of}
+use Rattle.sws_engine.specs.Handling.{is_due, conn_of}
 use Rattle.sws_engine.specs.Place.{PlaceState}
 use Rattle.sws_engine.specs.Counting.{times}
 
 -- the event of a connection that asks for a step
 abbrev pub event_for : ℕ → Handler → Event
-event_for i step = record { handler = number_of step; arg = i }
+event_for conn step = event_of (task.Step step) conn
 
 module _ {W L : Type 0} (x : WorldWords W L) (l : LinkWords L) (first : W) where
   -- each connection of the run may wait, once at most, nobody else does, and a world that
   -- rests is the one of the run
   pub record DeskStands (desk : Desk W) : Type 0 where
     pub room : desk.waiting.total ≡ (x.tells first).total
-    pub once : (i : ℕ) → times i desk.waiting.items ≤ 1
-    pub below : (i : ℕ) → (x.tells first).total ≤ i → times i desk.waiting.items ≡ 0
+    pub once : (conn : ℕ) → times conn desk.waiting.items ≤ 1
+    pub below : (conn : ℕ) → (x.tells first).total ≤ conn → times conn desk.waiting.items ≡ 0
     pub resting : IfSome desk.resting (WorldStands x l first)
 
 module _ {W L T G H : Type 0} (x : WorldWords W L) (l : LinkWords L) (y : TalkWords T L G H)
-    (hall : H) (first : W) (i : ℕ) where
+    (hall : H) (first : W) (conn : ℕ) where
   -- these steps were run on the connection, from the unopened one on
   abbrev pub RanBy : List Handler → T → Type 0
   RanBy [] talk = (y.link_of talk ≡ None) × (y.view_of talk ≡ unopened_view)
-  RanBy (step ∷ steps) talk = (link : L) × LinkStands x l first i link
+  RanBy (step ∷ steps) talk = (link : L) × LinkStands x l first conn link
       × y.has_run link (step ∷ steps) talk
 
   -- the first event that wasn't due came after these steps
@@ -45,14 +47,14 @@ module _ {W L T G H : Type 0} (x : WorldWords W L) (l : LinkWords L) (y : TalkWo
     pub front : List Handler
     pub talk : T
     pub more : List Event
-    pub is : trail ≡ map (event_for i) front ++ event ∷ more
+    pub is : trail ≡ map (event_for conn) front ++ event ∷ more
     pub ran : RanBy front talk
     pub hall_is : y.hall_of talk ≡ hall
-    pub stray : is_due i (due (y.view_of talk)) event ≡ false
+    pub stray : is_due conn (due (y.view_of talk)) event ≡ false
 
   -- without a stray event the trail is the steps that were run
   abbrev pub TrailIs : List Event → List Handler → Option Event → Type 0
-  TrailIs trail ran None = trail ≡ map (event_for i) ran
+  TrailIs trail ran None = trail ≡ map (event_for conn) ran
   TrailIs trail ran (Some event) = FirstStray trail event
 
   -- the talk is over the hall; the steps it has run make up the trail, unless an event was stray

@@ -14,6 +14,7 @@ use Rattle.sws_engine.specs.declared.load.WorldLoad.{WorldLoad}
 use Rattle.sws_engine.specs.declared.load.Load.{Load}
 use Rattle.sws_engine.specs.declared.load.Load.TheVariants as load
 use Rattle.sws_engine.specs.declared.task.Task.{Task}
+use Rattle.sws_steps.specs.declared.Handler.TheVariants as handler
 use Rattle.sws_engine.specs.declared.task.Task.TheVariants as task
 use Rattle.sws_engine.specs.Tasks.{task_of}
 
@@ -111,15 +112,15 @@ module _ {W L : Type 0} (x : WorldWords W L) (l : LinkWords L) (first : W) where
   abbrev pub TaskFits : Colour → ℕ → Option Task → Option (Load W L) → Type 0
   TaskFits c arg (Some task.Poll) (Some (load.World held)) = PollFits c arg held
   TaskFits c arg (Some task.Accept) (Some (load.World held)) = AcceptFits c arg held
-  TaskFits c arg (Some task.Open) (Some (load.Link link)) = OpenFits c arg link
+  TaskFits c arg (Some (task.Step handler.Open)) (Some (load.Link link)) = OpenFits c arg link
   TaskFits c arg (Some task.Log) (Some (load.Line line)) = LogFits c arg line
   TaskFits c arg (Some task.Wait) None = WaitFits c arg
-  TaskFits c arg (Some task.Read) None = StepFits c arg
-  TaskFits c arg (Some task.Parse) None = StepFits c arg
-  TaskFits c arg (Some task.Look) None = StepFits c arg
-  TaskFits c arg (Some task.Write) None = StepFits c arg
-  TaskFits c arg (Some task.Close) None = StepFits c arg
-  TaskFits c arg (Some task.Resume) None = StepFits c arg
+  TaskFits c arg (Some (task.Step handler.Read)) None = StepFits c arg
+  TaskFits c arg (Some (task.Step handler.Parse)) None = StepFits c arg
+  TaskFits c arg (Some (task.Step handler.Look)) None = StepFits c arg
+  TaskFits c arg (Some (task.Step handler.Write)) None = StepFits c arg
+  TaskFits c arg (Some (task.Step handler.Close)) None = StepFits c arg
+  TaskFits c arg (Some (task.Step handler.Resume)) None = StepFits c arg
   TaskFits c arg other carried = ⊥
 
   -- the event and the load fit each other on the colour

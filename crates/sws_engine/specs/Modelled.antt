@@ -11,8 +11,8 @@ use Rattle.sws_engine.specs.PathStates.{TellsPaths}
 use Rattle.sws_engine.specs.Agrees.{AreOpened}
 use Rattle.sws_engine.specs.ServerRun.{IsRunOfPaths}
 
--- where the world is scripted and each path of its links opens once, the histories at Ok are those of
--- the definition of a run, by this shape and this schedule, and so no others
+-- where the world is scripted and each path of its links opens once, the histories at Ok are those
+-- of the definition of a run, by this shape and this schedule, and so no others
 abbrev pub IsModelled : {W L T G H : Type 0} → WorldWords W L → LinkWords L → TalkWords T L G H → H
     → Shape → W → Bool → List (ℕ × ℕ) → Ended W L → Type 0
 IsModelled x l y hall shape first log schedule ended =

@@ -5,61 +5,64 @@ use Rattle.std.specs.Prelude.{ℕ, zero, suc, ◌+◌, ◌-◌, ◌==◌, ◌||�
 use Rattle.mely_event.specs.declared.colour.Colour.{Colour}
 use Rattle.mely_event.specs.declared.event.Event.{Event}
 use Rattle.sws_steps.specs.Logs.{Step}
-use Rattle.sws_conn.specs.Path.{Handler, open_link, read_piece, parse, look, write_part, resume, close}
-use Rattle.sws_engine.specs.Handling.{number_of}
+use Rattle.sws_steps.specs.declared.Handler.{Handler}
+use Rattle.sws_steps.specs.declared.Handler.TheVariants as handler
+use Rattle.sws_engine.specs.declared.task.Task.{Task}
+use Rattle.sws_engine.specs.declared.task.Task.TheVariants as task
+use Rattle.sws_engine.specs.Tasks.{number_of, event_of}
 use Rattle.sws_engine.specs.Waiting.{waiting_with}
 
 -- ---- registrations without their loads
 
--- a handler with an argument on a colour
-abbrev pub put : ℕ → ℕ → ℕ → Colour × Event
-put colour handler arg = (record { 0 = colour }, record { handler = handler; arg = arg })
+-- a task with an argument on a colour
+abbrev pub put : ℕ → Task → ℕ → Colour × Event
+put colour task arg = (record { 0 = colour }, event_of task arg)
 
 -- the colour of a connection
 abbrev pub talk_colour : ℕ → ℕ
-talk_colour i = 2 + i
+talk_colour conn = 2 + conn
 
 -- the event of a poll
 abbrev pub poll : ℕ → Colour × Event
-poll arg = put 0 0 arg
+poll arg = put 0 task.Poll arg
 
--- the event that asks colour 0 to wait for connection i
+-- the event that asks colour 0 to wait for a connection
 abbrev pub wait_for : ℕ → Colour × Event
-wait_for i = put 0 1 i
+wait_for conn = put 0 task.Wait conn
 
 -- the event of an accept
 abbrev pub accept : Colour × Event
-accept = put 1 2 0
+accept = put 1 task.Accept 0
 
--- the event of a step of connection i
+-- the event of a step of a connection
 abbrev pub talk : ℕ → Handler → Colour × Event
-talk i handler = put (talk_colour i) (number_of handler) i
+talk conn step = put (talk_colour conn) (task.Step step) conn
 
--- the event that brings connection i on to a step: where that is a resume the connection waits for
+-- the event that brings a connection on to a step: where that is a resume the connection waits for
 -- it, else it is the event of the step
 abbrev pub next_event : ℕ → Handler → Colour × Event
-next_event i resume = wait_for i
-next_event i open_link = talk i open_link
-next_event i read_piece = talk i read_piece
-next_event i parse = talk i parse
-next_event i look = talk i look
-next_event i write_part = talk i write_part
-next_event i close = talk i close
+next_event conn handler.Resume = wait_for conn
+next_event conn handler.Open = talk conn handler.Open
+next_event conn handler.Read = talk conn handler.Read
+next_event conn handler.Parse = talk conn handler.Parse
+next_event conn handler.Look = talk conn handler.Look
+next_event conn handler.Write = talk conn handler.Write
+next_event conn handler.Close = talk conn handler.Close
 
 -- what follows a connection's step: the event of its next one, where the path has one left
 abbrev pub follows : ℕ → List Step → List (Colour × Event)
-follows i [] = []
-follows i (next ∷ later) = next_event i next.handler ∷ []
+follows conn [] = []
+follows conn (next ∷ later) = next_event conn next.handler ∷ []
 
--- the event of a line of connection i, on the last colour of so many links
+-- the event of a line of a connection, on the last colour of so many links
 abbrev pub log_event : ℕ → ℕ → Colour × Event
-log_event total i = put (total + 2) 10 i
+log_event total conn = put (total + 2) task.Log conn
 
 -- a step that gave a line is followed by the event of it too, where there is a log
 abbrev pub logs : Bool → ℕ → ℕ → Bool → List (Colour × Event)
-logs log total i false = []
-logs true total i true = log_event total i ∷ []
-logs false total i true = []
+logs log total conn false = []
+logs true total conn true = log_event total conn ∷ []
+logs false total conn true = []
 
 -- ---- what there is
 
@@ -120,13 +123,13 @@ stays place = record { place = place; puts = [] }
 abbrev pub goes_on : Bool → List ℕ → World → List Put
 goes_on false waiting w = with_world w accept ∷ []
 goes_on true [] w = []
-goes_on true (i ∷ waiting) w = with_world w (poll 1) ∷ []
+goes_on true (conn ∷ waiting) w = with_world w (poll 1) ∷ []
 
 -- the world that rests after a poll: where no more links are to come and nobody waits
 abbrev pub rests_with : Bool → List ℕ → World → Option World
 rests_with false waiting w = None
 rests_with true [] w = Some w
-rests_with true (i ∷ waiting) w = None
+rests_with true (conn ∷ waiting) w = None
 
 -- the first that waits, where somebody does, is ready and resumes
 abbrev pub polls : Bool → List ℕ → World → Ran
@@ -138,9 +141,9 @@ polls last [] w = record {
   });
   puts = goes_on last [] w;
 }
-polls last (i ∷ waiting) w = record {
+polls last (conn ∷ waiting) w = record {
   place = polling (record { waiting = waiting; last = last; resting = rests_with last waiting w });
-  puts = with_nothing (talk i resume) ∷ goes_on last waiting w;
+  puts = with_nothing (talk conn handler.Resume) ∷ goes_on last waiting w;
 }
 
 -- a world that rests is polled
@@ -148,11 +151,11 @@ abbrev pub wakes : Option World → List Put
 wakes None = []
 wakes (Some w) = with_world w (poll 1) ∷ []
 
--- what the wait of connection i leaves of the desk, and puts
+-- what the wait of a connection leaves of the desk, and puts
 abbrev pub waits : Desk → ℕ → Ran
-waits desk i = record {
+waits desk conn = record {
   place = polling (record {
-    waiting = waiting_with i desk.waiting;
+    waiting = waiting_with conn desk.waiting;
     last = desk.last;
     resting = None;
   });
@@ -174,7 +177,7 @@ accepts total n (path ∷ coming) = record {
   place = accepting;
   puts = with_world (record { accepted = n + 1; coming = coming })
       (poll (if n + 1 == total then 1 else 0))
-      ∷ ((talk n open_link).0, (talk n open_link).1, Some (link path)) ∷ [];
+      ∷ ((talk n handler.Open).0, (talk n handler.Open).1, Some (link path)) ∷ [];
 }
 
 -- what the colour of accepting does with an event
@@ -186,25 +189,27 @@ runs_accepting total handler load = stays accepting
 
 -- a step was taken off the path: the next one follows, and behind it the line that the step gave
 abbrev pub goes_along : Bool → ℕ → ℕ → Step → List Step → Ran
-goes_along log total i step later = record {
+goes_along log total conn step later = record {
   place = talking (Some later);
-  puts = map with_nothing (follows i later) ++ map with_line (logs log total i step.line);
+  puts = map with_nothing (follows conn later) ++ map with_line (logs log total conn step.line);
 }
 
 -- the step that is next on the path is taken off it by its event; any other does nothing
 abbrev pub takes_off : Bool → ℕ → ℕ → ℕ → Option (List Step) → List Step → Ran
-takes_off log total i handler seat [] = stays (talking seat)
-takes_off log total i handler seat (next ∷ later) =
-    if number_of next.handler == handler then goes_along log total i next later
+takes_off log total conn handler seat [] = stays (talking seat)
+takes_off log total conn handler seat (next ∷ later) =
+    if number_of next.handler == handler then goes_along log total conn next later
     else stays (talking seat)
 
--- what the colour of connection i does with an event
+-- what the colour of a connection does with an event
 abbrev pub runs_talk : Bool → ℕ → ℕ → ℕ → Option (List Step) → Option Load → Ran
-runs_talk log total i handler None (Some (link path)) = takes_off log total i handler None path
-runs_talk log total i handler None None = stays (talking None)
-runs_talk log total i handler None (Some (world w)) = stays (talking None)
-runs_talk log total i handler None (Some line) = stays (talking None)
-runs_talk log total i handler (Some path) load = takes_off log total i handler (Some path) path
+runs_talk log total conn handler None (Some (link path)) =
+    takes_off log total conn handler None path
+runs_talk log total conn handler None None = stays (talking None)
+runs_talk log total conn handler None (Some (world w)) = stays (talking None)
+runs_talk log total conn handler None (Some line) = stays (talking None)
+runs_talk log total conn handler (Some path) load =
+    takes_off log total conn handler (Some path) path
 
 -- what a colour does with an event, by its place, with the log or without it; the log keeps its
 -- line, and nothing comes of that

@@ -12,7 +12,8 @@ use Rattle.sws_steps.specs.declared.talk.Talk.{Ghosts as TalkWords}
 use Rattle.sws_link.specs.Links.{LinkContents}
 use Rattle.sws_link.specs.Scripts.{Script}
 use Rattle.sws_steps.specs.Logs.{Step}
-use Rattle.sws_conn.specs.Path.{open_link, answers_to_come}
+use Rattle.sws_steps.specs.declared.Handler.TheVariants as handler
+use Rattle.sws_conn.specs.Path.{answers_to_come}
 use Rattle.sws_conn.specs.Talks.{unopened_view, due}
 use Rattle.sws_engine.specs.declared.load.WorldLoad.{WorldLoad}
 use Rattle.sws_engine.specs.declared.load.Load.{Load}
@@ -68,7 +69,7 @@ module _ {W L T G H : Type 0} (x : WorldWords W L) (l : LinkWords L) (y : TalkWo
       pub ran : List Step
       pub runs : y.has_run link (map (λ step. step.handler) ran) talk
       pub way : steps_to_come (y.steps hall) (l.tells link) ≡ Some (ran ++ rest)
-      pub opened : due (y.view_of talk) ≢ Some open_link
+      pub opened : due (y.view_of talk) ≢ Some handler.Open
       pub sound : (y.view_of talk).end ≢ Some Memory
 
     -- the talk is over the hall; it was never opened, or has this rest of its path to run
@@ -92,7 +93,8 @@ module _ {W L T G H : Type 0} (x : WorldWords W L) (l : LinkWords L) (y : TalkWo
     -- line of the log
     abbrev pub HasLoad : Load W L → path.Load → Type 0
     HasLoad (load.World held) (path.world w) = HasWorld held w
-    HasLoad (load.Link link) (path.link way) = steps_to_come (y.steps hall) (l.tells link) ≡ Some way
+    HasLoad (load.Link link) (path.link way) =
+        steps_to_come (y.steps hall) (l.tells link) ≡ Some way
     HasLoad (load.Line line) path.line = ⊤
     HasLoad carried p = ⊥
 
@@ -180,7 +182,8 @@ module _ {W L T G H : Type 0} (x : WorldWords W L) (l : LinkWords L) (y : TalkWo
       (before after : PlaceState H W T) (event : Event) (carried : Option (Load W L))
       (puts : List (Colour × Event × Option (Load W L))) (place : path.Place)
       (p : Option path.Load)
-      → Fit x l first before.colour event carried → IsPlacedAt (x.tells first).total before.colour place
+      → Fit x l first before.colour event carried
+      → IsPlacedAt (x.tells first).total before.colour place
       → HasPlace x l y hall paths before place → AreLoads (HasLoad x l y hall paths) carried p
       → path.worlds_of_place place + path.worlds_of_load p ≤ 1
       → Runs x l y log total before event carried after puts

@@ -7,7 +7,7 @@ use Rattle.mely_worker.specs.declared.app.App.{Ghosts as AppWords}
 use Rattle.sws_steps.specs.Logs.{Step}
 use Rattle.sws_engine.specs.Server.{Server}
 use Rattle.sws_engine.specs.PathPlaces.{Load, Place, polling, accepting, talking, logging, runs_place, worlds_of_place, worlds_of_load}
-use Rattle.sws_engine.specs.Agrees.{PlaceStands, ComingStands}
+use Rattle.sws_engine.specs.Agrees.{PlaceAgrees, ComingAgrees}
 use Rattle.sws_engine.specs.PathStates.{AreLoads, ArePuts}
 
 -- over a scripted world a handler makes of what a colour has and of its load what the place says,
@@ -24,8 +24,8 @@ pub record IsPlaced {S P F R : Type 0} (t : TrailWords S F)
   pub runs : (s : Server) (state after : S) (event : Event) (load : Option P) (puts : List (Colour
       × Event × Option P)) (place : Place) (l : Option Load) → t.frame_of state ≡ frame
       → fits frame (t.colour_of state) event load
-      → IsPlace state place → PlaceStands whole s (t.colour_of state) place → AreLoads IsLoad load l
-      → ComingStands whole s (t.colour_of state) event.handler event.arg l
+      → IsPlace state place → PlaceAgrees whole s (t.colour_of state) place → AreLoads IsLoad load l
+      → ComingAgrees whole s (t.colour_of state) event.handler event.arg l
       → worlds_of_place place + worlds_of_load l ≤ 1
       → y.runs app state event load after puts → spoilt after ≡ false
       → IsPlace after (runs_place log (length whole) (t.colour_of state) place event l).place

@@ -122,8 +122,8 @@ is_out_of_turn None i s = false
 is_out_of_turn (Some lines) i s = not (is_numbered s.answered (turns_of i lines))
 
 -- it lacks something, or its lines are out of turn
-abbrev pub is_amiss : {L : Type 0} → Option (List LogLine) → ℕ → Served L → Bool
-is_amiss kept i s = is_lacking s || is_out_of_turn kept i s
+abbrev pub is_lost : {L : Type 0} → Option (List LogLine) → ℕ → Served L → Bool
+is_lost kept i s = is_lacking s || is_out_of_turn kept i s
 
 -- the connection ended since a write of its link found no memory
 abbrev pub is_out_of_memory : Option End → Bool
@@ -160,14 +160,14 @@ module _ {L : Type 0} (kept : Option (List LogLine)) (served : List (Served L)) 
   -- of so many connections each has what it is to have, its lines in the log among it
   abbrev pub AreWhole : ℕ → Type 0
   AreWhole count = (i : ℕ) (s : Served L) → i < count → slice_get served i ≡ Some s
-      → is_amiss kept i s ≡ false
+      → is_lost kept i s ≡ false
 
   -- the first of so many that lacks something, or whose lines are out of turn
   pub record IsFirstLacking (count conn : ℕ) : Type 0 where
     pub below : conn < count
     pub s : Served L
     pub there : slice_get served conn ≡ Some s
-    pub lacks : is_amiss kept conn s ≡ true
+    pub lacks : is_lost kept conn s ≡ true
     pub before : AreWhole conn
 
   -- the verdict over what is shown: whether all was run, how many links there are, whether the

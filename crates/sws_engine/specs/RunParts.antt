@@ -20,16 +20,17 @@ use Rattle.sws_engine.specs.RunEnds.{RunEnds}
 use Rattle.sws_engine.specs.RunStands.{Way, RunStands}
 
 module _ {W L T G H : Type 0} (x : WorldWords W L) (y : TalkWords T L G H) (setup : Setup)
-    (first : W) (log : Bool) (ended : Drained) (histories : List (List Entry)) (states : List (PlaceState H W T))
-    (queued : List (List (Way W L))) (lost : List (Colour × Event × Option (Load W L))) where
+    (first : W) (log : Bool) (ended : Drained) (histories : List (List Entry))
+    (states : List (PlaceState H W T)) (queued : List (List (Way W L)))
+    (lost : List (Colour × Event × Option (Load W L))) where
   -- what the parts keep, the sums of the run over them, and the end of a run that was drained
   pub record RunParts : Type 0 where
     pub kept : PartsKept x y setup first log ended histories states queued
     pub open kept use *
-    -- what stands of a run stands of the states, with what is queued and what was lost
-    pub stands : RunStands y (x.tells first).total states (flat_map (λ events.
-        events) queued ++ carried_by lost)
-    -- where the weave was drained and nothing was lost, the run has ended
+    -- what stands of a run stands of the states, with what is queued and what was refused
+    pub stands : RunStands y (x.tells first).total states
+        (flat_map (λ events. events) queued ++ carried_by lost)
+    -- where the weave was drained and nothing was refused, the run has ended
     pub ends : ended ≡ Empty → lost ≡ [] → (place : PlaceState H W T) (desk : Desk W)
         → slice_get states 0 ≡ Some place → place.role ≡ Polling desk
         → RunEnds y (x.tells first).total states desk

@@ -2,7 +2,8 @@
 use Rattle.std.specs.Prelude.{◌≡◌, ℕ, ◌+◌, ◌≤◌, ◌<◌, ◌==◌, ◌&&◌, ◌||◌, not, nat_lt, Bool, true, List, Option, Some, None, sum_by}
 use Rattle.mely_event.specs.declared.event.Event.{Event}
 use Rattle.sws_steps.specs.declared.talk.Talk.{Ghosts as TalkWords}
-use Rattle.sws_conn.specs.Path.{Handler}
+use Rattle.sws_steps.specs.declared.Handler.{Handler}
+use Rattle.sws_steps.specs.declared.Handler.TheVariants as handler
 use Rattle.sws_conn.specs.Talks.{due}
 use Rattle.sws_engine.specs.declared.load.WorldLoad.{WorldLoad}
 use Rattle.sws_engine.specs.declared.load.Load.{Load}
@@ -10,7 +11,9 @@ use Rattle.sws_engine.specs.declared.place.Desk.{Desk}
 use Rattle.sws_engine.specs.declared.place.Seat.{Seat}
 use Rattle.sws_engine.specs.declared.place.Role.{Role}
 use Rattle.sws_engine.specs.declared.place.Role.TheVariants.{Polling, Accepting, Talking, Logging}
-use Rattle.sws_engine.specs.Handling.{number_of, is_some}
+use Rattle.sws_engine.specs.declared.task.Task.TheVariants as task
+use Rattle.sws_engine.specs.Tasks.{number_of_task, number_of}
+use Rattle.sws_engine.specs.Handling.{is_some}
 use Rattle.sws_engine.specs.Counting.{bit, times}
 use Rattle.sws_engine.specs.Loads.{world_of}
 use Rattle.sws_engine.specs.Place.{PlaceState}
@@ -48,7 +51,7 @@ beyond i e = if_held (is_beyond i) (world_of e.1)
 
 -- the poll after the last link
 abbrev pub is_late : Event → Bool
-is_late event = (event.handler == 0) && (event.arg == 1)
+is_late event = (event.handler == number_of_task task.Poll) && (event.arg == 1)
 
 -- a world that isn't in the poll after the last link
 abbrev pub early : {W L : Type 0} → Way W L → ℕ
@@ -151,7 +154,7 @@ module _ {W L T G H : Type 0} (y : TalkWords T L G H) where
   -- the connection was opened
   abbrev pub is_opened : ℕ → PlaceState H W T → ℕ
   is_opened i s = at_seat (λ seat.
-      bit ((s.colour.0 == i + 2) && not (due_number y seat == 3))) s.role
+      bit ((s.colour.0 == i + 2) && not (due_number y seat == number_of handler.Open))) s.role
 
   -- Of all states and all events under way in a run with so many links
   pub record RunStands (total : ℕ) (states : List (PlaceState H W T))
@@ -164,14 +167,18 @@ module _ {W L T G H : Type 0} (y : TalkWords T L G H) where
     -- there is one world: in an event, or at rest in the state that polls
     pub one_world : sum_by worlds ways + sum_by rests states ≡ 1
     -- a link that was accepted is in the opening of its connection, or that was opened
-    pub opens : (i : ℕ) → i < total → sum_by (asks_for 3 i) ways + sum_by (is_opened i) states
+    pub opens : (i : ℕ) → i < total
+        → sum_by (asks_for (number_of handler.Open) i) ways + sum_by (is_opened i) states
         ≡ sum_by (beyond i) ways + sum_by (rests_beyond i) states
     -- a connection that is to do a step has one event under way, of the due handler
-    pub steps : (i number : ℕ) → i < total → 4 ≤ number → number ≤ 8
+    pub steps : (i number : ℕ) → i < total
+        → number_of handler.Read ≤ number → number ≤ number_of handler.Close
         → sum_by (asks_for number i) ways ≡ sum_by (is_at i number) states
     -- one that waits is in an event Wait, in the list, or in an event Resume
-    pub waits : (i : ℕ) → i < total → sum_by (asks_for 9 i) ways + sum_by (asks_for 1 i) ways
-        + sum_by (waits_for i) states ≡ sum_by (is_at i 9) states
+    pub waits : (i : ℕ) → i < total
+        → sum_by (asks_for (number_of handler.Resume) i) ways
+        + sum_by (asks_for (number_of_task task.Wait) i) ways + sum_by (waits_for i) states
+        ≡ sum_by (is_at i (number_of handler.Resume)) states
     pub no_stray : sum_by strays states ≡ 0
     -- the poll after the last link comes after the last link or a fault, and so
     -- does the rest of the world

@@ -6,7 +6,7 @@ use Rattle.sws_link.specs.Links.{LinkContents, IsInitialLink}
 use Rattle.sws_log.specs.declared.line.LogLine.{LogLine}
 use Rattle.sws_steps.specs.declared.talk.Talk.{Ghosts as TalkWords}
 use Rattle.sws_steps.specs.Logs.{IsLineOf}
-use Rattle.sws_conn.specs.Path.{Handler}
+use Rattle.sws_steps.specs.declared.Handler.{Handler}
 use Rattle.sws_conn.specs.Talks.{unopened_view}
 use Rattle.sws_engine.specs.declared.load.Load.{Load}
 use Rattle.sws_engine.specs.declared.load.Load.TheVariants as load

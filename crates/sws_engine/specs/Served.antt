@@ -5,7 +5,8 @@ use Rattle.sws_link.specs.declared.Link.{Ghosts as LinkWords}
 use Rattle.sws_link.specs.declared.world.World.{Ghosts as WorldWords}
 use Rattle.sws_steps.specs.declared.talk.Talk.{Ghosts as TalkWords}
 use Rattle.sws_conn.specs.Outcome.{UnlessMemory}
-use Rattle.sws_conn.specs.Path.{Handler, TakesOff}
+use Rattle.sws_steps.specs.declared.Handler.{Handler}
+use Rattle.sws_conn.specs.Path.{TakesOff}
 use Rattle.sws_conn.specs.Talks.{unopened_view, due, HasServed, path_to_come, IsDue}
 use Rattle.sws_steps.specs.Talks.{LinesServed}
 use Rattle.sws_engine.specs.declared.place.Seat.{Seat}

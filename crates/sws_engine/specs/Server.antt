@@ -4,9 +4,9 @@ use Rattle.std.specs.Prelude.{ℕ, zero, suc, ◌+◌, ◌-◌, ◌==◌, ◌&&�
 use Rattle.mely_event.specs.declared.colour.Colour.{Colour}
 use Rattle.mely_event.specs.declared.event.Event.{Event}
 use Rattle.sws_steps.specs.Logs.{Step}
-use Rattle.sws_conn.specs.Path.{open_link, resume}
+use Rattle.sws_steps.specs.declared.Handler.TheVariants as handler
 use Rattle.mely_machine.specs.Machine.{Acted}
-use Rattle.sws_engine.specs.Handling.{number_of}
+use Rattle.sws_engine.specs.Tasks.{number_of}
 use Rattle.sws_engine.specs.Waiting.{waiting_with}
 use Rattle.sws_engine.specs.PathPlaces.{poll, accept, talk, follows, logs}
 
@@ -36,51 +36,51 @@ initial_server log paths = record {
 abbrev pub world_goes : Bool → List ℕ → List (Colour × Event)
 world_goes false waiting = accept ∷ []
 world_goes true [] = []
-world_goes true (i ∷ waiting) = poll 1 ∷ []
+world_goes true (conn ∷ waiting) = poll 1 ∷ []
 
 -- nobody waits
 abbrev pub is_nobody : List ℕ → Bool
 is_nobody [] = true
-is_nobody (i ∷ waiting) = false
+is_nobody (conn ∷ waiting) = false
 
 -- Poll: the first that waits, where somebody does, is ready and resumes; and the world goes on
 abbrev pub after_poll : Server → List ℕ → Acted Server
 after_poll s [] = record { puts = world_goes s.last []; becomes = record s { rests = s.last } }
-after_poll s (i ∷ waiting) = record {
-  puts = talk i resume ∷ world_goes s.last waiting;
+after_poll s (conn ∷ waiting) = record {
+  puts = talk conn handler.Resume ∷ world_goes s.last waiting;
   becomes = record s { waiting = waiting; rests = s.last && is_nobody waiting };
 }
 
 -- Wait: a connection waits, and a world that rests is polled
 abbrev pub after_wait : Server → Bool → ℕ → Acted Server
-after_wait s rests i = record {
+after_wait s rests conn = record {
   puts = if rests then poll 1 ∷ [] else [];
-  becomes = record s { waiting = waiting_with i s.waiting; rests = false };
+  becomes = record s { waiting = waiting_with conn s.waiting; rests = false };
 }
 
 -- Accept: the next link is that of the next connection, which opens
 abbrev pub after_accept : Server → ℕ → Acted Server
-after_accept s i = record {
-  puts = poll (if i + 1 == length s.paths then 1 else 0) ∷ talk i open_link ∷ [];
-  becomes = record s { accepted = i + 1 };
+after_accept s conn = record {
+  puts = poll (if conn + 1 == length s.paths then 1 else 0) ∷ talk conn handler.Open ∷ [];
+  becomes = record s { accepted = conn + 1 };
 }
 
 -- a connection's event: where it is that of the next step, that is taken off the path, and what
 -- follows is registered, behind it the line that the step gave; any other does nothing
 abbrev pub after_talk : Server → ℕ → Bool → Step → List Step → Acted Server
-after_talk s i false step later = record { puts = []; becomes = s }
-after_talk s i true step later = record {
-  puts = follows i later ++ logs s.log (length s.paths) i step.line;
-  becomes = record s { paths = slice_set s.paths i later };
+after_talk s conn false step later = record { puts = []; becomes = s }
+after_talk s conn true step later = record {
+  puts = follows conn later ++ logs s.log (length s.paths) conn step.line;
+  becomes = record s { paths = slice_set s.paths conn later };
 }
 
--- what connection i does with an event of this handler, by the rest of its path, where one is left;
+-- what a connection does with an event of this handler, by the rest of its path, where one is left;
 -- the colour of the log is that of no connection, and nothing comes of its events
 abbrev pub after_event : Server → ℕ → ℕ → Option (List Step) → Acted Server
-after_event s i handler None = record { puts = []; becomes = s }
-after_event s i handler (Some []) = record { puts = []; becomes = s }
-after_event s i handler (Some (next ∷ later)) =
-    after_talk s i (number_of next.handler == handler) next later
+after_event s conn handler None = record { puts = []; becomes = s }
+after_event s conn handler (Some []) = record { puts = []; becomes = s }
+after_event s conn handler (Some (next ∷ later)) =
+    after_talk s conn (number_of next.handler == handler) next later
 
 -- by the number of the handler
 abbrev pub after_handler : Server → ℕ → ℕ → ℕ → Acted Server

@@ -8,7 +8,8 @@ use Rattle.mely_history.specs.declared.entry.Entry.TheVariants.{Reg, Take, Fin, 
 use Rattle.sws_link.specs.Scripts.{Script}
 use Rattle.sws_site.specs.Site.{SiteState}
 use Rattle.sws_steps.specs.Logs.{Step}
-use Rattle.sws_conn.specs.Path.{Handler, open_link, read_piece, parse, look, write_part, close}
+use Rattle.sws_steps.specs.declared.Handler.{Handler}
+use Rattle.sws_steps.specs.declared.Handler.TheVariants as handler
 use Rattle.sws_engine.specs.ServerRun.{IsRunOfPaths, IsServerRun}
 
 -- the colour of this number
@@ -50,8 +51,8 @@ step handler line = record { handler = handler; line = line }
 -- the steps of a connection with one answer, which closes it: the second write ends the answer, and
 -- so gives its line
 abbrev pub answered : List Step
-answered = step open_link false ∷ step read_piece false ∷ step parse false ∷ step look false
-    ∷ step write_part false ∷ step write_part true ∷ step close false ∷ []
+answered = step handler.Open false ∷ step handler.Read false ∷ step handler.Parse false ∷ step handler.Look false
+    ∷ step handler.Write false ∷ step handler.Write true ∷ step handler.Close false ∷ []
 
 -- the histories of one such connection with the log, six steps of core 0 and twelve of core 1: the
 -- line is registered behind the close that comes next, on the last colour
@@ -69,6 +70,7 @@ logged_histories = ((
 
 -- whatever the site is
 pub record WorkedSchedules (site : SiteState) : Type 0 where
-  pub worked : IsServerRun two_cores false site (no_input ∷ []) ((0, 6) ∷ (1, 12) ∷ []) worked_histories
+  pub worked : IsServerRun two_cores false site (no_input ∷ []) ((0, 6) ∷ (1, 12) ∷ [])
+      worked_histories
   pub logged : IsRunOfPaths two_cores true (answered ∷ []) ((0, 6) ∷ (1, 12) ∷ []) logged_histories
   pub polled : IsServerRun two_cores false site [] ((1, 2) ∷ []) polled_histories

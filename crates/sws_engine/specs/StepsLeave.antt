@@ -26,11 +26,12 @@ module _ {W L T G H : Type 0} (x : WorldWords W L) (l : LinkWords L) (y : TalkWo
   pub record HasRun : Type 0 where
     pub left : RunLeft x l y shape hall first log ended
     pub open left use *
-    pub ran : RunParts x y setup first log how (map (λ history. history.items) parts.histories.items)
-        parts.states.items (map (λ events. events.items) parts.queued.items) parts.lost.items
+    pub ran : RunParts x y setup first log how
+        (map (λ history. history.items) parts.histories.items) parts.states.items
+        (map (λ events. events.items) parts.queued.items) parts.lost.items
     -- at Ok each connection follows the script that its link is known to answer by
     pub follows : ended.verdict ≡ verdict.Ok → AllFollow x l y hall first ended
-    -- nothing is ever amiss
+    -- no connection is ever lost
     pub never_apart : (conn : ℕ) → ended.verdict ≢ verdict.Apart conn
 
   -- memory was refused before the first event, or the server has run over the weave

@@ -17,8 +17,9 @@ module _ {W L T G H : Type 0} (x : WorldWords W L) (l : LinkWords L) (y : TalkWo
   pub record HasRunThreads : Type 0 where
     pub left : RunLeft x l y shape hall first log ended
     pub open left use *
-    pub kept : PartsKept x y setup first log how (map (λ history. history.items) parts.histories.items)
-        parts.states.items (map (λ events. events.items) parts.queued.items)
+    pub kept : PartsKept x y setup first log how
+        (map (λ history. history.items) parts.histories.items) parts.states.items
+        (map (λ events. events.items) parts.queued.items)
     -- at Ok each connection follows the script that its link is known to answer by
     pub follows : ended.verdict ≡ verdict.Ok → AllFollow x l y hall first ended
 

@@ -5,18 +5,18 @@ ghost use Rattle.sws_engine.specs.Polling.{MayAccept};
 ghost use Rattle.sws_engine.specs.Tasks.{task_of};
 ghost use Rattle.sws_engine.specs.Limits.{conn_limit};
 
-use crate::desk::event_of;
 use crate::load::{Load, WorldLoad};
 use crate::task::Task;
 use mely_event::{Colour, Event};
 use mely_worker::Outs;
+use sws_conn::Handler;
 use sws_link::{Accepted, Link, World};
 
 /// Asks the world for the next link. The world goes on to a poll, which is told whether more links
 /// are to come, and the link to the connection of its number.
 pub(crate) fn accept<W: World + Drop>(
     total: u16,
-    held: WorldLoad<W>,
+    mut held: WorldLoad<W>,
     outs: &mut Outs<Load<W, W::Link>>,
 )
     requires empty { outs.old ≡ [] }
@@ -25,43 +25,16 @@ pub(crate) fn accept<W: World + Drop>(
     requires small { total ≤ conn_limit }
     ensures runs { RunsAccept W.World W.Link.Link total held outs.new }
 {
-    let WorldLoad {
-        mut world,
-        accepted,
-        failed,
-    } = held;
-    match world.accept() {
+    match held.world.accept() {
         Accepted::Link(link) => {
-            let arg = if accepted + 1 == total { 1 } else { 0 };
-            put_poll(
-                arg,
-                WorldLoad {
-                    world,
-                    accepted: accepted + 1,
-                    failed,
-                },
-                outs,
-            );
-            put_open(accepted, link, outs);
+            let conn = held.accepted;
+            held.accepted += 1;
+            let arg = if held.accepted == total { 1 } else { 0 };
+            put_poll(arg, held, outs);
+            put_open(conn, link, outs);
         }
-        Accepted::NotYet => put_poll(
-            0,
-            WorldLoad {
-                world,
-                accepted,
-                failed,
-            },
-            outs,
-        ),
-        Accepted::Failed => put_poll(
-            2,
-            WorldLoad {
-                world,
-                accepted,
-                failed,
-            },
-            outs,
-        ),
+        Accepted::NotYet => put_poll(0, held, outs),
+        Accepted::Failed => put_poll(2, held, outs),
     }
 }
 
@@ -70,11 +43,7 @@ fn put_poll<W: Drop, L: Drop>(arg: u16, held: WorldLoad<W>, outs: &mut Outs<Load
     requires { outs.old ≡ [] }
     ensures { outs.new ≡ poll_put arg held ∷ [] }
 {
-    outs.put(
-        Colour(0),
-        event_of(Task::Poll, arg),
-        Some(Load::World(held)),
-    );
+    outs.put(Colour(0), Task::Poll.event(arg), Some(Load::World(held)));
 }
 
 /// The link goes to the connection of its number.
@@ -85,7 +54,7 @@ fn put_open<W: Drop, L: Drop>(conn: u16, link: L, outs: &mut Outs<Load<W, L>>)
 {
     outs.put(
         Colour(conn + 2),
-        event_of(Task::Open, conn),
+        Task::Step(Handler::Open).event(conn),
         Some(Load::Link(link)),
     );
 }
@@ -102,23 +71,8 @@ pub(crate) fn run_accepting<W: World + Drop>(
     requires small { total ≤ conn_limit }
     ensures runs { RunsAccepting W.World W.Link.Link total (task_of event.handler) load outs.new }
 {
-    match Task::of(event.handler) {
-        Some(Task::Accept) => match load {
-            Some(Load::World(held)) => accept(total, held, outs),
-            Some(Load::Link(_)) => {}
-            Some(Load::Line(_)) => {}
-            None => {}
-        },
-        Some(Task::Poll) => {}
-        Some(Task::Wait) => {}
-        Some(Task::Open) => {}
-        Some(Task::Read) => {}
-        Some(Task::Parse) => {}
-        Some(Task::Look) => {}
-        Some(Task::Write) => {}
-        Some(Task::Close) => {}
-        Some(Task::Resume) => {}
-        Some(Task::Log) => {}
-        None => {}
+    match (Task::of_number(event.handler), load) {
+        (Some(Task::Accept), Some(Load::World(held))) => accept(total, held, outs),
+        _ => {}
     }
 }

@@ -4,6 +4,7 @@ ghost use Rattle.std.specs.List.{AllByRecursion};
 ghost use Rattle.mely_worker.specs.Access.{FitsIn};
 ghost use Rattle.sws_engine.specs.Counting.{colours_over};
 ghost use Rattle.sws_engine.specs.Loads.{FitsTold};
+ghost use Rattle.sws_engine.specs.Tasks.{handler_count};
 
 use crate::accepting::run_accepting;
 use crate::desk::run_desk;
@@ -19,8 +20,8 @@ use sws_conn::Talk;
 use sws_link::{Link, World};
 
 /// The web server, over so many links: colour 0 asks which of the waiting connections is ready,
-/// colour 1 accepts, and colour `2 + i` is connection `i`. With the access log, colour `2 + total`
-/// keeps its lines.
+/// colour 1 accepts, and colour `2 + conn` is connection `conn`. With the access log, colour
+/// `2 + total` keeps its lines.
 #[derive(Drop)]
 pub struct Sws<W, T> {
     pub(crate) total: u16,
@@ -51,11 +52,12 @@ impl<W: World + Drop, T: Talk<W::Link> + Drop> App for Sws<W, T> {
     ghost use Rattle.sws_engine.specs.Handling.{Runs};
     ghost use Rattle.sws_engine.specs.Counting.{colours_over};
     ghost use Rattle.sws_engine.specs.Limits.{conn_limit};
+    ghost use Rattle.sws_engine.specs.Tasks.{handler_count};
     ghost use Rattle.sws_engine.specs.PlaceFields.{frame_in};
 
     ghost colours_of = { λ app. colours_over app.total app.log };
 
-    ghost handlers_of = { λ app. 11 };
+    ghost handlers_of = { λ app. handler_count };
 
     ghost serves = { λ app frame.
         ((W.tells frame.first).total ≡ app.total) × (app.total ≤ conn_limit) };
@@ -83,7 +85,7 @@ impl<W: World + Drop, T: Talk<W::Link> + Drop> App for Sws<W, T> {
         ensures trail { state.new.trail ≡ state.old.trail ++ event ∷ [] }
         ensures spare { state.old.spare ≡ state.new.spare + 1 }
         ensures puts { AllByRecursion
-            (FitsIn (colours_over self.now.total self.now.log) 11
+            (FitsIn (colours_over self.now.total self.now.log) handler_count
             (FitsTold W.World W.Link.Link T.Talk state.old.hall state.old.first)) outs.new }
         ensures few { length outs.new ≤ 2 }
     {

@@ -1,9 +1,8 @@
 //! What is done on colour 0: asking the world, and waiting.
 ghost use Rattle.std.specs.Prelude.{◌≡◌, ◌<◌, ◌≤◌, ◌++◌, [], Option, length, map, IfSome, Some};
 ghost use Rattle.sws_engine.specs.Handling.{Asks, is_to_ask, step_put, onward, rest_of, RunsPoll, RunsWait, RunsDesk};
-ghost use Rattle.sws_engine.specs.Tasks.{number_of_task, task_of};
+ghost use Rattle.sws_engine.specs.Tasks.{task_of};
 ghost use Rattle.mely_worker.specs.Outs.{in_place};
-ghost use Rattle.sws_conn.specs.Path.{resume};
 ghost use Rattle.sws_engine.specs.Polling.{LetsGo, asked_as, PollsOnce};
 ghost use Rattle.sws_engine.specs.Limits.{conn_limit};
 
@@ -13,6 +12,7 @@ use crate::task::Task;
 use crate::waiting::Waiting;
 use mely_event::{Colour, Event};
 use mely_worker::Outs;
+use sws_conn::Handler;
 use sws_link::{Polled, World};
 
 /// Asks the world which of those that wait may be ready, unless it has failed or there is nobody to
@@ -80,20 +80,14 @@ where
     W: Drop,
     requires room { length outs.old < 2 }
     requires small { IfSome resumed (λ conn. conn < 65534) }
-    ensures { outs.new ≡ outs.old ++ map (λ i. step_put i resume) (in_place resumed) }
+    ensures { outs.new ≡ outs.old ++ map (λ i. step_put i Handler.Resume) (in_place resumed) }
 {
     if let Some(conn) = resumed {
-        outs.put(Colour(conn + 2), event_of(Task::Resume, conn), None);
-    }
-}
-
-/// The event that asks for a task.
-pub(crate) fn event_of(task: Task, arg: u16) -> Event
-    ensures { result ≡ record { handler = number_of_task task; arg = arg } }
-{
-    Event {
-        handler: task as u8,
-        arg,
+        outs.put(
+            Colour(conn + 2),
+            Task::Step(Handler::Resume).event(conn),
+            None,
+        );
     }
 }
 
@@ -101,7 +95,7 @@ pub(crate) fn event_of(task: Task, arg: u16) -> Event
 pub(crate) fn poll<W: World + Drop>(
     desk: &mut Desk<W>,
     arg: u16,
-    held: WorldLoad<W>,
+    mut held: WorldLoad<W>,
     outs: &mut Outs<Load<W, W::Link>>,
 )
     requires empty { outs.old ≡ [] }
@@ -109,25 +103,16 @@ pub(crate) fn poll<W: World + Drop>(
     ensures runs { RunsPoll W.World desk.old arg held desk.new outs.new }
     ensures room { desk.new.waiting.total ≡ desk.old.waiting.total }
 {
-    let WorldLoad {
-        mut world,
-        accepted,
-        mut failed,
-    } = held;
-    let mut last = desk.last || arg != 0;
-    failed = failed || arg == 2;
-    let resumed = poll_once(&mut world, &mut desk.waiting, &mut last, &mut failed);
-    desk.last = last;
-    put_resume(resumed, outs);
-    go_on(
-        desk,
-        WorldLoad {
-            world,
-            accepted,
-            failed,
-        },
-        outs,
+    desk.last = desk.last || arg != 0;
+    held.failed = held.failed || arg == 2;
+    let resumed = poll_once(
+        &mut held.world,
+        &mut desk.waiting,
+        &mut desk.last,
+        &mut held.failed,
     );
+    put_resume(resumed, outs);
+    go_on(desk, held, outs);
 }
 
 /// The world goes on to the next accept, or to another poll for those that wait; where
@@ -141,13 +126,9 @@ fn go_on<W: Drop, L: Drop>(desk: &mut Desk<W>, held: WorldLoad<W>, outs: &mut Ou
         ≡ rest_of desk.old.last desk.old.waiting.items held desk.old.resting }
 {
     if !desk.last {
-        outs.put(
-            Colour(1),
-            event_of(Task::Accept, 0),
-            Some(Load::World(held)),
-        );
+        outs.put(Colour(1), Task::Accept.event(0), Some(Load::World(held)));
     } else if !desk.waiting.is_empty() {
-        outs.put(Colour(0), event_of(Task::Poll, 1), Some(Load::World(held)));
+        outs.put(Colour(0), Task::Poll.event(1), Some(Load::World(held)));
     } else {
         desk.resting = Some(held);
     }
@@ -162,7 +143,7 @@ pub(crate) fn wait<W: Drop, L: Drop>(desk: &mut Desk<W>, conn: u16, outs: &mut O
 {
     desk.waiting.enter(conn);
     if let Some(held) = desk.resting.take() {
-        outs.put(Colour(0), event_of(Task::Poll, 1), Some(Load::World(held)));
+        outs.put(Colour(0), Task::Poll.event(1), Some(Load::World(held)));
     }
 }
 
@@ -175,33 +156,15 @@ pub(crate) fn run_desk<W: World + Drop>(
 )
     requires empty { outs.old ≡ [] }
     requires few { desk.old.waiting.total ≤ conn_limit }
-    requires known { task_of event.handler ≡ Some Task.Wait → event.arg < desk.old.waiting.total }
+    requires known { task_of event.handler ≡ Some Task.Wait
+        → event.arg < desk.old.waiting.total }
     ensures runs { RunsDesk W.World desk.old (task_of event.handler) event.arg
         load desk.new outs.new }
     ensures room { desk.new.waiting.total ≡ desk.old.waiting.total }
 {
-    match Task::of(event.handler) {
-        Some(Task::Poll) => match load {
-            Some(Load::World(held)) => poll(desk, event.arg, held, outs),
-            Some(Load::Link(_)) => {}
-            Some(Load::Line(_)) => {}
-            None => {}
-        },
-        Some(Task::Wait) => match load {
-            Some(Load::World(_)) => {}
-            Some(Load::Link(_)) => {}
-            Some(Load::Line(_)) => {}
-            None => wait(desk, event.arg, outs),
-        },
-        Some(Task::Accept) => {}
-        Some(Task::Open) => {}
-        Some(Task::Read) => {}
-        Some(Task::Parse) => {}
-        Some(Task::Look) => {}
-        Some(Task::Write) => {}
-        Some(Task::Close) => {}
-        Some(Task::Resume) => {}
-        Some(Task::Log) => {}
-        None => {}
+    match (Task::of_number(event.handler), load) {
+        (Some(Task::Poll), Some(Load::World(held))) => poll(desk, event.arg, held, outs),
+        (Some(Task::Wait), None) => wait(desk, event.arg, outs),
+        _ => {}
     }
 }

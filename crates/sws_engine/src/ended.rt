@@ -19,8 +19,9 @@ pub enum Verdict {
     /// The world failed; all was run, and each link that was accepted was served.
     World,
 
-    /// All was run, but something is amiss: with the link of this number, or its lines in the access
-    /// log, or with the world where this is the number of all links.
+    /// All was run, but a connection was lost: that of the link with this number lacks what it is
+    /// owed or its lines in the access log are out of turn. Where this is the number of all links,
+    /// the world was lost.
     Apart { conn: u16 },
 
     /// Memory was refused.

@@ -4,6 +4,7 @@ ghost use Rattle.std.specs.List.{AllByRecursion};
 ghost use Rattle.mely_worker.specs.Access.{FitsIn};
 ghost use Rattle.sws_engine.specs.Counting.{colours_over};
 ghost use Rattle.sws_engine.specs.Loads.{FitsTold};
+ghost use Rattle.sws_engine.specs.Tasks.{handler_count};
 
 use crate::app::Sws;
 use crate::load::Load;
@@ -47,11 +48,12 @@ impl<'g, W: World + Drop, T: Talk<W::Link> + Drop, G: Gate> App for Gated<'g, W,
     ghost use Rattle.sws_engine.specs.Handling.{Runs};
     ghost use Rattle.sws_engine.specs.Counting.{colours_over};
     ghost use Rattle.sws_engine.specs.Limits.{conn_limit};
+    ghost use Rattle.sws_engine.specs.Tasks.{handler_count};
     ghost use Rattle.sws_engine.specs.PlaceFields.{frame_in};
 
     ghost colours_of = { λ gated. colours_over gated.app.total gated.app.log };
 
-    ghost handlers_of = { λ gated. 11 };
+    ghost handlers_of = { λ gated. handler_count };
 
     ghost serves = { λ gated frame.
         ((W.tells frame.first).total ≡ gated.app.total) × (gated.app.total ≤ conn_limit) };
@@ -80,7 +82,7 @@ impl<'g, W: World + Drop, T: Talk<W::Link> + Drop, G: Gate> App for Gated<'g, W,
         ensures trail { state.new.trail ≡ state.old.trail ++ event ∷ [] }
         ensures spare { state.old.spare ≡ state.new.spare + 1 }
         ensures puts { AllByRecursion
-            (FitsIn (colours_over self.now.app.total self.now.app.log) 11
+            (FitsIn (colours_over self.now.app.total self.now.app.log) handler_count
             (FitsTold W.World W.Link.Link T.Talk state.old.hall state.old.first)) outs.new }
         ensures few { length outs.new ≤ 2 }
     {

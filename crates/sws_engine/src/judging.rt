@@ -1,7 +1,7 @@
 //! How a run is judged.
 ghost use Rattle.std.specs.Prelude.{◌≡◌, ◌<◌, ◌≤◌, [], MatchBool, MatchOption, length};
 ghost use Rattle.sws_engine.specs.LogTurns.{AreLastTurns, next_turn as next_turn_of};
-ghost use Rattle.sws_engine.specs.RunLeaves.{is_lacking, is_out_of_turn as is_out_of, is_amiss, lines_kept, is_out_of_memory, AreWhole, IsFirstLacking, NoneOutOfMemory, SomeOutOfMemory, VerdictIs};
+ghost use Rattle.sws_engine.specs.RunLeaves.{is_lacking, is_out_of_turn as is_out_of, is_lost, lines_kept, is_out_of_memory, AreWhole, IsFirstLacking, NoneOutOfMemory, SomeOutOfMemory, VerdictIs};
 
 use crate::ended::{Served, Verdict};
 use sws_conn::End;
@@ -118,9 +118,9 @@ fn first_lacking<L>(
     None
 }
 
-/// The verdict: by the lines of the log where there is one, whether all was run, how many links there
-/// are, whether the world is there, how many links it gave and whether it failed, and what has become
-/// of each connection. The table counts the lines.
+/// The verdict: by the lines of the log where there is one, whether all was run, how many links
+/// there are, whether the world is there, how many links it gave and whether it failed, and what has
+/// become of each connection. The table counts the lines.
 pub(crate) fn judge<L>(
     log: bool,
     lines: &[LogLine],

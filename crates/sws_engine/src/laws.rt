@@ -29,11 +29,11 @@ pub fn a_state_tells_what_was_served<W: World, T: Talk<W::Link>>(place: &Place<W
 }
 
 /// The law of a scripted world, for contracts alone. There the handlers are a function of what is
-/// left of the connections' paths, with the log or without it: each leaves and puts what the paths say, unless its connection
-/// met want of memory, which then stays so. A call does nothing.
+/// left of the connections' paths, with the log or without it: each leaves and puts what the paths
+/// say, unless its connection met want of memory, which then stays so. A call does nothing.
 pub fn the_handlers_follow_the_paths<W: World, T: Talk<W::Link>>()
-    ensures follows { (hall : T.Contents) (first : W) (log : Bool) (paths : List (List Step)) (total : ℕ)
-        → TellsPaths W.World W.Link.Link T.Talk hall first paths
+    ensures follows { (hall : T.Contents) (first : W) (log : Bool) (paths : List (List Step))
+        (total : ℕ) → TellsPaths W.World W.Link.Link T.Talk hall first paths
         → FollowsPaths W.World W.Link.Link T.Talk hall first log paths total }
     ensures spoilt { (total : ℕ) → StaysSpoilt W.World W.Link.Link T.Talk total }
 {

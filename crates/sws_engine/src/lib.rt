@@ -1,9 +1,9 @@
 //! The web server as an app of coloured events.
 //!
 //! Colour 0 asks the world which of the waiting connections is ready, colour 1 accepts links, and
-//! colour `2 + i` is the connection of the `i`-th link. With the access log there is one colour more,
-//! behind all these, which keeps a line of each response that was written whole. There is one world; it lies in an event of
-//! colour 0 or 1, or rests in the state of colour 0.
+//! colour `2 + conn` is the connection of the link with that number. With the access log there is
+//! one colour more, behind all these, which keeps a line of each response that was written whole.
+//! There is one world; it lies in an event of colour 0 or 1, or rests in the state of colour 0.
 //!
 //! [`serve_all`] serves all links of a world out of a site, with a thread for each worker, and
 //! [`serve_steps`] on one thread, by a schedule. Whatever the workers do, what each connection was

@@ -9,6 +9,7 @@ ghost use Rattle.sws_engine.specs.Counting.{colours_over};
 ghost use Rattle.sws_engine.specs.LogStream.{LogsInOrder};
 ghost use Rattle.sws_engine.specs.RunFact.{RunFact};
 ghost use Rattle.sws_engine.specs.Limits.{conn_limit};
+ghost use Rattle.sws_engine.specs.Tasks.{handler_count};
 
 use crate::gated::Gated;
 use crate::load::Load;
@@ -33,7 +34,7 @@ pub fn run_through<'g, R: Wait, W: World + Drop, T: Talk<W::Link> + Drop, G: Gat
     requires count { sum_by (λ part. part.1) schedule.now < 2 ^ 64 }
     requires colours { colours_over app.now.app.total app.now.app.log
         ≤ colours_of weave.old.setup }
-    requires handlers { 11 ≤ length (rows_of (handlers_of weave.old.setup)) }
+    requires handlers { handler_count ≤ length (rows_of (handlers_of weave.old.setup)) }
     requires total { (W.tells weave.old.given.first).total ≡ app.now.app.total }
     requires few { app.now.app.total ≤ conn_limit }
     requires stands { RunFact W.World T.Talk weave.old.given.first weave.old }

@@ -1,61 +1,30 @@
 //! What is done on the colour of a connection: its steps.
 ghost use Rattle.std.specs.Prelude.{false, ◌≡◌, ◌<◌, ◌≤◌, ◌≢◌, IsSome, ◌∷◌, ◌++◌, [], ◌↔◌, ◌+◌, ◌==◌, ◌&&◌, List, Option, Some, None, IsTrue, ℕ, length, MatchOption};
-ghost use Rattle.sws_conn.specs.Path.{Handler, open_link, read_piece};
 ghost use Rattle.sws_link.specs.Links.{IsInitialLink};
 ghost use Rattle.sws_engine.specs.Seating.{LoadSuits, IsUnopened, HasRunSome, IsUnopenedOrRan, PutsTold};
 ghost use Rattle.sws_conn.specs.Talks.{due, due_after, reported_next, opened_view};
-ghost use Rattle.sws_engine.specs.Tasks.{number_of_task};
+ghost use Rattle.sws_engine.specs.Tasks.{number_of};
 ghost use Rattle.sws_engine.specs.Invariant.{RanBy};
 ghost use Rattle.sws_engine.specs.Limits.{conn_limit};
 ghost use Rattle.sws_engine.specs.Handling.{is_due, next_puts, log_put, line_puts, KeepsEnd, PutsNext, RunsSeat};
 
-use crate::desk::event_of;
 use crate::load::Load;
 use crate::place::Seat;
 use crate::task::Task;
 use mely_event::{Colour, Event};
 use mely_worker::Outs;
-use sws_conn::{Next, Talk};
+use sws_conn::{Handler, Next, Talk};
 use sws_link::Link;
 use sws_log::LogLine;
-
-/// Whether the event asks for the task on the connection.
-fn asks_for(event: Event, task: Task, conn: u16) -> bool
-    ensures { result ≡ ((event.handler == number_of_task task) && (event.arg == conn)) }
-{
-    event.handler == task as u8 && event.arg == conn
-}
 
 /// Whether the event is the one that is due on the connection after a step that answered this.
 pub(crate) fn is_due_on(next: Next, conn: u16, event: Event) -> bool
     ensures { result ≡ is_due conn (due_after next) event }
 {
-    match next {
-        Next::Open => asks_for(event, Task::Open, conn),
-        Next::Read => asks_for(event, Task::Read, conn),
-        Next::Parse => asks_for(event, Task::Parse, conn),
-        Next::Look => asks_for(event, Task::Look, conn),
-        Next::Write => asks_for(event, Task::Write, conn),
-        Next::Wait => asks_for(event, Task::Resume, conn),
-        Next::Close => asks_for(event, Task::Close, conn),
-        Next::Nothing => false,
+    match next.handler() {
+        Some(step) => event.handler == Task::Step(step).number() && event.arg == conn,
+        None => false,
     }
-}
-
-/// Puts a step of the connection on its colour.
-fn put_step<W: Drop, L: Drop>(task: Task, conn: u16, outs: &mut Outs<Load<W, L>>)
-    requires empty { outs.old ≡ [] }
-    requires small { conn < 65534 }
-    ensures { outs.new ≡ (
-      record { 0 = conn + 2 },
-      record {
-        handler = number_of_task task;
-        arg = conn;
-      },
-      None,
-    ) ∷ [] }
-{
-    outs.put(Colour(conn + 2), event_of(task, conn), None);
 }
 
 /// Puts what comes after a step that answered this: the next step on the connection's colour, or
@@ -65,15 +34,10 @@ pub(crate) fn put_next<W: Drop, L: Drop>(next: Next, conn: u16, outs: &mut Outs<
     requires small { conn < 65534 }
     ensures { outs.new ≡ next_puts conn (due_after next) }
 {
-    match next {
-        Next::Open => put_step(Task::Open, conn, outs),
-        Next::Read => put_step(Task::Read, conn, outs),
-        Next::Parse => put_step(Task::Parse, conn, outs),
-        Next::Look => put_step(Task::Look, conn, outs),
-        Next::Write => put_step(Task::Write, conn, outs),
-        Next::Wait => outs.put(Colour(0), event_of(Task::Wait, conn), None),
-        Next::Close => put_step(Task::Close, conn, outs),
-        Next::Nothing => {}
+    match next.handler() {
+        Some(Handler::Resume) => outs.put(Colour(0), Task::Wait.event(conn), None),
+        Some(step) => outs.put(Colour(conn + 2), Task::Step(step).event(conn), None),
+        None => {}
     }
 }
 
@@ -89,7 +53,7 @@ fn open_seat<W: Drop, L: Link + Drop, T: Talk<L>>(
     requires initial { IsInitialLink (L.tells link) }
     requires not_shut { L.is_shut link ≡ false }
     requires unopened { IsUnopened T.Talk seat.old.talk }
-    ensures ran { T.has_run link (open_link ∷ []) seat.new.talk }
+    ensures ran { T.has_run link (Handler.Open ∷ []) seat.new.talk }
     ensures view { T.view_of seat.new.talk ≡ opened_view }
     ensures hall { T.hall_of seat.new.talk ≡ T.hall_of seat.old.talk }
     ensures next { seat.new.next ≡ Next.Read }
@@ -97,7 +61,7 @@ fn open_seat<W: Drop, L: Link + Drop, T: Talk<L>>(
     ensures answered { seat.new.answered ≡ seat.old.answered }
     ensures told { T.told seat.new.talk ≡ false }
     ensures stray { seat.new.stray ≡ seat.old.stray }
-    ensures puts { outs.new ≡ next_puts conn (Some read_piece) }
+    ensures puts { outs.new ≡ next_puts conn (Some Handler.Read) }
 {
     match seat.talk.open(link) {
         Ok(next) => {
@@ -134,7 +98,7 @@ fn put_line<W: Drop, L: Drop>(
         if log {
             outs.put(
                 Colour(total + 2),
-                event_of(Task::Log, conn),
+                Task::Log.event(conn),
                 Some(Load::Line(line)),
             );
         }
@@ -156,7 +120,7 @@ fn step_seat<W: Drop, L: Link + Drop, T: Talk<L>>(
     requires answered { seat.old.answered ≡ (T.view_of seat.old.talk).lines }
     requires ran { HasRunSome T.Talk seat.old.talk }
     requires pending { IsSome (due (T.view_of seat.old.talk)) }
-    ensures moved { due (T.view_of seat.new.talk) ≢ Some open_link }
+    ensures moved { due (T.view_of seat.new.talk) ≢ Some Handler.Open }
     ensures runs { (first : L) (ran : List Handler) (step : Handler)
         → T.has_run first ran seat.old.talk → due (T.view_of seat.old.talk) ≡ Some step
         → T.has_run first (ran ++ step ∷ []) seat.new.talk }
@@ -196,14 +160,15 @@ pub(crate) fn serve<W: Drop, L: Link + Drop, T: Talk<L>>(
     requires answered { seat.old.answered ≡ (T.view_of seat.old.talk).lines }
     requires next { seat.old.next ≡ reported_next (T.view_of seat.old.talk) }
     requires ran { IsUnopenedOrRan T.Talk seat.old.talk }
-    requires suits { LoadSuits L.Link (event.handler == 3) load }
-    ensures runs { RunsSeat T.Talk log total (is_due conn (due (T.view_of seat.old.talk)) event) conn
-        seat.old event load seat.new outs.new }
+    requires suits { LoadSuits L.Link (event.handler == number_of Handler.Open) load }
+    ensures runs { RunsSeat T.Talk log total
+        (is_due conn (due (T.view_of seat.old.talk)) event) conn seat.old event load
+        seat.new outs.new }
     ensures answered { seat.new.answered ≡ (T.view_of seat.new.talk).lines }
     ensures lines { PutsTold L.Link T.Talk conn seat.new.talk outs.new }
     ensures next { seat.new.next ≡ reported_next (T.view_of seat.new.talk) }
     ensures once { HasRunSome T.Talk seat.old.talk
-        → due (T.view_of seat.old.talk) ≢ Some open_link }
+        → due (T.view_of seat.old.talk) ≢ Some Handler.Open }
 {
     // What holds of a run: its link is there, so the connection isn't to be opened again.
     T::a_run_serves();

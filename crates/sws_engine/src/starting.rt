@@ -8,7 +8,6 @@ ghost use Rattle.sws_engine.specs.LogStream.{LogsInOrder};
 ghost use Rattle.sws_engine.specs.RunFact.{RunFact};
 ghost use Rattle.sws_engine.specs.Limits.{conn_limit};
 
-use crate::desk::event_of;
 use crate::load::{Load, WorldLoad};
 use crate::place::{Desk, Place, Role, Seat};
 use crate::task::Task;
@@ -63,8 +62,8 @@ fn initial_place<W: World + Drop, T: Talk<W::Link> + Drop>(
     })
 }
 
-/// How many colours there are: for polling, for accepting and for each link, and with the access log
-/// one more.
+/// How many colours there are: for polling, for accepting and for each link, and with the access
+/// log one more.
 pub(crate) fn colour_count(total: u16, log: bool) -> u16
     requires { total ≤ conn_limit }
     ensures { result ≡ colours_over total log }
@@ -99,12 +98,12 @@ pub fn initial_places<W: World + Drop, T: Talk<W::Link> + Drop>(
 pub(crate) fn first_event(total: u16) -> Event
     ensures { result ≡ first_poll total }
 {
-    event_of(Task::Poll, if total == 0 { 1 } else { 0 })
+    Task::Poll.event(if total == 0 { 1 } else { 0 })
 }
 
 /// The weave of the initial states, with the first event posted: a poll of the world, which is told
-/// whether links are to come. What stands of a run stands then, a whole run has begun, and no line of
-/// the log is out of order.
+/// whether links are to come. What stands of a run stands then, a whole run has begun, and no line
+/// of the log is out of order.
 ///
 /// # Errors
 ///

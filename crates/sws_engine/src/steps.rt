@@ -4,6 +4,7 @@ ghost use Rattle.mely_event.specs.HandlerTable.{rows_of};
 ghost use Rattle.sws_engine.specs.Begins.{IsScheduleOf, IsShapedFor};
 ghost use Rattle.sws_engine.specs.StepsLeave.{HasNotBegun, StepsLeave};
 ghost use Rattle.sws_engine.specs.ServerRun.{handler_rows};
+ghost use Rattle.sws_engine.specs.Tasks.{handler_count};
 ghost use Rattle.sws_engine.specs.Modelled.{IsModelled};
 
 use crate::concluding::conclude;
@@ -18,9 +19,12 @@ use std::sync::Wait;
 use sws_conn::Talk;
 use sws_link::{Link, World};
 
+/// How many handlers there are: one for each [`Task`](crate::Task).
+const HANDLER_COUNT: usize = 11;
+
 /// The time and the penalty of each handler, in the order of their numbers: Poll, Wait, Accept,
 /// Open, Read, Parse, Look, Write, Close, Resume, Log.
-const HANDLERS: [(u32, u32); 11] = [
+const HANDLERS: [(u32, u32); HANDLER_COUNT] = [
     (40, 4),
     (10, 1),
     (40, 4),
@@ -37,7 +41,7 @@ const HANDLERS: [(u32, u32); 11] = [
 /// The handlers of the server: eleven, as every run of it and every journal of one has them.
 pub fn handler_table() -> Handlers
     ensures rows { rows_of result ≡ handler_rows }
-    ensures eleven { length (rows_of result) ≡ 11 }
+    ensures count { length (rows_of result) ≡ handler_count }
 {
     match Handlers::new(&HANDLERS) {
         Ok(handlers) => handlers,

@@ -1,5 +1,5 @@
-//! The server with a thread for each worker, from the world and the hall to what the run leaves. One
-//! worker needs no thread: it runs over a weave.
+//! The server with a thread for each worker, from the world and the hall to what the run leaves.
+//! One worker needs no thread: it runs over a weave.
 ghost use Rattle.std.specs.Prelude.{◌≡◌, ◌≤◌, ◌+◌, [], Some, false, IfOk, IfErr, IsSome, map, slice_get};
 ghost use Rattle.mely_weave.specs.Dealing.{AtEach};
 ghost use Rattle.mely_weave.specs.Making.{AreInitial};
@@ -202,8 +202,7 @@ where
 /// event. It need not return.
 ///
 /// One worker runs over a weave, on the thread of the caller and with no lock. It leaves what
-/// [`talk_steps`](crate::talk_steps) leaves of an empty schedule, so the verdict is never
-/// [`Apart`](crate::Verdict::Apart).
+/// [`talk_steps`](crate::talk_steps) leaves of an empty schedule, so no connection is ever lost.
 ///
 /// What is left over where the fleet of several is closed, because memory was refused to a worker,
 /// is run by one core after another then, and passes no gate.
@@ -245,8 +244,8 @@ where
 /// Serves all links of a world out of a site, with a thread for each worker; the gate is passed
 /// before each handler. It need not return.
 ///
-/// The verdict is exactly what the run shows: [`Verdict::Apart`](crate::Verdict::Apart) tells the
-/// first connection that lacks what it is owed, and where none does that the world is gone.
+/// The verdict is exactly what the run shows: [`Verdict::Apart`](crate::Verdict::Apart) names the
+/// first connection that was lost, and where none was says that the world was.
 ///
 /// One worker runs over a weave, on the thread of the caller and with no lock. It leaves what
 /// [`serve_steps`](crate::serve_steps) leaves of an empty schedule: the verdict is never `Apart`,

@@ -50,8 +50,8 @@ pub fn run_whole<'g, R: Wait, W: World + Drop, T: Talk<W::Link> + Drop, G: Gate>
     ensures out { IfOk result (λ ran. ran.1 ≡ Drained.Empty
         → HasRunOut W.World T.Talk ⟦<Place<W, T> as Trail>⟧
         ⟦<Place<W, T> as Fits<Load<W, W::Link>>>⟧.fits_under
-        ⟦<Gated<'g, W, T, G> as App>⟧ (λ gated. gated.app.total) (λ gated. gated.app.log) log setup.now world
-        (T.contents_of hall) schedule.now ran.0) }
+        ⟦<Gated<'g, W, T, G> as App>⟧ (λ gated. gated.app.total) (λ gated. gated.app.log) log
+        setup.now world (T.contents_of hall) schedule.now ran.0) }
     ensures back { IfErr result (λ back. back ≡ world) }
 {
     let total = world.total();

@@ -5,5 +5,6 @@ use Rattle.sws_site.specs.Site.{SiteState}
 module _ {K : Type 0} (site_of : K → SiteState) (begun : K → Option (List SiteState)) where
   -- a generation begins over the site that the keeper has then; or none begins
   abbrev pub Begins : K → Bool → K → Type 0
-  Begins before true now = begun now ≡ option_map (λ sites. sites ++ site_of now ∷ []) (begun before)
+  Begins before true now =
+      begun now ≡ option_map (λ sites. sites ++ site_of now ∷ []) (begun before)
   Begins before false now = begun now ≡ begun before

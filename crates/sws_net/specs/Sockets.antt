@@ -19,8 +19,11 @@ pub record ReceivesTold (before : SocketContents) (now : Option SocketContents)
     (answer : LinkRead) (into : List ℕ) : Type 0 where
   pub rest : List ℕ
   pub left : before.left ≡ given_by answer into ++ rest
-  pub is : now
-      ≡ Some (record { taken = before.taken ++ given_by answer into; left = rest; sent = before.sent })
+  pub is : now ≡ Some (record {
+    taken = before.taken ++ given_by answer into;
+    left = rest;
+    sent = before.sent;
+  })
   pub ends : EndsRead answer before.left
 
 -- what a read takes of a socket, where the socket tells it

@@ -4,7 +4,7 @@ use Rattle.std.proofs.Common.{◌≡◌, ap}
 use Rattle.sws_link.specs.Scripts.{Script}
 use Rattle.sws_log.specs.declared.line.LogLine.{LogLine}
 use Rattle.sws_steps.specs.Outcome.{Outcome}
-use Rattle.sws_steps.specs.Path.{Handler}
+use Rattle.sws_steps.specs.declared.Handler.{Handler}
 use Rattle.sws_steps.specs.declared.talk.Talk.{Ghosts as TalkWords}
 use Rattle.sws_steps.specs.Logs as logs
 use Rattle.sws_conn.specs.Http.{http}

@@ -110,7 +110,8 @@ pub fn replay_by_schedule<R: Wait, O: Sink>(
     log: bool,
     out: &mut O,
 ) -> Result<(), RunFault>
-    requires shape { first_out_of_range shape.now (colours_over (length input.now.conns) log) 1 ≡ None }
+    requires shape { first_out_of_range shape.now (colours_over (length input.now.conns) log) 1
+        ≡ None }
     requires few { length input.now.conns ≤ conn_limit }
     requires input { IsInput true shape.now.cores input.now }
     ensures writes { WritesOne (IsScheduledReplay site.now shape.now input.now log)

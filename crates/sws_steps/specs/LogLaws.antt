@@ -7,7 +7,8 @@ use Rattle.sws_link.specs.Scripts.{Script}
 use Rattle.sws_log.specs.declared.line.LogLine.{LogLine}
 use Rattle.sws_steps.specs.Protocol.{Protocol, IsOrderly}
 use Rattle.sws_steps.specs.Sound.{core_before_open}
-use Rattle.sws_steps.specs.Path.{Handler, Scripted, scripted_step, path_of}
+use Rattle.sws_steps.specs.declared.Handler.{Handler}
+use Rattle.sws_steps.specs.Path.{Scripted, scripted_step, path_of}
 use Rattle.sws_steps.specs.Logs.{line_of, log_from, log_of, IsLogPrefix, Step, steps_along, steps_of}
 use Rattle.sws_steps.specs.TalkLaws.{Begins, answers-begin, take-append}
 

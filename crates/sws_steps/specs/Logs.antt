@@ -10,7 +10,8 @@ use Rattle.sws_steps.specs.declared.Next.{Next}
 use Rattle.sws_steps.specs.declared.Next.TheVariants as next
 use Rattle.sws_steps.specs.ConnCore.{ConnCoreState, is_sent}
 use Rattle.sws_steps.specs.Sound.{core_before_open}
-use Rattle.sws_steps.specs.Path.{Handler, Scripted, scripted_step, path_of}
+use Rattle.sws_steps.specs.declared.Handler.{Handler}
+use Rattle.sws_steps.specs.Path.{Scripted, scripted_step, path_of}
 
 -- ---- which steps give a line
 

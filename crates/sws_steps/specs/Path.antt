@@ -8,31 +8,28 @@ use Rattle.sws_link.specs.Links.{LinkContents}
 use Rattle.sws_parts.specs.Parts.{front_of, unsent_bytes}
 use Rattle.sws_steps.specs.Protocol.{Protocol}
 use Rattle.sws_steps.specs.ConnCore.{ConnCoreState, is_waiting, ConnState}
+use Rattle.sws_steps.specs.declared.Handler.{Handler}
+use Rattle.sws_steps.specs.declared.Handler.TheVariants as handler
 use Rattle.sws_steps.specs.declared.Next.{Next}
 use Rattle.sws_steps.specs.declared.Next.TheVariants as next
 use Rattle.sws_steps.specs.Step.{going_to, room_of, after_read, after_parse, after_look, after_write, wait_limit}
 use Rattle.sws_steps.specs.Sound.{core_before_open}
 use Rattle.sws_steps.specs.Outcome.{UnlessMemory}
 
--- the handler that does the pending step: its own, or `Resume` where the link was not
--- ready in the step before
-pub data Handler : Type 0 where
-  open_link read_piece parse look write_part resume close : Handler
-
 -- the event that does the step
 abbrev pub handler_of : Next → List Handler
-handler_of next.Open = open_link ∷ []
-handler_of next.Read = read_piece ∷ []
-handler_of next.Parse = parse ∷ []
-handler_of next.Look = look ∷ []
-handler_of next.Write = write_part ∷ []
+handler_of next.Open = handler.Open ∷ []
+handler_of next.Read = handler.Read ∷ []
+handler_of next.Parse = handler.Parse ∷ []
+handler_of next.Look = handler.Look ∷ []
+handler_of next.Write = handler.Write ∷ []
 handler_of next.Wait = []
-handler_of next.Close = close ∷ []
+handler_of next.Close = handler.Close ∷ []
 handler_of next.Nothing = []
 
 -- the event that is due: the step, or the same one again where the link was not ready
 abbrev pub event_of : {Hall : Type 0} → ConnCoreState Hall → List Handler
-event_of c = if is_waiting c then resume ∷ [] else handler_of c.pending
+event_of c = if is_waiting c then handler.Resume ∷ [] else handler_of c.pending
 
 -- a connection over a script, as they stand
 pub record Scripted (Hall : Type 0) : Type 0 where

@@ -12,7 +12,9 @@ use Rattle.sws_steps.specs.declared.Next.TheVariants as next
 use Rattle.sws_steps.specs.Step.{Steps, going_to, wait_limit}
 use Rattle.sws_steps.specs.Sound.{core_before_open}
 use Rattle.sws_steps.specs.Outcome.{UnlessMemory}
-use Rattle.sws_steps.specs.Path.{Handler, event_of, open_link, known_path}
+use Rattle.sws_steps.specs.declared.Handler.{Handler}
+use Rattle.sws_steps.specs.declared.Handler.TheVariants as handler
+use Rattle.sws_steps.specs.Path.{event_of, known_path}
 use Rattle.sws_steps.specs.Serving.{Serves, EndsAs, RoseBy}
 
 -- a connection that was just opened over a link
@@ -63,7 +65,7 @@ module _ {Hall Answer L : Type 0} (p : Protocol Hall Answer) (x : LinkWords L) (
     -- a link that told its answers to come got exactly its outcome, by its whole path
     pub outcome : EndsAs p hall (x.tells first) (x.tells now) end
     pub path : UnlessMemory (Some end)
-        (IsWhole (open_link ∷ trail) (known_path p hall (x.tells first)))
+        (IsWhole (handler.Open ∷ trail) (known_path p hall (x.tells first)))
     pub shut : x.is_shut now ≡ true
     -- it failed in this run, or was not ready so often
     pub fault : end ≡ ending.Fault → Rose (x.faults first) (x.faults now)

@@ -23,7 +23,7 @@ module _ {Hall Answer : Type 0} (p : Protocol Hall Answer) where
   -- The whole input is the same, of which no more was taken than counts; what was written begins
   -- the responses to what was taken; and where all is done it is the responses to the whole
   -- input, and nothing more comes.
-  pub record ServesTold (hall : Hall) (before now : LinkContents) (end : End) : Type 0 where
+  pub record ServesToEnd (hall : Hall) (before now : LinkContents) (end : End) : Type 0 where
     pub input : input_of now ≡ input_of before
     pub few : length now.taken ≤ p.input_limit
     pub prefix : IsPrefix now.written (p.responses_of hall now.taken)
@@ -35,7 +35,7 @@ module _ {Hall Answer : Type 0} (p : Protocol Hall Answer) where
   abbrev pub Serves : Hall → Option LinkContents → Option LinkContents → End → Type 0
   Serves hall None now end = now ≡ None
   Serves hall (Some before) now end = (told : LinkContents) × (now ≡ Some told)
-      × ServesTold hall before told end
+      × ServesToEnd hall before told end
 
   -- what was written begins the responses to what was taken, where that is told
   abbrev pub BeginsResponses : Hall → Option LinkContents → Type 0

@@ -18,7 +18,9 @@ use Rattle.sws_steps.specs.ConnCore.{ConnCoreState, ConnState, is_waiting, repor
 use Rattle.sws_steps.specs.Sound.{IsUncut, is_over}
 use Rattle.sws_steps.specs.Step.{wait_limit}
 use Rattle.sws_steps.specs.Outcome.{Outcome, UnlessMemory}
-use Rattle.sws_steps.specs.Path.{Handler, open_link, read_piece, parse, look, write_part, resume, close, answers_to_come}
+use Rattle.sws_steps.specs.declared.Handler.{Handler}
+use Rattle.sws_steps.specs.declared.Handler.TheVariants as handler
+use Rattle.sws_steps.specs.Path.{answers_to_come}
 use Rattle.sws_steps.specs.Logs.{lines_given, Step, last_line}
 use Rattle.sws_steps.specs.Run.{HasRun}
 use Rattle.sws_steps.specs.Serving.{RoseBy}
@@ -64,13 +66,13 @@ reported_end view = end_at view.pending view.end
 
 -- the event that is due after a step that answered this, if one is
 abbrev pub due_after : Next → Option Handler
-due_after next.Open = Some open_link
-due_after next.Read = Some read_piece
-due_after next.Parse = Some parse
-due_after next.Look = Some look
-due_after next.Write = Some write_part
-due_after next.Wait = Some resume
-due_after next.Close = Some close
+due_after next.Open = Some handler.Open
+due_after next.Read = Some handler.Read
+due_after next.Parse = Some handler.Parse
+due_after next.Look = Some handler.Look
+due_after next.Write = Some handler.Write
+due_after next.Wait = Some handler.Resume
+due_after next.Close = Some handler.Close
 due_after next.Nothing = None
 
 -- the event that does the pending step, if one is pending
@@ -236,5 +238,5 @@ talk_view p c = record {
 -- it was opened over this link, and has run these events since, of which the opening is the first
 abbrev pub HasRunOpen : {Hall Answer L : Type 0} → Protocol Hall Answer → LinkWords L → L
     → List Handler → ConnState Hall L → Type 0
-HasRunOpen p x first trail conn = (later : List Handler) × (trail ≡ open_link ∷ later)
+HasRunOpen p x first trail conn = (later : List Handler) × (trail ≡ handler.Open ∷ later)
     × HasRun p x conn.standing.hall first later conn

@@ -9,7 +9,9 @@ use Rattle.sws_steps.specs.declared.Next.TheVariants as next
 use Rattle.sws_steps.specs.ConnCore.{ConnCoreState, ConnState, is_sent}
 use Rattle.sws_steps.specs.Sound.{IsSound}
 use Rattle.sws_steps.specs.Step.{Steps}
-use Rattle.sws_steps.specs.Path.{Handler, open_link, event_of}
+use Rattle.sws_steps.specs.declared.Handler.{Handler}
+use Rattle.sws_steps.specs.declared.Handler.TheVariants as handler
+use Rattle.sws_steps.specs.Path.{event_of}
 use Rattle.sws_steps.specs.Logs.{gives_line, line_of}
 use Rattle.sws_steps.specs.Run.{conn_at_open}
 use Rattle.sws_steps.specs.Talks.{HasRunOpen}
@@ -44,7 +46,7 @@ module _ {Hall Answer : Type 0} (p : Protocol Hall Answer) where
 module _ {Hall Answer L : Type 0} (p : Protocol Hall Answer) (x : LinkWords L) (first : L) where
   -- the link was just given, which gives no line
   pub record JustOpened (trail : List Handler) (told : Bool) : Type 0 where
-    pub trail_is : trail ≡ open_link ∷ []
+    pub trail_is : trail ≡ handler.Open ∷ []
     pub told_is : told ≡ false
 
   -- the last step led here from a run before it, and gave a line where that is told

@@ -6,7 +6,8 @@ ghost use Rattle.sws_steps.specs.ConnCore.{reported_step, told_end};
 ghost use Rattle.sws_steps.specs.ConnCoreFields.{state_of};
 ghost use Rattle.sws_steps.specs.Step.{Steps, StepsFrom, Opens};
 ghost use Rattle.sws_steps.specs.Sound.{IsSound, IsShutAtEnd, core_before_open};
-ghost use Rattle.sws_steps.specs.Path.{FollowsScript, TakesEvent, TakesOff, HasNoEvents, open_link, known_path, known_rest, told_by_link};
+ghost use Rattle.sws_steps.specs.declared.Handler.{Handler};
+ghost use Rattle.sws_steps.specs.Path.{FollowsScript, TakesEvent, TakesOff, HasNoEvents, known_path, known_rest, told_by_link};
 ghost use Rattle.sws_steps.specs.Serving.{BeginsResponses};
 ghost use Rattle.sws_steps.specs.Logs.{bit, gives_line, lines_given};
 ghost use Rattle.sws_steps.specs.Run.{HasRun};
@@ -90,7 +91,7 @@ impl<S: Speech + Drop, L: Link + Drop> SpeechConn<S, L> {
         ensures run { IfOk result (λ _.
             HasRun S.protocol L.Link self.old.conn.standing.hall link [] self.new.conn) }
         ensures path { IfOk result (λ next.
-            TakesOff (open_link ∷ [])
+            TakesOff (Handler.Open ∷ [])
             (known_path S.protocol self.old.conn.standing.hall (L.tells link))
             (known_rest S.protocol L.Link self.new.conn)) }
         ensures told { IfOk result (λ _. self.new.told ≡ false) }

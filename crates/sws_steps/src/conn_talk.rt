@@ -1,7 +1,8 @@
 //! A connection as a talk, whatever its speech.
 ghost use Rattle.std.specs.Prelude.{List, ℕ};
 ghost use Rattle.sws_steps.specs.Outcome.{outcome_of, UnlessMemory};
-ghost use Rattle.sws_steps.specs.Path.{Handler, path_of, known_rest, TakesOff};
+ghost use Rattle.sws_steps.specs.declared.Handler.{Handler};
+ghost use Rattle.sws_steps.specs.Path.{path_of, known_rest, TakesOff};
 ghost use Rattle.sws_steps.specs.Logs.{log_of, steps_of};
 ghost use Rattle.sws_steps.specs.Talks.{due, HasServed, ServesNow, path_to_come, IsDue, LinesServed, StepsServed, talk_view};
 ghost use Rattle.sws_steps.specs.Told.{TalkState, HasRunTold};

@@ -10,6 +10,9 @@
 //! the trait [`Talk`], in which nothing is said of what they talk about.
 #![tactic(auto)]
 
+ghost use Rattle.std.specs.Prelude.{◌≡◌};
+ghost use Rattle.sws_steps.specs.Talks.{due_after};
+
 mod conn;
 mod conn_core;
 mod conn_talk;
@@ -55,4 +58,41 @@ pub enum Next {
     Close,
     /// Nothing more.
     Nothing,
+}
+
+/// What does a step of a connection: the event that a server runs for it.
+#[derive(Clone, Copy, Debug, PartialEq, Eq)]
+pub enum Handler {
+    /// The connection is given its link.
+    Open,
+    /// The link is read.
+    Read,
+    /// The bytes that were taken are searched for a request.
+    Parse,
+    /// The request is answered.
+    Look,
+    /// The answer is written.
+    Write,
+    /// The link is shut.
+    Close,
+    /// The same step is done again that found the link not ready.
+    Resume,
+}
+
+impl Next {
+    /// What does the step that is due after one that answered this; nothing where none is.
+    pub fn handler(self) -> Option<Handler>
+        ensures { result ≡ due_after self }
+    {
+        match self {
+            Next::Open => Some(Handler::Open),
+            Next::Read => Some(Handler::Read),
+            Next::Parse => Some(Handler::Parse),
+            Next::Look => Some(Handler::Look),
+            Next::Write => Some(Handler::Write),
+            Next::Wait => Some(Handler::Resume),
+            Next::Close => Some(Handler::Close),
+            Next::Nothing => None,
+        }
+    }
 }

@@ -5,7 +5,8 @@ ghost use Rattle.sws_link.specs.Scripts.{Script};
 ghost use Rattle.sws_link.specs.Contents.{IsPrefix};
 ghost use Rattle.sws_link.specs.Links.{IsInitialLink};
 ghost use Rattle.sws_steps.specs.Outcome.{Outcome, UnlessMemory};
-ghost use Rattle.sws_steps.specs.Path.{Handler, open_link, TakesOff};
+ghost use Rattle.sws_steps.specs.declared.Handler.{Handler};
+ghost use Rattle.sws_steps.specs.Path.{TakesOff};
 ghost use Rattle.sws_log.specs.declared.line.LogLine.{LogLine as LogLineValue};
 ghost use Rattle.sws_steps.specs.Protocol.{most_input};
 ghost use Rattle.sws_steps.specs.Logs.{Step, bit, IsLineOf, IsLogPrefix};
@@ -87,7 +88,7 @@ pub trait Talk<L: Link>: Sized {
         ensures opens { OpensTalk link_of view_of self.old link result self.new }
         ensures hall { hall_of self.new ≡ hall_of self.old }
         ensures told { IfOk result (λ _. told self.new ≡ false) }
-        ensures runs { IfOk result (λ _. has_run link (open_link ∷ []) self.new) };
+        ensures runs { IfOk result (λ _. has_run link (Handler.Open ∷ []) self.new) };
 
     /// Does the pending step, and answers the next one: `Wait` where the link was not ready
     /// and the same step is pending. Before `open` and after the close it does nothing. An

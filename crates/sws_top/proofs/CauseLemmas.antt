@@ -50,7 +50,7 @@ use Rattle.sws_top.specs.RanAnswer.{RanAnswer}
 use Rattle.sws_top.specs.RanCheck.{WritesFound}
 use Rattle.sws_top.specs.RanGopher.{by_gopher, RanGopher, RanGopherScript, RanGopherServe}
 use Rattle.sws_top.specs.RanReplay.{RanReplay, IsReplayText}
-use Rattle.sws_top.specs.RanServe.{IsBack, LacksWorld, EndsBy, HasServed, RanServe}
+use Rattle.sws_top.specs.RanServe.{IsBack, LacksWorld, EndsBy, HasServedPort, RanServe}
 use Rattle.sws_bench.specs.BenchSummary.{bench_summary}
 use Rattle.sws_top.specs.Ranges.{run_shape}
 use Rattle.sws_top.specs.Scripts.{LacksInput, HasNoInput}
@@ -311,7 +311,7 @@ module _ {F R W L O T G H : Type 0} (f : FolderWords F) (r : SourceWords R) (x :
     either = inl (ap is_some back.back, back.none_ended);
   }
 
-  module _ (port connections : ℕ) (shape : Shape) (log : Bool) (hall : H) (served : HasServed x l o y before.out now.out world outcome port connections shape log hall) where
+  module _ (port connections : ℕ) (shape : Shape) (log : Bool) (hall : H) (served : HasServedPort x l o y before.out now.out world outcome port connections shape log hall) where
     -- there is one verdict
     one_verdict : (conn : ℕ) (v : Verdict) → served.ended.verdict ≡ v → HasLost outcome conn → v ≡ verdict.Apart conn
     one_verdict conn v is lost =

@@ -19,7 +19,7 @@ use Rattle.sws_top.specs.Causes.{HasLost, MayLose}
 use Rattle.sws_top.specs.Hands.{Hands}
 use Rattle.sws_top.specs.Ran.{Ran, RanAs}
 use Rattle.sws_top.specs.RanGopher.{RanGopher, RanGopherServe}
-use Rattle.sws_top.specs.RanServe.{IsBack, HasServed, RanServe}
+use Rattle.sws_top.specs.RanServe.{IsBack, HasServedPort, RanServe}
 use Rattle.sws_top.specs.Ranges.{run_shape, IsInRange}
 
 two_of : (n : ℕ) → 1 ≤ n → (n ≡ 1 → ⊥) → 2 ≤ n
@@ -34,7 +34,7 @@ module _ {W L O T G H : Type 0} (x : WorldWords W L) (l : LinkWords L) (o : Sink
   none_by_steps shape hall first log ended (inl begun) is = (let other : verdict.Apart conn ≡ verdict.Memory = sym is ∙ begun.refused in cc)
   none_by_steps shape hall first log ended (inr run) is = run.never_apart conn is
 
-  none_alone : (port connections : ℕ) (shape : Shape) (log : Bool) (hall : H) → HasServed x l o y out out_now world outcome port connections shape log hall → shape.cores ≡ 1 → ⊥
+  none_alone : (port connections : ℕ) (shape : Shape) (log : Bool) (hall : H) → HasServedPort x l o y out out_now world outcome port connections shape log hall → shape.cores ≡ 1 → ⊥
   none_alone port connections shape log hall served one =
       let same : served.ended ≡ lost.0 = (let e : Some served.ended ≡ Some lost.0 = sym served.there ∙ lost.1 in cc) in
       none_by_steps shape hall served.first log served.ended (served.alone one) (ap (λ (e : Ended W L). e.verdict) same ∙ lost.2)

@@ -31,7 +31,7 @@ use Rattle.sws_replay.specs.declared.fault.RunFault.TheVariants.{Write}
 use Rattle.sws_report.specs.Summary.{summary}
 use Rattle.sws_top.specs.declared.outcomes.Outcome.{Outcome}
 use Rattle.sws_top.specs.Faults.{put_fault_of, fault_of_run}
-use Rattle.sws_top.specs.RanServe.{ends_of, summary_of, CanSumUp, EndsBy, HasServed}
+use Rattle.sws_top.specs.RanServe.{ends_of, summary_of, CanSumUp, EndsBy, HasServedPort}
 use Rattle.sws_top.specs.Texts.{WritesText}
 
 -- ---- what may be called
@@ -119,7 +119,7 @@ module _ {W L T G H : Type 0} (x : WorldWords W L) (l : LinkWords L) (y : TalkWo
   module _ {O : Type 0} (o : SinkWords O) (out out_now : O) (world : W) (outcome : Outcome W L) (port connections : ℕ)
       (listens : Listens x.tells x.faults x.waits world port connections opened.Ready first) where
     pub served_by : ThreadsLeave x l y shape hall first log ended → (shape.cores ≡ 1 → StepsLeave x l y shape hall first log ended) → outcome.ended ≡ Some ended → outcome.world ≡ None
-        → EndsBy o out out_now outcome.fault ended.log.items ended.served.items ended.verdict → HasServed x l o y out out_now world outcome port connections shape log hall
+        → EndsBy o out out_now outcome.fault ended.log.items ended.served.items ended.verdict → HasServedPort x l o y out out_now world outcome port connections shape log hall
     served_by leaves alone there gone ends = record {
       first = first;
       listens = listens;

@@ -14,9 +14,9 @@ use Rattle.sws_top.specs.Scripts.{RunsOnInput}
 use Rattle.sws_top.specs.Sites.{RunsOnSite}
 use Rattle.sws_top.specs.Texts.{WritesText}
 
--- the texts of a replay of HTTP: with a schedule there is one, the transcript and its journal; without
--- it the transcript, and behind it a journal where that is asked for; behind the transcript stands
--- the log, where that is asked for
+-- the texts of a replay of HTTP: with a schedule there is one, the transcript and its journal;
+-- without it the transcript, and behind it a journal where that is asked for; behind the transcript
+-- stands the log, where that is asked for
 abbrev pub IsReplayText : Shape → (journal schedule log : Bool) → SiteState → Input → List ℕ
     → Type 0
 IsReplayText shape journal true log site input = IsScheduledReplay site shape input log

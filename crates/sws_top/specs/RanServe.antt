@@ -81,7 +81,7 @@ module _ {W L O T G H : Type 0} (x : WorldWords W L) (l : LinkWords L) (o : Sink
 
   -- The world was opened at the port for so many connections, and they were served by talks of the
   -- hall, several workers on threads, with the log or without it, with all that this leaves.
-  pub record HasServed (port connections : ℕ) (shape : Shape) (log : Bool)
+  pub record HasServedPort (port connections : ℕ) (shape : Shape) (log : Bool)
       (hall : H) : Type 0 where
     pub first : W
     pub listens : Listens x.tells x.faults x.waits world port connections opened.Ready first
@@ -106,7 +106,7 @@ module _ {W L O T G H : Type 0} (x : WorldWords W L) (l : LinkWords L) (o : Sink
   -- what became of the world, in the hall
   abbrev pub IsServeEnd : (port connections : ℕ) → Shape → (log : Bool) → H → Type 0
   IsServeEnd port connections shape log hall = IsNotReady port connections
-      ⊎ HasServed port connections shape log hall
+      ⊎ HasServedPort port connections shape log hall
 
 module _ {F W L O T G : Type 0} (f : FolderWords F) (x : WorldWords W L) (l : LinkWords L)
     (o : SinkWords O) (y : TalkWords T L G SiteState) (folder folder_now : F) (out out_now : O)

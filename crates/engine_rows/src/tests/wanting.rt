@@ -168,7 +168,7 @@ fn leaves_fronts(rt: &(impl AllocGlobal + Abort + Wait), log: bool) {
     match ended.verdict {
         Verdict::Ok | Verdict::Memory => {}
         Verdict::World => panic!(rt; "the world doesn't fail"),
-        Verdict::Apart { conn: _ } => panic!(rt; "a connection is amiss"),
+        Verdict::Apart { conn: _ } => panic!(rt; "a connection was lost"),
     }
     let answers = if log { [1, 2] } else { [0, 0] };
     has_first_lines(rt, &ended, answers);

@@ -4,8 +4,8 @@ use Rattle.std.proofs.lemmas.Bool.Decides.{eqb_tells, nat_tests}
 use Rattle.std.specs.Prelude.{sum_by, not, nat_lt, ◌==◌, ◌&&◌, ◌||◌, slice_get}
 use Rattle.mely_event.specs.declared.event.Event.{Event}
 use Rattle.sws_steps.specs.declared.talk.Talk.{Ghosts as TalkWords}
-use Rattle.sws_conn.specs.Path.{Handler}
-use Rattle.sws_conn.specs.Path.{open_link, read_piece, parse, look, write_part, resume, close}
+use Rattle.sws_steps.specs.declared.Handler.{Handler}
+use Rattle.sws_steps.specs.declared.Handler.TheVariants as handler
 use Rattle.sws_conn.specs.Talks.{due}
 use Rattle.sws_engine.specs.declared.load.WorldLoad.{WorldLoad}
 use Rattle.sws_engine.specs.declared.place.Desk.{Desk}
@@ -57,13 +57,13 @@ at_seat_where own f Logging none = refl
 
 none_due : (d : Option Handler) → (3 ≤ first_number d → first_number d ≤ 9 → ⊥) → d ≡ None
 none_due None never = refl
-none_due (Some open_link) never = absurd (never (omega arith) (omega arith))
-none_due (Some read_piece) never = absurd (never (omega arith) (omega arith))
-none_due (Some parse) never = absurd (never (omega arith) (omega arith))
-none_due (Some look) never = absurd (never (omega arith) (omega arith))
-none_due (Some write_part) never = absurd (never (omega arith) (omega arith))
-none_due (Some resume) never = absurd (never (omega arith) (omega arith))
-none_due (Some close) never = absurd (never (omega arith) (omega arith))
+none_due (Some handler.Open) never = absurd (never (omega arith) (omega arith))
+none_due (Some handler.Read) never = absurd (never (omega arith) (omega arith))
+none_due (Some handler.Parse) never = absurd (never (omega arith) (omega arith))
+none_due (Some handler.Look) never = absurd (never (omega arith) (omega arith))
+none_due (Some handler.Write) never = absurd (never (omega arith) (omega arith))
+none_due (Some handler.Resume) never = absurd (never (omega arith) (omega arith))
+none_due (Some handler.Close) never = absurd (never (omega arith) (omega arith))
 
 -- a number that isn't another is it
 is_number : (i n : ℕ) → bit (not (i == n)) ≡ 0 → i ≡ n

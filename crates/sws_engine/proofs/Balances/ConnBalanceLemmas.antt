@@ -7,15 +7,16 @@ use Rattle.mely_event.specs.declared.colour.Colour.{Colour}
 use Rattle.mely_event.specs.declared.event.Event.{Event}
 use Rattle.mely_tally.specs.Tallies.{carried_by}
 use Rattle.sws_steps.specs.declared.talk.Talk.{Ghosts as TalkWords}
-use Rattle.sws_conn.specs.Path.{Handler}
-use Rattle.sws_conn.specs.Path.{open_link, read_piece, parse, look, write_part, resume, close}
+use Rattle.sws_steps.specs.declared.Handler.{Handler}
+use Rattle.sws_steps.specs.declared.Handler.TheVariants as handler
 use Rattle.sws_conn.specs.Talks.{due}
 use Rattle.sws_engine.specs.declared.load.WorldLoad.{WorldLoad}
 use Rattle.sws_engine.specs.declared.place.Seat.{Seat}
 use Rattle.sws_engine.specs.declared.place.Role.{Role}
 use Rattle.sws_engine.specs.declared.place.Role.TheVariants.{Talking}
 use Rattle.sws_engine.specs.Place.{PlaceState}
-use Rattle.sws_engine.specs.Handling.{number_of, next_put, next_puts, is_some}
+use Rattle.sws_engine.specs.Tasks.{number_of}
+use Rattle.sws_engine.specs.Handling.{next_put, next_puts, is_some}
 use Rattle.sws_engine.specs.RunStands.{Way, if_held, is_any, is_beyond, is_late, is_unended, at_desk, at_seat, misplaced_at, first_number, due_number, is_stray, worlds, beyond, early, unended_count, asks_for, is_at, is_opened}
 use Rattle.sws_engine.proofs.Balances.BalanceLemmas.{Balance}
 use Rattle.sws_engine.specs.Counting.{bit, times}
@@ -54,13 +55,13 @@ module _ (W L : Type 0) where
 
   first_asks : (d : Option Handler) (i0 i n : ℕ) → 3 ≤ n → n ≤ 8 → sum_by (asks_for n i) (ways_of i0 d) ≡ bit ((i0 + 2 == i + 2) && (first_number d == n))
   first_asks None i0 i n more less = let no : (0 == n) ≡ false = ne_eqb 0 n (λ e. absurd (omega (arith, e, more))) in sym (ap (λ b. bit ((i0 + 2 == i + 2) && b)) no ∙ bit_no (i0 + 2 == i + 2))
-  first_asks (Some open_link) i0 i n more less = step_asks open_link i0 i n refl
-  first_asks (Some read_piece) i0 i n more less = step_asks read_piece i0 i n refl
-  first_asks (Some parse) i0 i n more less = step_asks parse i0 i n refl
-  first_asks (Some look) i0 i n more less = step_asks look i0 i n refl
-  first_asks (Some write_part) i0 i n more less = step_asks write_part i0 i n refl
-  first_asks (Some close) i0 i n more less = step_asks close i0 i n refl
-  first_asks (Some resume) i0 i n more less =
+  first_asks (Some handler.Open) i0 i n more less = step_asks handler.Open i0 i n refl
+  first_asks (Some handler.Read) i0 i n more less = step_asks handler.Read i0 i n refl
+  first_asks (Some handler.Parse) i0 i n more less = step_asks handler.Parse i0 i n refl
+  first_asks (Some handler.Look) i0 i n more less = step_asks handler.Look i0 i n refl
+  first_asks (Some handler.Write) i0 i n more less = step_asks handler.Write i0 i n refl
+  first_asks (Some handler.Close) i0 i n more less = step_asks handler.Close i0 i n refl
+  first_asks (Some handler.Resume) i0 i n more less =
       let no : (1 == n) ≡ false = ne_eqb 1 n (λ e. absurd (omega (arith, e, more))) in
       let nine : (9 == n) ≡ false = ne_eqb 9 n (λ e. absurd (omega (arith, e, less))) in
       ap (λ b. 0 + bit (b && (i0 == i))) no ∙ sym (ap (λ b. bit ((i0 + 2 == i + 2) && b)) nine ∙ bit_no (i0 + 2 == i + 2))
@@ -73,26 +74,26 @@ module _ (W L : Type 0) where
 
   first_waits : (d : Option Handler) (i0 i : ℕ) → sum_by (asks_for 9 i) (ways_of i0 d) + sum_by (asks_for 1 i) (ways_of i0 d) ≡ bit ((i0 + 2 == i + 2) && (first_number d == 9))
   first_waits None i0 i = let no = bit_no (i0 + 2 == i + 2) in omega (arith, no)
-  first_waits (Some open_link) i0 i = other_waits open_link i0 i refl refl refl
-  first_waits (Some read_piece) i0 i = other_waits read_piece i0 i refl refl refl
-  first_waits (Some parse) i0 i = other_waits parse i0 i refl refl refl
-  first_waits (Some look) i0 i = other_waits look i0 i refl refl refl
-  first_waits (Some write_part) i0 i = other_waits write_part i0 i refl refl refl
-  first_waits (Some close) i0 i = other_waits close i0 i refl refl refl
-  first_waits (Some resume) i0 i =
+  first_waits (Some handler.Open) i0 i = other_waits handler.Open i0 i refl refl refl
+  first_waits (Some handler.Read) i0 i = other_waits handler.Read i0 i refl refl refl
+  first_waits (Some handler.Parse) i0 i = other_waits handler.Parse i0 i refl refl refl
+  first_waits (Some handler.Look) i0 i = other_waits handler.Look i0 i refl refl refl
+  first_waits (Some handler.Write) i0 i = other_waits handler.Write i0 i refl refl refl
+  first_waits (Some handler.Close) i0 i = other_waits handler.Close i0 i refl refl refl
+  first_waits (Some handler.Resume) i0 i =
       let e : bit (i0 == i) ≡ bit ((i0 + 2 == i + 2) && true) = bit_swap true (i0 == i) ∙ ap (λ b. bit (b && true)) (sym (plus_two i0 i)) in
       omega (arith, e)
 
   -- no world is put
   no_world : (f : Way W L → ℕ) → ((e : Way W L) → world_of e.1 ≡ None → f e ≡ 0) → (d : Option Handler) (i0 : ℕ) → sum_by f (ways_of i0 d) ≡ 0
   no_world f vanish None i0 = omega arith
-  no_world f vanish (Some open_link) i0 = omega (arith, vanish (record { handler = 3; arg = i0 }, None) refl)
-  no_world f vanish (Some read_piece) i0 = omega (arith, vanish (record { handler = 4; arg = i0 }, None) refl)
-  no_world f vanish (Some parse) i0 = omega (arith, vanish (record { handler = 5; arg = i0 }, None) refl)
-  no_world f vanish (Some look) i0 = omega (arith, vanish (record { handler = 6; arg = i0 }, None) refl)
-  no_world f vanish (Some write_part) i0 = omega (arith, vanish (record { handler = 7; arg = i0 }, None) refl)
-  no_world f vanish (Some close) i0 = omega (arith, vanish (record { handler = 8; arg = i0 }, None) refl)
-  no_world f vanish (Some resume) i0 = omega (arith, vanish (record { handler = 1; arg = i0 }, None) refl)
+  no_world f vanish (Some handler.Open) i0 = omega (arith, vanish (record { handler = 3; arg = i0 }, None) refl)
+  no_world f vanish (Some handler.Read) i0 = omega (arith, vanish (record { handler = 4; arg = i0 }, None) refl)
+  no_world f vanish (Some handler.Parse) i0 = omega (arith, vanish (record { handler = 5; arg = i0 }, None) refl)
+  no_world f vanish (Some handler.Look) i0 = omega (arith, vanish (record { handler = 6; arg = i0 }, None) refl)
+  no_world f vanish (Some handler.Write) i0 = omega (arith, vanish (record { handler = 7; arg = i0 }, None) refl)
+  no_world f vanish (Some handler.Close) i0 = omega (arith, vanish (record { handler = 8; arg = i0 }, None) refl)
+  no_world f vanish (Some handler.Resume) i0 = omega (arith, vanish (record { handler = 1; arg = i0 }, None) refl)
 
 pub held_none : {W : Type 0} (test : WorldLoad W → Bool) (held : Option (WorldLoad W)) → held ≡ None → if_held test held ≡ 0
 held_none test held none = ap (λ o. if_held test o) none

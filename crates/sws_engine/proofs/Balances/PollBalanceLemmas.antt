@@ -12,7 +12,7 @@ use Rattle.sws_link.specs.declared.world.World.{Ghosts as WorldWords}
 use Rattle.sws_link.specs.declared.Polled.{Polled}
 use Rattle.sws_link.specs.declared.Polled.TheVariants as polled
 use Rattle.sws_steps.specs.declared.talk.Talk.{Ghosts as TalkWords}
-use Rattle.sws_conn.specs.Path.{resume}
+use Rattle.sws_steps.specs.declared.Handler.TheVariants as handler
 use Rattle.sws_engine.specs.declared.load.WorldLoad.{WorldLoad}
 use Rattle.sws_engine.specs.declared.place.Desk.{Desk}
 use Rattle.sws_engine.specs.declared.place.Role.TheVariants.{Polling}
@@ -44,7 +44,7 @@ and_not false b is = refl
 
 module _ (W L : Type 0) where
   abbrev resumes : List ℕ → List (Way W L)
-  resumes rs = carried_by (map (λ i. step_put {W = W} {L = L} i resume) rs)
+  resumes rs = carried_by (map (λ i. step_put {W = W} {L = L} i handler.Resume) rs)
 
   resumes_none : (f : Way W L → ℕ) → ((i : ℕ) → f (record { handler = 9; arg = i }, None) ≡ 0) → (rs : List ℕ) → sum_by f (resumes rs) ≡ 0
   resumes_none f none [] = omega arith
@@ -164,7 +164,7 @@ module _ {W L T G H : Type 0} (y : TalkWords T L G H) (x : WorldWords W L) (l : 
   puts_split : (f : Way W L → ℕ) → sum_by f (carried_by puts0) ≡ sum_by f (resumes W L done.resumed) + sum_by f (carried_by (onward {W = W} {L = L} asked.last done.waiting goes_with))
   puts_split f =
       ap (λ ps. sum_by f (carried_by ps)) does.puts_are
-      ∙ ap (sum_by f) (map-append (λ (q : Put W L). (q.1, q.2)) (map (λ i. step_put {W = W} {L = L} i resume) done.resumed) (onward asked.last done.waiting goes_with))
+      ∙ ap (sum_by f) (map-append (λ (q : Put W L). (q.1, q.2)) (map (λ i. step_put {W = W} {L = L} i handler.Resume) done.resumed) (onward asked.last done.waiting goes_with))
       ∙ sum_by-append f (resumes W L done.resumed) (carried_by (onward {W = W} {L = L} asked.last done.waiting goes_with))
 
   rest_is : after.resting ≡ rest_of asked.last done.waiting goes_with None

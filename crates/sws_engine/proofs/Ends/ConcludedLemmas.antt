@@ -53,7 +53,7 @@ use Rattle.sws_engine.specs.Handling.{conn_of}
 use Rattle.sws_engine.specs.declared.place.Seat.{Seat}
 use Rattle.sws_engine.specs.declared.place.Role.{Role}
 use Rattle.sws_engine.specs.declared.place.Role.TheVariants.{Talking, Logging}
-use Rattle.sws_engine.specs.RunLeaves.{lines_kept, is_out_of_turn, is_amiss, talkers, resting_in, ShowsSeat, RoleTells, StateTells, is_lacking, is_out_of_memory, IsJudged, VerdictIs}
+use Rattle.sws_engine.specs.RunLeaves.{lines_kept, is_out_of_turn, is_lost, talkers, resting_in, ShowsSeat, RoleTells, StateTells, is_lacking, is_out_of_memory, IsJudged, VerdictIs}
 use Rattle.sws_engine.specs.declared.left.Left.{Left}
 use Rattle.sws_engine.specs.Handing.{place_link, served_with_load, served_with_loads, HandsOut}
 use Rattle.sws_engine.specs.Conclusion.{is_empty, is_whole, accepted_of, failed_of, ways_of, world_found, IsConcluded}
@@ -234,9 +234,9 @@ module _ {W L T G H : Type 0} (x : WorldWords W L) (l : LinkWords L) (y : TalkWo
   -- a connection over a script followed it, where nothing is due on it once it has its end
   pub conn_follows : ended.served.items ≡ is.found → (i : ℕ) → ((place : PlaceState H W T) (seat : Seat T) → slice_get parts.states.items (i + 2) ≡ Some place → place.role ≡ Talking seat → (y.view_of seat.talk).pending ≡ next.Nothing → IsSome (y.view_of seat.talk).end → due (y.view_of seat.talk) ≡ None)
       → (coming : List Coming) (one : Coming) (script : Script) (s : Served L) (trail : List Event) → (x.tells first).coming ≡ Some coming → slice_get coming i ≡ Some one → one.answers ≡ Some script
-      → slice_get ended.served.items i ≡ Some s → slice_get (map (λ t. t.items) ended.trails.items) (i + 2) ≡ Some trail → is_amiss (lines_kept log ended.log.items) i s ≡ false → is_out_of_memory s.end ≡ false → ConnFollows l y hall i script trail s
-  conn_follows served_are i closed_by coming one script s trail known at answers there run_of not_amiss enough =
-      let whole = no_lack (is_lacking s) (is_out_of_turn (lines_kept log ended.log.items) i s) not_amiss in
+      → slice_get ended.served.items i ≡ Some s → slice_get (map (λ t. t.items) ended.trails.items) (i + 2) ≡ Some trail → is_lost (lines_kept log ended.log.items) i s ≡ false → is_out_of_memory s.end ≡ false → ConnFollows l y hall i script trail s
+  conn_follows served_are i closed_by coming one script s trail known at answers there run_of not_lost enough =
+      let whole = no_lack (is_lacking s) (is_out_of_turn (lines_kept log ended.log.items) i s) not_lost in
       let here : slice_get is.found i ≡ Some s = ap (λ (all : List (Served L)). slice_get all i) (sym served_are) ∙ there in
       let within = slice_get_within is.found i s here in
       let shown = is.shows.many in
@@ -329,7 +329,7 @@ module _ {W L T G H : Type 0} (x : WorldWords W L) (l : LinkWords L) (y : TalkWo
       let lines = subst (λ (h : H). LinesServed (y.log h i) (l.tells served.0) (y.view_of left.seat.talk)) left.over.0 (subst (λ (n : ℕ). LinesServed (y.log left.place.hall n) (l.tells served.0) (y.view_of left.seat.talk)) conn_is served.3) in
       subst (λ (o : Option LinkContents). LinesServed (y.log hall i) o (y.view_of left.seat.talk)) tells lines
 
-  pub lines_of : log ≡ true → (coming : List Coming) (one : Coming) (i : ℕ) (s : Served L) → (x.tells first).coming ≡ Some coming → slice_get coming i ≡ Some one → slice_get ended.served.items i ≡ Some s → is_amiss (lines_kept log ended.log.items) i s ≡ false
+  pub lines_of : log ≡ true → (coming : List Coming) (one : Coming) (i : ℕ) (s : Served L) → (x.tells first).coming ≡ Some coming → slice_get coming i ≡ Some one → slice_get ended.served.items i ≡ Some s → is_lost (lines_kept log ended.log.items) i s ≡ false
       → lines_for i ended.log.items ≡ lines_within s.written (y.log hall i (input_of (initial_contents one)))
   lines_of on coming one i s known at there whole =
       let within = slice_get_within ended.served.items i s there in

@@ -15,6 +15,7 @@ use Rattle.sws_engine.specs.declared.load.WorldLoad.{WorldLoad}
 use Rattle.sws_engine.specs.declared.load.Load.{Load}
 use Rattle.sws_engine.specs.declared.load.Load.TheVariants as load
 use Rattle.sws_engine.specs.declared.task.Task.{Task}
+use Rattle.sws_steps.specs.declared.Handler.TheVariants as handler
 use Rattle.sws_engine.specs.declared.task.Task.TheVariants as task
 use Rattle.sws_engine.specs.Tasks.{task_of}
 use Rattle.sws_engine.specs.Loads.{Fit, TaskFits, WorldStands, LinkStands}
@@ -33,26 +34,26 @@ module _ {W L : Type 0} (x : WorldWords W L) (l : LinkWords L) (first : W) where
   carried_by_task c arg which None fit = tt
   carried_by_task c arg (Some task.Poll) (Some (load.World held)) fit = fit.stands
   carried_by_task c arg (Some task.Accept) (Some (load.World held)) fit = fit.stands
-  carried_by_task c arg (Some task.Open) (Some (load.Link link)) fit = fit.initial
+  carried_by_task c arg (Some (task.Step handler.Open)) (Some (load.Link link)) fit = fit.initial
   carried_by_task c arg which (Some (load.Line line)) fit = tt
   carried_by_task c arg None (Some carried) fit = absurd fit
   carried_by_task c arg (Some task.Poll) (Some (load.Link link)) fit = absurd fit
   carried_by_task c arg (Some task.Wait) (Some (load.World held)) fit = absurd fit
   carried_by_task c arg (Some task.Wait) (Some (load.Link link)) fit = absurd fit
   carried_by_task c arg (Some task.Accept) (Some (load.Link link)) fit = absurd fit
-  carried_by_task c arg (Some task.Open) (Some (load.World held)) fit = absurd fit
-  carried_by_task c arg (Some task.Read) (Some (load.World held)) fit = absurd fit
-  carried_by_task c arg (Some task.Read) (Some (load.Link link)) fit = absurd fit
-  carried_by_task c arg (Some task.Parse) (Some (load.World held)) fit = absurd fit
-  carried_by_task c arg (Some task.Parse) (Some (load.Link link)) fit = absurd fit
-  carried_by_task c arg (Some task.Look) (Some (load.World held)) fit = absurd fit
-  carried_by_task c arg (Some task.Look) (Some (load.Link link)) fit = absurd fit
-  carried_by_task c arg (Some task.Write) (Some (load.World held)) fit = absurd fit
-  carried_by_task c arg (Some task.Write) (Some (load.Link link)) fit = absurd fit
-  carried_by_task c arg (Some task.Close) (Some (load.World held)) fit = absurd fit
-  carried_by_task c arg (Some task.Close) (Some (load.Link link)) fit = absurd fit
-  carried_by_task c arg (Some task.Resume) (Some (load.World held)) fit = absurd fit
-  carried_by_task c arg (Some task.Resume) (Some (load.Link link)) fit = absurd fit
+  carried_by_task c arg (Some (task.Step handler.Open)) (Some (load.World held)) fit = absurd fit
+  carried_by_task c arg (Some (task.Step handler.Read)) (Some (load.World held)) fit = absurd fit
+  carried_by_task c arg (Some (task.Step handler.Read)) (Some (load.Link link)) fit = absurd fit
+  carried_by_task c arg (Some (task.Step handler.Parse)) (Some (load.World held)) fit = absurd fit
+  carried_by_task c arg (Some (task.Step handler.Parse)) (Some (load.Link link)) fit = absurd fit
+  carried_by_task c arg (Some (task.Step handler.Look)) (Some (load.World held)) fit = absurd fit
+  carried_by_task c arg (Some (task.Step handler.Look)) (Some (load.Link link)) fit = absurd fit
+  carried_by_task c arg (Some (task.Step handler.Write)) (Some (load.World held)) fit = absurd fit
+  carried_by_task c arg (Some (task.Step handler.Write)) (Some (load.Link link)) fit = absurd fit
+  carried_by_task c arg (Some (task.Step handler.Close)) (Some (load.World held)) fit = absurd fit
+  carried_by_task c arg (Some (task.Step handler.Close)) (Some (load.Link link)) fit = absurd fit
+  carried_by_task c arg (Some (task.Step handler.Resume)) (Some (load.World held)) fit = absurd fit
+  carried_by_task c arg (Some (task.Step handler.Resume)) (Some (load.Link link)) fit = absurd fit
   carried_by_task c arg (Some task.Log) (Some (load.World held)) fit = absurd fit
   carried_by_task c arg (Some task.Log) (Some (load.Link link)) fit = absurd fit
 

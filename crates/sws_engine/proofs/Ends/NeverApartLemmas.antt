@@ -1,4 +1,4 @@
--- What a run by steps leaves: nothing is ever amiss.
+-- What a run by steps leaves: no connection is ever lost.
 use Rattle.std.proofs.Common.{◌≡◌, ℕ, zero, suc, ◌∷◌, ◌+◌, ◌≤◌, ◌<◌, Bool, true, false, true≢false, List, [], ◌++◌, Option, None, Some, length, map, refl, sym, ◌∙◌, ap, subst, arith, inl, inr}
 use Rattle.std.proofs.lemmas.Option.{same_Some, slice_get_within}
 use Rattle.std.proofs.lemmas.Bool.Decides.{nat_tests}

@@ -15,7 +15,7 @@ use Rattle.sws_link.specs.declared.world.World.{Ghosts as WorldWords}
 use Rattle.sws_link.specs.declared.Polled.{Polled}
 use Rattle.sws_link.specs.declared.Polled.TheVariants as polled
 use Rattle.sws_link.specs.Worlds.{WorldContents, Polls, first_ready}
-use Rattle.sws_conn.specs.Path.{resume}
+use Rattle.sws_steps.specs.declared.Handler.TheVariants as handler
 use Rattle.sws_engine.specs.declared.load.WorldLoad.{WorldLoad}
 use Rattle.sws_engine.specs.declared.place.Desk.{Desk}
 use Rattle.sws_engine.specs.Loads.{WorldStands, PollFits, Fit}
@@ -144,7 +144,7 @@ module _ {W L : Type 0} (x : WorldWords W L) (l : LinkWords L) (first : W) where
     resumed_below : AllByRecursion (λ w. w < total) (resumed_one asked).resumed
     resumed_below = all_below total (resumed_one asked).resumed (λ i high. let d = done_count i in let o = stands.below i high in omega (arith, d, o))
 
-    resume_fits : (w : ℕ) → w < total → PutFits (step_put w resume)
+    resume_fits : (w : ℕ) → w < total → PutFits (step_put w handler.Resume)
     resume_fits w low = record { colour = omega (arith, low); handler = omega arith; load = record { colour = refl; conn = low } }
 
     -- more links are to come only where the event says so
@@ -169,8 +169,8 @@ module _ {W L : Type 0} (x : WorldWords W L) (l : LinkWords L) (first : W) where
 
     pub poll_puts_fit : AllByRecursion PutFits puts
     poll_puts_fit = subst (λ (ps : List (Put W L)). AllByRecursion PutFits ps) (sym runs.puts_are)
-        (each_append PutFits (map (λ i. step_put {W = W} {L = L} i resume) (resumed_one asked).resumed) (onward asked.last (resumed_one asked).waiting goes)
-        (each_map (λ w. w < total) PutFits (λ i. step_put {W = W} {L = L} i resume) resume_fits (resumed_one asked).resumed resumed_below)
+        (each_append PutFits (map (λ i. step_put {W = W} {L = L} i handler.Resume) (resumed_one asked).resumed) (onward asked.last (resumed_one asked).waiting goes)
+        (each_map (λ w. w < total) PutFits (λ i. step_put {W = W} {L = L} i handler.Resume) resume_fits (resumed_one asked).resumed resumed_below)
         (onward_fits asked.last (resumed_one asked).waiting refl))
 
     resuming_few : (failed : Bool) (waiting : List ℕ) → length asked.resumed ≤ 1 → (failed ≡ true → asked.resumed ≡ []) → length (resume_first failed waiting asked).resumed ≤ 1
@@ -198,7 +198,7 @@ module _ {W L : Type 0} (x : WorldWords W L) (l : LinkWords L) (first : W) where
         let r = resuming_few asked.failed asked.waiting few.0 few.1 in
         let o = onward_few asked.last (resumed_one asked).waiting in
         let e = ap length runs.puts_are in
-        omega (arith, e, length-append (map (λ i. step_put {W = W} {L = L} i resume) (resumed_one asked).resumed) (onward asked.last (resumed_one asked).waiting goes), length-map (resumed_one asked).resumed (λ i. step_put {W = W} {L = L} i resume), r, o)
+        omega (arith, e, length-append (map (λ i. step_put {W = W} {L = L} i handler.Resume) (resumed_one asked).resumed) (onward asked.last (resumed_one asked).waiting goes), length-map (resumed_one asked).resumed (λ i. step_put {W = W} {L = L} i handler.Resume), r, o)
 
   -- ---- a wait
 

@@ -8,6 +8,7 @@ use Rattle.sws_engine.specs.declared.load.WorldLoad.{WorldLoad}
 use Rattle.sws_engine.specs.declared.load.Load.{Load}
 use Rattle.sws_engine.specs.declared.load.Load.TheVariants as load
 use Rattle.sws_engine.specs.declared.task.Task.{Task}
+use Rattle.sws_steps.specs.declared.Handler.TheVariants as handler
 use Rattle.sws_engine.specs.declared.task.Task.TheVariants as task
 use Rattle.sws_engine.specs.Tasks.{task_of, number_of_task}
 use Rattle.sws_log.specs.declared.line.LogLine.{LogLine}
@@ -17,13 +18,13 @@ pub number_is : (h : ℕ) (t : Task) → task_of h ≡ Some t → h ≡ number_o
 number_is zero t is = ap number_of_task (same_Some task.Poll t is)
 number_is (suc zero) t is = ap number_of_task (same_Some task.Wait t is)
 number_is (suc (suc zero)) t is = ap number_of_task (same_Some task.Accept t is)
-number_is (suc (suc (suc zero))) t is = ap number_of_task (same_Some task.Open t is)
-number_is (suc (suc (suc (suc zero)))) t is = ap number_of_task (same_Some task.Read t is)
-number_is (suc (suc (suc (suc (suc zero))))) t is = ap number_of_task (same_Some task.Parse t is)
-number_is (suc (suc (suc (suc (suc (suc zero)))))) t is = ap number_of_task (same_Some task.Look t is)
-number_is (suc (suc (suc (suc (suc (suc (suc zero))))))) t is = ap number_of_task (same_Some task.Write t is)
-number_is (suc (suc (suc (suc (suc (suc (suc (suc zero)))))))) t is = ap number_of_task (same_Some task.Close t is)
-number_is (suc (suc (suc (suc (suc (suc (suc (suc (suc zero))))))))) t is = ap number_of_task (same_Some task.Resume t is)
+number_is (suc (suc (suc zero))) t is = ap number_of_task (same_Some (task.Step handler.Open) t is)
+number_is (suc (suc (suc (suc zero)))) t is = ap number_of_task (same_Some (task.Step handler.Read) t is)
+number_is (suc (suc (suc (suc (suc zero))))) t is = ap number_of_task (same_Some (task.Step handler.Parse) t is)
+number_is (suc (suc (suc (suc (suc (suc zero)))))) t is = ap number_of_task (same_Some (task.Step handler.Look) t is)
+number_is (suc (suc (suc (suc (suc (suc (suc zero))))))) t is = ap number_of_task (same_Some (task.Step handler.Write) t is)
+number_is (suc (suc (suc (suc (suc (suc (suc (suc zero)))))))) t is = ap number_of_task (same_Some (task.Step handler.Close) t is)
+number_is (suc (suc (suc (suc (suc (suc (suc (suc (suc zero))))))))) t is = ap number_of_task (same_Some (task.Step handler.Resume) t is)
 number_is (suc (suc (suc (suc (suc (suc (suc (suc (suc (suc zero)))))))))) t is = ap number_of_task (same_Some task.Log t is)
 number_is (suc (suc (suc (suc (suc (suc (suc (suc (suc (suc (suc h))))))))))) t is = absurd (none-some t is)
 
@@ -42,35 +43,35 @@ module _ {W L : Type 0} (x : WorldWords W L) (l : LinkWords L) (first : W) where
   conn_fit c arg (Some task.Poll) None low fit = absurd fit
   conn_fit c arg (Some task.Wait) None low fit = let z = fit.colour in let more = low.0 in absurd (omega (arith, z, more))
   conn_fit c arg (Some task.Accept) None low fit = absurd fit
-  conn_fit c arg (Some task.Open) None low fit = absurd fit
-  conn_fit c arg (Some task.Read) None low fit = record { t = task.Read; is = refl; step = fit; no_world = refl; some = omega arith; few = omega arith }
-  conn_fit c arg (Some task.Parse) None low fit = record { t = task.Parse; is = refl; step = fit; no_world = refl; some = omega arith; few = omega arith }
-  conn_fit c arg (Some task.Look) None low fit = record { t = task.Look; is = refl; step = fit; no_world = refl; some = omega arith; few = omega arith }
-  conn_fit c arg (Some task.Write) None low fit = record { t = task.Write; is = refl; step = fit; no_world = refl; some = omega arith; few = omega arith }
-  conn_fit c arg (Some task.Close) None low fit = record { t = task.Close; is = refl; step = fit; no_world = refl; some = omega arith; few = omega arith }
-  conn_fit c arg (Some task.Resume) None low fit = record { t = task.Resume; is = refl; step = fit; no_world = refl; some = omega arith; few = omega arith }
+  conn_fit c arg (Some (task.Step handler.Open)) None low fit = absurd fit
+  conn_fit c arg (Some (task.Step handler.Read)) None low fit = record { t = task.Step handler.Read; is = refl; step = fit; no_world = refl; some = omega arith; few = omega arith }
+  conn_fit c arg (Some (task.Step handler.Parse)) None low fit = record { t = task.Step handler.Parse; is = refl; step = fit; no_world = refl; some = omega arith; few = omega arith }
+  conn_fit c arg (Some (task.Step handler.Look)) None low fit = record { t = task.Step handler.Look; is = refl; step = fit; no_world = refl; some = omega arith; few = omega arith }
+  conn_fit c arg (Some (task.Step handler.Write)) None low fit = record { t = task.Step handler.Write; is = refl; step = fit; no_world = refl; some = omega arith; few = omega arith }
+  conn_fit c arg (Some (task.Step handler.Close)) None low fit = record { t = task.Step handler.Close; is = refl; step = fit; no_world = refl; some = omega arith; few = omega arith }
+  conn_fit c arg (Some (task.Step handler.Resume)) None low fit = record { t = task.Step handler.Resume; is = refl; step = fit; no_world = refl; some = omega arith; few = omega arith }
   conn_fit c arg None (Some (load.World held)) low fit = absurd fit
   conn_fit c arg (Some task.Poll) (Some (load.World held)) low fit = let z = fit.colour in let more = low.0 in absurd (omega (arith, z, more))
   conn_fit c arg (Some task.Wait) (Some (load.World held)) low fit = absurd fit
   conn_fit c arg (Some task.Accept) (Some (load.World held)) low fit = let z = fit.colour in let more = low.0 in absurd (omega (arith, z, more))
-  conn_fit c arg (Some task.Open) (Some (load.World held)) low fit = absurd fit
-  conn_fit c arg (Some task.Read) (Some (load.World held)) low fit = absurd fit
-  conn_fit c arg (Some task.Parse) (Some (load.World held)) low fit = absurd fit
-  conn_fit c arg (Some task.Look) (Some (load.World held)) low fit = absurd fit
-  conn_fit c arg (Some task.Write) (Some (load.World held)) low fit = absurd fit
-  conn_fit c arg (Some task.Close) (Some (load.World held)) low fit = absurd fit
-  conn_fit c arg (Some task.Resume) (Some (load.World held)) low fit = absurd fit
+  conn_fit c arg (Some (task.Step handler.Open)) (Some (load.World held)) low fit = absurd fit
+  conn_fit c arg (Some (task.Step handler.Read)) (Some (load.World held)) low fit = absurd fit
+  conn_fit c arg (Some (task.Step handler.Parse)) (Some (load.World held)) low fit = absurd fit
+  conn_fit c arg (Some (task.Step handler.Look)) (Some (load.World held)) low fit = absurd fit
+  conn_fit c arg (Some (task.Step handler.Write)) (Some (load.World held)) low fit = absurd fit
+  conn_fit c arg (Some (task.Step handler.Close)) (Some (load.World held)) low fit = absurd fit
+  conn_fit c arg (Some (task.Step handler.Resume)) (Some (load.World held)) low fit = absurd fit
   conn_fit c arg None (Some (load.Link link)) low fit = absurd fit
   conn_fit c arg (Some task.Poll) (Some (load.Link link)) low fit = absurd fit
   conn_fit c arg (Some task.Wait) (Some (load.Link link)) low fit = absurd fit
   conn_fit c arg (Some task.Accept) (Some (load.Link link)) low fit = absurd fit
-  conn_fit c arg (Some task.Open) (Some (load.Link link)) low fit = record { t = task.Open; is = refl; step = fit.step; no_world = refl; some = omega arith; few = omega arith }
-  conn_fit c arg (Some task.Read) (Some (load.Link link)) low fit = absurd fit
-  conn_fit c arg (Some task.Parse) (Some (load.Link link)) low fit = absurd fit
-  conn_fit c arg (Some task.Look) (Some (load.Link link)) low fit = absurd fit
-  conn_fit c arg (Some task.Write) (Some (load.Link link)) low fit = absurd fit
-  conn_fit c arg (Some task.Close) (Some (load.Link link)) low fit = absurd fit
-  conn_fit c arg (Some task.Resume) (Some (load.Link link)) low fit = absurd fit
+  conn_fit c arg (Some (task.Step handler.Open)) (Some (load.Link link)) low fit = record { t = task.Step handler.Open; is = refl; step = fit.step; no_world = refl; some = omega arith; few = omega arith }
+  conn_fit c arg (Some (task.Step handler.Read)) (Some (load.Link link)) low fit = absurd fit
+  conn_fit c arg (Some (task.Step handler.Parse)) (Some (load.Link link)) low fit = absurd fit
+  conn_fit c arg (Some (task.Step handler.Look)) (Some (load.Link link)) low fit = absurd fit
+  conn_fit c arg (Some (task.Step handler.Write)) (Some (load.Link link)) low fit = absurd fit
+  conn_fit c arg (Some (task.Step handler.Close)) (Some (load.Link link)) low fit = absurd fit
+  conn_fit c arg (Some (task.Step handler.Resume)) (Some (load.Link link)) low fit = absurd fit
   conn_fit c arg (Some task.Log) None low fit = absurd fit
   conn_fit c arg (Some task.Log) (Some (load.World held)) low fit = absurd fit
   conn_fit c arg (Some task.Log) (Some (load.Link link)) low fit = absurd fit
@@ -78,13 +79,13 @@ module _ {W L : Type 0} (x : WorldWords W L) (l : LinkWords L) (first : W) where
   conn_fit c arg (Some task.Poll) (Some (load.Line line)) low fit = absurd fit
   conn_fit c arg (Some task.Wait) (Some (load.Line line)) low fit = absurd fit
   conn_fit c arg (Some task.Accept) (Some (load.Line line)) low fit = absurd fit
-  conn_fit c arg (Some task.Open) (Some (load.Line line)) low fit = absurd fit
-  conn_fit c arg (Some task.Read) (Some (load.Line line)) low fit = absurd fit
-  conn_fit c arg (Some task.Parse) (Some (load.Line line)) low fit = absurd fit
-  conn_fit c arg (Some task.Look) (Some (load.Line line)) low fit = absurd fit
-  conn_fit c arg (Some task.Write) (Some (load.Line line)) low fit = absurd fit
-  conn_fit c arg (Some task.Close) (Some (load.Line line)) low fit = absurd fit
-  conn_fit c arg (Some task.Resume) (Some (load.Line line)) low fit = absurd fit
+  conn_fit c arg (Some (task.Step handler.Open)) (Some (load.Line line)) low fit = absurd fit
+  conn_fit c arg (Some (task.Step handler.Read)) (Some (load.Line line)) low fit = absurd fit
+  conn_fit c arg (Some (task.Step handler.Parse)) (Some (load.Line line)) low fit = absurd fit
+  conn_fit c arg (Some (task.Step handler.Look)) (Some (load.Line line)) low fit = absurd fit
+  conn_fit c arg (Some (task.Step handler.Write)) (Some (load.Line line)) low fit = absurd fit
+  conn_fit c arg (Some (task.Step handler.Close)) (Some (load.Line line)) low fit = absurd fit
+  conn_fit c arg (Some (task.Step handler.Resume)) (Some (load.Line line)) low fit = absurd fit
   conn_fit c arg (Some task.Log) (Some (load.Line line)) low fit = absurd (low.1 line refl)
 
   -- one that fits on colour 0
@@ -104,35 +105,35 @@ module _ {W L : Type 0} (x : WorldWords W L) (l : LinkWords L) (first : W) where
   desk_fit c arg (Some task.Poll) None low fit = absurd fit
   desk_fit c arg (Some task.Wait) None low fit = inr (record { is = refl; carries = refl; fit = fit })
   desk_fit c arg (Some task.Accept) None low fit = absurd fit
-  desk_fit c arg (Some task.Open) None low fit = absurd fit
-  desk_fit c arg (Some task.Read) None low fit = let z = fit.colour in absurd (omega (arith, z, low))
-  desk_fit c arg (Some task.Parse) None low fit = let z = fit.colour in absurd (omega (arith, z, low))
-  desk_fit c arg (Some task.Look) None low fit = let z = fit.colour in absurd (omega (arith, z, low))
-  desk_fit c arg (Some task.Write) None low fit = let z = fit.colour in absurd (omega (arith, z, low))
-  desk_fit c arg (Some task.Close) None low fit = let z = fit.colour in absurd (omega (arith, z, low))
-  desk_fit c arg (Some task.Resume) None low fit = let z = fit.colour in absurd (omega (arith, z, low))
+  desk_fit c arg (Some (task.Step handler.Open)) None low fit = absurd fit
+  desk_fit c arg (Some (task.Step handler.Read)) None low fit = let z = fit.colour in absurd (omega (arith, z, low))
+  desk_fit c arg (Some (task.Step handler.Parse)) None low fit = let z = fit.colour in absurd (omega (arith, z, low))
+  desk_fit c arg (Some (task.Step handler.Look)) None low fit = let z = fit.colour in absurd (omega (arith, z, low))
+  desk_fit c arg (Some (task.Step handler.Write)) None low fit = let z = fit.colour in absurd (omega (arith, z, low))
+  desk_fit c arg (Some (task.Step handler.Close)) None low fit = let z = fit.colour in absurd (omega (arith, z, low))
+  desk_fit c arg (Some (task.Step handler.Resume)) None low fit = let z = fit.colour in absurd (omega (arith, z, low))
   desk_fit c arg None (Some (load.World held)) low fit = absurd fit
   desk_fit c arg (Some task.Poll) (Some (load.World held)) low fit = inl (record { is = refl; held = held; carries = refl; fit = fit })
   desk_fit c arg (Some task.Wait) (Some (load.World held)) low fit = absurd fit
   desk_fit c arg (Some task.Accept) (Some (load.World held)) low fit = let z = fit.colour in absurd (omega (arith, z, low))
-  desk_fit c arg (Some task.Open) (Some (load.World held)) low fit = absurd fit
-  desk_fit c arg (Some task.Read) (Some (load.World held)) low fit = absurd fit
-  desk_fit c arg (Some task.Parse) (Some (load.World held)) low fit = absurd fit
-  desk_fit c arg (Some task.Look) (Some (load.World held)) low fit = absurd fit
-  desk_fit c arg (Some task.Write) (Some (load.World held)) low fit = absurd fit
-  desk_fit c arg (Some task.Close) (Some (load.World held)) low fit = absurd fit
-  desk_fit c arg (Some task.Resume) (Some (load.World held)) low fit = absurd fit
+  desk_fit c arg (Some (task.Step handler.Open)) (Some (load.World held)) low fit = absurd fit
+  desk_fit c arg (Some (task.Step handler.Read)) (Some (load.World held)) low fit = absurd fit
+  desk_fit c arg (Some (task.Step handler.Parse)) (Some (load.World held)) low fit = absurd fit
+  desk_fit c arg (Some (task.Step handler.Look)) (Some (load.World held)) low fit = absurd fit
+  desk_fit c arg (Some (task.Step handler.Write)) (Some (load.World held)) low fit = absurd fit
+  desk_fit c arg (Some (task.Step handler.Close)) (Some (load.World held)) low fit = absurd fit
+  desk_fit c arg (Some (task.Step handler.Resume)) (Some (load.World held)) low fit = absurd fit
   desk_fit c arg None (Some (load.Link link)) low fit = absurd fit
   desk_fit c arg (Some task.Poll) (Some (load.Link link)) low fit = absurd fit
   desk_fit c arg (Some task.Wait) (Some (load.Link link)) low fit = absurd fit
   desk_fit c arg (Some task.Accept) (Some (load.Link link)) low fit = absurd fit
-  desk_fit c arg (Some task.Open) (Some (load.Link link)) low fit = let z = fit.step.colour in absurd (omega (arith, z, low))
-  desk_fit c arg (Some task.Read) (Some (load.Link link)) low fit = absurd fit
-  desk_fit c arg (Some task.Parse) (Some (load.Link link)) low fit = absurd fit
-  desk_fit c arg (Some task.Look) (Some (load.Link link)) low fit = absurd fit
-  desk_fit c arg (Some task.Write) (Some (load.Link link)) low fit = absurd fit
-  desk_fit c arg (Some task.Close) (Some (load.Link link)) low fit = absurd fit
-  desk_fit c arg (Some task.Resume) (Some (load.Link link)) low fit = absurd fit
+  desk_fit c arg (Some (task.Step handler.Open)) (Some (load.Link link)) low fit = let z = fit.step.colour in absurd (omega (arith, z, low))
+  desk_fit c arg (Some (task.Step handler.Read)) (Some (load.Link link)) low fit = absurd fit
+  desk_fit c arg (Some (task.Step handler.Parse)) (Some (load.Link link)) low fit = absurd fit
+  desk_fit c arg (Some (task.Step handler.Look)) (Some (load.Link link)) low fit = absurd fit
+  desk_fit c arg (Some (task.Step handler.Write)) (Some (load.Link link)) low fit = absurd fit
+  desk_fit c arg (Some (task.Step handler.Close)) (Some (load.Link link)) low fit = absurd fit
+  desk_fit c arg (Some (task.Step handler.Resume)) (Some (load.Link link)) low fit = absurd fit
   desk_fit c arg (Some task.Log) None low fit = absurd fit
   desk_fit c arg (Some task.Log) (Some (load.World held)) low fit = absurd fit
   desk_fit c arg (Some task.Log) (Some (load.Link link)) low fit = absurd fit
@@ -140,13 +141,13 @@ module _ {W L : Type 0} (x : WorldWords W L) (l : LinkWords L) (first : W) where
   desk_fit c arg (Some task.Poll) (Some (load.Line line)) low fit = absurd fit
   desk_fit c arg (Some task.Wait) (Some (load.Line line)) low fit = absurd fit
   desk_fit c arg (Some task.Accept) (Some (load.Line line)) low fit = absurd fit
-  desk_fit c arg (Some task.Open) (Some (load.Line line)) low fit = absurd fit
-  desk_fit c arg (Some task.Read) (Some (load.Line line)) low fit = absurd fit
-  desk_fit c arg (Some task.Parse) (Some (load.Line line)) low fit = absurd fit
-  desk_fit c arg (Some task.Look) (Some (load.Line line)) low fit = absurd fit
-  desk_fit c arg (Some task.Write) (Some (load.Line line)) low fit = absurd fit
-  desk_fit c arg (Some task.Close) (Some (load.Line line)) low fit = absurd fit
-  desk_fit c arg (Some task.Resume) (Some (load.Line line)) low fit = absurd fit
+  desk_fit c arg (Some (task.Step handler.Open)) (Some (load.Line line)) low fit = absurd fit
+  desk_fit c arg (Some (task.Step handler.Read)) (Some (load.Line line)) low fit = absurd fit
+  desk_fit c arg (Some (task.Step handler.Parse)) (Some (load.Line line)) low fit = absurd fit
+  desk_fit c arg (Some (task.Step handler.Look)) (Some (load.Line line)) low fit = absurd fit
+  desk_fit c arg (Some (task.Step handler.Write)) (Some (load.Line line)) low fit = absurd fit
+  desk_fit c arg (Some (task.Step handler.Close)) (Some (load.Line line)) low fit = absurd fit
+  desk_fit c arg (Some (task.Step handler.Resume)) (Some (load.Line line)) low fit = absurd fit
   desk_fit c arg (Some task.Log) (Some (load.Line line)) low fit = let z = fit.colour in absurd (omega (arith, z, low))
 
   -- one that fits on colour 1
@@ -161,35 +162,35 @@ module _ {W L : Type 0} (x : WorldWords W L) (l : LinkWords L) (first : W) where
   accept_fit c arg (Some task.Poll) None low fit = absurd fit
   accept_fit c arg (Some task.Wait) None low fit = let z = fit.colour in absurd (omega (arith, z, low))
   accept_fit c arg (Some task.Accept) None low fit = absurd fit
-  accept_fit c arg (Some task.Open) None low fit = absurd fit
-  accept_fit c arg (Some task.Read) None low fit = let z = fit.colour in absurd (omega (arith, z, low))
-  accept_fit c arg (Some task.Parse) None low fit = let z = fit.colour in absurd (omega (arith, z, low))
-  accept_fit c arg (Some task.Look) None low fit = let z = fit.colour in absurd (omega (arith, z, low))
-  accept_fit c arg (Some task.Write) None low fit = let z = fit.colour in absurd (omega (arith, z, low))
-  accept_fit c arg (Some task.Close) None low fit = let z = fit.colour in absurd (omega (arith, z, low))
-  accept_fit c arg (Some task.Resume) None low fit = let z = fit.colour in absurd (omega (arith, z, low))
+  accept_fit c arg (Some (task.Step handler.Open)) None low fit = absurd fit
+  accept_fit c arg (Some (task.Step handler.Read)) None low fit = let z = fit.colour in absurd (omega (arith, z, low))
+  accept_fit c arg (Some (task.Step handler.Parse)) None low fit = let z = fit.colour in absurd (omega (arith, z, low))
+  accept_fit c arg (Some (task.Step handler.Look)) None low fit = let z = fit.colour in absurd (omega (arith, z, low))
+  accept_fit c arg (Some (task.Step handler.Write)) None low fit = let z = fit.colour in absurd (omega (arith, z, low))
+  accept_fit c arg (Some (task.Step handler.Close)) None low fit = let z = fit.colour in absurd (omega (arith, z, low))
+  accept_fit c arg (Some (task.Step handler.Resume)) None low fit = let z = fit.colour in absurd (omega (arith, z, low))
   accept_fit c arg None (Some (load.World held)) low fit = absurd fit
   accept_fit c arg (Some task.Poll) (Some (load.World held)) low fit = let z = fit.colour in absurd (omega (arith, z, low))
   accept_fit c arg (Some task.Wait) (Some (load.World held)) low fit = absurd fit
   accept_fit c arg (Some task.Accept) (Some (load.World held)) low fit = record { is = refl; held = held; carries = refl; fit = fit }
-  accept_fit c arg (Some task.Open) (Some (load.World held)) low fit = absurd fit
-  accept_fit c arg (Some task.Read) (Some (load.World held)) low fit = absurd fit
-  accept_fit c arg (Some task.Parse) (Some (load.World held)) low fit = absurd fit
-  accept_fit c arg (Some task.Look) (Some (load.World held)) low fit = absurd fit
-  accept_fit c arg (Some task.Write) (Some (load.World held)) low fit = absurd fit
-  accept_fit c arg (Some task.Close) (Some (load.World held)) low fit = absurd fit
-  accept_fit c arg (Some task.Resume) (Some (load.World held)) low fit = absurd fit
+  accept_fit c arg (Some (task.Step handler.Open)) (Some (load.World held)) low fit = absurd fit
+  accept_fit c arg (Some (task.Step handler.Read)) (Some (load.World held)) low fit = absurd fit
+  accept_fit c arg (Some (task.Step handler.Parse)) (Some (load.World held)) low fit = absurd fit
+  accept_fit c arg (Some (task.Step handler.Look)) (Some (load.World held)) low fit = absurd fit
+  accept_fit c arg (Some (task.Step handler.Write)) (Some (load.World held)) low fit = absurd fit
+  accept_fit c arg (Some (task.Step handler.Close)) (Some (load.World held)) low fit = absurd fit
+  accept_fit c arg (Some (task.Step handler.Resume)) (Some (load.World held)) low fit = absurd fit
   accept_fit c arg None (Some (load.Link link)) low fit = absurd fit
   accept_fit c arg (Some task.Poll) (Some (load.Link link)) low fit = absurd fit
   accept_fit c arg (Some task.Wait) (Some (load.Link link)) low fit = absurd fit
   accept_fit c arg (Some task.Accept) (Some (load.Link link)) low fit = absurd fit
-  accept_fit c arg (Some task.Open) (Some (load.Link link)) low fit = let z = fit.step.colour in absurd (omega (arith, z, low))
-  accept_fit c arg (Some task.Read) (Some (load.Link link)) low fit = absurd fit
-  accept_fit c arg (Some task.Parse) (Some (load.Link link)) low fit = absurd fit
-  accept_fit c arg (Some task.Look) (Some (load.Link link)) low fit = absurd fit
-  accept_fit c arg (Some task.Write) (Some (load.Link link)) low fit = absurd fit
-  accept_fit c arg (Some task.Close) (Some (load.Link link)) low fit = absurd fit
-  accept_fit c arg (Some task.Resume) (Some (load.Link link)) low fit = absurd fit
+  accept_fit c arg (Some (task.Step handler.Open)) (Some (load.Link link)) low fit = let z = fit.step.colour in absurd (omega (arith, z, low))
+  accept_fit c arg (Some (task.Step handler.Read)) (Some (load.Link link)) low fit = absurd fit
+  accept_fit c arg (Some (task.Step handler.Parse)) (Some (load.Link link)) low fit = absurd fit
+  accept_fit c arg (Some (task.Step handler.Look)) (Some (load.Link link)) low fit = absurd fit
+  accept_fit c arg (Some (task.Step handler.Write)) (Some (load.Link link)) low fit = absurd fit
+  accept_fit c arg (Some (task.Step handler.Close)) (Some (load.Link link)) low fit = absurd fit
+  accept_fit c arg (Some (task.Step handler.Resume)) (Some (load.Link link)) low fit = absurd fit
   accept_fit c arg (Some task.Log) None low fit = absurd fit
   accept_fit c arg (Some task.Log) (Some (load.World held)) low fit = absurd fit
   accept_fit c arg (Some task.Log) (Some (load.Link link)) low fit = absurd fit
@@ -197,13 +198,13 @@ module _ {W L : Type 0} (x : WorldWords W L) (l : LinkWords L) (first : W) where
   accept_fit c arg (Some task.Poll) (Some (load.Line line)) low fit = absurd fit
   accept_fit c arg (Some task.Wait) (Some (load.Line line)) low fit = absurd fit
   accept_fit c arg (Some task.Accept) (Some (load.Line line)) low fit = absurd fit
-  accept_fit c arg (Some task.Open) (Some (load.Line line)) low fit = absurd fit
-  accept_fit c arg (Some task.Read) (Some (load.Line line)) low fit = absurd fit
-  accept_fit c arg (Some task.Parse) (Some (load.Line line)) low fit = absurd fit
-  accept_fit c arg (Some task.Look) (Some (load.Line line)) low fit = absurd fit
-  accept_fit c arg (Some task.Write) (Some (load.Line line)) low fit = absurd fit
-  accept_fit c arg (Some task.Close) (Some (load.Line line)) low fit = absurd fit
-  accept_fit c arg (Some task.Resume) (Some (load.Line line)) low fit = absurd fit
+  accept_fit c arg (Some (task.Step handler.Open)) (Some (load.Line line)) low fit = absurd fit
+  accept_fit c arg (Some (task.Step handler.Read)) (Some (load.Line line)) low fit = absurd fit
+  accept_fit c arg (Some (task.Step handler.Parse)) (Some (load.Line line)) low fit = absurd fit
+  accept_fit c arg (Some (task.Step handler.Look)) (Some (load.Line line)) low fit = absurd fit
+  accept_fit c arg (Some (task.Step handler.Write)) (Some (load.Line line)) low fit = absurd fit
+  accept_fit c arg (Some (task.Step handler.Close)) (Some (load.Line line)) low fit = absurd fit
+  accept_fit c arg (Some (task.Step handler.Resume)) (Some (load.Line line)) low fit = absurd fit
   accept_fit c arg (Some task.Log) (Some (load.Line line)) low fit = let z = fit.colour in absurd (omega (arith, z, low))
 
   -- one that carries a line, and one that fits on the colour of the log
@@ -218,13 +219,13 @@ module _ {W L : Type 0} (x : WorldWords W L) (l : LinkWords L) (first : W) where
   line_fit c arg (Some task.Poll) line fit = absurd fit
   line_fit c arg (Some task.Wait) line fit = absurd fit
   line_fit c arg (Some task.Accept) line fit = absurd fit
-  line_fit c arg (Some task.Open) line fit = absurd fit
-  line_fit c arg (Some task.Read) line fit = absurd fit
-  line_fit c arg (Some task.Parse) line fit = absurd fit
-  line_fit c arg (Some task.Look) line fit = absurd fit
-  line_fit c arg (Some task.Write) line fit = absurd fit
-  line_fit c arg (Some task.Close) line fit = absurd fit
-  line_fit c arg (Some task.Resume) line fit = absurd fit
+  line_fit c arg (Some (task.Step handler.Open)) line fit = absurd fit
+  line_fit c arg (Some (task.Step handler.Read)) line fit = absurd fit
+  line_fit c arg (Some (task.Step handler.Parse)) line fit = absurd fit
+  line_fit c arg (Some (task.Step handler.Look)) line fit = absurd fit
+  line_fit c arg (Some (task.Step handler.Write)) line fit = absurd fit
+  line_fit c arg (Some (task.Step handler.Close)) line fit = absurd fit
+  line_fit c arg (Some (task.Step handler.Resume)) line fit = absurd fit
   line_fit c arg (Some task.Log) line fit = record { is = refl; line = line; carries = refl; fit = fit }
 
   pub log_fit : (c : Colour) (arg : ℕ) (which : Option Task) (carried : Option (Load W L)) → c.0 ≡ (x.tells first).total + 2 → TaskFits x l first c arg which carried → IsLog c arg which carried
@@ -233,37 +234,37 @@ module _ {W L : Type 0} (x : WorldWords W L) (l : LinkWords L) (first : W) where
   log_fit c arg (Some task.Poll) None low fit = absurd fit
   log_fit c arg (Some task.Wait) None low fit = let z = fit.colour in absurd (omega (arith, z, low))
   log_fit c arg (Some task.Accept) None low fit = absurd fit
-  log_fit c arg (Some task.Open) None low fit = absurd fit
-  log_fit c arg (Some task.Read) None low fit = let z = fit.colour in let small = fit.conn in absurd (omega (arith, z, small, low))
-  log_fit c arg (Some task.Parse) None low fit = let z = fit.colour in let small = fit.conn in absurd (omega (arith, z, small, low))
-  log_fit c arg (Some task.Look) None low fit = let z = fit.colour in let small = fit.conn in absurd (omega (arith, z, small, low))
-  log_fit c arg (Some task.Write) None low fit = let z = fit.colour in let small = fit.conn in absurd (omega (arith, z, small, low))
-  log_fit c arg (Some task.Close) None low fit = let z = fit.colour in let small = fit.conn in absurd (omega (arith, z, small, low))
-  log_fit c arg (Some task.Resume) None low fit = let z = fit.colour in let small = fit.conn in absurd (omega (arith, z, small, low))
+  log_fit c arg (Some (task.Step handler.Open)) None low fit = absurd fit
+  log_fit c arg (Some (task.Step handler.Read)) None low fit = let z = fit.colour in let small = fit.conn in absurd (omega (arith, z, small, low))
+  log_fit c arg (Some (task.Step handler.Parse)) None low fit = let z = fit.colour in let small = fit.conn in absurd (omega (arith, z, small, low))
+  log_fit c arg (Some (task.Step handler.Look)) None low fit = let z = fit.colour in let small = fit.conn in absurd (omega (arith, z, small, low))
+  log_fit c arg (Some (task.Step handler.Write)) None low fit = let z = fit.colour in let small = fit.conn in absurd (omega (arith, z, small, low))
+  log_fit c arg (Some (task.Step handler.Close)) None low fit = let z = fit.colour in let small = fit.conn in absurd (omega (arith, z, small, low))
+  log_fit c arg (Some (task.Step handler.Resume)) None low fit = let z = fit.colour in let small = fit.conn in absurd (omega (arith, z, small, low))
   log_fit c arg (Some task.Log) None low fit = absurd fit
   log_fit c arg None (Some (load.World held)) low fit = absurd fit
   log_fit c arg (Some task.Poll) (Some (load.World held)) low fit = let z = fit.colour in absurd (omega (arith, z, low))
   log_fit c arg (Some task.Wait) (Some (load.World held)) low fit = absurd fit
   log_fit c arg (Some task.Accept) (Some (load.World held)) low fit = let z = fit.colour in absurd (omega (arith, z, low))
-  log_fit c arg (Some task.Open) (Some (load.World held)) low fit = absurd fit
-  log_fit c arg (Some task.Read) (Some (load.World held)) low fit = absurd fit
-  log_fit c arg (Some task.Parse) (Some (load.World held)) low fit = absurd fit
-  log_fit c arg (Some task.Look) (Some (load.World held)) low fit = absurd fit
-  log_fit c arg (Some task.Write) (Some (load.World held)) low fit = absurd fit
-  log_fit c arg (Some task.Close) (Some (load.World held)) low fit = absurd fit
-  log_fit c arg (Some task.Resume) (Some (load.World held)) low fit = absurd fit
+  log_fit c arg (Some (task.Step handler.Open)) (Some (load.World held)) low fit = absurd fit
+  log_fit c arg (Some (task.Step handler.Read)) (Some (load.World held)) low fit = absurd fit
+  log_fit c arg (Some (task.Step handler.Parse)) (Some (load.World held)) low fit = absurd fit
+  log_fit c arg (Some (task.Step handler.Look)) (Some (load.World held)) low fit = absurd fit
+  log_fit c arg (Some (task.Step handler.Write)) (Some (load.World held)) low fit = absurd fit
+  log_fit c arg (Some (task.Step handler.Close)) (Some (load.World held)) low fit = absurd fit
+  log_fit c arg (Some (task.Step handler.Resume)) (Some (load.World held)) low fit = absurd fit
   log_fit c arg (Some task.Log) (Some (load.World held)) low fit = absurd fit
   log_fit c arg None (Some (load.Link link)) low fit = absurd fit
   log_fit c arg (Some task.Poll) (Some (load.Link link)) low fit = absurd fit
   log_fit c arg (Some task.Wait) (Some (load.Link link)) low fit = absurd fit
   log_fit c arg (Some task.Accept) (Some (load.Link link)) low fit = absurd fit
-  log_fit c arg (Some task.Open) (Some (load.Link link)) low fit = let z = fit.step.colour in let small = fit.step.conn in absurd (omega (arith, z, small, low))
-  log_fit c arg (Some task.Read) (Some (load.Link link)) low fit = absurd fit
-  log_fit c arg (Some task.Parse) (Some (load.Link link)) low fit = absurd fit
-  log_fit c arg (Some task.Look) (Some (load.Link link)) low fit = absurd fit
-  log_fit c arg (Some task.Write) (Some (load.Link link)) low fit = absurd fit
-  log_fit c arg (Some task.Close) (Some (load.Link link)) low fit = absurd fit
-  log_fit c arg (Some task.Resume) (Some (load.Link link)) low fit = absurd fit
+  log_fit c arg (Some (task.Step handler.Open)) (Some (load.Link link)) low fit = let z = fit.step.colour in let small = fit.step.conn in absurd (omega (arith, z, small, low))
+  log_fit c arg (Some (task.Step handler.Read)) (Some (load.Link link)) low fit = absurd fit
+  log_fit c arg (Some (task.Step handler.Parse)) (Some (load.Link link)) low fit = absurd fit
+  log_fit c arg (Some (task.Step handler.Look)) (Some (load.Link link)) low fit = absurd fit
+  log_fit c arg (Some (task.Step handler.Write)) (Some (load.Link link)) low fit = absurd fit
+  log_fit c arg (Some (task.Step handler.Close)) (Some (load.Link link)) low fit = absurd fit
+  log_fit c arg (Some (task.Step handler.Resume)) (Some (load.Link link)) low fit = absurd fit
   log_fit c arg (Some task.Log) (Some (load.Link link)) low fit = absurd fit
 
   -- below the colour of the log no line fits

@@ -15,15 +15,16 @@ use Rattle.mely_worker.specs.Access.{FitsIn}
 use Rattle.sws_link.specs.declared.Link.{Ghosts as LinkWords}
 use Rattle.sws_link.specs.declared.world.World.{Ghosts as WorldWords}
 use Rattle.sws_steps.specs.declared.talk.Talk.{Ghosts as TalkWords}
-use Rattle.sws_conn.specs.Path.{Handler, open_link, read_piece, parse, look, write_part, resume, close}
+use Rattle.sws_steps.specs.declared.Handler.{Handler}
+use Rattle.sws_steps.specs.declared.Handler.TheVariants as handler
 use Rattle.sws_conn.specs.Talks.{TalkView, unopened_view, reported_next, due}
 use Rattle.sws_engine.specs.declared.load.Load.{Load}
 use Rattle.sws_engine.specs.declared.load.Load.TheVariants as load
 use Rattle.sws_engine.specs.declared.place.Seat.{Seat}
 use Rattle.sws_engine.specs.Loads.{LinkStands, Fit, FitsTold, IsComing, IsLineIn, TellsLine}
-use Rattle.sws_engine.specs.Handling.{Put, number_of, next_puts, line_puts, is_due, stray_of, Stepped, RunsSeat}
+use Rattle.sws_engine.specs.Handling.{Put, next_puts, line_puts, is_due, stray_of, Stepped, RunsSeat}
 use Rattle.sws_engine.specs.Counting.{bit, colours_over}
-use Rattle.sws_engine.specs.Tasks.{task_of}
+use Rattle.sws_engine.specs.Tasks.{task_of, number_of}
 use Rattle.sws_engine.specs.declared.task.Task.TheVariants as task
 use Rattle.sws_engine.proofs.Events.FitLemmas.{line_fit, number_is}
 use Rattle.sws_engine.proofs.Events.WaitingListsLemmas.{each_append}
@@ -71,31 +72,31 @@ module _ {W L T G H : Type 0} (x : WorldWords W L) (l : LinkWords L) (y : TalkWo
   abbrev total : ℕ
   total = (x.tells first).total
 
-  initial_due : (talk : T) (step : Handler) → y.view_of talk ≡ unopened_view → due (y.view_of talk) ≡ Some step → (step ≡ open_link → ⊥) → ⊥
-  initial_due talk step initial at apart = apart (sym (same_Some open_link step (sym (ap (λ (v : TalkView). due v) initial) ∙ at)))
+  initial_due : (talk : T) (step : Handler) → y.view_of talk ≡ unopened_view → due (y.view_of talk) ≡ Some step → (step ≡ handler.Open → ⊥) → ⊥
+  initial_due talk step initial at apart = apart (sym (same_Some handler.Open step (sym (ap (λ (v : TalkView). due v) initial) ∙ at)))
 
   -- one more step of the run
   ran_more : (ran : List Handler) (step : Handler) (before after : T) (carried : Option (Load W L)) → RanBy x l y hall first i ran before → due (y.view_of before) ≡ Some step
-      → Stepped y before (Some step) carried after → ((link : L) → step ≡ open_link → carried ≡ Some (load.Link link) → LinkStands x l first i link) → ((h : Handler) (hs : List Handler) → ran ≡ h ∷ hs → step ≡ open_link → ⊥) → RanBy x l y hall first i (ran ++ step ∷ []) after
-  ran_more [] open_link before after carried is at does fits no_twice = (does.0, fits does.0 refl does.1, does.2)
-  ran_more [] read_piece before after carried is at does fits no_twice = absurd (initial_due before read_piece is.1 at (λ e. cc))
-  ran_more [] parse before after carried is at does fits no_twice = absurd (initial_due before parse is.1 at (λ e. cc))
-  ran_more [] look before after carried is at does fits no_twice = absurd (initial_due before look is.1 at (λ e. cc))
-  ran_more [] write_part before after carried is at does fits no_twice = absurd (initial_due before write_part is.1 at (λ e. cc))
-  ran_more [] resume before after carried is at does fits no_twice = absurd (initial_due before resume is.1 at (λ e. cc))
-  ran_more [] close before after carried is at does fits no_twice = absurd (initial_due before close is.1 at (λ e. cc))
-  ran_more (h ∷ hs) open_link before after carried is at does fits no_twice = absurd (no_twice h hs refl refl)
-  ran_more (h ∷ hs) read_piece before after carried is at does fits no_twice = (is.0, is.1, does is.0 (h ∷ hs) is.2)
-  ran_more (h ∷ hs) parse before after carried is at does fits no_twice = (is.0, is.1, does is.0 (h ∷ hs) is.2)
-  ran_more (h ∷ hs) look before after carried is at does fits no_twice = (is.0, is.1, does is.0 (h ∷ hs) is.2)
-  ran_more (h ∷ hs) write_part before after carried is at does fits no_twice = (is.0, is.1, does is.0 (h ∷ hs) is.2)
-  ran_more (h ∷ hs) resume before after carried is at does fits no_twice = (is.0, is.1, does is.0 (h ∷ hs) is.2)
-  ran_more (h ∷ hs) close before after carried is at does fits no_twice = (is.0, is.1, does is.0 (h ∷ hs) is.2)
+      → Stepped y before (Some step) carried after → ((link : L) → step ≡ handler.Open → carried ≡ Some (load.Link link) → LinkStands x l first i link) → ((h : Handler) (hs : List Handler) → ran ≡ h ∷ hs → step ≡ handler.Open → ⊥) → RanBy x l y hall first i (ran ++ step ∷ []) after
+  ran_more [] handler.Open before after carried is at does fits no_twice = (does.0, fits does.0 refl does.1, does.2)
+  ran_more [] handler.Read before after carried is at does fits no_twice = absurd (initial_due before handler.Read is.1 at (λ e. cc))
+  ran_more [] handler.Parse before after carried is at does fits no_twice = absurd (initial_due before handler.Parse is.1 at (λ e. cc))
+  ran_more [] handler.Look before after carried is at does fits no_twice = absurd (initial_due before handler.Look is.1 at (λ e. cc))
+  ran_more [] handler.Write before after carried is at does fits no_twice = absurd (initial_due before handler.Write is.1 at (λ e. cc))
+  ran_more [] handler.Resume before after carried is at does fits no_twice = absurd (initial_due before handler.Resume is.1 at (λ e. cc))
+  ran_more [] handler.Close before after carried is at does fits no_twice = absurd (initial_due before handler.Close is.1 at (λ e. cc))
+  ran_more (h ∷ hs) handler.Open before after carried is at does fits no_twice = absurd (no_twice h hs refl refl)
+  ran_more (h ∷ hs) handler.Read before after carried is at does fits no_twice = (is.0, is.1, does is.0 (h ∷ hs) is.2)
+  ran_more (h ∷ hs) handler.Parse before after carried is at does fits no_twice = (is.0, is.1, does is.0 (h ∷ hs) is.2)
+  ran_more (h ∷ hs) handler.Look before after carried is at does fits no_twice = (is.0, is.1, does is.0 (h ∷ hs) is.2)
+  ran_more (h ∷ hs) handler.Write before after carried is at does fits no_twice = (is.0, is.1, does is.0 (h ∷ hs) is.2)
+  ran_more (h ∷ hs) handler.Resume before after carried is at does fits no_twice = (is.0, is.1, does is.0 (h ∷ hs) is.2)
+  ran_more (h ∷ hs) handler.Close before after carried is at does fits no_twice = (is.0, is.1, does is.0 (h ∷ hs) is.2)
 
   module _ (seat after : Seat T) (trail : List Event) (event : Event) (carried : Option (Load W L)) (puts : List (Put W L)) (stands : SeatStands x l y hall first i trail seat)
       (next : after.next ≡ reported_next (y.view_of after.talk)) (answered : after.answered ≡ (y.view_of after.talk).lines) (log : Bool)
       (fits : (link : L) → carried ≡ Some (load.Link link) → LinkStands x l first i link)
-      (no_twice : HasRunSome y seat.talk → due (y.view_of seat.talk) ≡ Some open_link → ⊥) where
+      (no_twice : HasRunSome y seat.talk → due (y.view_of seat.talk) ≡ Some handler.Open → ⊥) where
     more_trail : (stray : Option Event) (step : Handler) → event ≡ event_for i step → TrailIs x l y hall first i trail stands.ran stray → TrailIs x l y hall first i (trail ++ event ∷ []) (stands.ran ++ step ∷ []) stray
     more_trail None step is told = ap (λ (es : List Event). es ++ event ∷ []) told ∙ ap (λ (e : Event). map (event_for i) stands.ran ++ e ∷ []) is ∙ sym (map-append (event_for i) stands.ran (step ∷ []))
     more_trail (Some stray) step is told = record {
@@ -163,13 +164,13 @@ module _ {W L T G H : Type 0} (x : WorldWords W L) (l : LinkWords L) (y : TalkWo
 
     next_fits : (d : Option Handler) → is_due i d (record { handler = 3; arg = i }) ≡ false → AllByRecursion PutFits (next_puts {W = W} {L = L} i d) × (length (next_puts {W = W} {L = L} i d) ≤ 2)
     next_fits None is = (tt, omega arith)
-    next_fits (Some open_link) is = absurd (true≢false (sym (eq-eqb i i refl) ∙ is))
-    next_fits (Some read_piece) is = ((record { colour = omega (arith, low); handler = omega arith; load = record { colour = refl; conn = low } }, tt), omega arith)
-    next_fits (Some parse) is = ((record { colour = omega (arith, low); handler = omega arith; load = record { colour = refl; conn = low } }, tt), omega arith)
-    next_fits (Some look) is = ((record { colour = omega (arith, low); handler = omega arith; load = record { colour = refl; conn = low } }, tt), omega arith)
-    next_fits (Some write_part) is = ((record { colour = omega (arith, low); handler = omega arith; load = record { colour = refl; conn = low } }, tt), omega arith)
-    next_fits (Some close) is = ((record { colour = omega (arith, low); handler = omega arith; load = record { colour = refl; conn = low } }, tt), omega arith)
-    next_fits (Some resume) is = ((record { colour = omega arith; handler = omega arith; load = record { colour = refl; conn = low } }, tt), omega arith)
+    next_fits (Some handler.Open) is = absurd (true≢false (sym (eq-eqb i i refl) ∙ is))
+    next_fits (Some handler.Read) is = ((record { colour = omega (arith, low); handler = omega arith; load = record { colour = refl; conn = low } }, tt), omega arith)
+    next_fits (Some handler.Parse) is = ((record { colour = omega (arith, low); handler = omega arith; load = record { colour = refl; conn = low } }, tt), omega arith)
+    next_fits (Some handler.Look) is = ((record { colour = omega (arith, low); handler = omega arith; load = record { colour = refl; conn = low } }, tt), omega arith)
+    next_fits (Some handler.Write) is = ((record { colour = omega (arith, low); handler = omega arith; load = record { colour = refl; conn = low } }, tt), omega arith)
+    next_fits (Some handler.Close) is = ((record { colour = omega (arith, low); handler = omega arith; load = record { colour = refl; conn = low } }, tt), omega arith)
+    next_fits (Some handler.Resume) is = ((record { colour = omega arith; handler = omega arith; load = record { colour = refl; conn = low } }, tt), omega arith)
 
     -- of a line that was put, its connection has run, and so its link told what it began with
     ran_with_lines : (ran : List Handler) (talk : T) → RanBy x l y hall first i ran talk → 1 ≤ (y.view_of talk).lines → (link : L) × LinkStands x l first i link × (trail : List Handler) × y.has_run link trail talk

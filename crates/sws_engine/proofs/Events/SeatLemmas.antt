@@ -4,11 +4,12 @@ use Rattle.std.proofs.lemmas.Bool.Decides.{eqb_tells}
 use Rattle.std.specs.Prelude.{◌==◌, ◌&&◌}
 use Rattle.sws_steps.specs.declared.Next.{Next}
 use Rattle.sws_steps.specs.declared.Next.TheVariants as next
-use Rattle.sws_conn.specs.Path.{Handler, open_link}
+use Rattle.sws_steps.specs.declared.Handler.{Handler}
+use Rattle.sws_steps.specs.declared.Handler.TheVariants as handler
 use Rattle.sws_conn.specs.Conn.{reported_by}
 use Rattle.sws_conn.specs.Talks.{TalkView, ServesNow, due, due_after}
 
-opening_at : (waiting : Bool) (pending : Next) → due_after (reported_by waiting pending) ≡ Some open_link → pending ≡ next.Open
+opening_at : (waiting : Bool) (pending : Next) → due_after (reported_by waiting pending) ≡ Some handler.Open → pending ≡ next.Open
 opening_at true pending is = cc
 opening_at false next.Open is = refl
 opening_at false next.Read is = cc
@@ -19,7 +20,7 @@ opening_at false next.Wait is = cc
 opening_at false next.Close is = cc
 opening_at false next.Nothing is = cc
 
-pub opening_is : (view : TalkView) → due view ≡ Some open_link → view.pending ≡ next.Open
+pub opening_is : (view : TalkView) → due view ≡ Some handler.Open → view.pending ≡ next.Open
 opening_is view is = opening_at view.waiting view.pending is
 
 pub some_of : (d : Option Handler) → IsSome d → (step : Handler) × (d ≡ Some step)

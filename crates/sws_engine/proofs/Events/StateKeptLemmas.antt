@@ -7,7 +7,7 @@ use Rattle.mely_worker.specs.Access.{FitsIn}
 use Rattle.sws_link.specs.declared.Link.{Ghosts as LinkWords}
 use Rattle.sws_link.specs.declared.world.World.{Ghosts as WorldWords}
 use Rattle.sws_steps.specs.declared.talk.Talk.{Ghosts as TalkWords}
-use Rattle.sws_conn.specs.Path.{open_link}
+use Rattle.sws_steps.specs.declared.Handler.TheVariants as handler
 use Rattle.sws_conn.specs.Talks.{reported_next, due}
 use Rattle.sws_engine.specs.declared.load.Load.{Load}
 use Rattle.sws_engine.specs.declared.load.Load.TheVariants as load
@@ -80,21 +80,21 @@ module _ {W L : Type 0} (x : WorldWords W L) (l : LinkWords L) (first : W) where
 
   open_link_fits : (c : Colour) (arg : ℕ) (which : Option Task) (link : L) → TaskFits x l first c arg which (Some (load.Link link)) → LinkStands x l first arg link
   open_link_fits c arg None link fit = absurd fit
-  open_link_fits c arg (Some task.Open) link fit = fit.initial
+  open_link_fits c arg (Some (task.Step handler.Open)) link fit = fit.initial
   open_link_fits c arg (Some task.Poll) link fit = absurd fit
   open_link_fits c arg (Some task.Wait) link fit = absurd fit
   open_link_fits c arg (Some task.Accept) link fit = absurd fit
-  open_link_fits c arg (Some task.Read) link fit = absurd fit
-  open_link_fits c arg (Some task.Parse) link fit = absurd fit
-  open_link_fits c arg (Some task.Look) link fit = absurd fit
-  open_link_fits c arg (Some task.Write) link fit = absurd fit
-  open_link_fits c arg (Some task.Close) link fit = absurd fit
-  open_link_fits c arg (Some task.Resume) link fit = absurd fit
+  open_link_fits c arg (Some (task.Step handler.Read)) link fit = absurd fit
+  open_link_fits c arg (Some (task.Step handler.Parse)) link fit = absurd fit
+  open_link_fits c arg (Some (task.Step handler.Look)) link fit = absurd fit
+  open_link_fits c arg (Some (task.Step handler.Write)) link fit = absurd fit
+  open_link_fits c arg (Some (task.Step handler.Close)) link fit = absurd fit
+  open_link_fits c arg (Some (task.Step handler.Resume)) link fit = absurd fit
   open_link_fits c arg (Some task.Log) link fit = absurd fit
 
   module _ {T G H : Type 0} (y : TalkWords T L G H) (hall : H) where
     pub seat_after : (c : Colour) (event : Event) (carried : Option (Load W L)) (trail : List Event) (seat after : Seat T) (puts : List (Put W L)) (log : Bool) → (2 ≤ c.0) × (c.0 < total + 2) → SeatStands x l y hall first (conn_of c) trail seat → Fit x l first c event carried
-        → RunsSeat y log total (is_due (conn_of c) (due (y.view_of seat.talk)) event) (conn_of c) seat event carried after puts → after.next ≡ reported_next (y.view_of after.talk) → after.answered ≡ (y.view_of after.talk).lines → PutsTold l y (conn_of c) after.talk puts → (HasRunSome y seat.talk → due (y.view_of seat.talk) ≡ Some open_link → ⊥)
+        → RunsSeat y log total (is_due (conn_of c) (due (y.view_of seat.talk)) event) (conn_of c) seat event carried after puts → after.next ≡ reported_next (y.view_of after.talk) → after.answered ≡ (y.view_of after.talk).lines → PutsTold l y (conn_of c) after.talk puts → (HasRunSome y seat.talk → due (y.view_of seat.talk) ≡ Some handler.Open → ⊥)
         → SeatStands x l y hall first (conn_of c) (trail ++ event ∷ []) after × ToldFit x l y hall first log puts
     seat_after c event carried trail seat after puts log high stands fit does next answered told never =
         let own = conn_fit x l first c event.arg (task_of event.handler) carried (high.0, below_line x l first c event.arg (task_of event.handler) carried high.1 fit) fit in
@@ -167,7 +167,7 @@ pub accept_after_of : {W L : Type 0} (x : WorldWords W L) (l : LinkWords L) (fir
 accept_after_of {W} {L} x l first n is c event carried puts one fit does = accept_after x l first c event carried puts one fit (subst (λ (m : ℕ). RunsAccepting x l m (task_of event.handler) carried puts) (sym is) does)
 
 pub seat_after_of : {W L T G H : Type 0} (x : WorldWords W L) (l : LinkWords L) (first : W) (n : ℕ) → (x.tells first).total ≡ n → (y : TalkWords T L G H) (hall : H) (c : Colour) (event : Event) (carried : Option (Load W L)) (trail : List Event) (seat after : Seat T) (puts : List (Put W L)) (log : Bool) → (2 ≤ c.0) × (c.0 < (x.tells first).total + 2) → SeatStands x l y hall first (conn_of c) trail seat → Fit x l first c event carried
-    → RunsSeat y log n (is_due (conn_of c) (due (y.view_of seat.talk)) event) (conn_of c) seat event carried after puts → after.next ≡ reported_next (y.view_of after.talk) → after.answered ≡ (y.view_of after.talk).lines → PutsTold l y (conn_of c) after.talk puts → (HasRunSome y seat.talk → due (y.view_of seat.talk) ≡ Some open_link → ⊥)
+    → RunsSeat y log n (is_due (conn_of c) (due (y.view_of seat.talk)) event) (conn_of c) seat event carried after puts → after.next ≡ reported_next (y.view_of after.talk) → after.answered ≡ (y.view_of after.talk).lines → PutsTold l y (conn_of c) after.talk puts → (HasRunSome y seat.talk → due (y.view_of seat.talk) ≡ Some handler.Open → ⊥)
     → SeatStands x l y hall first (conn_of c) (trail ++ event ∷ []) after × ToldFit x l y hall first log puts
 seat_after_of {W} {L} x l first n is y hall c event carried trail seat after puts log high stands fit does next answered told never =
     seat_after x l first y hall c event carried trail seat after puts log high stands fit (subst (λ (m : ℕ). RunsSeat y log m (is_due (conn_of c) (due (y.view_of seat.talk)) event) (conn_of c) seat event carried after puts) (sym is) does) next answered told never

@@ -31,7 +31,7 @@ use Rattle.sws_steps.specs.declared.talk.Talk.{Ghosts as TalkWords}
 use Rattle.sws_steps.specs.Logs.{Step, bit}
 use Rattle.sws_steps.specs.Talks.{StepsServed}
 use Rattle.sws_conn.specs.Outcome.{UnlessMemory}
-use Rattle.sws_conn.specs.Path.{Handler}
+use Rattle.sws_steps.specs.declared.Handler.{Handler}
 use Rattle.sws_engine.specs.declared.load.WorldLoad.{WorldLoad}
 use Rattle.sws_engine.specs.declared.load.Load.{Load}
 use Rattle.sws_engine.specs.declared.load.Load.TheVariants as load
@@ -49,7 +49,7 @@ use Rattle.sws_engine.specs.PathPlaces as path
 use Rattle.sws_engine.specs.PathStates.{TellsPaths, HasRest, HasRole, HasPlace, HasLoad, IsPlacedAt, is_spoilt, worlds_of_state, worlds_of_load, ArePuts}
 use Rattle.sws_engine.specs.Server.{Server, first_event}
 use Rattle.sws_engine.specs.ServerRun.{server_rules, IsRunOfPaths}
-use Rattle.sws_engine.specs.Agrees.{AreOpened, PlaceStands}
+use Rattle.sws_engine.specs.Agrees.{AreOpened, PlaceAgrees}
 use Rattle.sws_engine.specs.Placed.{IsPlaced, initial_place, AreInitialPlacesBy}
 use Rattle.sws_engine.specs.ServedRun.{HasRunOut}
 use Rattle.sws_engine.proofs.Paths.PathServerLemmas.{place_runs, stays_spoilt, state_counts, load_counts, alike_has, alike_spoilt, first_world}
@@ -60,7 +60,7 @@ bit_small true = omega arith
 bit_small false = omega arith
 
 -- where a place stands by the function, it is that of its colour
-placed_at : (whole : List (List Step)) (s : Server) (c : Colour) (place : path.Place) → PlaceStands whole s c place → IsPlacedAt (length whole) c place
+placed_at : (whole : List (List Step)) (s : Server) (c : Colour) (place : path.Place) → PlaceAgrees whole s c place → IsPlacedAt (length whole) c place
 placed_at whole s c (path.polling d) stands = stands.0
 placed_at whole s c path.accepting stands = stands
 placed_at whole s c (path.talking rest) stands = stands.0

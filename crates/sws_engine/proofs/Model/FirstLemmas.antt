@@ -22,7 +22,7 @@ use Rattle.mely_run.proofs.Runs.WholeLemmas.{told_whole}
 use Rattle.sws_engine.specs.Server.{initial_server, first_event, serve}
 use Rattle.sws_engine.specs.ServerRun.{server_rules, IsRunOfPaths}
 use Rattle.sws_engine.specs.PathPlaces.{Load, world, Place, talking, logging, worlds_of_place, worlds_of_load}
-use Rattle.sws_engine.specs.Agrees.{AreOpened, PlaceStands, ComingStands, worlds_of, is_state_of, PieceStands, Agrees}
+use Rattle.sws_engine.specs.Agrees.{AreOpened, PlaceAgrees, ComingAgrees, worlds_of, is_state_of, PieceAgrees, Agrees}
 use Rattle.sws_engine.specs.Placed.{IsPlaced, initial_place, AreInitialPlacesBy}
 use Rattle.sws_engine.proofs.Model.ToldLemmas.{server_told}
 
@@ -31,15 +31,15 @@ module _ {S P : Type 0} (IsPlace : S → Place → Type 0) (IsLoad : P → Load 
   abbrev initial : ℕ → Place
   initial n = initial_place (length whole) n
 
-  place_stands : (n : ℕ) → n < length whole + 3 → PlaceStands whole (initial_server log whole) (record { 0 = n }) (initial n)
+  place_stands : (n : ℕ) → n < length whole + 3 → PlaceAgrees whole (initial_server log whole) (record { 0 = n }) (initial n)
   place_stands zero under = (refl, record { waiting = refl; last = refl; rests = refl; world = tt })
   place_stands (suc zero) under = refl
   place_stands (suc (suc i)) under = elim (cases_eq i (length whole)) [
     | inl last ↦
-        subst (λ (b : Bool). PlaceStands whole (initial_server log whole) (record { 0 = suc (suc i) }) (if b then logging else talking None)) (sym (eq-eqb i (length whole) last))
+        subst (λ (b : Bool). PlaceAgrees whole (initial_server log whole) (record { 0 = suc (suc i) }) (if b then logging else talking None)) (sym (eq-eqb i (length whole) last))
         (let e : suc (suc i) ≡ length whole + 2 = omega (arith, last) in e)
     | inr apart ↦
-        subst (λ (b : Bool). PlaceStands whole (initial_server log whole) (record { 0 = suc (suc i) }) (if b then logging else talking None)) (sym (ne_eqb i (length whole) apart))
+        subst (λ (b : Bool). PlaceAgrees whole (initial_server log whole) (record { 0 = suc (suc i) }) (if b then logging else talking None)) (sym (ne_eqb i (length whole) apart))
         ((omega arith, let ne = apart in omega (arith, ne, under)), refl)
   ]
 
@@ -61,7 +61,7 @@ module _ {S P : Type 0} (IsPlace : S → Place → Type 0) (IsLoad : P → Load 
   tail_places : (n : ℕ) (state : S) (states : List S) → AreInitialPlacesBy IsPlace (length whole) n (state ∷ states) → AreInitialPlacesBy IsPlace (length whole) (n + 1) states
   tail_places n state states first i s at = subst (λ (k : ℕ). IsPlace s (initial k)) (let e : n + suc i ≡ (n + 1) + i = omega arith in e) (first (suc i) s at)
 
-  kept_stand : (n : ℕ) (states : List S) → n + length states ≤ length whole + 3 → AreInitialPlacesBy IsPlace (length whole) n states → AllByRecursion (PieceStands IsPlace IsLoad holds carries whole (initial_server log whole)) (kept_from n states)
+  kept_stand : (n : ℕ) (states : List S) → n + length states ≤ length whole + 3 → AreInitialPlacesBy IsPlace (length whole) n states → AllByRecursion (PieceAgrees IsPlace IsLoad holds carries whole (initial_server log whole)) (kept_from n states)
   kept_stand n [] few first = tt
   kept_stand n (state ∷ states) few first = ((initial n, head_place n state states first, place_stands n (omega (arith, few))), kept_stand (n + 1) states (omega (arith, few)) (tail_places n state states first))
 
@@ -99,7 +99,7 @@ module _ {S P : Type 0} (IsPlace : S → Place → Type 0) (IsLoad : P → Load 
   first_agrees states load few first load_is = record {
     many = refl;
     logs = refl;
-    each = All-from_recursion (PieceStands IsPlace IsLoad holds carries whole (initial_server log whole)) (event_piece (first_event (length whole)).0 (first_event (length whole)).1 (Some load) ∷ kept_from 0 states) (
+    each = All-from_recursion (PieceAgrees IsPlace IsLoad holds carries whole (initial_server log whole)) (event_piece (first_event (length whole)).0 (first_event (length whole)).1 (Some load) ∷ kept_from 0 states) (
       (Some (world (record { accepted = 0; coming = whole })), load_is, poll_stands (length whole) refl),
       kept_stand 0 states (omega (arith, few)) first,
     );
@@ -112,7 +112,7 @@ module _ {S P : Type 0} (IsPlace : S → Place → Type 0) (IsLoad : P → Load 
         omega (arith, cut, kept_once c 0 states);
   }
     where
-      poll_stands : (total : ℕ) → total ≡ length whole → ComingStands whole (initial_server log whole) (first_event total).0 (first_event total).1.handler (first_event total).1.arg (Some (world (record { accepted = 0; coming = whole })))
+      poll_stands : (total : ℕ) → total ≡ length whole → ComingAgrees whole (initial_server log whole) (first_event total).0 (first_event total).1.handler (first_event total).1.arg (Some (world (record { accepted = 0; coming = whole })))
       poll_stands zero e = (refl, record { accepted = refl; coming = refl }, λ none. absurd (omega (arith, none)))
       poll_stands (suc more) e = (refl, record { accepted = refl; coming = refl }, λ none. omega (arith, e))
 

@@ -9,14 +9,15 @@ use Rattle.std.proofs.lemmas.List.{length-set}
 use Rattle.mely_event.specs.declared.colour.Colour.{Colour}
 use Rattle.mely_event.specs.declared.event.Event.{Event}
 use Rattle.sws_steps.specs.Logs.{Step}
-use Rattle.sws_conn.specs.Path.{Handler, open_link, read_piece, parse, look, write_part, resume, close}
+use Rattle.sws_steps.specs.declared.Handler.{Handler}
+use Rattle.sws_steps.specs.declared.Handler.TheVariants as handler
 use Rattle.mely_weave.proofs.Entries.SideLemmas.{get_set_same, get_set_other}
 use Rattle.mely_machine.specs.Machine.{Acted}
-use Rattle.sws_engine.specs.Handling.{number_of}
+use Rattle.sws_engine.specs.Tasks.{number_of}
 use Rattle.sws_engine.specs.Waiting.{waiting_with}
 use Rattle.sws_engine.specs.Server.{Server, after_poll, after_wait, after_accept, after_talk, after_event, serve}
 use Rattle.sws_engine.specs.PathPlaces.{talk, poll, next_event, follows, logs, World, Load, world, link, line, Desk, Place, polling, accepting, talking, logging, Put, with_nothing, with_line, Ran, stays, polls, wakes, waits, runs_desk, accepts, goes_along, takes_off, runs_place, worlds_of_rest, worlds_of_place, worlds_of_load}
-use Rattle.sws_engine.specs.Agrees.{HasNoOpening, AreOpened, WorldStands, RestStands, DeskStands, SeatStands, PlaceStands, ComingStands}
+use Rattle.sws_engine.specs.Agrees.{HasNoOpening, AreOpened, WorldAgrees, RestAgrees, DeskAgrees, SeatAgrees, PlaceAgrees, ComingAgrees}
 
 abbrev pub bare : Put → Colour × Event
 bare p = (p.0, p.1)
@@ -25,8 +26,8 @@ bare p = (p.0, p.1)
 -- changes nothing that another colour has
 pub record Handled (whole : List (List Step)) (s : Server) (c : Colour) (before : ℕ) (load : Option Load) (ran : Ran) (acted : Acted Server) : Type 0 where
   pub puts : map bare ran.puts ≡ acted.puts
-  pub place : PlaceStands whole acted.becomes c ran.place
-  pub coming : AllByRecursion (λ p. ComingStands whole acted.becomes p.0 p.1.handler p.1.arg p.2) ran.puts
+  pub place : PlaceAgrees whole acted.becomes c ran.place
+  pub coming : AllByRecursion (λ p. ComingAgrees whole acted.becomes p.0 p.1.handler p.1.arg p.2) ran.puts
   pub worlds : worlds_of_place ran.place + sum_by (λ p. worlds_of_load p.2) ran.puts ≤ before + worlds_of_load load
   pub many : length acted.becomes.paths ≡ length s.paths
   pub log : acted.becomes.log ≡ s.log
@@ -62,12 +63,12 @@ drop_at (y ∷ xs) (suc i) x h = drop_at xs i x h ∙ ap (λ (n : ℕ). x ∷ dr
 
 module _ (whole : List (List Step)) (opened : AreOpened whole) (s : Server) (many : length s.paths ≡ length whole) (c : Colour) where
   -- nothing happens
-  nothing : (place : Place) (load : Option Load) → PlaceStands whole s c place → Handled whole s c (worlds_of_place place) load (stays place) (record { puts = []; becomes = s })
+  nothing : (place : Place) (load : Option Load) → PlaceAgrees whole s c place → Handled whole s c (worlds_of_place place) load (stays place) (record { puts = []; becomes = s })
   nothing place load stands = record { puts = refl; place = stands; coming = tt; worlds = omega arith; many = refl; log = refl; desk = λ n. (refl, refl, refl); accepted = λ e. refl; others = λ j n. refl }
 
   -- ---- polling
 
-  module _ (nought : c.0 ≡ 0) (w : World) (stands : WorldStands whole s w) where
+  module _ (nought : c.0 ≡ 0) (w : World) (stands : WorldAgrees whole s w) where
     poll_is : (last : Bool) (waiting : List ℕ) → waiting ≡ s.waiting → (last ≡ false → w.accepted < length whole) → Handled whole s c 0 (Some (world w)) (polls last waiting w) (after_poll (record s { last = last }) waiting)
     poll_is true [] same more = record {
       puts = refl;
@@ -127,7 +128,7 @@ module _ (whole : List (List Step)) (opened : AreOpened whole) (s : Server) (man
 
   -- ---- waiting
 
-  wait_is : c.0 ≡ 0 → (desk : Desk) → DeskStands whole s desk → (i : ℕ) → (resting : Option World) → desk.resting ≡ resting → Handled whole s c (worlds_of_rest resting) None (record { place = (waits desk i).place; puts = wakes resting }) (after_wait s (is_some resting) i)
+  wait_is : c.0 ≡ 0 → (desk : Desk) → DeskAgrees whole s desk → (i : ℕ) → (resting : Option World) → desk.resting ≡ resting → Handled whole s c (worlds_of_rest resting) None (record { place = (waits desk i).place; puts = wakes resting }) (after_wait s (is_some resting) i)
   wait_is nought desk d i None e = record {
     puts = refl;
     place = (nought, record { waiting = ap (waiting_with i) d.waiting; last = d.last; rests = refl; world = tt });
@@ -140,7 +141,7 @@ module _ (whole : List (List Step)) (opened : AreOpened whole) (s : Server) (man
     others = λ j n. refl;
   }
   wait_is nought desk d i (Some w) e =
-      let stands : WorldStands whole s w = subst (RestStands whole s) e d.world in
+      let stands : WorldAgrees whole s w = subst (RestAgrees whole s) e d.world in
       record {
         puts = refl;
         place = (nought, record { waiting = ap (waiting_with i) d.waiting; last = d.last; rests = refl; world = tt });
@@ -155,14 +156,14 @@ module _ (whole : List (List Step)) (opened : AreOpened whole) (s : Server) (man
 
   -- ---- accepting
 
-  accept_is : c.0 ≡ 1 → (w : World) → WorldStands whole s w → w.accepted < length whole → Handled whole s c 0 (Some (world w)) (accepts (length whole) w.accepted w.coming) (after_accept s s.accepted)
+  accept_is : c.0 ≡ 1 → (w : World) → WorldAgrees whole s w → w.accepted < length whole → Handled whole s c 0 (Some (world w)) (accepts (length whole) w.accepted w.coming) (after_accept s s.accepted)
   accept_is one w stands more =
       let at = there_of whole w.accepted more in
       let split : w.coming ≡ at.0 ∷ drop (w.accepted + 1) whole = stands.coming ∙ drop_at whole w.accepted at.0 at.1 in
       subst (λ (ps : List (List Step)). Handled whole s c 0 (Some (world w)) (accepts (length whole) w.accepted ps) (after_accept s s.accepted)) (sym split)
       (subst (λ (n : ℕ). Handled whole s c 0 (Some (world w)) (accepts n w.accepted (at.0 ∷ drop (w.accepted + 1) whole)) (after_accept s s.accepted)) many
       (record {
-        puts = λ i. poll (cond (eqb (stands.accepted i + 1) (length s.paths)) 1 0) ∷ talk (stands.accepted i) open_link ∷ [];
+        puts = λ i. poll (cond (eqb (stands.accepted i + 1) (length s.paths)) 1 0) ∷ talk (stands.accepted i) handler.Open ∷ [];
         place = one;
         coming = (
           (refl, record { accepted = ap (λ (n : ℕ). n + 1) stands.accepted; coming = refl }, λ none. later none),
@@ -185,16 +186,16 @@ module _ (whole : List (List Step)) (opened : AreOpened whole) (s : Server) (man
   -- ---- a connection
 
   abbrev Stands : Server → List Put → Type 0
-  Stands t ps = AllByRecursion (λ p. ComingStands whole t p.0 p.1.handler p.1.arg p.2) ps
+  Stands t ps = AllByRecursion (λ p. ComingAgrees whole t p.0 p.1.handler p.1.arg p.2) ps
 
   next_stands : (t : Server) (i : ℕ) (next : Handler) → number_of next ≢ 3 → Stands t (with_nothing (next_event i next) ∷ [])
-  next_stands t i resume none = (refl, tt)
-  next_stands t i open_link none = absurd (none refl)
-  next_stands t i read_piece none = (omega arith, tt)
-  next_stands t i parse none = (omega arith, tt)
-  next_stands t i look none = (omega arith, tt)
-  next_stands t i write_part none = (omega arith, tt)
-  next_stands t i close none = (omega arith, tt)
+  next_stands t i handler.Resume none = (refl, tt)
+  next_stands t i handler.Open none = absurd (none refl)
+  next_stands t i handler.Read none = (omega arith, tt)
+  next_stands t i handler.Parse none = (omega arith, tt)
+  next_stands t i handler.Look none = (omega arith, tt)
+  next_stands t i handler.Write none = (omega arith, tt)
+  next_stands t i handler.Close none = (omega arith, tt)
 
   follows_stand : (t : Server) (i : ℕ) (later : List Step) → HasNoOpening later → Stands t (map with_nothing (follows i later))
   follows_stand t i [] none = tt
@@ -223,7 +224,7 @@ module _ (whole : List (List Step)) (opened : AreOpened whole) (s : Server) (man
   i = c.0 - 2
 
   -- the rest of the path goes on with its next event, or stays
-  path_is : (2 ≤ c.0) × (c.0 < length whole + 2) → (handler : ℕ) (seat : Option (List Step)) (load : Option Load) (path : List Step) → slice_get s.paths i ≡ Some path → SeatStands whole s i seat → ((later : List Step) (next : Step) → path ≡ next ∷ later → HasNoOpening later)
+  path_is : (2 ≤ c.0) × (c.0 < length whole + 2) → (handler : ℕ) (seat : Option (List Step)) (load : Option Load) (path : List Step) → slice_get s.paths i ≡ Some path → SeatAgrees whole s i seat → ((later : List Step) (next : Step) → path ≡ next ∷ later → HasNoOpening later)
       → Handled whole s c 0 load (takes_off s.log (length whole) i handler seat path) (after_event s i handler (Some path))
   path_is low handler seat load [] there stands rest = nothing (talking seat) load (low, stands)
   path_is low handler seat load (next ∷ later) there stands rest = elim (cases_Bool (eqb (number_of next.handler) handler)) [
@@ -236,7 +237,7 @@ module _ (whole : List (List Step)) (opened : AreOpened whole) (s : Server) (man
               ∙ ap (λ (ps : List (Colour × Event)). follows i later ++ ps) (bare_line (logs s.log (length whole) i next.line))
               ∙ ap (λ (n : ℕ). follows i later ++ logs s.log n i next.line) (sym many);
           place = (low, (get_set_same s.paths i (next ∷ later) later there, rest later next refl));
-          coming = append_all (λ (p : Put). ComingStands whole (record s { paths = slice_set s.paths i later }) p.0 p.1.handler p.1.arg p.2) (map with_nothing (follows i later)) (map with_line (logs s.log (length whole) i next.line))
+          coming = append_all (λ (p : Put). ComingAgrees whole (record s { paths = slice_set s.paths i later }) p.0 p.1.handler p.1.arg p.2) (map with_nothing (follows i later)) (map with_line (logs s.log (length whole) i next.line))
               (follows_stand (record s { paths = slice_set s.paths i later }) i later (rest later next refl)) (logs_stand (record s { paths = slice_set s.paths i later }) s.log i next.line);
           worlds =
               let both = sum_by-append (λ (p : Put). worlds_of_load p.2) (map with_nothing (follows i later)) (map with_line (logs s.log (length whole) i next.line)) in
@@ -255,7 +256,7 @@ module _ (whole : List (List Step)) (opened : AreOpened whole) (s : Server) (man
   ]
 
   -- a connection that isn't open yet has the whole path, whose first event is the opening
-  unopened_is : (2 ≤ c.0) × (c.0 < length whole + 2) → (more : ℕ) → (found : Option (List Step)) → slice_get whole i ≡ found → SeatStands whole s i None → Handled whole s c 0 None (stays (talking None)) (after_event s i (suc (suc (suc (suc more)))) found)
+  unopened_is : (2 ≤ c.0) × (c.0 < length whole + 2) → (more : ℕ) → (found : Option (List Step)) → slice_get whole i ≡ found → SeatAgrees whole s i None → Handled whole s c 0 None (stays (talking None)) (after_event s i (suc (suc (suc (suc more)))) found)
   unopened_is low more None at stands = nothing (talking None) None (low, stands)
   unopened_is low more (Some path) at stands =
       let o = opened i path at in
@@ -271,7 +272,7 @@ module _ (whole : List (List Step)) (opened : AreOpened whole) (s : Server) (man
 
   -- ---- each handler
 
-  pub handle_is : (place : Place) (h arg : ℕ) (load : Option Load) → PlaceStands whole s c place → ComingStands whole s c h arg load → worlds_of_place place + worlds_of_load load ≤ 1
+  pub handle_is : (place : Place) (h arg : ℕ) (load : Option Load) → PlaceAgrees whole s c place → ComingAgrees whole s c h arg load → worlds_of_place place + worlds_of_load load ≤ 1
       → Handled whole s c (worlds_of_place place) load (runs_place s.log (length whole) c place (record { handler = h; arg = arg }) load) (serve s c (record { handler = h; arg = arg }))
   unfolding serve
   handle_is (polling desk) zero arg (Some (world w)) p k few =

@@ -16,11 +16,13 @@ use Rattle.sws_steps.specs.declared.Next.{Next}
 use Rattle.sws_steps.specs.declared.Next.TheVariants as next
 use Rattle.sws_steps.specs.Step.{going_to, ending_as, still_waiting, has_all_input, room_of, after_read, after_parse, after_answer, with_answer, is_last, after_look, after_part, after_write, wait_limit}
 use Rattle.sws_steps.specs.Sound.{core_before_open}
-use Rattle.sws_steps.specs.Path.{Handler, open_link, read_piece, parse, look, write_part, resume, close, handler_of, Scripted, scripted_at, scripted_step, IsPathFrom, path_of}
+use Rattle.sws_steps.specs.declared.Handler.{Handler}
+use Rattle.sws_steps.specs.declared.Handler.TheVariants as handler
+use Rattle.sws_steps.specs.Path.{handler_of, Scripted, scripted_at, scripted_step, IsPathFrom, path_of}
 use Rattle.sws_steps.specs.Logs.{Step, steps_of}
 use Rattle.sws_steps.specs.LogLaws.{steps_of-handlers}
 use Rattle.sws_steps.proofs.Runs.PathLemmas.{path_of-path}
-use Rattle.sws_engine.specs.Handling.{number_of}
+use Rattle.sws_engine.specs.Tasks.{number_of}
 use Rattle.sws_engine.specs.Agrees.{HasNoOpening, IsOpened, AreOpened}
 
 -- the step isn't the opening
@@ -86,16 +88,16 @@ other is event e apart = subst (λ (h : Handler). number_of h ≢ 3) (let same :
 
 handler_opened : (pending : Next) (event : Handler) → HasOpened pending → handler_of pending ≡ event ∷ [] → number_of event ≢ 3
 handler_opened next.Open event is e = absurd is
-handler_opened next.Read event is e = other read_piece event e (λ k. omega (arith, k))
-handler_opened next.Parse event is e = other parse event e (λ k. omega (arith, k))
-handler_opened next.Look event is e = other look event e (λ k. omega (arith, k))
-handler_opened next.Write event is e = other write_part event e (λ k. omega (arith, k))
+handler_opened next.Read event is e = other handler.Read event e (λ k. omega (arith, k))
+handler_opened next.Parse event is e = other handler.Parse event e (λ k. omega (arith, k))
+handler_opened next.Look event is e = other handler.Look event e (λ k. omega (arith, k))
+handler_opened next.Write event is e = other handler.Write event e (λ k. omega (arith, k))
 handler_opened next.Wait event is e = let no_event : [] ≡ event ∷ [] = e in cc
-handler_opened next.Close event is e = other close event e (λ k. omega (arith, k))
+handler_opened next.Close event is e = other handler.Close event e (λ k. omega (arith, k))
 handler_opened next.Nothing event is e = let no_event : [] ≡ event ∷ [] = e in cc
 
-waiting_event : {Hall : Type 0} (b : Bool) (c : ConnCoreState Hall) (event : Handler) → HasOpened c.pending → cond b (resume ∷ []) (handler_of c.pending) ≡ event ∷ [] → number_of event ≢ 3
-waiting_event true c event is e = other resume event e (λ k. omega (arith, k))
+waiting_event : {Hall : Type 0} (b : Bool) (c : ConnCoreState Hall) (event : Handler) → HasOpened c.pending → cond b (handler.Resume ∷ []) (handler_of c.pending) ≡ event ∷ [] → number_of event ≢ 3
+waiting_event true c event is e = other handler.Resume event e (λ k. omega (arith, k))
 waiting_event false c event is e = handler_opened c.pending event is e
 
 -- none of these events is the opening
@@ -113,10 +115,10 @@ others_too (step ∷ steps) (event ∷ path) is none =
       others_too steps path later none.1,
     )
 
-opened_too : (steps : List Step) (later : List Handler) → map (λ (step : Step). step.handler) steps ≡ open_link ∷ later → AreOther later → IsOpened steps
-opened_too [] later is none = let never : [] ≡ open_link ∷ later = is in cc
+opened_too : (steps : List Step) (later : List Handler) → map (λ (step : Step). step.handler) steps ≡ handler.Open ∷ later → AreOther later → IsOpened steps
+opened_too [] later is none = let never : [] ≡ handler.Open ∷ later = is in cc
 opened_too (step ∷ steps) later is none =
-    let both : step.handler ∷ map (λ (s : Step). s.handler) steps ≡ open_link ∷ later = is in
+    let both : step.handler ∷ map (λ (s : Step). s.handler) steps ≡ handler.Open ∷ later = is in
     record { first = step; later = steps; path_is = refl; opens = cc; once = others_too steps later (let rest : map (λ (s : Step). s.handler) steps ≡ later = cc in rest) none }
 
 module _ {Hall Answer : Type 0} (p : Protocol Hall Answer) (orderly : IsOrderly p) where
@@ -128,15 +130,15 @@ module _ {Hall Answer : Type 0} (p : Protocol Hall Answer) (orderly : IsOrderly 
     path_opened (scripted_step p c) later (step_opened p c.standing.pending c refl is) from.1,
   )
 
-  path_opens : (hall : Hall) (script : Script) → p.IsHall hall → (later : List Handler) × (path_of p hall script ≡ open_link ∷ later) × AreOther later
+  path_opens : (hall : Hall) (script : Script) → p.IsHall hall → (later : List Handler) × (path_of p hall script ≡ handler.Open ∷ later) × AreOther later
   unfolding IsPathFrom
   path_opens hall script known = by_path (path_of p hall script) (path_of-path p orderly hall script known)
     where
-      by_path : (path : List Handler) → IsPathFrom p (record { standing = core_before_open hall; script = script }) path → (later : List Handler) × (path ≡ open_link ∷ later) × AreOther later
-      by_path [] from = let never : open_link ∷ [] ≡ [] = from in cc
+      by_path : (path : List Handler) → IsPathFrom p (record { standing = core_before_open hall; script = script }) path → (later : List Handler) × (path ≡ handler.Open ∷ later) × AreOther later
+      by_path [] from = let never : handler.Open ∷ [] ≡ [] = from in cc
       by_path (event ∷ later) from = (
         later,
-        ap (λ (h : Handler). h ∷ later) (let e : open_link ∷ [] ≡ event ∷ [] = from.0 in let same : event ≡ open_link = cc in same),
+        ap (λ (h : Handler). h ∷ later) (let e : handler.Open ∷ [] ≡ event ∷ [] = from.0 in let same : event ≡ handler.Open = cc in same),
         path_opened (scripted_step p (record { standing = core_before_open hall; script = script })) later tt from.1,
       )
 

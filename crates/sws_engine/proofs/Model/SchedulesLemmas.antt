@@ -2,7 +2,7 @@
 use Rattle.std.proofs.Common.{◌≡◌, ◌<◌, refl, ℕ, zero, suc, Bool, true, false, not, ◌&&◌, List, [], ◌∷◌, arith, ap, ◌∙◌, inl, inr}
 use Rattle.std.proofs.lemmas.Bool.{cases_eq}
 use Rattle.sws_steps.specs.Logs.{Step}
-use Rattle.sws_conn.specs.Path.{open_link, read_piece, parse, close}
+use Rattle.sws_steps.specs.declared.Handler.TheVariants as handler
 use Rattle.mely_machine.specs.Rules.{Rules}
 use Rattle.mely_machine.specs.Machine.{Acts, Machine}
 use Rattle.mely_machine.specs.MachineStep.{step}
@@ -31,7 +31,7 @@ busy_at rules act (suc k) m h n low =
 
 -- a connection without input
 abbrev pub silent : List Step
-silent = step_of open_link false ∷ step_of read_piece false ∷ step_of parse false ∷ step_of close false ∷ []
+silent = step_of handler.Open false ∷ step_of handler.Read false ∷ step_of handler.Parse false ∷ step_of handler.Close false ∷ []
 
 -- the worked schedule: core 1 steals the connection of class 2, though another colour of
 -- class 1 stands before it

@@ -6,7 +6,9 @@ use Rattle.sws_steps.specs.ConnCore.{ConnCoreState}
 use Rattle.sws_steps.specs.declared.Next.TheVariants as next
 use Rattle.sws_steps.specs.Step.{after_parse}
 use Rattle.sws_steps.specs.Sound.{core_before_open}
-use Rattle.sws_steps.specs.Path.{Handler, open_link, read_piece, parse, close, IsPathFrom}
+use Rattle.sws_steps.specs.declared.Handler.{Handler}
+use Rattle.sws_steps.specs.declared.Handler.TheVariants as handler
+use Rattle.sws_steps.specs.Path.{IsPathFrom}
 use Rattle.sws_steps.specs.Protocol.{Cut}
 use Rattle.sws_steps.specs.Logs.{Step, step_by, steps_along}
 use Rattle.sws_steps.proofs.Runs.PathLemmas.{path-unique, path_of-path}
@@ -19,17 +21,17 @@ use Rattle.sws_engine.specs.ServerRows.{two_cores, no_input, worked_histories, s
 use Rattle.sws_engine.proofs.Model.SchedulesLemmas.{silent, worked, polled, logged}
 
 -- the path of a connection without input
-silent_path : (site : SiteState) → IsWithinLimits site.files → path_of site no_input ≡ open_link ∷ read_piece ∷ parse ∷ close ∷ []
+silent_path : (site : SiteState) → IsWithinLimits site.files → path_of site no_input ≡ handler.Open ∷ handler.Read ∷ handler.Parse ∷ handler.Close ∷ []
 unfolding IsPathFrom
 silent_path site limits =
-    path-unique http http-orderly (record { standing = core_before_open site; script = no_input }) (path_of site no_input) (open_link ∷ read_piece ∷ parse ∷ close ∷ [])
+    path-unique http http-orderly (record { standing = core_before_open site; script = no_input }) (path_of site no_input) (handler.Open ∷ handler.Read ∷ handler.Parse ∷ handler.Close ∷ [])
     (path_of-path http http-orderly site no_input limits) (refl, (refl, (refl, last)))
   where
     ended : ConnCoreState SiteState
     ended = record (core_before_open site) { input_ended = true; pending = next.Parse }
 
-    last : IsPathFrom http (record { standing = after_parse http ended (http.cut []); script = no_input }) (close ∷ [])
-    last = subst (λ found. IsPathFrom http (record { standing = after_parse http ended found; script = no_input }) (close ∷ [])) (sym http-orderly.nothing) (refl, refl)
+    last : IsPathFrom http (record { standing = after_parse http ended (http.cut []); script = no_input }) (handler.Close ∷ [])
+    last = subst (λ found. IsPathFrom http (record { standing = after_parse http ended found; script = no_input }) (handler.Close ∷ [])) (sym http-orderly.nothing) (refl, refl)
 
 -- and its steps: none of them is a write, so none gives a line
 silent_steps : (site : SiteState) → IsWithinLimits site.files → steps_of site no_input ≡ silent
@@ -41,10 +43,10 @@ silent_steps site limits = ap (λ (path : List Handler). steps_along http (recor
 
     -- the step of the close, by what the empty buffer is found to hold
     closing : Cut → Step
-    closing found = step_by http (record { standing = after_parse http ended found; script = no_input }) close
+    closing found = step_by http (record { standing = after_parse http ended found; script = no_input }) handler.Close
 
-    by_cut : steps_along http (record { standing = core_before_open site; script = no_input }) (open_link ∷ read_piece ∷ parse ∷ close ∷ []) ≡ silent
-    by_cut = ap (λ (found : Cut). step open_link false ∷ step read_piece false ∷ step parse false ∷ closing found ∷ []) http-orderly.nothing
+    by_cut : steps_along http (record { standing = core_before_open site; script = no_input }) (handler.Open ∷ handler.Read ∷ handler.Parse ∷ handler.Close ∷ []) ≡ silent
+    by_cut = ap (λ (found : Cut). step handler.Open false ∷ step handler.Read false ∷ step handler.Parse false ∷ closing found ∷ []) http-orderly.nothing
 
 -- the worked schedules, for every site
 pub schedules : (site : SiteState) → IsWithinLimits site.files → WorkedSchedules site

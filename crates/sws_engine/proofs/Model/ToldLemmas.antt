@@ -16,7 +16,7 @@ use Rattle.mely_run.specs.Corresponds.{without_loads}
 use Rattle.mely_run.specs.Pieces.{Piece, state_piece, event_piece, of_put, IsTold}
 use Rattle.sws_engine.specs.Server.{Server, serve}
 use Rattle.sws_engine.specs.PathPlaces.{World, Load, world, link, line, Place, polling, accepting, talking, logging, Put, Ran, runs_place, worlds_of_rest, worlds_of_place, worlds_of_load}
-use Rattle.sws_engine.specs.Agrees.{AreOpened, WorldStands, RestStands, PlaceStands, ComingStands, is_state_of, worlds_in_load, worlds_of, PieceStands, Agrees}
+use Rattle.sws_engine.specs.Agrees.{AreOpened, WorldAgrees, RestAgrees, PlaceAgrees, ComingAgrees, is_state_of, worlds_in_load, worlds_of, PieceAgrees, Agrees}
 use Rattle.sws_engine.specs.PathStates.{AreLoads, ArePuts}
 use Rattle.sws_engine.specs.Placed.{IsPlaced}
 use Rattle.sws_engine.proofs.Model.HandlesLemmas.{bare, Handled, append_all, handle_is}
@@ -46,10 +46,10 @@ module _ {S P : Type 0} (IsPlace : S → Place → Type 0) (IsLoad : P → Load 
   bares [] (q ∷ qs) are = elim are [ ]
   bares (p ∷ puts) [] are = elim are [ ]
 
-  shown_stand : (s : Server) (puts : List (Colour × Event × Option P)) (qs : List Put) → ArePuts IsLoad puts qs → AllByRecursion (λ p. ComingStands whole s p.0 p.1.handler p.1.arg p.2) qs → AllByRecursion (PieceStands IsPlace IsLoad holds carries whole s) (map of_put puts)
+  shown_stand : (s : Server) (puts : List (Colour × Event × Option P)) (qs : List Put) → ArePuts IsLoad puts qs → AllByRecursion (λ p. ComingAgrees whole s p.0 p.1.handler p.1.arg p.2) qs → AllByRecursion (PieceAgrees IsPlace IsLoad holds carries whole s) (map of_put puts)
   shown_stand s [] [] are all = tt
   shown_stand s (p ∷ puts) (q ∷ qs) are all = (
-    (q.2, are.0.2, subst (λ (e : Event). ComingStands whole s p.0 e.handler e.arg q.2) (sym are.0.1) (subst (λ (c : Colour). ComingStands whole s c q.1.handler q.1.arg q.2) (sym are.0.0) all.0)),
+    (q.2, are.0.2, subst (λ (e : Event). ComingAgrees whole s p.0 e.handler e.arg q.2) (sym are.0.1) (subst (λ (c : Colour). ComingAgrees whole s c q.1.handler q.1.arg q.2) (sym are.0.0) all.0)),
     shown_stand s puts qs are.1 all.1,
   )
   shown_stand s [] (q ∷ qs) are all = elim are [ ]
@@ -74,10 +74,10 @@ module _ {S P : Type 0} (IsPlace : S → Place → Type 0) (IsLoad : P → Load 
 
   -- what another colour has, or another load, isn't changed
   module _ (s : Server) (c : Colour) (before : ℕ) (load : Option Load) (ran : Ran) (acted : Acted Server) (h : Handled whole s c before load ran acted) where
-    world_on : (w : World) → worlds_of_load load ≡ 0 → WorldStands whole s w → WorldStands whole acted.becomes w
+    world_on : (w : World) → worlds_of_load load ≡ 0 → WorldAgrees whole s w → WorldAgrees whole acted.becomes w
     world_on w none stands = record { accepted = stands.accepted ∙ sym (h.accepted none); coming = stands.coming }
 
-    place_on : (d : Colour) (place : Place) → d.0 ≢ c.0 → (worlds_of_load load ≡ 0) ⊎ (worlds_of_place place ≡ 0) → PlaceStands whole s d place → PlaceStands whole acted.becomes d place
+    place_on : (d : Colour) (place : Place) → d.0 ≢ c.0 → (worlds_of_load load ≡ 0) ⊎ (worlds_of_place place ≡ 0) → PlaceAgrees whole s d place → PlaceAgrees whole acted.becomes d place
     place_on d (polling desk) apart few stands =
         let same = h.desk (λ e. apart (stands.0 ∙ sym e)) in (
           stands.0,
@@ -89,7 +89,7 @@ module _ {S P : Type 0} (IsPlace : S → Place → Type 0) (IsLoad : P → Load 
           },
         )
       where
-        rest_on : (resting : Option World) → (worlds_of_load load ≡ 0) ⊎ (worlds_of_rest resting ≡ 0) → RestStands whole s resting → RestStands whole acted.becomes resting
+        rest_on : (resting : Option World) → (worlds_of_load load ≡ 0) ⊎ (worlds_of_rest resting ≡ 0) → RestAgrees whole s resting → RestAgrees whole acted.becomes resting
         rest_on None few stands = tt
         rest_on (Some w) few stands = elim few [ inl none ↦ world_on w none stands | inr never ↦ absurd (omega (arith, never)) ]
     place_on d accepting apart few stands = stands
@@ -97,7 +97,7 @@ module _ {S P : Type 0} (IsPlace : S → Place → Type 0) (IsLoad : P → Load 
     place_on d (talking None) apart few stands = (stands.0, h.others (d.0 - 2) (λ e. apart (let low = stands.0.0 in omega (arith, e, low))) ∙ stands.1)
     place_on d (talking (Some path)) apart few stands = (stands.0, (h.others (d.0 - 2) (λ e. apart (let low = stands.0.0 in omega (arith, e, low))) ∙ stands.1.0, stands.1.1))
 
-    coming_on : (d : Colour) (handler arg : ℕ) (l : Option Load) → (worlds_of_load load ≡ 0) ⊎ (worlds_of_load l ≡ 0) → ComingStands whole s d handler arg l → ComingStands whole acted.becomes d handler arg l
+    coming_on : (d : Colour) (handler arg : ℕ) (l : Option Load) → (worlds_of_load load ≡ 0) ⊎ (worlds_of_load l ≡ 0) → ComingAgrees whole s d handler arg l → ComingAgrees whole acted.becomes d handler arg l
     coming_on d zero arg (Some (world w)) few stands = elim few [ inl none ↦ (stands.0, world_on w none stands.1, stands.2) | inr never ↦ absurd (omega (arith, never)) ]
     coming_on d (suc zero) arg None few stands = stands
     coming_on d (suc (suc zero)) arg (Some (world w)) few stands = elim few [ inl none ↦ (stands.0, world_on w none stands.1, stands.2) | inr never ↦ absurd (omega (arith, never)) ]
@@ -117,7 +117,7 @@ module _ {S P : Type 0} (IsPlace : S → Place → Type 0) (IsLoad : P → Load 
     coming_on d (suc (suc (suc (suc more)))) arg (Some (world w)) few stands = elim stands [ ]
     coming_on d (suc (suc (suc (suc more)))) arg (Some (link path)) few stands = elim stands [ ]
 
-    piece_on : (piece : Piece S P) → (states c.0 piece ≡ 0) × ((worlds_of_load load ≡ 0) ⊎ (worlds piece ≡ 0)) → PieceStands IsPlace IsLoad holds carries whole s piece → PieceStands IsPlace IsLoad holds carries whole acted.becomes piece
+    piece_on : (piece : Piece S P) → (states c.0 piece ≡ 0) × ((worlds_of_load load ≡ 0) ⊎ (worlds piece ≡ 0)) → PieceAgrees IsPlace IsLoad holds carries whole s piece → PieceAgrees IsPlace IsLoad holds carries whole acted.becomes piece
     piece_on (d, inl state) few stands = (
       stands.0,
       stands.1,
@@ -139,8 +139,8 @@ module _ {S P : Type 0} (IsPlace : S → Place → Type 0) (IsLoad : P → Load 
   -- what is left stands after an event was run
   module _ (opened : AreOpened whole) (log : Bool) (s : Server) (c : Colour) (event : Event) (load : Option P) (state after : S) (puts : List (Colour × Event × Option P)) (rest : List (Piece S P))
       (agrees : Agrees IsPlace IsLoad holds carries whole log s (state_piece c state ∷ event_piece c event load ∷ rest)) where
-    pub each : AllByRecursion (PieceStands IsPlace IsLoad holds carries whole s) (state_piece c state ∷ event_piece c event load ∷ rest)
-    each = recursion_from_All (PieceStands IsPlace IsLoad holds carries whole s) (state_piece c state ∷ event_piece c event load ∷ rest) agrees.each
+    pub each : AllByRecursion (PieceAgrees IsPlace IsLoad holds carries whole s) (state_piece c state ∷ event_piece c event load ∷ rest)
+    each = recursion_from_All (PieceAgrees IsPlace IsLoad holds carries whole s) (state_piece c state ∷ event_piece c event load ∷ rest) agrees.each
 
     module _ (place : Place) (is_place : IsPlace state place) (l : Option Load) (is_load : AreLoads IsLoad load l) where
       parts : sum_by worlds (state_piece c state ∷ event_piece c event load ∷ rest) ≡ worlds_of_place place + (worlds_of_load l + sum_by worlds rest)
@@ -154,7 +154,7 @@ module _ {S P : Type 0} (IsPlace : S → Place → Type 0) (IsLoad : P → Load 
       pub few : worlds_of_place place + (worlds_of_load l + sum_by worlds rest) ≤ 1
       few = let one = agrees.one_world in omega (arith, one, parts)
 
-    module _ (place : Place) (is_place : IsPlace state place) (place_stands : PlaceStands whole s c place) (l : Option Load) (is_load : AreLoads IsLoad load l) (load_stands : ComingStands whole s c event.handler event.arg l)
+    module _ (place : Place) (is_place : IsPlace state place) (place_stands : PlaceAgrees whole s c place) (l : Option Load) (is_load : AreLoads IsLoad load l) (load_stands : ComingAgrees whole s c event.handler event.arg l)
         (place_is : IsPlace after (runs_place s.log (length whole) c place event l).place) (puts_are : ArePuts IsLoad puts (runs_place s.log (length whole) c place event l).puts) where
       abbrev ran : Ran
       ran = runs_place s.log (length whole) c place event l
@@ -192,8 +192,8 @@ module _ {S P : Type 0} (IsPlace : S → Place → Type 0) (IsLoad : P → Load 
           weaker [] all = tt
           weaker (x ∷ xs) all = (inr all.0, weaker xs all.1)
 
-      rest_stands : AllByRecursion (PieceStands IsPlace IsLoad holds carries whole acted.becomes) rest
-      rest_stands = map_two (λ piece. (states c.0 piece ≡ 0) × ((worlds_of_load l ≡ 0) ⊎ (worlds piece ≡ 0))) (PieceStands IsPlace IsLoad holds carries whole s) (PieceStands IsPlace IsLoad holds carries whole acted.becomes) rest
+      rest_stands : AllByRecursion (PieceAgrees IsPlace IsLoad holds carries whole acted.becomes) rest
+      rest_stands = map_two (λ piece. (states c.0 piece ≡ 0) × ((worlds_of_load l ≡ 0) ⊎ (worlds piece ≡ 0))) (PieceAgrees IsPlace IsLoad holds carries whole s) (PieceAgrees IsPlace IsLoad holds carries whole acted.becomes) rest
           (piece_on s c (worlds_of_place place) l ran acted handled)
           (map_two (λ piece. states c.0 piece ≡ 0) (λ piece. (worlds_of_load l ≡ 0) ⊎ (worlds piece ≡ 0)) (λ piece. (states c.0 piece ≡ 0) × ((worlds_of_load l ≡ 0) ⊎ (worlds piece ≡ 0))) rest
           (λ piece a b. (a, b)) (all_zero (states c.0) rest none_there) left_few)
@@ -203,9 +203,9 @@ module _ {S P : Type 0} (IsPlace : S → Place → Type 0) (IsLoad : P → Load 
       agrees_after = record {
         many = handled.many ∙ agrees.many;
         logs = handled.log ∙ agrees.logs;
-        each = All-from_recursion (PieceStands IsPlace IsLoad holds carries whole acted.becomes) (state_piece c after ∷ (map of_put puts ++ rest)) (
+        each = All-from_recursion (PieceAgrees IsPlace IsLoad holds carries whole acted.becomes) (state_piece c after ∷ (map of_put puts ++ rest)) (
           (ran.place, place_is, handled.place),
-          append_all (PieceStands IsPlace IsLoad holds carries whole acted.becomes) (map of_put puts) rest (shown_stand acted.becomes puts ran.puts puts_are handled.coming) rest_stands,
+          append_all (PieceAgrees IsPlace IsLoad holds carries whole acted.becomes) (map of_put puts) rest (shown_stand acted.becomes puts ran.puts puts_are handled.coming) rest_stands,
         );
         one_world =
             let one = sum_by-cons worlds (state_piece c after) (map of_put puts ++ rest) in
@@ -227,18 +227,18 @@ server_told {S} {P} t fits y app frame IsPlace IsLoad holds carries spoilt log w
   moved = λ s some others order agrees. record {
     many = agrees.many;
     logs = agrees.logs;
-    each = All-permutation (PieceStands IsPlace IsLoad holds carries whole s) some others order agrees.each;
+    each = All-permutation (PieceAgrees IsPlace IsLoad holds carries whole s) some others order agrees.each;
     one_world = let same = sum_by-IsPermutation (worlds_of holds carries) some others order in let one = agrees.one_world in omega (arith, same, one);
     one_state = λ c. let same = sum_by-IsPermutation (λ (piece : Piece S P). cond {A = ℕ} (is_state_of c piece) 1 0) some others order in let one = agrees.one_state c in omega (arith, same, one);
   };
   roomier = λ s c state room rest alike agrees.
-      let all = recursion_from_All (PieceStands IsPlace IsLoad holds carries whole s) (state_piece c state ∷ rest) agrees.each in
+      let all = recursion_from_All (PieceAgrees IsPlace IsLoad holds carries whole s) (state_piece c state ∷ rest) agrees.each in
       let is = all.0 in
       let now_is = placed.roomy state room is.0 alike is.1 in
       record {
         many = agrees.many;
         logs = agrees.logs;
-        each = All-from_recursion (PieceStands IsPlace IsLoad holds carries whole s) (state_piece c room ∷ rest) ((is.0, now_is, is.2), all.1);
+        each = All-from_recursion (PieceAgrees IsPlace IsLoad holds carries whole s) (state_piece c room ∷ rest) ((is.0, now_is, is.2), all.1);
         one_world =
             let one = agrees.one_world in
             let was = sum_by-cons (worlds_of holds carries) (state_piece c state) rest in
@@ -253,11 +253,11 @@ server_told {S} {P} t fits y app frame IsPlace IsLoad holds carries spoilt log w
             omega (arith, one, was, now);
       };
   runs = λ s c event load state after puts rest coloured framed fit agrees ran fine.
-      let all = recursion_from_All (PieceStands IsPlace IsLoad holds carries whole s) (state_piece c state ∷ event_piece c event load ∷ rest) agrees.each in
+      let all = recursion_from_All (PieceAgrees IsPlace IsLoad holds carries whole s) (state_piece c state ∷ event_piece c event load ∷ rest) agrees.each in
       let is = all.0 in
       let comes = all.1.0 in
       let does = placed.runs s state after event load puts is.0 comes.0 framed (subst (λ (d : Colour). fits frame d event load) (sym coloured) fit) is.1
-      (subst (λ (d : Colour). PlaceStands whole s d is.0) (sym coloured) is.2) comes.1 (subst (λ (d : Colour). ComingStands whole s d event.handler event.arg comes.0) (sym coloured) comes.2)
+      (subst (λ (d : Colour). PlaceAgrees whole s d is.0) (sym coloured) is.2) comes.1 (subst (λ (d : Colour). ComingAgrees whole s d event.handler event.arg comes.0) (sym coloured) comes.2)
       (let both = few IsPlace IsLoad holds carries whole placed.held placed.carriage opened log s c event load state after puts rest agrees is.0 is.1 comes.0 comes.1 in omega (arith, both)) ran fine in
       let place_there = subst (λ (d : Colour). IsPlace after (runs_place log (length whole) d is.0 event comes.0).place) coloured does.0 in
       let puts_there = subst (λ (d : Colour). ArePuts IsLoad puts (runs_place log (length whole) d is.0 event comes.0).puts) coloured does.1 in

@@ -13,7 +13,7 @@ use Rattle.sws_link.specs.Links.{LinkContents}
 use Rattle.sws_link.specs.Worlds.{Coming, initial_contents, TakesNext, Accepts, IsLink}
 use Rattle.sws_steps.specs.declared.talk.Talk.{Ghosts as TalkWords}
 use Rattle.sws_steps.specs.Logs.{Step}
-use Rattle.sws_conn.specs.Path.{open_link, resume}
+use Rattle.sws_steps.specs.declared.Handler.TheVariants as handler
 use Rattle.sws_engine.specs.declared.load.WorldLoad.{WorldLoad}
 use Rattle.sws_engine.specs.declared.load.Load.{Load}
 use Rattle.sws_engine.specs.declared.place.Desk.{Desk}
@@ -99,7 +99,7 @@ module _ {W L T G H : Type 0} (x : WorldWords W L) (l : LinkWords L) (y : TalkWo
       pub waiting : after.waiting.items ≡ (resumed_one asked).waiting
       pub last : after.last ≡ asked.last
       pub resting : after.resting ≡ rest_of asked.last (resumed_one asked).waiting (goes asked) None
-      pub puts_are : puts ≡ map (λ i. step_put i resume) (resumed_one asked).resumed ++ onward asked.last (resumed_one asked).waiting (goes asked)
+      pub puts_are : puts ≡ map (λ i. step_put i handler.Resume) (resumed_one asked).resumed ++ onward asked.last (resumed_one asked).waiting (goes asked)
 
     leaves : LeavesBy runs.asked
     leaves = record {
@@ -112,7 +112,7 @@ module _ {W L T G H : Type 0} (x : WorldWords W L) (l : LinkWords L) (y : TalkWo
     goes_on : (asked : Asked) → HasWorld x l y hall paths (goes asked) w
     goes_on asked = record { accepted = has.accepted; coming = has.coming }
 
-    resume_at : (i : ℕ) → (step_put {W = W} {L = L} i resume).0 ≡ (path.with_nothing (path.talk i resume)).0
+    resume_at : (i : ℕ) → (step_put {W = W} {L = L} i handler.Resume).0 ≡ (path.with_nothing (path.talk i handler.Resume)).0
     resume_at i = let e : i + 2 ≡ 2 + i = omega arith in ap (λ (n : ℕ). let k : Colour = record { 0 = n } in k) e
 
     abbrev pub as_polled : path.Ran → Type 0
@@ -199,7 +199,7 @@ module _ {W L T G H : Type 0} (x : WorldWords W L) (l : LinkWords L) (y : TalkWo
   told_way : (told : Option LinkContents) (link : Coming) (way : List Step) → told ≡ Some (initial_contents link) → option_map (y.steps hall) link.answers ≡ Some way → steps_to_come (y.steps hall) told ≡ Some way
   told_way told link way is same = ap (λ (o : Option LinkContents). steps_to_come (y.steps hall) o) is ∙ same
 
-  open_at : (n : ℕ) → (path.talk n open_link).0 ≡ record { 0 = n + 2 }
+  open_at : (n : ℕ) → (path.talk n handler.Open).0 ≡ record { 0 = n + 2 }
   open_at n = let e : 2 + n ≡ n + 2 = omega arith in ap (λ (k : ℕ). let c : Colour = record { 0 = k } in c) e
 
   accept_answer : (total : ℕ) (held : WorldLoad W) (now : W) (answer : Accepted L) (way : List Step) → slice_get paths held.accepted ≡ Some way

@@ -11,7 +11,7 @@ use Rattle.sws_steps.specs.declared.talk.Talk.{Ghosts as TalkWords}
 use Rattle.sws_steps.specs.Logs.{Step}
 use Rattle.sws_steps.specs.Talks.{StepsServed}
 use Rattle.sws_conn.specs.Outcome.{UnlessMemory}
-use Rattle.sws_conn.specs.Path.{Handler}
+use Rattle.sws_steps.specs.declared.Handler.{Handler}
 use Rattle.sws_conn.specs.Talks.{due}
 use Rattle.sws_engine.specs.declared.load.WorldLoad.{WorldLoad}
 use Rattle.sws_engine.specs.declared.load.Load.{Load}
@@ -22,6 +22,7 @@ use Rattle.sws_engine.specs.declared.place.Seat.{Seat}
 use Rattle.sws_engine.specs.declared.place.Role.{Role}
 use Rattle.sws_engine.specs.declared.place.Role.TheVariants.{Polling, Accepting, Talking, Logging}
 use Rattle.sws_engine.specs.declared.task.Task.{Task}
+use Rattle.sws_steps.specs.declared.Handler.TheVariants as handler
 use Rattle.sws_engine.specs.declared.task.Task.TheVariants as task
 use Rattle.sws_engine.specs.Place.{PlaceState}
 use Rattle.sws_engine.specs.PlaceFields.{IsAlike}
@@ -71,13 +72,13 @@ module _ {W L T G H : Type 0} (x : WorldWords W L) (l : LinkWords L) (y : TalkWo
   line_fit c arg (Some task.Poll) line fit = absurd fit
   line_fit c arg (Some task.Wait) line fit = absurd fit
   line_fit c arg (Some task.Accept) line fit = absurd fit
-  line_fit c arg (Some task.Open) line fit = absurd fit
-  line_fit c arg (Some task.Read) line fit = absurd fit
-  line_fit c arg (Some task.Parse) line fit = absurd fit
-  line_fit c arg (Some task.Look) line fit = absurd fit
-  line_fit c arg (Some task.Write) line fit = absurd fit
-  line_fit c arg (Some task.Close) line fit = absurd fit
-  line_fit c arg (Some task.Resume) line fit = absurd fit
+  line_fit c arg (Some (task.Step handler.Open)) line fit = absurd fit
+  line_fit c arg (Some (task.Step handler.Read)) line fit = absurd fit
+  line_fit c arg (Some (task.Step handler.Parse)) line fit = absurd fit
+  line_fit c arg (Some (task.Step handler.Look)) line fit = absurd fit
+  line_fit c arg (Some (task.Step handler.Write)) line fit = absurd fit
+  line_fit c arg (Some (task.Step handler.Close)) line fit = absurd fit
+  line_fit c arg (Some (task.Step handler.Resume)) line fit = absurd fit
   line_fit c arg (Some task.Log) line fit = fit.colour
 
   no_line_load : (c : Colour) (arg : ℕ) (which : Option Task) (carried : Option (Load W L)) → c.0 < (x.tells first).total + 2 → TaskFits x l first c arg which carried → (line : LogLine) → carried ≡ Some (load.Line line) → ⊥
@@ -87,40 +88,40 @@ module _ {W L T G H : Type 0} (x : WorldWords W L) (l : LinkWords L) (y : TalkWo
 
   -- an event that fits a connection is the opening with its link, or another one without a load
   open_or_not : (c : Colour) (arg : ℕ) (which : Option Task) (carried : Option (Load W L)) → (2 ≤ c.0) × ((line : LogLine) → carried ≡ Some (load.Line line) → ⊥) → TaskFits x l first c arg which carried
-      → ((link : L) × (which ≡ Some task.Open) × (carried ≡ Some (load.Link link))) ⊎ ((which ≡ Some task.Open → ⊥) × (carried ≡ None))
+      → ((link : L) × (which ≡ Some (task.Step handler.Open)) × (carried ≡ Some (load.Link link))) ⊎ ((which ≡ Some (task.Step handler.Open) → ⊥) × (carried ≡ None))
   open_or_not c arg None None high fit = absurd fit
   open_or_not c arg None (Some (load.World held)) high fit = absurd fit
   open_or_not c arg None (Some (load.Link link)) high fit = absurd fit
   open_or_not c arg (Some task.Poll) None high fit = absurd fit
   open_or_not c arg (Some task.Accept) None high fit = absurd fit
-  open_or_not c arg (Some task.Open) None high fit = absurd fit
+  open_or_not c arg (Some (task.Step handler.Open)) None high fit = absurd fit
   open_or_not c arg (Some task.Wait) None high fit = inr (λ is. cc, refl)
-  open_or_not c arg (Some task.Read) None high fit = inr (λ is. cc, refl)
-  open_or_not c arg (Some task.Parse) None high fit = inr (λ is. cc, refl)
-  open_or_not c arg (Some task.Look) None high fit = inr (λ is. cc, refl)
-  open_or_not c arg (Some task.Write) None high fit = inr (λ is. cc, refl)
-  open_or_not c arg (Some task.Close) None high fit = inr (λ is. cc, refl)
-  open_or_not c arg (Some task.Resume) None high fit = inr (λ is. cc, refl)
+  open_or_not c arg (Some (task.Step handler.Read)) None high fit = inr (λ is. cc, refl)
+  open_or_not c arg (Some (task.Step handler.Parse)) None high fit = inr (λ is. cc, refl)
+  open_or_not c arg (Some (task.Step handler.Look)) None high fit = inr (λ is. cc, refl)
+  open_or_not c arg (Some (task.Step handler.Write)) None high fit = inr (λ is. cc, refl)
+  open_or_not c arg (Some (task.Step handler.Close)) None high fit = inr (λ is. cc, refl)
+  open_or_not c arg (Some (task.Step handler.Resume)) None high fit = inr (λ is. cc, refl)
   open_or_not c arg (Some task.Poll) (Some (load.World held)) high fit = let z = fit.colour in let more = high.0 in absurd (omega (arith, z, more))
   open_or_not c arg (Some task.Wait) (Some (load.World held)) high fit = absurd fit
   open_or_not c arg (Some task.Accept) (Some (load.World held)) high fit = let z = fit.colour in let more = high.0 in absurd (omega (arith, z, more))
-  open_or_not c arg (Some task.Open) (Some (load.World held)) high fit = absurd fit
-  open_or_not c arg (Some task.Read) (Some (load.World held)) high fit = absurd fit
-  open_or_not c arg (Some task.Parse) (Some (load.World held)) high fit = absurd fit
-  open_or_not c arg (Some task.Look) (Some (load.World held)) high fit = absurd fit
-  open_or_not c arg (Some task.Write) (Some (load.World held)) high fit = absurd fit
-  open_or_not c arg (Some task.Close) (Some (load.World held)) high fit = absurd fit
-  open_or_not c arg (Some task.Resume) (Some (load.World held)) high fit = absurd fit
+  open_or_not c arg (Some (task.Step handler.Open)) (Some (load.World held)) high fit = absurd fit
+  open_or_not c arg (Some (task.Step handler.Read)) (Some (load.World held)) high fit = absurd fit
+  open_or_not c arg (Some (task.Step handler.Parse)) (Some (load.World held)) high fit = absurd fit
+  open_or_not c arg (Some (task.Step handler.Look)) (Some (load.World held)) high fit = absurd fit
+  open_or_not c arg (Some (task.Step handler.Write)) (Some (load.World held)) high fit = absurd fit
+  open_or_not c arg (Some (task.Step handler.Close)) (Some (load.World held)) high fit = absurd fit
+  open_or_not c arg (Some (task.Step handler.Resume)) (Some (load.World held)) high fit = absurd fit
   open_or_not c arg (Some task.Poll) (Some (load.Link link)) high fit = absurd fit
   open_or_not c arg (Some task.Wait) (Some (load.Link link)) high fit = absurd fit
   open_or_not c arg (Some task.Accept) (Some (load.Link link)) high fit = absurd fit
-  open_or_not c arg (Some task.Open) (Some (load.Link link)) high fit = inl (link, refl, refl)
-  open_or_not c arg (Some task.Read) (Some (load.Link link)) high fit = absurd fit
-  open_or_not c arg (Some task.Parse) (Some (load.Link link)) high fit = absurd fit
-  open_or_not c arg (Some task.Look) (Some (load.Link link)) high fit = absurd fit
-  open_or_not c arg (Some task.Write) (Some (load.Link link)) high fit = absurd fit
-  open_or_not c arg (Some task.Close) (Some (load.Link link)) high fit = absurd fit
-  open_or_not c arg (Some task.Resume) (Some (load.Link link)) high fit = absurd fit
+  open_or_not c arg (Some (task.Step handler.Open)) (Some (load.Link link)) high fit = inl (link, refl, refl)
+  open_or_not c arg (Some (task.Step handler.Read)) (Some (load.Link link)) high fit = absurd fit
+  open_or_not c arg (Some (task.Step handler.Parse)) (Some (load.Link link)) high fit = absurd fit
+  open_or_not c arg (Some (task.Step handler.Look)) (Some (load.Link link)) high fit = absurd fit
+  open_or_not c arg (Some (task.Step handler.Write)) (Some (load.Link link)) high fit = absurd fit
+  open_or_not c arg (Some (task.Step handler.Close)) (Some (load.Link link)) high fit = absurd fit
+  open_or_not c arg (Some (task.Step handler.Resume)) (Some (load.Link link)) high fit = absurd fit
   open_or_not c arg (Some task.Log) None high fit = absurd fit
   open_or_not c arg (Some task.Log) (Some (load.World held)) high fit = absurd fit
   open_or_not c arg (Some task.Log) (Some (load.Link link)) high fit = absurd fit
@@ -128,13 +129,13 @@ module _ {W L T G H : Type 0} (x : WorldWords W L) (l : LinkWords L) (y : TalkWo
   open_or_not c arg (Some task.Poll) (Some (load.Line line)) high fit = absurd fit
   open_or_not c arg (Some task.Wait) (Some (load.Line line)) high fit = absurd fit
   open_or_not c arg (Some task.Accept) (Some (load.Line line)) high fit = absurd fit
-  open_or_not c arg (Some task.Open) (Some (load.Line line)) high fit = absurd fit
-  open_or_not c arg (Some task.Read) (Some (load.Line line)) high fit = absurd fit
-  open_or_not c arg (Some task.Parse) (Some (load.Line line)) high fit = absurd fit
-  open_or_not c arg (Some task.Look) (Some (load.Line line)) high fit = absurd fit
-  open_or_not c arg (Some task.Write) (Some (load.Line line)) high fit = absurd fit
-  open_or_not c arg (Some task.Close) (Some (load.Line line)) high fit = absurd fit
-  open_or_not c arg (Some task.Resume) (Some (load.Line line)) high fit = absurd fit
+  open_or_not c arg (Some (task.Step handler.Open)) (Some (load.Line line)) high fit = absurd fit
+  open_or_not c arg (Some (task.Step handler.Read)) (Some (load.Line line)) high fit = absurd fit
+  open_or_not c arg (Some (task.Step handler.Parse)) (Some (load.Line line)) high fit = absurd fit
+  open_or_not c arg (Some (task.Step handler.Look)) (Some (load.Line line)) high fit = absurd fit
+  open_or_not c arg (Some (task.Step handler.Write)) (Some (load.Line line)) high fit = absurd fit
+  open_or_not c arg (Some (task.Step handler.Close)) (Some (load.Line line)) high fit = absurd fit
+  open_or_not c arg (Some (task.Step handler.Resume)) (Some (load.Line line)) high fit = absurd fit
   open_or_not c arg (Some task.Log) (Some (load.Line line)) high fit = absurd (high.1 line refl)
 
   module _ (c : Colour) (event : Event) (carried : Option (Load W L)) (puts : List (Put W L)) (fit : Fit x l first c event carried) (p : Option path.Load) (are : AreLoads Loads carried p) where
@@ -195,7 +196,7 @@ module _ {W L T G H : Type 0} (x : WorldWords W L) (l : LinkWords L) (y : TalkWo
         elim (open_or_not c event.arg (task_of event.handler) carried (high.0, no_line_load c event.arg (task_of event.handler) carried high.1 fit) fit) [
           | inl opens ↦
               let way = link_load opens.0 p (subst (λ (o : Option (Load W L)). AreLoads Loads o p) opens.2 are) in
-              let ran = opening_runs x l y hall paths steps_law log total (conn_of c) seat after event carried puts arg has.0 has.1 (number_is event.handler task.Open opens.1) opens.0 opens.2 way.0 way.2 does in
+              let ran = opening_runs x l y hall paths steps_law log total (conn_of c) seat after event carried puts arg has.0 has.1 (number_is event.handler (task.Step handler.Open) opens.1) opens.0 opens.2 way.0 way.2 does in
               subst (λ (o : Option path.Load). RoleRan (Talking after) puts (path.runs_talk log total (conn_of c) event.handler None o)) (sym way.1) (talk_back after (path.takes_off log total (conn_of c) event.handler None way.0) ran)
           | inr other ↦
               let nothing = no_load p (subst (λ (o : Option (Load W L)). AreLoads Loads o p) other.1 are) in

@@ -18,12 +18,15 @@ use Rattle.sws_steps.specs.declared.talk.Talk.{Ghosts as TalkWords}
 use Rattle.sws_steps.specs.Logs.{Step, last_line}
 use Rattle.sws_steps.specs.Talks.{StepsBy, StepsServed}
 use Rattle.sws_conn.specs.Outcome.{UnlessMemory}
-use Rattle.sws_conn.specs.Path.{Handler, open_link, read_piece, parse, look, write_part, resume, close, answers_to_come}
+use Rattle.sws_steps.specs.declared.Handler.{Handler}
+use Rattle.sws_steps.specs.declared.Handler.TheVariants as handler
+use Rattle.sws_conn.specs.Path.{answers_to_come}
 use Rattle.sws_conn.specs.Talks.{TalkView, unopened_view, due, BeginsWith}
 use Rattle.sws_engine.specs.declared.load.Load.{Load}
 use Rattle.sws_engine.specs.declared.load.Load.TheVariants as load
 use Rattle.sws_engine.specs.declared.place.Seat.{Seat}
-use Rattle.sws_engine.specs.Handling.{Put, number_of, is_due, next_puts, line_puts, Stepped, PutsNext, RunsSeat}
+use Rattle.sws_engine.specs.Tasks.{number_of}
+use Rattle.sws_engine.specs.Handling.{Put, is_due, next_puts, line_puts, Stepped, PutsNext, RunsSeat}
 use Rattle.sws_engine.specs.PathPlaces as path
 use Rattle.sws_engine.specs.PathStates.{steps_to_come, HasRun, HasTalk, HasLoad, ArePuts}
 use Rattle.sws_engine.proofs.Events.SeatKeptLemmas.{due_event}
@@ -59,7 +62,7 @@ other_number : (i : ℕ) (step : Handler) (event : Event) → event.arg ≡ i �
 other_number i step event own isnt = same_eqb (number_of step) event.handler ∙ left_false (event.handler == number_of step) (event.arg == i) (eq-eqb event.arg i own) isnt
 
 -- a connection is opened once
-opened_once : (i : ℕ) (d : Option Handler) → is_due i d (record { handler = 3; arg = i }) ≡ false → d ≢ Some open_link
+opened_once : (i : ℕ) (d : Option Handler) → is_due i d (record { handler = 3; arg = i }) ≡ false → d ≢ Some handler.Open
 opened_once i d isnt is = true≢false (sym (eq-eqb i i refl) ∙ (sym (ap (λ (h : Option Handler). is_due i h (record { handler = 3; arg = i })) is) ∙ isnt))
 
 step_at : (i : ℕ) (step : Handler) → (let c : Colour = record { 0 = i + 2 } in c) ≡ (path.talk i step).0
@@ -97,9 +100,9 @@ last-line (s ∷ []) step = refl
 last-line (s ∷ t ∷ ran) step = last-line (t ∷ ran) step
 
 -- where the opening was run, it is the first of the steps
-first_ran : (ran rest way : List Step) → way ≡ ran ++ rest → handlers ran ≡ open_link ∷ [] → (step : Step) × (later : List Step) × (way ≡ step ∷ later) × (step.handler ≡ open_link)
-first_ran [] rest way is ran_is = let none : [] ≡ open_link ∷ [] = ran_is in cc
-first_ran (step ∷ ran) rest way is ran_is = (step, ran ++ rest, is, (cons_parts step.handler open_link (handlers ran) [] ran_is).0)
+first_ran : (ran rest way : List Step) → way ≡ ran ++ rest → handlers ran ≡ handler.Open ∷ [] → (step : Step) × (later : List Step) × (way ≡ step ∷ later) × (step.handler ≡ handler.Open)
+first_ran [] rest way is ran_is = let none : [] ≡ handler.Open ∷ [] = ran_is in cc
+first_ran (step ∷ ran) rest way is ran_is = (step, ran ++ rest, is, (cons_parts step.handler handler.Open (handlers ran) [] ran_is).0)
 
 module _ {W L T G H : Type 0} (x : WorldWords W L) (l : LinkWords L) (y : TalkWords T L G H) (hall : H) (paths : List (List Step))
     (steps_law : (first : L) (trail : List Handler) (talk : T) → y.has_run first trail talk → UnlessMemory (y.view_of talk).end (StepsServed (y.steps (y.hall_of talk)) (l.tells first) trail (y.told talk) (y.view_of talk))) where
@@ -132,7 +135,7 @@ module _ {W L T G H : Type 0} (x : WorldWords W L) (l : LinkWords L) (y : TalkWo
   along : (link : L) (ran rest : List Step) (talk : T) → y.hall_of talk ≡ hall → y.has_run link (handlers ran) talk → steps_to_come (y.steps hall) (l.tells link) ≡ Some (ran ++ rest) → (y.view_of talk).end ≢ Some Memory → Along talk ran rest
   along link ran rest talk hall_is runs way sound = along_by (answers_to_come (l.tells link)) talk ran rest way (served_here link (handlers ran) talk hall_is runs sound)
 
-  opening_by : (o : Option Script) (talk : T) (way : List Step) → option_map (y.steps hall) o ≡ Some way → StepsBy (y.steps hall) o (open_link ∷ []) (y.told talk) (y.view_of talk) → (step : Step) × (later : List Step) × (way ≡ step ∷ later) × (step.handler ≡ open_link)
+  opening_by : (o : Option Script) (talk : T) (way : List Step) → option_map (y.steps hall) o ≡ Some way → StepsBy (y.steps hall) o (handler.Open ∷ []) (y.told talk) (y.view_of talk) → (step : Step) × (later : List Step) × (way ≡ step ∷ later) × (step.handler ≡ handler.Open)
   opening_by None talk way is by = absurd (none-some way is)
   opening_by (Some script) talk way is by = first_ran by.ran by.rest way (sym (same_Some (y.steps hall script) way is) ∙ by.all_is) by.trail_is
 
@@ -140,13 +143,13 @@ module _ {W L T G H : Type 0} (x : WorldWords W L) (l : LinkWords L) (y : TalkWo
 
   -- what is put for a step is the event that brings the connection on to it
   next_as : (i : ℕ) (event : Handler) → Puts (next_puts i (Some event)) (path.with_nothing (path.next_event i event) ∷ [])
-  next_as i open_link = ((step_at i open_link, refl, tt), tt)
-  next_as i read_piece = ((step_at i read_piece, refl, tt), tt)
-  next_as i parse = ((step_at i parse, refl, tt), tt)
-  next_as i look = ((step_at i look, refl, tt), tt)
-  next_as i write_part = ((step_at i write_part, refl, tt), tt)
-  next_as i close = ((step_at i close, refl, tt), tt)
-  next_as i resume = ((refl, refl, tt), tt)
+  next_as i handler.Open = ((step_at i handler.Open, refl, tt), tt)
+  next_as i handler.Read = ((step_at i handler.Read, refl, tt), tt)
+  next_as i handler.Parse = ((step_at i handler.Parse, refl, tt), tt)
+  next_as i handler.Look = ((step_at i handler.Look, refl, tt), tt)
+  next_as i handler.Write = ((step_at i handler.Write, refl, tt), tt)
+  next_as i handler.Close = ((step_at i handler.Close, refl, tt), tt)
+  next_as i handler.Resume = ((refl, refl, tt), tt)
 
   -- what is put after a step is what follows on the path
   puts_follow : (i : ℕ) (d : Option Handler) (left : List Step) → BeginsWith d (handlers left) → Puts (next_puts i d) (map path.with_nothing (path.follows i left))
@@ -202,23 +205,23 @@ module _ {W L T G H : Type 0} (x : WorldWords W L) (l : LinkWords L) (y : TalkWo
     stays : (rest : Option (List Step)) → HasTalk x l y hall paths seat.talk rest → RunsSeat y log total false i seat event carried after puts → TalkRan after.talk puts (path.stays (path.talking rest))
     stays rest has does = inr (rest, refl, subst (λ (t : T). HasTalk x l y hall paths t rest) (sym does.0) has, subst (λ (us : List (Put W L)). Puts us []) (sym does.2) tt)
 
-    stepped : (step : Handler) → step ≢ open_link → Stepped y seat.talk (Some step) carried after.talk → (link : L) (ran : List Handler) → y.has_run link ran seat.talk → y.has_run link (ran ++ step ∷ []) after.talk
-    stepped open_link never does link ran runs = absurd (never refl)
-    stepped read_piece never does link ran runs = does link ran runs
-    stepped parse never does link ran runs = does link ran runs
-    stepped look never does link ran runs = does link ran runs
-    stepped write_part never does link ran runs = does link ran runs
-    stepped close never does link ran runs = does link ran runs
-    stepped resume never does link ran runs = does link ran runs
+    stepped : (step : Handler) → step ≢ handler.Open → Stepped y seat.talk (Some step) carried after.talk → (link : L) (ran : List Handler) → y.has_run link ran seat.talk → y.has_run link (ran ++ step ∷ []) after.talk
+    stepped handler.Open never does link ran runs = absurd (never refl)
+    stepped handler.Read never does link ran runs = does link ran runs
+    stepped handler.Parse never does link ran runs = does link ran runs
+    stepped handler.Look never does link ran runs = does link ran runs
+    stepped handler.Write never does link ran runs = does link ran runs
+    stepped handler.Close never does link ran runs = does link ran runs
+    stepped handler.Resume never does link ran runs = does link ran runs
 
     -- the due one takes its step off the path
-    due_runs : (step : Step) (later : List Step) → step.handler ≢ open_link → HasRun x l y hall paths seat.talk (step ∷ later) → Stepped y seat.talk (Some step.handler) carried after.talk → y.hall_of after.talk ≡ y.hall_of seat.talk
+    due_runs : (step : Step) (later : List Step) → step.handler ≢ handler.Open → HasRun x l y hall paths seat.talk (step ∷ later) → Stepped y seat.talk (Some step.handler) carried after.talk → y.hall_of after.talk ≡ y.hall_of seat.talk
         → is_due i (due (y.view_of after.talk)) (record { handler = 3; arg = i }) ≡ false → PutsNext y log total i seat.talk after.talk puts → TalkRan after.talk puts (path.goes_along log total i step later)
     due_runs step later never has does same once next =
         goes_on log total i seat.talk after.talk puts has.link has.ran step later (same ∙ hall_is) (stepped step.handler never does has.link (handlers has.ran) has.runs) has.way next once
 
     -- by the rest of the path, which begins with what is due
-    opened_by : (d : Option Handler) → due (y.view_of seat.talk) ≡ d → (rest : List Step) → BeginsWith d (handlers rest) → d ≢ Some open_link → HasRun x l y hall paths seat.talk rest → (b : Bool) → is_due i d event ≡ b → RunsSeat y log total b i seat event carried after puts
+    opened_by : (d : Option Handler) → due (y.view_of seat.talk) ≡ d → (rest : List Step) → BeginsWith d (handlers rest) → d ≢ Some handler.Open → HasRun x l y hall paths seat.talk rest → (b : Bool) → is_due i d event ≡ b → RunsSeat y log total b i seat event carried after puts
         → TalkRan after.talk puts (path.takes_off log total i event.handler (Some rest) rest)
     opened_by None at [] nothing never has true is does = cc
     opened_by None at [] nothing never has false is does = stays (Some []) (hall_is, has) does
@@ -252,15 +255,15 @@ module _ {W L T G H : Type 0} (x : WorldWords W L) (l : LinkWords L) (y : TalkWo
     pub opening_runs : y.view_of seat.talk ≡ unopened_view → event.handler ≡ 3 → (link : L) → carried ≡ Some (load.Link link) → (way : List Step) → steps_to_come (y.steps hall) (l.tells link) ≡ Some way
         → RunsSeat y log total (is_due i (due (y.view_of seat.talk)) event) i seat event carried after puts → TalkRan after.talk puts (path.takes_off log total i event.handler None way)
     opening_runs initial three link carries way told does =
-        let due_is : due (y.view_of seat.talk) ≡ Some open_link = ap (λ (v : TalkView). due v) initial in
+        let due_is : due (y.view_of seat.talk) ≡ Some handler.Open = ap (λ (v : TalkView). due v) initial in
         let is : is_due i (due (y.view_of seat.talk)) event ≡ true = ap (λ (d : Option Handler). is_due i d event) due_is ∙ (ap (λ b. b && (event.arg == i)) (eq-eqb event.handler 3 three) ∙ eq-eqb event.arg i own) in
         let did = subst (λ (b : Bool). RunsSeat y log total b i seat event carried after puts) is does in
         let step = subst (λ (d : Option Handler). Stepped y seat.talk d carried after.talk) due_is did.0 in
         let same : step.0 ≡ link = same_link W step.0 link (sym step.1 ∙ carries) in
-        let runs = subst (λ (k : L). y.has_run k (open_link ∷ []) after.talk) same step.2 in
+        let runs = subst (λ (k : L). y.has_run k (handler.Open ∷ []) after.talk) same step.2 in
         let sound : (y.view_of after.talk).end ≢ Some Memory = λ memory. none-some Memory (sym (ap (λ (v : TalkView). v.end) step.3) ∙ memory) in
         let here = did.2 ∙ hall_is in
-        let opens = opening_by (answers_to_come (l.tells link)) after.talk way told (served_here link (open_link ∷ []) after.talk here runs sound) in
+        let opens = opening_by (answers_to_come (l.tells link)) after.talk way told (served_here link (handler.Open ∷ []) after.talk here runs sound) in
         let first : y.has_run link (opens.0.handler ∷ []) after.talk = subst (λ (h : Handler). y.has_run link (h ∷ []) after.talk) (sym opens.3) runs in
         let ran = goes_on log total i seat.talk after.talk puts link [] opens.0 opens.1 here first (told ∙ ap (λ (ws : List Step). Some ws) opens.2) did.4 did.3 in
         let number : (number_of opens.0.handler == event.handler) ≡ true = ap (λ (h : Handler). number_of h == event.handler) opens.3 ∙ eq-eqb 3 event.handler (sym three) in

@@ -13,7 +13,9 @@ use Rattle.sws_steps.specs.declared.End.TheVariants as ending
 use Rattle.sws_steps.specs.declared.Next.TheVariants as next
 use Rattle.sws_steps.specs.declared.talk.Talk.{Ghosts as TalkWords}
 use Rattle.sws_conn.specs.Outcome.{Outcome, UnlessMemory}
-use Rattle.sws_conn.specs.Path.{Handler, open_link, TakesOff, answers_to_come}
+use Rattle.sws_steps.specs.declared.Handler.{Handler}
+use Rattle.sws_steps.specs.declared.Handler.TheVariants as handler
+use Rattle.sws_conn.specs.Path.{TakesOff, answers_to_come}
 use Rattle.sws_conn.specs.Conn.{end_at}
 use Rattle.sws_conn.specs.Talks.{TalkView, unopened_view, due, path_to_come, IsDue, ComesTo}
 use Rattle.sws_engine.specs.declared.ended.Served.{Served}
@@ -54,7 +56,7 @@ module _ {W L T G H : Type 0} (x : WorldWords W L) (l : LinkWords L) (y : TalkWo
       ap answers_to_come is.2 ∙ ap (λ (c : Coming). c.answers) same ∙ answers
 
   opened : view ≡ unopened_view → ⊥
-  opened initial = let both : None ≡ Some open_link = sym closed ∙ ap due initial in cc
+  opened initial = let both : None ≡ Some handler.Open = sym closed ∙ ap due initial in cc
 
   -- all of the path was run
   all_run : (ran : List Handler) → OnPath x l y place seat ran → y.path place.hall script ≡ ran

@@ -20,7 +20,8 @@ use Rattle.sws_link.specs.declared.world.World.{Ghosts as WorldWords}
 use Rattle.sws_link.specs.declared.Accepted.{Accepted}
 use Rattle.sws_link.specs.declared.Accepted.TheVariants as accepted
 use Rattle.sws_steps.specs.declared.talk.Talk.{Ghosts as TalkWords}
-use Rattle.sws_conn.specs.Path.{Handler, open_link, read_piece, parse, look, write_part, resume, close}
+use Rattle.sws_steps.specs.declared.Handler.{Handler}
+use Rattle.sws_steps.specs.declared.Handler.TheVariants as handler
 use Rattle.sws_conn.specs.Talks.{TalkView, due}
 use Rattle.sws_engine.specs.declared.load.WorldLoad.{WorldLoad}
 use Rattle.sws_engine.specs.declared.load.Load.{Load}
@@ -55,7 +56,7 @@ bit_is_number i n none = elim (eqb_tells i n) [ inl same ↦ same.1 | inr apart 
 abbrev NoTurn : {W L : Type 0} → ℕ → Put W L → Type 0
 NoTurn i put = turn_carried i put.2 ≡ None
 
-resumes_quiet : (W L : Type 0) (i : ℕ) (conns : List ℕ) → AllByRecursion (NoTurn i) (map (λ k. step_put {W = W} {L = L} k resume) conns)
+resumes_quiet : (W L : Type 0) (i : ℕ) (conns : List ℕ) → AllByRecursion (NoTurn i) (map (λ k. step_put {W = W} {L = L} k handler.Resume) conns)
 resumes_quiet W L i [] = tt
 resumes_quiet W L i (k ∷ conns) = (refl, resumes_quiet W L i conns)
 
@@ -75,13 +76,13 @@ accept_quiet i total held now accepted.Failed = (refl, tt)
 
 next_quiet : (W L : Type 0) (i j : ℕ) (d : Option Handler) → AllByRecursion (NoTurn i) (next_puts {W = W} {L = L} j d)
 next_quiet W L i j None = tt
-next_quiet W L i j (Some open_link) = (refl, tt)
-next_quiet W L i j (Some read_piece) = (refl, tt)
-next_quiet W L i j (Some parse) = (refl, tt)
-next_quiet W L i j (Some look) = (refl, tt)
-next_quiet W L i j (Some write_part) = (refl, tt)
-next_quiet W L i j (Some close) = (refl, tt)
-next_quiet W L i j (Some resume) = (refl, tt)
+next_quiet W L i j (Some handler.Open) = (refl, tt)
+next_quiet W L i j (Some handler.Read) = (refl, tt)
+next_quiet W L i j (Some handler.Parse) = (refl, tt)
+next_quiet W L i j (Some handler.Look) = (refl, tt)
+next_quiet W L i j (Some handler.Write) = (refl, tt)
+next_quiet W L i j (Some handler.Close) = (refl, tt)
+next_quiet W L i j (Some handler.Resume) = (refl, tt)
 
 other_quiet : (W L : Type 0) (log : Bool) (total i j : ℕ) (line : Option LogLine) → i ≢ j → IfSome line (λ line. line.conn ≡ j) → AllByRecursion (NoTurn i) (line_puts {W = W} {L = L} log total j line)
 other_quiet W L log total i j None apart own = tt
@@ -112,7 +113,7 @@ module _ {W L T G H : Type 0} (x : WorldWords W L) (l : LinkWords L) (y : TalkWo
         let does1 = subst (λ (t : Option Task). RunsDesk x desk t event.arg carried after puts) poll.is does in
         let does2 = subst (λ (o : Option (Load W L)). RunsDesk x desk (Some task.Poll) event.arg o after puts) poll.carries does1 in
         subst (λ (ps : List (Put W L)). AllByRecursion (NoTurn i) ps) (sym does2.puts_are)
-        (each_append (NoTurn i) (map (λ k. step_put k resume) (resumed_one does2.asked).resumed) (onward does2.asked.last (resumed_one does2.asked).waiting (record { world = does2.now; accepted = poll.held.accepted; failed = does2.asked.failed }))
+        (each_append (NoTurn i) (map (λ k. step_put k handler.Resume) (resumed_one does2.asked).resumed) (onward does2.asked.last (resumed_one does2.asked).waiting (record { world = does2.now; accepted = poll.held.accepted; failed = does2.asked.failed }))
         (resumes_quiet W L i (resumed_one does2.asked).resumed) (onward_quiet W L i does2.asked.last (resumed_one does2.asked).waiting (record { world = does2.now; accepted = poll.held.accepted; failed = does2.asked.failed })))
     | inr wait ↦
         let does1 = subst (λ (t : Option Task). RunsDesk x desk t event.arg carried after puts) wait.is does in

@@ -8,7 +8,7 @@ use Rattle.mely_tally.specs.Tallies.{carried_by}
 use Rattle.sws_link.specs.declared.Link.{Ghosts as LinkWords}
 use Rattle.sws_link.specs.declared.world.World.{Ghosts as WorldWords}
 use Rattle.sws_steps.specs.declared.talk.Talk.{Ghosts as TalkWords}
-use Rattle.sws_conn.specs.Path.{Handler}
+use Rattle.sws_steps.specs.declared.Handler.{Handler}
 use Rattle.sws_conn.specs.Talks.{due}
 use Rattle.sws_engine.specs.declared.load.Load.{Load}
 use Rattle.sws_engine.specs.declared.load.WorldLoad.{WorldLoad}
@@ -17,11 +17,12 @@ use Rattle.sws_engine.specs.declared.place.Seat.{Seat}
 use Rattle.sws_engine.specs.declared.place.Role.{Role}
 use Rattle.sws_engine.specs.declared.place.Role.TheVariants.{Polling, Accepting, Talking, Logging}
 use Rattle.sws_engine.specs.declared.task.Task.{Task}
+use Rattle.sws_steps.specs.declared.Handler.TheVariants as handler
 use Rattle.sws_engine.specs.declared.task.Task.TheVariants as task
-use Rattle.sws_engine.specs.Tasks.{task_of, number_of_task}
+use Rattle.sws_engine.specs.Tasks.{task_of, number_of_task, number_of}
 use Rattle.sws_engine.specs.Place.{PlaceState}
 use Rattle.sws_engine.specs.Loads.{Fit, at_first, world_of}
-use Rattle.sws_engine.specs.Handling.{Put, number_of, next_puts, line_puts, is_due, conn_of, RunsDesk, RunsAccepting, RunsSeat, RunsRole, Runs}
+use Rattle.sws_engine.specs.Handling.{Put, next_puts, line_puts, is_due, conn_of, RunsDesk, RunsAccepting, RunsSeat, RunsRole, Runs}
 use Rattle.sws_engine.specs.RunStands.{Way, if_held, is_any, is_beyond, is_late, is_unended, at_desk, at_seat, misplaced_at, first_number, due_number, worlds, beyond, early, unended_count, asks_for, misplaced_count, desks, seats, rests, rests_beyond, unended_rests, is_last, waits_for, is_at, is_opened, RunStands}
 use Rattle.sws_engine.proofs.Balances.BalanceLemmas.{Balance, Swaps, sum_below, others, before_is, desk_alone, seat_alone, stands_after, balance_more}
 use Rattle.sws_engine.proofs.Balances.ConcludesLemmas.{talking_within}
@@ -90,13 +91,13 @@ by_task : (t : Task) (Is : ℕ → Type 0) → number_of_task t ≤ 9 → Is (nu
 by_task task.Poll Is low is opens steps resumes some = absurd (omega (arith, some))
 by_task task.Wait Is low is opens steps resumes some = absurd (omega (arith, some))
 by_task task.Accept Is low is opens steps resumes some = absurd (omega (arith, some))
-by_task task.Open Is low is opens steps resumes some = opens is
-by_task task.Read Is low is opens steps resumes some = steps 4 is (omega arith) (omega arith)
-by_task task.Parse Is low is opens steps resumes some = steps 5 is (omega arith) (omega arith)
-by_task task.Look Is low is opens steps resumes some = steps 6 is (omega arith) (omega arith)
-by_task task.Write Is low is opens steps resumes some = steps 7 is (omega arith) (omega arith)
-by_task task.Close Is low is opens steps resumes some = steps 8 is (omega arith) (omega arith)
-by_task task.Resume Is low is opens steps resumes some = resumes is
+by_task (task.Step handler.Open) Is low is opens steps resumes some = opens is
+by_task (task.Step handler.Read) Is low is opens steps resumes some = steps 4 is (omega arith) (omega arith)
+by_task (task.Step handler.Parse) Is low is opens steps resumes some = steps 5 is (omega arith) (omega arith)
+by_task (task.Step handler.Look) Is low is opens steps resumes some = steps 6 is (omega arith) (omega arith)
+by_task (task.Step handler.Write) Is low is opens steps resumes some = steps 7 is (omega arith) (omega arith)
+by_task (task.Step handler.Close) Is low is opens steps resumes some = steps 8 is (omega arith) (omega arith)
+by_task (task.Step handler.Resume) Is low is opens steps resumes some = resumes is
 by_task task.Log Is low is opens steps resumes some = absurd (omega (arith, low))
 
 seats_where : {W T : Type 0} (own : Bool) (f : Seat T → Bool) (role : Role W T) → at_seat (λ k. bit own) role ≡ 0 → at_seat (λ k. bit (own && f k)) role ≡ 0

@@ -1,14 +1,13 @@
 //! The events of one connection over a link in memory.
 ghost use Rattle.std.specs.Prelude.{◌≡◌, [], None};
 
-use crate::desk::event_of;
 use crate::load::Load;
 use crate::place::Seat;
 use crate::seating::serve;
 use crate::task::Task;
 use mely_worker::Outs;
 use std::process::Abort;
-use sws_conn::{Conn, Next};
+use sws_conn::{Conn, Handler, Next};
 use sws_link::{Link, MemLink, MemWorld, SureFolder};
 use sws_site::Site;
 
@@ -38,23 +37,23 @@ fn the_first_event_that_is_not_due_is_kept_and_runs_no_step(rt: HostRuntime) {
         0,
         1,
         true,
-        event_of(Task::Write, 0),
+        Task::Step(Handler::Write).event(0),
         None,
         &mut outs,
     );
     assert!(rt; outs.is_empty());
     assert_eq!(rt; seat.next, Next::Open);
-    assert_eq!(rt; seat.stray, Some(event_of(Task::Write, 0)));
+    assert_eq!(rt; seat.stray, Some(Task::Step(Handler::Write).event(0)));
 
     serve(
         &mut seat,
         0,
         1,
         true,
-        event_of(Task::Close, 0),
+        Task::Step(Handler::Close).event(0),
         None,
         &mut outs,
     );
-    assert_eq!(rt; seat.stray, Some(event_of(Task::Write, 0)));
+    assert_eq!(rt; seat.stray, Some(Task::Step(Handler::Write).event(0)));
     assert!(rt; seat.talk.link().is_none());
 }

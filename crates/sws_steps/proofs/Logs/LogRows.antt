@@ -7,7 +7,9 @@ use Rattle.sws_link.specs.Scripts.{Script, piece}
 use Rattle.sws_log.specs.Lines.{lines_within}
 use Rattle.sws_steps.specs.Protocol.{Protocol, IsOrderly, Cut, Whole, TooLong, NotYet, Asked, request, too_long, later_unless}
 use Rattle.sws_steps.specs.Sound.{core_before_open}
-use Rattle.sws_steps.specs.Path.{Handler, open_link, read_piece, parse, look, write_part, close, IsPathFrom, path_of}
+use Rattle.sws_steps.specs.declared.Handler.{Handler}
+use Rattle.sws_steps.specs.declared.Handler.TheVariants as handler
+use Rattle.sws_steps.specs.Path.{IsPathFrom, path_of}
 use Rattle.sws_steps.specs.Logs.{log_from, log_of, Step, steps_along, steps_of}
 use Rattle.sws_steps.proofs.Runs.PathLemmas.{path-unique, path_of-path}
 
@@ -143,7 +145,7 @@ whole-row : map (λ (step : Step). step.line) (steps_of echo valley (two_bytes N
     ≡ false ∷ false ∷ false ∷ false ∷ true ∷ false ∷ false ∷ true ∷ false ∷ []
 unfolding IsPathFrom steps_along
 whole-row = ap (map (λ (step : Step). step.line)) (steps-by-path (two_bytes None None)
-    (open_link ∷ read_piece ∷ parse ∷ look ∷ write_part ∷ parse ∷ look ∷ write_part ∷ close ∷ [])
+    (handler.Open ∷ handler.Read ∷ handler.Parse ∷ handler.Look ∷ handler.Write ∷ handler.Parse ∷ handler.Look ∷ handler.Write ∷ handler.Close ∷ [])
     (refl, (refl, (refl, (refl, (refl, (refl, (refl, (refl, (refl, refl))))))))))
 
 -- a byte at a time, every second one does
@@ -151,7 +153,7 @@ part-row : map (λ (step : Step). step.line) (steps_of echo valley (two_bytes (S
     ≡ false ∷ false ∷ false ∷ false ∷ false ∷ true ∷ false ∷ false ∷ false ∷ true ∷ false ∷ []
 unfolding IsPathFrom steps_along
 part-row = ap (map (λ (step : Step). step.line)) (steps-by-path (two_bytes (Some 1) None)
-    (open_link ∷ read_piece ∷ parse ∷ look ∷ write_part ∷ write_part ∷ parse ∷ look ∷ write_part ∷ write_part ∷ close ∷ [])
+    (handler.Open ∷ handler.Read ∷ handler.Parse ∷ handler.Look ∷ handler.Write ∷ handler.Write ∷ handler.Parse ∷ handler.Look ∷ handler.Write ∷ handler.Write ∷ handler.Close ∷ [])
     (refl, (refl, (refl, (refl, (refl, (refl, (refl, (refl, (refl, (refl, (refl, refl))))))))))))
 
 -- a write that fails gives none
@@ -159,5 +161,5 @@ cut-row : map (λ (step : Step). step.line) (steps_of echo valley (two_bytes Non
     ≡ false ∷ false ∷ false ∷ false ∷ true ∷ false ∷ false ∷ false ∷ false ∷ false ∷ []
 unfolding IsPathFrom steps_along
 cut-row = ap (map (λ (step : Step). step.line)) (steps-by-path (two_bytes None (Some 3))
-    (open_link ∷ read_piece ∷ parse ∷ look ∷ write_part ∷ parse ∷ look ∷ write_part ∷ write_part ∷ close ∷ [])
+    (handler.Open ∷ handler.Read ∷ handler.Parse ∷ handler.Look ∷ handler.Write ∷ handler.Parse ∷ handler.Look ∷ handler.Write ∷ handler.Write ∷ handler.Close ∷ [])
     (refl, (refl, (refl, (refl, (refl, (refl, (refl, (refl, (refl, (refl, refl)))))))))))

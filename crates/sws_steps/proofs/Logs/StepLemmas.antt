@@ -13,7 +13,9 @@ use Rattle.sws_steps.specs.declared.Next.TheVariants as next
 use Rattle.sws_steps.specs.Step.{Steps, going_to}
 use Rattle.sws_steps.specs.Sound.{core_before_open, IsSound, IsReadyTo}
 use Rattle.sws_steps.specs.Outcome.{UnlessMemory}
-use Rattle.sws_steps.specs.Path.{Handler, open_link, event_of, Scripted, scripted_step, rest_of_path, rest_by, answers_to_come, told_by_link, Follows, FollowsBy, FollowsTold}
+use Rattle.sws_steps.specs.declared.Handler.{Handler}
+use Rattle.sws_steps.specs.declared.Handler.TheVariants as handler
+use Rattle.sws_steps.specs.Path.{event_of, Scripted, scripted_step, rest_of_path, rest_by, answers_to_come, told_by_link, Follows, FollowsBy, FollowsTold}
 use Rattle.sws_steps.specs.Logs.{gives_line, Step, last_line, step_by, steps_along, steps_of}
 use Rattle.sws_steps.specs.Run.{conn_at_open, RunsBy}
 use Rattle.sws_steps.specs.Talks.{due, talk_view, HasRunOpen, IsDue, BeginsWith, StepsOf, StepsBy, StepsServed}
@@ -63,7 +65,7 @@ module _ {Hall Answer : Type 0} (p : Protocol Hall Answer) (orderly : IsOrderly 
 
   steps_of-open : (hall : Hall) (script : Script)
       → steps_of p hall script
-      ≡ step_by p (record { standing = core_before_open hall; script = script }) open_link ∷ rest_steps p (record { standing = going_to (core_before_open hall) next.Read; script = script })
+      ≡ step_by p (record { standing = core_before_open hall; script = script }) handler.Open ∷ rest_steps p (record { standing = going_to (core_before_open hall) next.Read; script = script })
   unfolding steps_along
   steps_of-open hall script = ap (steps_along p (record { standing = core_before_open hall; script = script })) (path_of-open p orderly hall script)
 
@@ -141,13 +143,13 @@ module _ {Hall Answer : Type 0} (p : Protocol Hall Answer) (orderly : IsOrderly 
 
     -- ---- from the opening on
 
-    opened-stepped : (hall : Hall) (first : L) (script : Script) → answers_to_come (x.tells first) ≡ Some script → Stepped (steps_of p hall script) (open_link ∷ []) false (conn_at_open hall first)
+    opened-stepped : (hall : Hall) (first : L) (script : Script) → answers_to_come (x.tells first) ≡ Some script → Stepped (steps_of p hall script) (handler.Open ∷ []) false (conn_at_open hall first)
     opened-stepped hall first script is =
         let here : Scripted Hall = record { standing = core_before_open hall; script = script } in
         record {
           script = script;
           tells_is = is;
-          ran = step_by p here open_link ∷ [];
+          ran = step_by p here handler.Open ∷ [];
           all_is = steps_of-open hall script;
           trail_is = refl;
           told_is = sym (opening-line p here.standing (scripted_step p here).standing refl);
@@ -159,7 +161,7 @@ module _ {Hall Answer : Type 0} (p : Protocol Hall Answer) (orderly : IsOrderly 
     open-run-stepped first trail conn script (later, trail_is, run) is =
         let hall = conn.standing.hall in
         subst (λ t. Ran (steps_of p hall script) t conn) (sym trail_is)
-        (ran-run (steps_of p hall script) later (open_link ∷ []) (conn_at_open hall first) conn run.runs
+        (ran-run (steps_of p hall script) later (handler.Open ∷ []) (conn_at_open hall first) conn run.runs
         (opened-sound p orderly x hall first run.limits run.initial run.not_shut)
         (false, opened-stepped hall first script is))
 
@@ -194,8 +196,8 @@ module _ {Hall Answer : Type 0} (p : Protocol Hall Answer) (orderly : IsOrderly 
             let none : ran.0 ≡ [] = (let e = ran.1 in let o = opens.trail_is in cc) in
             let at_open : conn ≡ conn_at_open hall first = subst (λ t. RunsBy p x t (conn_at_open hall first) conn) none ran.2.runs in
             subst (λ t. Stepped (steps_of p hall script) t talk.told conn) (sym opens.trail_is)
-            (subst (λ t. Stepped (steps_of p hall script) (open_link ∷ []) t conn) (sym opens.told_is)
-            (subst (Stepped (steps_of p hall script) (open_link ∷ []) false) (sym at_open) (opened-stepped hall first script is)))
+            (subst (λ t. Stepped (steps_of p hall script) (handler.Open ∷ []) t conn) (sym opens.told_is)
+            (subst (Stepped (steps_of p hall script) (handler.Open ∷ []) false) (sym at_open) (opened-stepped hall first script is)))
 
         stepped : (script : Script) → answers_to_come (x.tells first) ≡ Some script → JustStepped p x first trail talk → UnlessMemory conn.standing.end (Stepped (steps_of p hall script) trail talk.told conn)
         stepped script is last =

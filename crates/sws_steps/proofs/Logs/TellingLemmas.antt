@@ -7,7 +7,7 @@ use Rattle.sws_steps.specs.declared.Next.{Next}
 use Rattle.sws_steps.specs.declared.Next.TheVariants as next
 use Rattle.sws_steps.specs.ConnCore.{ConnCoreState, ConnState, is_sent}
 use Rattle.sws_steps.specs.Step.{Steps, StepsFrom, Opens}
-use Rattle.sws_steps.specs.Path.{open_link}
+use Rattle.sws_steps.specs.declared.Handler.TheVariants as handler
 use Rattle.sws_steps.specs.Logs.{is_write, gives_line}
 use Rattle.sws_steps.specs.Run.{RunsBy, HasRun}
 use Rattle.sws_steps.specs.Talks.{talk_view, HasNoStep, OpensBy, OpensTalk}
@@ -44,7 +44,7 @@ module _ {Hall Answer : Type 0} (p : Protocol Hall Answer) (orderly : IsOrderly 
 
   -- one that was taken begins a run
   pub opened-told : (hall : Hall) (first : L) (answer : Result Next L) (after : TalkState Hall L) → IfOk answer (λ _. HasRun p x hall first [] after.conn)
-      → IfOk answer (λ _. after.told ≡ false) → IfOk answer (λ _. HasRunTold p x first (open_link ∷ []) after)
+      → IfOk answer (λ _. after.told ≡ false) → IfOk answer (λ _. HasRunTold p x first (handler.Open ∷ []) after)
   unfolding RunsBy
   opened-told hall first (Ok pending) after run none =
       told-run-start p orderly x first after

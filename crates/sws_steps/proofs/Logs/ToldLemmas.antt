@@ -10,7 +10,8 @@ use Rattle.sws_steps.specs.declared.Next.TheVariants as next
 use Rattle.sws_steps.specs.ConnCore.{ConnCoreState, ConnState, is_sent}
 use Rattle.sws_steps.specs.Step.{Steps}
 use Rattle.sws_steps.specs.Sound.{core_before_open, IsSound, IsTold, IsToldBy}
-use Rattle.sws_steps.specs.Path.{Handler, open_link}
+use Rattle.sws_steps.specs.declared.Handler.{Handler}
+use Rattle.sws_steps.specs.declared.Handler.TheVariants as handler
 use Rattle.sws_steps.specs.Logs.{bit, gives_line, lines_given, line_of, log_of, IsLineOf}
 use Rattle.sws_steps.specs.Run.{conn_at_open, RunsBy, HasRun}
 use Rattle.sws_steps.specs.Talks.{TalkView, due, talk_view, HasRunOpen, HasNoStep, LinesOf, LinesServed}
@@ -83,7 +84,7 @@ module _ {Hall Answer : Type 0} (p : Protocol Hall Answer) (orderly : IsOrderly 
 
   -- ---- runs that tell
 
-  pub told-run-start : (first : L) (talk : TalkState Hall L) → HasRunOpen p x first (open_link ∷ []) talk.conn → talk.told ≡ false → HasRunTold p x first (open_link ∷ []) talk
+  pub told-run-start : (first : L) (talk : TalkState Hall L) → HasRunOpen p x first (handler.Open ∷ []) talk.conn → talk.told ≡ false → HasRunTold p x first (handler.Open ∷ []) talk
   told-run-start first talk ran none = record { ran = ran; last = inl (record { trail_is = refl; told_is = none }) }
 
   pub told-run-on : (first : L) (trail : List Handler) (event : Handler) (before after : TalkState Hall L) → HasRunTold p x first trail before

@@ -19,7 +19,9 @@ use Rattle.sws_steps.specs.declared.Next.TheVariants as next
 use Rattle.sws_steps.specs.Step.{StepsFrom, going_to, ending_as, still_waiting, room_of, wait_limit, has_all_input, after_read, after_parse, after_answer, with_answer, is_last, after_look, after_part, after_write}
 use Rattle.sws_steps.specs.Sound.{core_before_open, IsSound, IsReadyTo, IsLinked, IsEnded}
 use Rattle.sws_steps.specs.Outcome.{UnlessMemory}
-use Rattle.sws_steps.specs.Path.{Handler, open_link, read_piece, parse, look, write_part, resume, close, handler_of, event_of, Scripted, scripted_at, scripted_step, IsPathFrom, events, rank_of, steps_left, rest_of_path, path_of, path_by, rest_by, answers_to_come, told_by_link, known_path, known_rest, TakesOff, TakesEvent, HasNoEvents, Follows, FollowsBy, FollowsTold, FollowsScript}
+use Rattle.sws_steps.specs.declared.Handler.{Handler}
+use Rattle.sws_steps.specs.declared.Handler.TheVariants as handler
+use Rattle.sws_steps.specs.Path.{handler_of, event_of, Scripted, scripted_at, scripted_step, IsPathFrom, events, rank_of, steps_left, rest_of_path, path_of, path_by, rest_by, answers_to_come, told_by_link, known_path, known_rest, TakesOff, TakesEvent, HasNoEvents, Follows, FollowsBy, FollowsTold, FollowsScript}
 use Rattle.sws_steps.proofs.Inputs.PartLemmas.{something-front}
 use Rattle.sws_steps.proofs.Steps.ReadyLemmas.{Ready, parse-ready, look-ready, read-ready, write-ready, close-ready}
 use Rattle.sws_steps.proofs.Steps.MeasureLemmas.{read_less, parse_less, look_less, write_less}
@@ -175,20 +177,20 @@ module _ {Hall Answer : Type 0} (p : Protocol Hall Answer) (orderly : IsOrderly 
   event-some c ready going = by_waiting (is_waiting c) refl
     where
       by_pending : (pending : Next) → c.pending ≡ pending → IsReadyTo p pending c → (event : Handler) × (handler_of c.pending ≡ event ∷ [])
-      by_pending next.Open e ready = (open_link, ap handler_of e)
-      by_pending next.Read e ready = (read_piece, ap handler_of e)
-      by_pending next.Parse e ready = (parse, ap handler_of e)
-      by_pending next.Look e ready = (look, ap handler_of e)
-      by_pending next.Write e ready = (write_part, ap handler_of e)
+      by_pending next.Open e ready = (handler.Open, ap handler_of e)
+      by_pending next.Read e ready = (handler.Read, ap handler_of e)
+      by_pending next.Parse e ready = (handler.Parse, ap handler_of e)
+      by_pending next.Look e ready = (handler.Look, ap handler_of e)
+      by_pending next.Write e ready = (handler.Write, ap handler_of e)
       by_pending next.Wait e ready = absurd ready
-      by_pending next.Close e ready = (close, ap handler_of e)
+      by_pending next.Close e ready = (handler.Close, ap handler_of e)
       by_pending next.Nothing e ready = absurd (going e)
 
       by_waiting : (waiting : Bool) → is_waiting c ≡ waiting → (event : Handler) × (event_of c ≡ event ∷ [])
-      by_waiting true e = (resume, ap (λ w. if w then resume ∷ [] else handler_of c.pending) e)
+      by_waiting true e = (handler.Resume, ap (λ w. if w then handler.Resume ∷ [] else handler_of c.pending) e)
       by_waiting false e =
           let own = by_pending c.pending refl ready in
-          (own.0, ap (λ w. if w then resume ∷ [] else handler_of c.pending) e ∙ own.1)
+          (own.0, ap (λ w. if w then handler.Resume ∷ [] else handler_of c.pending) e ∙ own.1)
 
   not-waiting : (c : ConnCoreState Hall) → IsEnded p c → is_waiting c ≡ false
   not-waiting c ended = by_end c.end refl
@@ -198,7 +200,7 @@ module _ {Hall Answer : Type 0} (p : Protocol Hall Answer) (orderly : IsOrderly 
       by_end (Some end) e = ap (λ o. is_waiting_by o c.waits) e
 
   event-none : (c : ConnCoreState Hall) → c.pending ≡ next.Nothing → IsEnded p c → event_of c ≡ []
-  event-none c pending ended = ap (λ w. if w then resume ∷ [] else handler_of c.pending) (not-waiting c ended) ∙ ap handler_of pending
+  event-none c pending ended = ap (λ w. if w then handler.Resume ∷ [] else handler_of c.pending) (not-waiting c ended) ∙ ap handler_of pending
 
   ended_at : (c : ConnCoreState Hall) → Ready p c → c.pending ≡ next.Nothing → IsEnded p c
   ended_at c ready e = subst (λ stage. IsReadyTo p stage c) e ready
@@ -319,7 +321,7 @@ module _ {Hall Answer : Type 0} (p : Protocol Hall Answer) (orderly : IsOrderly 
       by_pending next.Nothing e ready = absurd (going e)
 
   path-close : (c : Scripted Hall) → Ready p c.standing → c.standing.pending ≢ next.Nothing → (path : List Handler) → IsPathFrom p c path
-      → (before : List Handler) × (path ≡ before ++ close ∷ [])
+      → (before : List Handler) × (path ≡ before ++ handler.Close ∷ [])
   unfolding IsPathFrom
   path-close c ready going [] none =
       let first = event-some c.standing ready going in absurd (let no : [] ≡ first.0 ∷ [] = sym none ∙ first.1 in cc)
@@ -327,15 +329,15 @@ module _ {Hall Answer : Type 0} (p : Protocol Hall Answer) (orderly : IsOrderly 
       (λ more. path-close (scripted_step p c) (step-ready c ready) more later path.1)
     where
       by_nothing : ((scripted_step p c).standing.pending ≡ next.Nothing) ⊎ ((scripted_step p c).standing.pending ≢ next.Nothing)
-          → ((scripted_step p c).standing.pending ≢ next.Nothing → (before : List Handler) × (later ≡ before ++ close ∷ []))
-          → (before : List Handler) × (event ∷ later ≡ before ++ close ∷ [])
+          → ((scripted_step p c).standing.pending ≢ next.Nothing → (before : List Handler) × (later ≡ before ++ handler.Close ∷ []))
+          → (before : List Handler) × (event ∷ later ≡ before ++ handler.Close ∷ [])
       by_nothing (inl gone) rest =
           let pending = only-close c ready gone going in
           let ended : IsEnded p c.standing = subst (λ stage. IsReadyTo p stage c.standing) pending ready in
-          let event_is : event_of c.standing ≡ close ∷ [] =
-          ap (λ w. if w then resume ∷ [] else handler_of c.standing.pending) (not-waiting c.standing ended) ∙ ap handler_of pending in
+          let event_is : event_of c.standing ≡ handler.Close ∷ [] =
+          ap (λ w. if w then handler.Resume ∷ [] else handler_of c.standing.pending) (not-waiting c.standing ended) ∙ ap handler_of pending in
           let none : IsPathFrom p (scripted_step p c) [] = event-none (scripted_step p c).standing gone (ended_at (scripted_step p c).standing (step-ready c ready) gone) in
-          let same : event ∷ [] ≡ close ∷ [] = sym path.0 ∙ event_is in
+          let same : event ∷ [] ≡ handler.Close ∷ [] = sym path.0 ∙ event_is in
           ([], ap (λ l. event ∷ l) (path-unique (scripted_step p c) later [] path.1 none) ∙ same)
       by_nothing (inr more) rest =
           let last = rest more in (event ∷ last.0, ap (λ l. event ∷ l) last.1)
@@ -370,7 +372,7 @@ module _ {Hall Answer : Type 0} (p : Protocol Hall Answer) (orderly : IsOrderly 
   events-step more c = ap (λ n. events p n c) (let next : more + 1 ≡ suc more = omega arith in next)
 
   -- the opening comes first
-  pub path_of-open : (hall : Hall) (script : Script) → path_of p hall script ≡ open_link ∷ rest_of_path p (going_to (core_before_open hall) next.Read) script
+  pub path_of-open : (hall : Hall) (script : Script) → path_of p hall script ≡ handler.Open ∷ rest_of_path p (going_to (core_before_open hall) next.Read) script
   path_of-open hall script =
       ap (λ n. events p n (record { standing = core_before_open hall; script = script }))
       (let one : steps_left p (core_before_open hall) ≡ steps_left p (going_to (core_before_open hall) next.Read) + 1 = omega arith in one)
@@ -380,16 +382,16 @@ module _ {Hall Answer : Type 0} (p : Protocol Hall Answer) (orderly : IsOrderly 
   path_of-path hall script limits = rest-path (core_before_open hall) script limits refl
 
   -- and the close last
-  pub path_of-close : (hall : Hall) (script : Script) → p.IsHall hall → (before : List Handler) × (path_of p hall script ≡ before ++ close ∷ [])
+  pub path_of-close : (hall : Hall) (script : Script) → p.IsHall hall → (before : List Handler) × (path_of p hall script ≡ before ++ handler.Close ∷ [])
   path_of-close hall script limits =
       path-close (record { standing = core_before_open hall; script = script }) refl (λ e. cc) (path_of p hall script) (path_of-path hall script limits)
 
   -- an example: the link is not ready once, and then at its end
   pub path_of-pause : (hall : Hall) (step cut : Option ℕ) → p.IsHall hall
-      → path_of p hall (record { items = wait 1 ∷ []; step = step; cut = cut }) ≡ open_link ∷ read_piece ∷ resume ∷ parse ∷ close ∷ []
+      → path_of p hall (record { items = wait 1 ∷ []; step = step; cut = cut }) ≡ handler.Open ∷ handler.Read ∷ handler.Resume ∷ handler.Parse ∷ handler.Close ∷ []
   unfolding IsPathFrom
   path_of-pause hall step cut limits =
-      path-unique (record { standing = core_before_open hall; script = script }) (path_of p hall script) (open_link ∷ read_piece ∷ resume ∷ parse ∷ close ∷ [])
+      path-unique (record { standing = core_before_open hall; script = script }) (path_of p hall script) (handler.Open ∷ handler.Read ∷ handler.Resume ∷ handler.Parse ∷ handler.Close ∷ [])
       (path_of-path hall script limits)
       (refl, (refl, (refl, (refl, last))))
     where
@@ -399,8 +401,8 @@ module _ {Hall Answer : Type 0} (p : Protocol Hall Answer) (orderly : IsOrderly 
       ended : ConnCoreState Hall
       ended = record (core_before_open hall) { input_ended = true; pending = next.Parse }
 
-      last : IsPathFrom p (record { standing = after_parse p ended (p.cut []); script = record script { items = [] } }) (close ∷ [])
-      last = subst (λ found. IsPathFrom p (record { standing = after_parse p ended found; script = record script { items = [] } }) (close ∷ [])) (sym orderly.nothing) (refl, refl)
+      last : IsPathFrom p (record { standing = after_parse p ended (p.cut []); script = record script { items = [] } }) (handler.Close ∷ [])
+      last = subst (λ found. IsPathFrom p (record { standing = after_parse p ended found; script = record script { items = [] } }) (handler.Close ∷ [])) (sym orderly.nothing) (refl, refl)
 
   -- ---- over a link
 
@@ -495,12 +497,12 @@ module _ {Hall Answer : Type 0} (p : Protocol Hall Answer) (orderly : IsOrderly 
 
   -- opening takes the first event off the path
   pub opens-path : {L : Type 0} (x : LinkWords L) (c : ConnCoreState Hall) (before : Option L) (link : L) → Ready p c → IsLinked c.pending before → false ≡ is_some before
-      → TakesOff (open_link ∷ []) (known_path p c.hall (x.tells link)) (known_rest p x (record { standing = going_to c next.Read; link = Some link }))
+      → TakesOff (handler.Open ∷ []) (known_path p c.hall (x.tells link)) (known_rest p x (record { standing = going_to c next.Read; link = Some link }))
   opens-path x c before link ready linked none =
-      subst (λ s. TakesOff (open_link ∷ []) (known_path p c.hall (x.tells link)) (known_rest p x (record { standing = going_to s next.Read; link = Some link })))
+      subst (λ s. TakesOff (handler.Open ∷ []) (known_path p c.hall (x.tells link)) (known_rest p x (record { standing = going_to s next.Read; link = Some link })))
       (sym (not_opened c before ready linked none)) (by_script c.hall (answers_to_come (x.tells link)))
     where
-      by_script : (hall : Hall) (script : Option Script) → TakesOff (open_link ∷ []) (path_by p hall script) (rest_by p (going_to (core_before_open hall) next.Read) script)
+      by_script : (hall : Hall) (script : Option Script) → TakesOff (handler.Open ∷ []) (path_by p hall script) (rest_by p (going_to (core_before_open hall) next.Read) script)
       by_script hall None = refl
       by_script hall (Some script) = (rest_of_path p (going_to (core_before_open hall) next.Read) script, refl, path_of-open hall script)
 

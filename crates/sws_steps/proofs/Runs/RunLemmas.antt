@@ -15,7 +15,9 @@ use Rattle.sws_steps.specs.Step.{Steps, going_to}
 use Rattle.sws_steps.specs.Sound.{core_before_open, IsSound, IsShutAtEnd, IsTold, IsReadyTo}
 use Rattle.sws_steps.specs.Outcome.{Outcome, UnlessMemory}
 use Rattle.sws_steps.specs.RestOutcome.{HeadsFor, HeadsForLink}
-use Rattle.sws_steps.specs.Path.{Handler, open_link, read_piece, parse, look, write_part, resume, close, handler_of, event_of, path_by, known_path, rest_by, known_rest, answers_to_come, rest_of_path, TakesOff, HasNoEvents}
+use Rattle.sws_steps.specs.declared.Handler.{Handler}
+use Rattle.sws_steps.specs.declared.Handler.TheVariants as handler
+use Rattle.sws_steps.specs.Path.{handler_of, event_of, path_by, known_path, rest_by, known_rest, answers_to_come, rest_of_path, TakesOff, HasNoEvents}
 use Rattle.sws_steps.specs.Run.{conn_at_open, RunsBy, IsWhole, HasRun, HasEnded, EndsRun}
 use Rattle.sws_steps.proofs.Steps.SoundLemmas.{step_sound, step_linked}
 use Rattle.sws_steps.proofs.Steps.RestOutcomeLemmas.{heads_step, ends_as}
@@ -87,17 +89,17 @@ module _ {Hall Answer : Type 0} (p : Protocol Hall Answer) (orderly : IsOrderly 
     event-one c ready goes_on = by_wait (is_waiting c)
       where
         by_pending : (pending : Next) → IsReadyTo p pending c → pending ≢ next.Nothing → (event : Handler) × (handler_of pending ≡ event ∷ [])
-        by_pending next.Open ready goes_on = (open_link, refl)
-        by_pending next.Read ready goes_on = (read_piece, refl)
-        by_pending next.Parse ready goes_on = (parse, refl)
-        by_pending next.Look ready goes_on = (look, refl)
-        by_pending next.Write ready goes_on = (write_part, refl)
+        by_pending next.Open ready goes_on = (handler.Open, refl)
+        by_pending next.Read ready goes_on = (handler.Read, refl)
+        by_pending next.Parse ready goes_on = (handler.Parse, refl)
+        by_pending next.Look ready goes_on = (handler.Look, refl)
+        by_pending next.Write ready goes_on = (handler.Write, refl)
         by_pending next.Wait ready goes_on = absurd ready
-        by_pending next.Close ready goes_on = (close, refl)
+        by_pending next.Close ready goes_on = (handler.Close, refl)
         by_pending next.Nothing ready goes_on = absurd (goes_on refl)
 
-        by_wait : (waiting : Bool) → (event : Handler) × ((if waiting then resume ∷ [] else handler_of c.pending) ≡ event ∷ [])
-        by_wait true = (resume, refl)
+        by_wait : (waiting : Bool) → (event : Handler) × ((if waiting then handler.Resume ∷ [] else handler_of c.pending) ≡ event ∷ [])
+        by_wait true = (handler.Resume, refl)
         by_wait false = by_pending c.pending ready goes_on
 
     -- ---- the path
@@ -175,10 +177,10 @@ module _ {Hall Answer : Type 0} (p : Protocol Hall Answer) (orderly : IsOrderly 
           not_opened p orderly before.standing before.link sound.ready sound.linked none ∙ ap core_before_open same in
           subst (λ (c : ConnCoreState Hall). IsSound p x (record { standing = going_to c next.Read; link = Some first })) (sym is) (opened-sound limits initial not_shut)
 
-      opened-off : RunsOff (known_path p hall (x.tells first)) (open_link ∷ []) (conn_at_open hall first)
+      opened-off : RunsOff (known_path p hall (x.tells first)) (handler.Open ∷ []) (conn_at_open hall first)
       opened-off = by_script (answers_to_come (x.tells first))
         where
-          by_script : (script : Option Script) → TakesOff (open_link ∷ []) (path_by p hall script) (rest_by p (going_to (core_before_open hall) next.Read) script)
+          by_script : (script : Option Script) → TakesOff (handler.Open ∷ []) (path_by p hall script) (rest_by p (going_to (core_before_open hall) next.Read) script)
           by_script None = refl
           by_script (Some script) = (rest_of_path p (going_to (core_before_open hall) next.Read) script, refl, path_of-open p orderly hall script)
 
@@ -190,9 +192,9 @@ module _ {Hall Answer : Type 0} (p : Protocol Hall Answer) (orderly : IsOrderly 
           trail (conn_at_open hall first) conn run.runs (opened-sound run.limits run.initial run.not_shut)
 
       pub run-path : (trail : List Handler) (conn : ConnState Hall L) → HasRun p x hall first trail conn
-          → UnlessMemory conn.standing.end (TakesOff (open_link ∷ trail) (known_path p hall (x.tells first)) (known_rest p x conn))
+          → UnlessMemory conn.standing.end (TakesOff (handler.Open ∷ trail) (known_path p hall (x.tells first)) (known_rest p x conn))
       run-path trail conn run =
-          off-run (known_path p hall (x.tells first)) trail (open_link ∷ []) (conn_at_open hall first) conn run.runs (opened-sound run.limits run.initial run.not_shut) opened-off
+          off-run (known_path p hall (x.tells first)) trail (handler.Open ∷ []) (conn_at_open hall first) conn run.runs (opened-sound run.limits run.initial run.not_shut) opened-off
 
       pub run-start : p.IsHall hall → IsInitialLink (x.tells first) → x.is_shut first ≡ false → HasRun p x hall first [] (conn_at_open hall first)
       unfolding RunsBy
@@ -237,10 +239,10 @@ module _ {Hall Answer : Type 0} (p : Protocol Hall Answer) (orderly : IsOrderly 
             serves = facts.0;
             outcome = ends_as p orderly hall (x.tells first) (x.tells now) conn.standing end run.initial end_is
                 (λ o h. subst (λ l. HeadsForLink p x l conn.standing o) link_is (kept.heads o h));
-            path = subst (λ e. UnlessMemory e (IsWhole (open_link ∷ trail) (known_path p hall (x.tells first)))) end_is
+            path = subst (λ e. UnlessMemory e (IsWhole (handler.Open ∷ trail) (known_path p hall (x.tells first)))) end_is
                 (unless-map conn.standing.end
-                (TakesOff (open_link ∷ trail) (known_path p hall (x.tells first)) (known_rest p x conn))
-                (IsWhole (open_link ∷ trail) (known_path p hall (x.tells first)))
+                (TakesOff (handler.Open ∷ trail) (known_path p hall (x.tells first)) (known_rest p x conn))
+                (IsWhole (handler.Open ∷ trail) (known_path p hall (x.tells first)))
                 (whole (known_path p hall (x.tells first)))
                 (run-path trail conn run));
             shut = subst (λ l. IsShutAtEnd x next.Nothing l) link_is (subst (λ stage. IsShutAtEnd x stage conn.link) pending kept.sound.shut);
@@ -248,11 +250,11 @@ module _ {Hall Answer : Type 0} (p : Protocol Hall Answer) (orderly : IsOrderly 
             idle = facts.2;
           }
         where
-          whole : (path : Option (List Handler)) → TakesOff (open_link ∷ trail) path (known_rest p x conn) → IsWhole (open_link ∷ trail) path
+          whole : (path : Option (List Handler)) → TakesOff (handler.Open ∷ trail) path (known_rest p x conn) → IsWhole (handler.Open ∷ trail) path
           whole None takes = tt
           whole (Some path) (left, is, split) =
               let none : left ≡ [] = subst HasNoEvents is (none-left p orderly x conn (run-sound trail conn run) pending) in
-              sym (split ∙ ap (λ l. (open_link ∷ trail) ++ l) none ∙ append-nil (open_link ∷ trail))
+              sym (split ∙ ap (λ l. (handler.Open ∷ trail) ++ l) none ∙ append-nil (handler.Open ∷ trail))
 
       -- the same of a run that has ended
       ended-ends : (now : L) (end : End) (ended : HasEnded p x hall first now end) → EndsRun p x hall first ended.trail now end

@@ -16,7 +16,9 @@ use Rattle.sws_steps.specs.ConnCore.{ConnCoreState, ConnState, reported_by, end_
 use Rattle.sws_steps.specs.Step.{Steps, Opens, OpensAt, going_to}
 use Rattle.sws_steps.specs.Sound.{core_before_open, IsSound, IsReadyTo, IsEnded, IsTold}
 use Rattle.sws_steps.specs.Outcome.{outcome_of, UnlessMemory}
-use Rattle.sws_steps.specs.Path.{Handler, open_link, read_piece, parse, look, write_part, resume, close, handler_of, event_of, path_of, path_by, known_path, rest_by, known_rest, rest_of_path, answers_to_come, told_by_link, TakesOff, HasNoEvents, scripted_step}
+use Rattle.sws_steps.specs.declared.Handler.{Handler}
+use Rattle.sws_steps.specs.declared.Handler.TheVariants as handler
+use Rattle.sws_steps.specs.Path.{handler_of, event_of, path_of, path_by, known_path, rest_by, known_rest, rest_of_path, answers_to_come, told_by_link, TakesOff, HasNoEvents, scripted_step}
 use Rattle.sws_steps.specs.Run.{HasRun, RunsBy}
 use Rattle.sws_steps.specs.RestOutcome.{HeadsForLink}
 use Rattle.sws_steps.specs.Serving.{EndsAs, EndsByScript, RoseBy}
@@ -33,7 +35,7 @@ use Rattle.sws_steps.proofs.Runs.RunLemmas.{Kept, run-kept, run-sound, run-path,
 -- it is the event of the step that is pending, if one is
 abbrev DueBy : Bool → Next → Type 0
 DueBy waiting pending = ((event : Handler) × (due_after (reported_by waiting pending) ≡ Some event)
-    × ((if waiting then resume ∷ [] else handler_of pending) ≡ event ∷ []))
+    × ((if waiting then handler.Resume ∷ [] else handler_of pending) ≡ event ∷ []))
     ⊎ ((due_after (reported_by waiting pending) ≡ None) × (pending ≡ next.Nothing))
 
 -- no line is given before the first answer
@@ -65,17 +67,17 @@ module _ {Hall Answer : Type 0} (p : Protocol Hall Answer) (orderly : IsOrderly 
   due-cases c ready = by_waiting (is_waiting c)
     where
       by_pending : (pending : Next) → IsReadyTo p pending c → DueBy false pending
-      by_pending next.Open ready = inl (open_link, refl, refl)
-      by_pending next.Read ready = inl (read_piece, refl, refl)
-      by_pending next.Parse ready = inl (parse, refl, refl)
-      by_pending next.Look ready = inl (look, refl, refl)
-      by_pending next.Write ready = inl (write_part, refl, refl)
+      by_pending next.Open ready = inl (handler.Open, refl, refl)
+      by_pending next.Read ready = inl (handler.Read, refl, refl)
+      by_pending next.Parse ready = inl (handler.Parse, refl, refl)
+      by_pending next.Look ready = inl (handler.Look, refl, refl)
+      by_pending next.Write ready = inl (handler.Write, refl, refl)
       by_pending next.Wait ready = absurd ready
-      by_pending next.Close ready = inl (close, refl, refl)
+      by_pending next.Close ready = inl (handler.Close, refl, refl)
       by_pending next.Nothing ready = inr (refl, refl)
 
       by_waiting : (waiting : Bool) → DueBy waiting c.pending
-      by_waiting true = inl (resume, refl, refl)
+      by_waiting true = inl (handler.Resume, refl, refl)
       by_waiting false = by_pending c.pending ready
 
   pub due-event : (c : ConnCoreState Hall) (event : Handler) → IsReadyTo p c.pending c → due (talk_view p c) ≡ Some event → event_of c ≡ event ∷ []
@@ -240,7 +242,7 @@ module _ {Hall Answer : Type 0} (p : Protocol Hall Answer) (orderly : IsOrderly 
         let hall = conn.standing.hall in
         let Off : List Handler → Option (List Handler) → Type 0 = (λ t stage. UnlessMemory conn.standing.end (TakesOff t stage (known_rest p x conn))) in
         subst (λ t. Off t (path_to_come (path_of p hall) (x.tells first))) (sym trail_is)
-        (subst (Off (open_link ∷ later)) (path-same hall (x.tells first)) (run-path p orderly x hall first later conn run))
+        (subst (Off (handler.Open ∷ later)) (path-same hall (x.tells first)) (run-path p orderly x hall first later conn run))
 
     pub open-run-due : (first : L) (trail : List Handler) (conn : ConnState Hall L) → HasRunOpen p x first trail conn
         → IsDue (due (talk_view p conn.standing)) (known_rest p x conn)

@@ -5,7 +5,8 @@ use Rattle.sws_steps.specs.declared.Next.TheVariants as next
 use Rattle.sws_steps.specs.ConnCore.{ConnCoreState, ConnState}
 use Rattle.sws_steps.specs.Step.{going_to}
 use Rattle.sws_steps.specs.ConnCoreFields.{state_of}
-use Rattle.sws_steps.specs.Path.{open_link, known_rest, known_path, TakesOff}
+use Rattle.sws_steps.specs.declared.Handler.TheVariants as handler
+use Rattle.sws_steps.specs.Path.{known_rest, known_path, TakesOff}
 use Rattle.sws_steps.specs.Run.{HasRun}
 use Rattle.sws_steps.specs.Talks.{HasNoStep}
 use Rattle.sws_steps.specs.Told.{TalkState}
@@ -21,7 +22,7 @@ returns-clause-path g c =
     let before = state_of g.S.Speech c.deref_mut.result.now in
     let sound = (sound-lent g.S.Speech c.deref_mut.result.now c.self.inside.core.value c.self.inside.link c.self.inside.told c.deref_mut.ensures.value g.L.Link c.self.invariant).sound in
     let after : ConnState g.row.S-Contents.Denot g.row.L.Denot = record { standing = going_to before next.Read; link = Some c.args.link } in
-    subst (λ (k : TalkState g.row.S-Contents.Denot g.row.L.Denot). TakesOff (open_link ∷ []) (known_path p k.conn.standing.hall (g.L.Link.tells c.args.link)) (known_rest p g.L.Link after))
+    subst (λ (k : TalkState g.row.S-Contents.Denot g.row.L.Denot). TakesOff (handler.Open ∷ []) (known_path p k.conn.standing.hall (g.L.Link.tells c.args.link)) (known_rest p g.L.Link after))
     (view-lent g.S.Speech c.deref_mut.result.now c.self.inside.core.value c.self.inside.link c.self.inside.told c.deref_mut.ensures.value c.args.self.now c.self.view_is)
     (opens-path p g.met.S.Speech.orderly g.L.Link before c.self.inside.link c.args.link sound.ready sound.linked c.if-is_some.ensures)
 
