@@ -8,9 +8,9 @@ use std::sync::atomic::{AtomicBool, AtomicU64, Ordering};
 use std::sync::{Condvar, Mutex, Wait};
 use std::{hint, thread};
 
-/// How many looks in a row find nothing before a worker goes to sleep: some tens of microseconds,
-/// where waking it again costs ten.
-const LOOKS: u32 = 500;
+/// How many looks in a row find nothing before a worker goes to sleep: some microseconds. Waking it
+/// again costs ten; but who looks longer takes that much from others, where processors are few.
+const LOOKS: u32 = 100;
 
 /// After how many of them it is counted as one that searches: so a worker whose next mark comes at
 /// once leaves the count alone, which all write.
