@@ -34,7 +34,7 @@ mod stored;
 
 pub use content_types::content_type_of;
 pub use head_kinds::HeadKind;
-pub use heads::{ContentRange, HeadParts, MAX_KIND, write_head};
+pub use heads::{ContentRange, HeadParts, MAX_MEDIA_TYPE, write_head};
 pub use pages::Page;
 pub use site_faults::SiteFault;
 pub use sites::Site;
