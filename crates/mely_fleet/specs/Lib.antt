@@ -5,6 +5,7 @@ pub mod Calls
 pub mod Chains
 pub mod Rows
 pub mod Fleets
+pub mod Posted
 pub mod Work
 pub mod Working
 pub mod Dealing

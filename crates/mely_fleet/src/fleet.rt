@@ -1,5 +1,5 @@
 //! All shards and chains behind their locks, and the calls on them.
-ghost use Rattle.std.specs.Prelude.{◌≡◌, ◌<◌, ◌≤◌, ◌↔◌, [], length, IsTrue, IfOk, OnErr, IfSome, vec_capacity};
+ghost use Rattle.std.specs.Prelude.{◌≡◌, ◌<◌, ◌≤◌, ◌↔◌, [], length, IsTrue, IfSome, vec_capacity};
 ghost use Rattle.mely_history.specs.Setup.{shape_of};
 ghost use Rattle.mely_fleet.specs.Rows.{HavePasses};
 
@@ -49,13 +49,14 @@ fn is_woken<P>(answer: &Result<Registered, Unregistered<P>>) -> bool {
 impl<S: Fits<P>, P> FleetOf<KeptShard<S, P>> {
     ghost use Rattle.mely_history.specs.Legal.{IsDrained};
     ghost use Rattle.mely_worker.specs.Access.{IsColour, IsCore, FitsSetup};
-    ghost use Rattle.mely_worker.specs.Delivery.{MayDeliver, delivery_after};
+    ghost use Rattle.mely_worker.specs.Delivery.{MayDeliver};
     ghost use Rattle.mely_weave.specs.Side.{shard_of};
     ghost use Rattle.mely_fleet.specs.Calls.{RegistersAt, TakesAt, FinishesAt, StealsAt, LooksAt, front_in};
     ghost use Rattle.mely_fleet.specs.Chains.{PushesAt, PopsAt, RetellsAt, PicksAt};
     ghost use Rattle.mely_fleet.specs.Frames.{shard_frame};
     ghost use Rattle.mely_fleet.specs.Rows.{fronts};
     ghost use Rattle.mely_fleet.specs.Fleets.{ArePasses, DeliversOn, frame_in, KeepChains, KeepShards, ReachesOn, SeesOn, owed_by};
+    ghost use Rattle.mely_fleet.specs.Posted.{IsPosted};
 
     /// The place of the shard of a colour.
     fn place(&self, colour: Colour) -> usize
@@ -217,13 +218,8 @@ impl<S: Fits<P>, P> FleetOf<KeptShard<S, P>> {
         requires passes { ArePasses (shard_frame S.frame_of) self.now passes.old }
         requires fits { let frame = frame_in (shard_frame S.frame_of) self.now in
             FitsSetup S.fits_under self.now.setup frame (colour, event, load) }
-        ensures passes { ArePasses (shard_frame S.frame_of) self.now passes.new }
-        ensures same { passes.new.number ≡ passes.old.number }
-        ensures undelivered { OnErr result (passes.new.chains ≡ passes.old.chains) }
-        ensures delivered { let before = passes.old in let after = passes.new in
-            IfOk result (λ reply. DeliversOn self.now (delivery_after colour reply) before after) }
-        ensures sees { SeesOn self.now (shard_of self.now.setup colour) passes.old passes.new
-            (λ setup n. RegistersAt setup n colour event load result) }
+        ensures { IsPosted (shard_frame S.frame_of) self.now colour event load result
+            passes.old passes.new }
     {
         self.bell.begin_news();
         let answer = self.register_and_deliver(rt, passes, colour, event, load);
@@ -247,13 +243,8 @@ impl<S: Fits<P>, P> FleetOf<KeptShard<S, P>> {
         requires passes { ArePasses (shard_frame S.frame_of) self.now passes.old }
         requires fits { let frame = frame_in (shard_frame S.frame_of) self.now in
             FitsSetup S.fits_under self.now.setup frame (colour, event, load) }
-        ensures passes { ArePasses (shard_frame S.frame_of) self.now passes.new }
-        ensures same { passes.new.number ≡ passes.old.number }
-        ensures undelivered { OnErr result (passes.new.chains ≡ passes.old.chains) }
-        ensures delivered { let before = passes.old in let after = passes.new in
-            IfOk result (λ reply. DeliversOn self.now (delivery_after colour reply) before after) }
-        ensures sees { SeesOn self.now (shard_of self.now.setup colour) passes.old passes.new
-            (λ setup n. RegistersAt setup n colour event load result) }
+        ensures { IsPosted (shard_frame S.frame_of) self.now colour event load result
+            passes.old passes.new }
     {
         let reply = self.register(rt, passes, colour, event, load)?;
         self.deliver(rt, passes, Delivery::after(colour, &reply));
