@@ -23,7 +23,7 @@
 //!
 //! ```text
 //! let mut weave = Weave::new(alloc, &setup, states)?;
-//! weave.post(colour, event, load)?;
+//! let posted = weave.post(colour, event, load);
 //! weave.step(0, &app);                 // one step of core 0
 //! weave.run(&[(0, 6), (1, 12)], &app); // a schedule
 //! weave.drain(&rt, &app);              // rounds until nothing is left
