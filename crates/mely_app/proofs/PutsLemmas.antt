@@ -21,7 +21,7 @@ pub colours_both : (n : ℕ) (f h : Colour → ℕ) → sum_colours n (λ c. f c
 colours_both zero f h = refl
 colours_both (suc n) f h = let rest = colours_both n f h in omega (arith, rest)
 
-colours_none : (n : ℕ) → sum_colours n (λ c. 0) ≡ 0
+pub colours_none : (n : ℕ) → sum_colours n (λ c. 0) ≡ 0
 colours_none zero = refl
 colours_none (suc n) = let rest = colours_none n in omega (arith, rest)
 
@@ -33,14 +33,14 @@ colours_same (suc n) f h same =
     omega (arith, rest, last)
 
 -- a number that is of one colour alone
-colours_past : (n : ℕ) (c : Colour) (x : ℕ) → n ≤ c.0 → sum_colours n (λ d. if c.0 == d.0 then x else 0) ≡ 0
+pub colours_past : (n : ℕ) (c : Colour) (x : ℕ) → n ≤ c.0 → sum_colours n (λ d. if c.0 == d.0 then x else 0) ≡ 0
 colours_past zero c x high = refl
 colours_past (suc n) c x high =
     let rest = colours_past n c x (omega (arith, high)) in
     let apart : (if c.0 == n then x else 0) ≡ 0 = ap (λ (b : Bool). if b then x else 0) (ne_eqb c.0 n (λ e. omega (arith, e, high))) in
     omega (arith, rest, apart)
 
-colours_one : (n : ℕ) (c : Colour) (x : ℕ) → c.0 < n → sum_colours n (λ d. if c.0 == d.0 then x else 0) ≡ x
+pub colours_one : (n : ℕ) (c : Colour) (x : ℕ) → c.0 < n → sum_colours n (λ d. if c.0 == d.0 then x else 0) ≡ x
 colours_one zero c x low = absurd (omega (arith, low))
 colours_one (suc n) c x low = elim (cases_eq c.0 n) [
   | inl same ↦
