@@ -1,8 +1,7 @@
 -- What all workers of a fleet put and ran on threads, against the histories of the weave that the
 -- fleet is closed into.
-use Rattle.std.proofs.Common.{◌≡◌, ℕ, zero, suc, ◌+◌, ◌<◌, ◌≤◌, ◌==◌, List, [], ◌∷◌, ◌++◌, Option, None, Some, Result, Ok, length, map, refl, sym, ◌∙◌, ap, subst, arith, append-nil}
+use Rattle.std.proofs.Common.{◌≡◌, ℕ, zero, suc, ◌+◌, ◌≤◌, List, [], ◌∷◌, ◌++◌, Option, Some, length, map, refl, sym, ◌∙◌, ap, subst, arith, append-nil}
 use Rattle.std.proofs.lemmas.List.Sums.{sum_by-append, sum_by-cons}
-use Rattle.std.proofs.lemmas.List.{length-map}
 use Rattle.std.proofs.lemmas.Option.{slice_get_within, slice_get-map}
 use Rattle.std.specs.List.{AllByRecursion}
 use Rattle.std.specs.Prelude.{sum_by, slice_get, option_map}
@@ -20,11 +19,11 @@ use Rattle.mely_shard.specs.Shard.{ShardState}
 use Rattle.mely_worker.specs.declared.app.App.{Ghosts as AppWords}
 use Rattle.mely_worker.specs.IdleWorker.{IdleWorkerState, resumed_worker}
 use Rattle.mely_worker.specs.Worker.{WorkerState}
-use Rattle.mely_weave.specs.Side.{history_in, history_for, shard_of}
+use Rattle.mely_weave.specs.Side.{history_in, shard_of}
 use Rattle.mely_weave.specs.StandsWell.{StandsWell}
 use Rattle.mely_weave.specs.Weave.{WeaveState}
 use Rattle.mely_weave.proofs.Wholes.GatherLemmas.{get_there}
-use Rattle.mely_tally.specs.Account.{HandlerRun, IsRunOf, Account, IsAccounted, count_put, count_puts, count_run, count_due, count_left, sum_along}
+use Rattle.mely_tally.specs.Account.{HandlerRun, IsRunOf, IsAccounted, count_put, count_puts, count_run, count_due, count_left, sum_along}
 use Rattle.mely_tally.proofs.HistoryCountsLemmas.{share_put, share_take, put_along, take_along}
 use Rattle.mely_tally.proofs.WeaveAccountLemmas.{all-append}
 use Rattle.mely_fleet.specs.declared.fleet.FleetOf.{FleetOf}
@@ -40,7 +39,7 @@ use Rattle.mely_fleet.specs.Seats.{IsFresh, HasMade}
 use Rattle.mely_fleet.specs.Work.{standpoint}
 use Rattle.mely_fleet.proofs.OwnLemmas.{own, own_in, sees_more, others_same, sum_from, all_own}
 use Rattle.mely_fleet.proofs.SeatLemmas.{joined_at}
-use Rattle.mely_fleet.proofs.WorkerAccountLemmas.{put_in, taken_in, steps_account, elsewhere}
+use Rattle.mely_fleet.proofs.WorkerAccountLemmas.{steps_account, elsewhere}
 
 -- the last of so many numbers
 from_last : (of : List Entry → Entry → ℕ) (from many : ℕ) (f : ℕ → ℕ) → sum_from of from (suc many) f ≡ sum_from of from many f + f (from + many)

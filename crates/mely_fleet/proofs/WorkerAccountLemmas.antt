@@ -1,5 +1,5 @@
 -- What the steps of a worker on threads put and run, against what its passes registered and took.
-use Rattle.std.proofs.Common.{◌≡◌, ◌≢◌, ℕ, ◌+◌, ◌==◌, Bool, true, false, List, [], ◌∷◌, ◌++◌, Option, Some, None, Result, Ok, Err, if◌then◌else◌, take, map, refl, sym, ◌∙◌, ap, subst, arith, eqb-true, ne_eqb}
+use Rattle.std.proofs.Common.{◌≡◌, ℕ, ◌+◌, ◌==◌, Bool, true, false, List, [], ◌∷◌, ◌++◌, Option, Result, Ok, Err, if◌then◌else◌, take, map, refl, sym, ◌∙◌, ap, subst, arith, eqb-true, ne_eqb}
 use Rattle.std.proofs.lemmas.List.Sums.{sum_by-append}
 use Rattle.std.specs.List.{AllByRecursion}
 use Rattle.std.specs.Prelude.{sum_by}
@@ -8,7 +8,6 @@ use Rattle.mely_event.specs.declared.event.Event.{Event}
 use Rattle.mely_event.specs.declared.mark.Mark.{Mark}
 use Rattle.mely_event.specs.declared.trail.Trail.{Ghosts as TrailWords}
 use Rattle.mely_event.specs.declared.unregistered.Unregistered.{Unregistered}
-use Rattle.mely_history.specs.declared.after.After.{After}
 use Rattle.mely_history.specs.declared.entry.Entry.{Entry}
 use Rattle.mely_history.specs.declared.entry.Entry.TheVariants.{Reg, Take, Fin, Steal}
 use Rattle.mely_history.specs.declared.no_steal.NoSteal.{NoSteal}
@@ -32,7 +31,7 @@ use Rattle.mely_tally.specs.Account.{HandlerRun, IsRunOf, count_put, count_puts,
 use Rattle.mely_tally.proofs.HistoryCountsLemmas.{share_put, share_take}
 use Rattle.mely_tally.proofs.StepAccountLemmas.{CountsRegistrations, CountsTakes, RunsWell, runs_of, puts_step, ran_step, well_step}
 use Rattle.mely_tally.proofs.WeaveAccountLemmas.{all-append, all_map}
-use Rattle.mely_fleet.specs.Calls.{RegistersAt, TakesAt, FinishesAt, StealsAt, SeesAt, front_in}
+use Rattle.mely_fleet.specs.Calls.{RegistersAt, TakesAt, StealsAt, SeesAt, front_in}
 use Rattle.mely_fleet.specs.Work.{Standpoint, words, HasLooked, StepsOn, MakesSteps}
 use Rattle.mely_fleet.proofs.OwnLemmas.{own_in, sees_same, sees_more, others_same}
 

@@ -1,5 +1,5 @@
 -- What a post to a fleet comes to.
-use Rattle.std.specs.Prelude.{◌≡◌, List, Option, Result, IfOk, OnErr}
+use Rattle.std.specs.Prelude.{◌≡◌, Option, Result, IfOk, OnErr}
 use Rattle.mely_event.specs.declared.colour.Colour.{Colour}
 use Rattle.mely_event.specs.declared.event.Event.{Event}
 use Rattle.mely_event.specs.declared.unregistered.Unregistered.{Unregistered}
