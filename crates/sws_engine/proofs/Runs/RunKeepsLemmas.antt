@@ -131,11 +131,11 @@ module _ {W L T G H : Type 0} (x : WorldWords W L) (l : LinkWords L) (y : TalkWo
       abbrev i : ℕ
       i = e.0.arg
 
-      handler : e.0.handler ≡ number_of_task fits.t
-      handler = number_is e.0.handler fits.t fits.is
+      number : e.0.handler ≡ number_of_task fits.t
+      number = number_is e.0.handler fits.t fits.is
 
       handler_some : 3 ≤ e.0.handler
-      handler_some = let z = fits.some in omega (arith, z, handler)
+      handler_some = let z = fits.some in omega (arith, z, number)
 
       own : (s.colour.0 == i + 2) ≡ true
       own = eq-eqb s.colour.0 (i + 2) fits.step.colour
@@ -184,7 +184,7 @@ module _ {W L T G H : Type 0} (x : WorldWords W L) (l : LinkWords L) (y : TalkWo
           elim (eqb_tells (due_number y seat) 3) [ inl same ↦ is ∙ sym same.1 | inr apart ↦ let some = ap (λ b. bit (not b)) apart.0 in absurd (omega (arith, none, some)) ]
 
       due_now : e.0.handler ≡ due_number y seat
-      due_now = by_task fits.t (λ n. e.0.handler ≡ n) fits.few handler by_open by_step by_resume fits.some
+      due_now = by_task fits.t (λ n. e.0.handler ≡ n) fits.few number by_open by_step by_resume fits.some
 
       number_now : 3 ≤ due_number y seat
       number_now = omega (arith, handler_some, due_now)
