@@ -4,6 +4,8 @@ ghost use Rattle.mely_event.specs.HandlerTable.{rows_of};
 ghost use Rattle.mely_history.specs.Setup.{shape_of, colours_of, handlers_of};
 ghost use Rattle.run_sample.specs.Small.{IsSmall};
 
+mod page;
+
 use crate::run;
 use mely_event::{Colour, Event, Handlers};
 use mely_history::{Entry, Setup, Shape};

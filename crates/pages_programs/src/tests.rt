@@ -1,0 +1,4 @@
+mod actors;
+mod apps;
+mod lanes;
+mod runs;

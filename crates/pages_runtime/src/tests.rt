@@ -1,0 +1,9 @@
+mod apps;
+mod chains;
+mod counter;
+mod histories;
+mod locks;
+mod queues;
+mod stealing;
+mod tables;
+mod workers;

@@ -1,0 +1,31 @@
+//! The page of `mely_core`.
+ghost use Rattle.std.specs.Prelude.{◌<◌};
+
+use mely_core::CoreQueue;
+use mely_event::{Colour, Mark};
+use std::alloc::Global;
+use std::test::Fail;
+
+/// What the core runs and what a thief finds then, once this mark was pushed and more was registered.
+fn run_and_stolen(alloc: Global, mark: Mark) -> Result<(Option<Mark>, Option<Mark>), Fail>
+    requires { mark.colour.0 < 4 }
+{
+    let mut queue = CoreQueue::new(alloc, 4, 20, 0)?;
+    queue.push(mark)?;
+    queue.retell(mark.colour, mark.started, 45);
+    let next = queue.pop();
+    let stolen = queue.pick();
+    Ok((next, stolen))
+}
+
+#[test]
+fn a_ready_colour_is_run_or_stolen(rt: HostRuntime) -> Result<(), Fail> {
+    let mark = Mark {
+        colour: Colour(3),
+        started: 0,
+        worth: 30,
+    };
+    let raised = Mark { worth: 45, ..mark };
+    assert!(rt; run_and_stolen(rt.alloc(), mark)? == (Some(raised), None));
+    Ok(())
+}

@@ -1,0 +1,44 @@
+//! The page of `mely_queue`.
+ghost use Rattle.std.specs.Prelude.{◌≡◌, ◌≤◌};
+
+use mely_event::{Colour, Event, Handlers, Trail, TrailLog};
+use mely_queue::{ColourQueue, Turn};
+use std::alloc::Global;
+use std::test::Fail;
+
+const EVENT: Event = Event { handler: 1, arg: 7 };
+
+/// A handler that keeps the event, where there is room.
+fn run(state: &mut TrailLog, event: Event, load: Option<u8>)
+    ensures { state.new.colour ≡ state.old.colour }
+{
+    if load.is_some() && state.reserve(1).is_ok() {
+        state.push(event);
+    }
+}
+
+/// Registers an event with a load, and runs a turn of the queue: the state after it.
+fn run_turn(alloc: Global, queue: &mut ColourQueue<u8>, batch: u16) -> Result<TrailLog, Fail>
+    requires { (1 ≤ batch) × (batch ≤ 1000) }
+{
+    let handlers = Handlers::new(&[(60, 2), (7, 2)])?;
+    let (colour, core, event, load) = (Colour(2), 0, EVENT, Some(5));
+    let state = TrailLog::new(alloc, colour);
+    queue.push(event, load, handlers.weight(event.handler))?;
+    let mut turn = Turn::new(colour, core, state, queue.take_up_to(batch)?);
+    while let Some((event, load)) = turn.next() {
+        run(turn.state(), event, load);
+    }
+    queue.finish(turn.count());
+    Ok(turn.into_state())
+}
+
+#[test]
+fn a_turn_is_taken_run_and_finished(rt: HostRuntime) -> Result<(), Fail> {
+    let mut queue = ColourQueue::new(rt.alloc());
+    let state = run_turn(rt.alloc(), &mut queue, 10)?;
+    assert!(rt; state.trail() == [EVENT].as_slice());
+    assert!(rt; (queue.started(), queue.finished()) == (1, 1));
+    assert!(rt; queue.time_left() == 0);
+    Ok(())
+}

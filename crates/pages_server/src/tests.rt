@@ -1,0 +1,13 @@
+mod answers;
+mod connections;
+mod journals;
+mod links;
+mod logs;
+mod menus;
+mod parts;
+mod pictures;
+mod reports;
+mod requests;
+mod sites;
+mod sockets;
+mod texts;
