@@ -1,10 +1,11 @@
-//! The page of `mely_check`, and the journal of that of `mely_picture`.
+//! The pages of `mely_journal` and `mely_check`, and the journal of that of `mely_picture`.
 use mely_check::check_journal;
-use mely_event::Handlers;
-use mely_history::{Setup, Shape};
+use mely_event::{Colour, Event, Handlers};
+use mely_history::{Entry, Setup, Shape};
+use mely_journal::write_journal;
 use std::alloc::{AllocError, Global};
 use std::test::Fail;
-use sws_link::SureSource;
+use sws_link::{SureSink, SureSource};
 
 /// One shard of two colours on two cores.
 pub(super) fn setup_of() -> Result<Setup, Fail> {
@@ -34,5 +35,34 @@ fn a_journal_is_checked(rt: HostRuntime) -> Result<(), Fail> {
     assert!(rt; report.entries == 4);
     assert!(rt; report.cores.len() == 2);
     assert!(rt; (report.cores[0].ran, report.cores[1].stolen_out) == (1, 1));
+    Ok(())
+}
+
+#[test]
+fn a_journal_is_written(rt: HostRuntime) -> Result<(), Fail> {
+    let alloc = rt.alloc();
+    let colour = Colour(0);
+    let event = Event { handler: 0, arg: 1 };
+    let turn = vec![in alloc;
+        Entry::Reg {
+            colour,
+            event,
+            by: 2
+        },
+        Entry::Take {
+            colour,
+            core: 0,
+            count: 1
+        },
+        Entry::Fin {
+            colour,
+            core: 0,
+            count: 1
+        },
+    ]?;
+    let histories = vec![in alloc; turn]?;
+    let mut sink = SureSink::new(alloc);
+    write_journal(alloc, &mut sink, &histories);
+    assert!(rt; sink.written() == b"shard 0 3\nreg 0 0 1 2\ntake 0 0 1\nfin 0 0 1\n");
     Ok(())
 }
