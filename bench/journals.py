@@ -2,7 +2,7 @@
 """bench/journals.py PROGRAM JOURNAL [CONNECTIONS WORKERS SHARDS BATCH COST] [--entries N] [--long N]
 
 Tries the checker of journals on changed journals. It takes the journal of a run, leaves out, doubles and changes its lines in
-turn, has PROGRAM (the built `check_loop`) check each text, and compares its answer with that of a judge of its own, below, which
+turn, has PROGRAM (the built `measure_check`) check each text, and compares its answer with that of a judge of its own, below, which
 is written from the rules alone: what is accepted with which sums, and else the fault with its line or colour. Any difference is
 printed, and the status is then 1.
 

@@ -4,8 +4,8 @@ in one run, and prints a table.
 
     bench/measure.py [--runs N]
 
-It wants the eight programs built (`./sws` builds the server, `rt run` in crates/shard_loop, crates/lock_loop,
-crates/chain_loop, crates/weave_loop, crates/fleet_loop, crates/conn_loop and crates/text_loop the others) and cargo with Debian's librust-httparse-dev, librust-httpdate-dev,
+It wants the eight programs built (`./sws` builds the server, `rt run` in crates/measure_shard, crates/measure_lock,
+crates/measure_chain, crates/measure_weave, crates/measure_fleet, crates/measure_conn and crates/measure_text the others) and cargo with Debian's librust-httparse-dev, librust-httpdate-dev,
 librust-memchr-dev and librust-percent-encoding-dev. All that it makes stands in a new folder below the system's
 temporary one, about 400 MB, and is removed at the end. No traffic leaves the machine: both programs read a file and
 write to a file or to nothing. Times are seconds on a processor (user and system), the least of all runs, so that they say
@@ -24,13 +24,13 @@ import time
 
 TOP = os.path.dirname(os.path.dirname(os.path.abspath(__file__)))
 SWS = os.path.join(TOP, "crates", "sws_main", "out", "sws_main")
-LOOP = os.path.join(TOP, "crates", "shard_loop", "out", "shard_loop")
-LOCK = os.path.join(TOP, "crates", "lock_loop", "out", "lock_loop")
-CHAIN = os.path.join(TOP, "crates", "chain_loop", "out", "chain_loop")
-WEAVE = os.path.join(TOP, "crates", "weave_loop", "out", "weave_loop")
-FLEET = os.path.join(TOP, "crates", "fleet_loop", "out", "fleet_loop")
-CONN = os.path.join(TOP, "crates", "conn_loop", "out", "conn_loop")
-TEXT = os.path.join(TOP, "crates", "text_loop", "out", "text_loop")
+LOOP = os.path.join(TOP, "crates", "measure_shard", "out", "measure_shard")
+LOCK = os.path.join(TOP, "crates", "measure_lock", "out", "measure_lock")
+CHAIN = os.path.join(TOP, "crates", "measure_chain", "out", "measure_chain")
+WEAVE = os.path.join(TOP, "crates", "measure_weave", "out", "measure_weave")
+FLEET = os.path.join(TOP, "crates", "measure_fleet", "out", "measure_fleet")
+CONN = os.path.join(TOP, "crates", "measure_conn", "out", "measure_conn")
+TEXT = os.path.join(TOP, "crates", "measure_text", "out", "measure_text")
 PEER = os.path.join(TOP, "bench", "peer")
 
 BROWSER_HEAD = "\r\n".join([
@@ -196,8 +196,8 @@ def texts(folder, peers):
     response = head + line * 40
     responses = put(os.path.join(folder, "responses"), response * (100_000_000 // len(response)))
     for what, given in (("script", script), ("transcript", responses)):
-        seen = alternate({"text_loop": ([TEXT, what], given), "peer": ([os.path.join(peers, what)], given)}, 7)
-        for name in ("text_loop", "peer"):
+        seen = alternate({"measure_text": ([TEXT, what], given), "peer": ([os.path.join(peers, what)], given)}, 7)
+        for name in ("measure_text", "peer"):
             size = os.path.getsize(given) / 1e6
             print(f"| a {what} of {size:.0f} MB | {name} | {seen[name][0] * 1000:.0f} ms |")
 

@@ -4,7 +4,7 @@
     bench/serve.py [--runs N] [--connections N] [--requests N] [--at-once N] [--in-flight N,..] [--sizes BYTES,..] [--workers N,..]
                    [--server CPUS] [--client CPUS] [--only WORD] [--program FILE] [--calls]
 
-It wants the program (`./sws`, or --program), `swsd` (`./swsd --version`), net_loop (`rt run` in crates/net_loop), and a C compiler for the
+It wants the program (`./sws`, or --program), `swsd` (`./swsd --version`), measure_net (`rt run` in crates/measure_net), and a C compiler for the
 client; a server that isn't there is left out. Each server serves one folder to bench/load.c, which makes so many connections on this machine's loopback, so many
 of them at once, each with so many requests, one after another and 16 at a time. `sws` with several workers is run in the shape that the
 documents advise (64 shards, cost 9) and in the default one, `swsd` with so many lanes of one worker that take connections. A figure is processor time of the server for each request (user and system),
@@ -28,7 +28,7 @@ from typing import NamedTuple
 TOP = os.path.dirname(os.path.dirname(os.path.abspath(__file__)))
 SWS = os.path.join(TOP, "crates", "sws_main", "out", "sws_main")
 SWSD = os.path.join(TOP, "crates", "swsd", "out", "swsd")
-NET = os.path.join(TOP, "crates", "net_loop", "out", "net_loop")
+NET = os.path.join(TOP, "crates", "measure_net", "out", "measure_net")
 LOAD = os.path.join(TOP, "bench", "load.c")
 
 NGINX = """

@@ -4,7 +4,7 @@
 //! colour. Here a state says how it begins ([`Initial`]), and [`run_app`] does all the rest: it
 //! makes the states and the fleet, posts the first event, lets a thread for each core work until
 //! nothing is left, closes the fleet, and hands out the states with the histories ([`Ended`]).
-//! [`run_states`] takes states that its caller has made. `docs/FIRST_APP.md` walks a whole program, the crate `hello_colours`.
+//! [`run_states`] takes states that its caller has made. `docs/FIRST_APP.md` walks a whole program, the crate `example_hello`.
 //!
 //! ```text
 //! let setup = Setup::new(&shape, 2, handlers, 0)?;

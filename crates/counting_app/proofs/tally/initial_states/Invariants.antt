@@ -1,6 +1,0 @@
-use Rattle.mely_weave.specs.Making.{AreInitialBelow}
-use Rattle.counting_app.specs.declared.tally.Tally.{Tally}
-use Rattle.counting_app.proofs.tally.initial_states.Given as goal
-
-abbrev pub invariant-colours : goal.invariant-colours
-invariant-colours l = AreInitialBelow (λ (s : Tally). s.log.colour) (λ (s : Tally). s.log.events) l.colour l.states.items

@@ -1,0 +1,86 @@
+-- What the room and the clients are sent, send, and keep.
+use Rattle.std.specs.Prelude.{◌≡◌, ◌==◌, ◌+◌, ◌*◌, ◌<◌, ◌≤◌, ℕ, List, [], ◌∷◌, Some, if◌then◌else◌, map, nat_lt, slice_get}
+use Rattle.mely_actor.specs.Sending.{along}
+use Rattle.mely_event.specs.declared.colour.Colour.{Colour}
+use Rattle.mely_event.specs.declared.event.Event.{Event}
+use Rattle.example_chat.specs.declared.chat.TheConstants.{CLIENTS}
+use Rattle.example_chat.specs.declared.message.Message.{Message}
+use Rattle.example_chat.specs.declared.message.Message.TheVariants.{Say, Line, Hear}
+use Rattle.example_chat.specs.declared.script.Line.{Line as ScriptLine}
+use Rattle.example_chat.specs.declared.seat.Heard.{Heard}
+
+-- the room
+abbrev pub room : Colour
+room = record { 0 = 0 }
+
+-- under which event a message stands in the histories: by the line's number in the script, and
+-- where it is heard by its place in the room's order too
+abbrev pub event_of : Message → Event
+event_of (Say number text) = record { handler = 1; arg = number }
+event_of (Line number text) = record { handler = 2; arg = number }
+event_of (Hear place number text) = record { handler = 3; arg = place * 256 + number }
+
+-- a line is said by a client
+abbrev pub IsByClient : ScriptLine → Type 0
+IsByClient line = (0 < line.client) × (line.client ≤ CLIENTS)
+
+-- the script has this text under the number
+pub record IsOfScript (script : List ScriptLine) (number : ℕ) (text : List ℕ) : Type 0 where
+  pub line : ScriptLine
+  pub there : slice_get script number ≡ Some line
+  pub says : line.text.items ≡ text
+
+-- what may be sent to a colour: clients say and hear, and the room is told, and each line is what
+-- the script has under its number
+abbrev pub MayHear : List ScriptLine → Colour → Message → Type 0
+MayHear script colour (Say number text) = (0 < colour.0) × IsOfScript script number text.items
+MayHear script colour (Line number text) = (colour.0 ≡ 0) × IsOfScript script number text.items
+MayHear script colour (Hear place number text) =
+    (0 < colour.0) × IsOfScript script number text.items
+
+-- What a message has a colour send, so many others before it: what a client is to say goes to the
+-- room. The room's next line goes to the first client, and the number of those before is its place.
+-- And each client passes on what it hears, but for the last one.
+abbrev pub says : Colour → ℕ → Message → List (Colour × Message)
+says colour before (Say number text) = (room, Line number text) ∷ []
+says colour before (Line number text) =
+    if nat_lt before 256 then (record { 0 = 1 }, Hear before number text) ∷ [] else []
+says colour before (Hear place number text) = if nat_lt colour.0 CLIENTS
+    then (record { 0 = colour.0 + 1 }, Hear place number text) ∷ [] else []
+
+-- the same by the events
+abbrev pub sends_of : {A : Type 0} → A → Colour → ℕ → Event → List (Colour × Event)
+sends_of chat colour before event =
+    if event.handler == 1 then (room, record { handler = 2; arg = event.arg }) ∷ []
+    else if event.handler == 2 then (if nat_lt before 256 then (
+      record { 0 = 1 },
+      record { handler = 3; arg = before * 256 + event.arg },
+    ) ∷ [] else [])
+    else (if nat_lt colour.0 CLIENTS then (record { 0 = colour.0 + 1 }, event) ∷ [] else [])
+
+-- a line that was heard: its place, its number and its text
+abbrev pub Note : Type 0
+Note = ℕ × ℕ × List ℕ
+
+abbrev pub note_of : Heard → Note
+note_of heard = (heard.place, heard.number, heard.text.items)
+
+-- what is kept of a message: the room keeps its lines at their places, and a client what it hears
+abbrev pub notes : ℕ → Message → List Note
+notes before (Say number text) = []
+notes before (Line number text) =
+    if nat_lt before 256 then (before, number, text.items) ∷ [] else []
+notes before (Hear place number text) = (place, number, text.items) ∷ []
+
+-- what was sent is what the messages received have the colour send, and what is kept is what is
+-- kept of them, in that order
+pub record IsSeat (colour : Colour) (received : List Message) (sent : List (Colour × Message))
+    (heard : List Heard) : Type 0 where
+  pub passed : sent ≡ along (says colour) 0 received
+  pub noted : map note_of heard ≡ along notes 0 received
+
+-- the lines, each for the client that says it, under its number
+abbrev pub said : ℕ → List ScriptLine → List (Colour × Message)
+said number [] = []
+said number (line ∷ lines) =
+    (record { 0 = line.client }, Say number line.text) ∷ said (number + 1) lines

@@ -1,0 +1,108 @@
+//! The room and the clients, as actors.
+ghost use Rattle.std.specs.Prelude.{◌≡◌, ◌+◌, ◌++◌, ◌∷◌, [], OnOk, map};
+ghost use Rattle.example_chat.specs.declared.chat.TheConstants.{CLIENTS};
+ghost use Rattle.example_chat.specs.Chats.{IsSeat, MayHear, event_of, note_of, sends_of};
+
+use crate::message::Message;
+use crate::script::Line;
+use crate::seat::{Heard, Seat};
+use mely_actor::{Actor, Place, Sends};
+use mely_event::{Colour, Event, Memory};
+use std::alloc::Global;
+use std::snapshot::Snapshot;
+
+/// How many clients there are. The room is colour 0, and their colours are 1 and those behind it.
+pub const CLIENTS: u16 = 4;
+
+/// How many lines a script has at most: their numbers and places are below this.
+pub const LINES: usize = 256;
+
+/// A chat, with where it keeps lines, over a script of which contracts alone know.
+#[derive(Drop)]
+pub struct Chat {
+    pub alloc: Global,
+    pub script: Snapshot<Vec<Line>>,
+}
+
+impl Actor for Chat {
+    type Value = Seat;
+
+    type Message = Message;
+
+    ghost colours_of = { λ chat. CLIENTS + 1 };
+
+    ghost rows_of = { λ chat. 4 };
+
+    ghost event_of = { event_of };
+
+    ghost sound = { λ chat colour message. MayHear chat.script.value.items colour message };
+
+    ghost sends_of = { sends_of };
+
+    ghost kept = { λ chat colour received sent seat. IsSeat colour received sent seat.heard.items };
+
+    fn event(message: &Message) -> Event {
+        let (handler, arg) = match message {
+            Message::Say(number, _) => (1, u16::from(*number)),
+            Message::Line(number, _) => (2, u16::from(*number)),
+            Message::Hear(place, number, _) => { (3, u16::from(*place) * 256 + u16::from(*number)) }
+        };
+        Event { handler, arg }
+    }
+
+    fn begin(&self, alloc: Global, _colour: Colour) -> Result<Seat, Memory> {
+        Ok(Seat {
+            heard: Vec::new(alloc),
+        })
+    }
+
+    fn on(
+        &self,
+        at: Place,
+        seat: &mut Seat,
+        message: Message,
+        sends: &mut Sends<Message>,
+    ) -> Result<(), Memory> {
+        match message {
+            Message::Say(number, text) => {
+                sends.send(Colour(0), Message::Line(number, text));
+                Ok(())
+            }
+            Message::Line(number, text) => {
+                if at.number >= LINES {
+                    return Ok(());
+                }
+                let place = at.number as u8;
+                let kept = keep(self.alloc, seat, place, number, &text);
+                sends.send(Colour(1), Message::Hear(place, number, text));
+                kept
+            }
+            Message::Hear(place, number, text) => {
+                let kept = keep(self.alloc, seat, place, number, &text);
+                if at.colour.0 < CLIENTS {
+                    sends.send(Colour(at.colour.0 + 1), Message::Hear(place, number, text));
+                }
+                kept
+            }
+        }
+    }
+}
+
+/// Keeps a copy of a line.
+///
+/// # Errors
+///
+/// There was no memory.
+fn keep(alloc: Global, seat: &mut Seat, place: u8, number: u8, text: &[u8]) -> Result<(), Memory>
+    ensures { OnOk result (map note_of seat.new.heard.items
+        ≡ map note_of seat.old.heard.items ++ (place, number, text.now) ∷ []) }
+{
+    let mut copy = Vec::new(alloc);
+    copy.extend_from_slice(text)?;
+    seat.heard.push(Heard {
+        place,
+        number,
+        text: copy,
+    })?;
+    Ok(())
+}

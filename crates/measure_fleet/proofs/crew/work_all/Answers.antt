@@ -1,0 +1,16 @@
+use Rattle.std.proofs.Common.{◌<◌, ◌∙◌, Some, ap, sym, subst, length, arith}
+use Rattle.std.proofs.lemmas.Option.{slice_get-get_or, slice_get_within, get_or_from_slice_get}
+use Rattle.mely_fleet.specs.Seats.{IsSeatOf}
+use Rattle.measure_fleet.proofs.crew.work_all.Goals as goal
+
+pub for_each_mut-requires-clause-accepts : goal.for_each_mut-requires-clause-accepts
+for_each_mut-requires-clause-accepts g c = λ _ _ i p low is. (c.requires.shaped, c.requires.seats i p.now (slice_get-get_or _ i p.now low ∙ ap (λ own. Some own) (sym is)))
+
+pub returns : goal.returns
+returns g c place seat there =
+    let same = c.for_each_mut.auto.s in
+    let low_new = slice_get_within _ place seat there in
+    let low : place < length c.args.seats.now = omega (arith, same, low_new) in
+    let change = (c.for_each_mut.ensures place seat low).1 in
+    let is = get_or_from_slice_get _ place seat seat there in
+    subst (λ s. IsSeatOf (λ s. tt) (λ f c e l. Unit {0}) c.args.fleet.now place s.passes s.worker) (change.left ∙ is) change.call

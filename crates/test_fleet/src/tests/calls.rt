@@ -1,0 +1,261 @@
+//! The calls of a fleet one after another, by three callers.
+ghost use Rattle.std.specs.Prelude.{◌≡◌, ◌<◌, ◌≤◌, ◌+◌, IfOk, length};
+ghost use Rattle.mely_weave.specs.Dealing.{AtEach};
+ghost use Rattle.mely_history.specs.Setup.{shape_of, colours_of};
+ghost use Rattle.mely_fleet.specs.Fleets.{ArePasses};
+ghost use Rattle.mely_fleet.specs.Frames.{shard_frame};
+ghost use Rattle.mely_fleet.specs.Opening.{AreInitialPasses};
+ghost use Rattle.test_fleet.specs.Callers.{IsRow, MayFinish};
+
+use super::{EVENT, fleet_of, setup_of};
+use example_counting::Tally;
+use mely_event::{Colour, Fits, Kept, Trail};
+use mely_fleet::{Fleet, KeptShard, Passes};
+use mely_history::{After, NoSteal, NoTake, Registered, Shape, Stolen};
+use mely_queue::Turn;
+use std::process::Abort;
+use std::sync::Wait;
+use std::test::Fail;
+
+/// The replies to the first and the second registration on a colour of core 0.
+const WOKE: Registered = Registered::Woke {
+    owner: 0,
+    started: 0,
+    worth: 30,
+};
+
+const TOLD: Registered = Registered::Told {
+    owner: 0,
+    started: 0,
+    worth: 60,
+};
+
+/// The replies to a finish that leaves one event, and to a steal of that one.
+const MORE: After = After::More {
+    started: 2,
+    worth: 30,
+};
+
+const TAKEN_OVER: Stolen = Stolen {
+    from: 0,
+    started: 2,
+    worth: 30,
+};
+
+fn register<R: Wait>(
+    rt: &R,
+    fleet: &Fleet<Tally, u8>,
+    own: &mut Passes<Tally, u8>,
+    colour: u16,
+) -> Option<Registered>
+    requires row { IsRow 2 4 fleet.now.setup }
+    requires colour { colour < 4 }
+    requires own { ArePasses (shard_frame ⟦<Tally as Trail>⟧.frame_of) fleet.now own.old }
+    ensures own { ArePasses (shard_frame ⟦<Tally as Trail>⟧.frame_of) fleet.now own.new }
+    ensures number { own.new.number ≡ own.old.number }
+{
+    fleet.register(rt, own, Colour(colour), EVENT, None).ok()
+}
+
+fn steal<R: Wait>(
+    rt: &R,
+    fleet: &Fleet<Tally, u8>,
+    own: &mut Passes<Tally, u8>,
+    colour: u16,
+) -> Result<Stolen, NoSteal>
+    requires row { IsRow 2 4 fleet.now.setup }
+    requires colour { colour < 4 }
+    requires core { own.old.number < 2 }
+    requires own { ArePasses (shard_frame ⟦<Tally as Trail>⟧.frame_of) fleet.now own.old }
+    ensures own { ArePasses (shard_frame ⟦<Tally as Trail>⟧.frame_of) fleet.now own.new }
+    ensures number { own.new.number ≡ own.old.number }
+{
+    fleet.steal(rt, own, Colour(colour))
+}
+
+fn take<R: Wait>(
+    rt: &R,
+    fleet: &Fleet<Tally, u8>,
+    own: &mut Passes<Tally, u8>,
+    colour: u16,
+) -> Result<Turn<Tally, u8>, NoTake>
+    requires row { IsRow 2 4 fleet.now.setup }
+    requires colour { colour < 4 }
+    requires core { own.old.number < 2 }
+    requires own { ArePasses (shard_frame ⟦<Tally as Trail>⟧.frame_of) fleet.now own.old }
+    ensures own { ArePasses (shard_frame ⟦<Tally as Trail>⟧.frame_of) fleet.now own.new }
+    ensures number { own.new.number ≡ own.old.number }
+    ensures turn { IfOk result (MayFinish ⟦<Tally as Trail>⟧ fleet.now own.new) }
+{
+    fleet.take(rt, own, Colour(colour))
+}
+
+/// A take of the colour of a turn that is out, by the core that has it.
+fn take_meanwhile<R: Wait>(
+    rt: &R,
+    fleet: &Fleet<Tally, u8>,
+    own: &mut Passes<Tally, u8>,
+    turn: &Turn<Tally, u8>,
+) -> Option<NoTake>
+    requires core { own.old.number < (shape_of fleet.now.setup).cores }
+    requires own { ArePasses (shard_frame ⟦<Tally as Trail>⟧.frame_of) fleet.now own.old }
+    requires turn { MayFinish ⟦<Tally as Trail>⟧ fleet.now own.old turn.now }
+    ensures own { ArePasses (shard_frame ⟦<Tally as Trail>⟧.frame_of) fleet.now own.new }
+    ensures number { own.new.number ≡ own.old.number }
+    ensures turn { MayFinish ⟦<Tally as Trail>⟧ fleet.now own.new turn.now }
+{
+    match fleet.take(rt, own, turn.colour()) {
+        Err(refusal) => Some(refusal),
+        Ok(other) => {
+            drop(other.into_state());
+            None
+        }
+    }
+}
+
+/// Runs what a turn has, and takes its state home.
+fn run_and_finish<R: Wait>(
+    rt: &R,
+    fleet: &Fleet<Tally, u8>,
+    own: &mut Passes<Tally, u8>,
+    mut turn: Turn<Tally, u8>,
+) -> After
+    requires own { ArePasses (shard_frame ⟦<Tally as Trail>⟧.frame_of) fleet.now own.old }
+    requires turn { MayFinish ⟦<Tally as Trail>⟧ fleet.now own.old turn }
+    ensures own { ArePasses (shard_frame ⟦<Tally as Trail>⟧.frame_of) fleet.now own.new }
+    ensures number { own.new.number ≡ own.old.number }
+{
+    while let Some((event, _load)) = turn.next() {
+        turn.state().run(event, 0);
+    }
+    fleet.finish(rt, own, turn)
+}
+
+/// Takes a colour, runs what was taken and finishes, and answers how many events that were.
+fn take_turn<R: Wait>(
+    rt: &R,
+    fleet: &Fleet<Tally, u8>,
+    own: &mut Passes<Tally, u8>,
+    colour: u16,
+) -> Result<(u16, After), NoTake>
+    requires row { IsRow 2 4 fleet.now.setup }
+    requires colour { colour < 4 }
+    requires core { own.old.number < 2 }
+    requires own { ArePasses (shard_frame ⟦<Tally as Trail>⟧.frame_of) fleet.now own.old }
+    ensures own { ArePasses (shard_frame ⟦<Tally as Trail>⟧.frame_of) fleet.now own.new }
+    ensures number { own.new.number ≡ own.old.number }
+{
+    let turn = take(rt, fleet, own, colour)?;
+    let count = turn.count();
+    Ok((count, run_and_finish(rt, fleet, own, turn)))
+}
+
+/// Takes the passes of the last caller off the list.
+fn last_of(
+    fleet: &Fleet<Tally, u8>,
+    passes: &mut Vec<Passes<Tally, u8>>,
+) -> Result<Passes<Tally, u8>, Fail>
+    requires { AtEach (λ n own.
+        AreInitialPasses (shard_frame ⟦<Tally as Trail>⟧.frame_of) fleet.now n own)
+        passes.old.items }
+    ensures rest { AtEach (λ n own.
+        AreInitialPasses (shard_frame ⟦<Tally as Trail>⟧.frame_of) fleet.now n own)
+        passes.new.items }
+    ensures own { IfOk result (λ own.
+        ArePasses (shard_frame ⟦<Tally as Trail>⟧.frame_of) fleet.now own) }
+    ensures number { IfOk result (λ own. own.number ≡ length passes.new.items) }
+    ensures fewer { IfOk result (λ _. length passes.old.items ≡ length passes.new.items + 1) }
+{
+    let Some(own) = passes.pop() else {
+        return Err(Fail::from("no passes"));
+    };
+    Ok(own)
+}
+
+/// Two cores, four colours, batches of 10 and one handler of weight 30.
+fn shape_of(shards: u16, steal_cost: u32) -> Shape
+    ensures { result.cores ≡ 2 }
+{
+    Shape {
+        cores: 2,
+        shards,
+        batch: 10,
+        steal_cost,
+        group: 1,
+    }
+}
+
+/// The replies on one colour, in the order of the calls.
+fn replies_are_right<R: Wait + Abort>(
+    rt: &R,
+    fleet: &Fleet<Tally, u8>,
+    zero: &mut Passes<Tally, u8>,
+    one: &mut Passes<Tally, u8>,
+    two: &mut Passes<Tally, u8>,
+) -> Result<(), Fail>
+    requires row { IsRow 2 4 fleet.now.setup }
+    requires zero { ArePasses (shard_frame ⟦<Tally as Trail>⟧.frame_of) fleet.now zero.old }
+    requires one { ArePasses (shard_frame ⟦<Tally as Trail>⟧.frame_of) fleet.now one.old }
+    requires two { ArePasses (shard_frame ⟦<Tally as Trail>⟧.frame_of) fleet.now two.old }
+    requires cores { (zero.old.number < 2) × (one.old.number < 2) }
+{
+    assert_eq!(rt; register(rt, fleet, two, 2), Some(WOKE));
+    assert_eq!(rt; register(rt, fleet, two, 2), Some(TOLD));
+    assert_eq!(rt;
+        take_turn(rt, fleet, one, 2),
+        Err(NoTake::Elsewhere { owner: 0 })
+    );
+    let Ok(turn) = take(rt, fleet, zero, 2) else {
+        return Err(Fail::from("no turn"));
+    };
+    let count = turn.count();
+    let meanwhile = register(rt, fleet, two, 2);
+    let busy = take_meanwhile(rt, fleet, zero, &turn);
+    let not_stolen = steal(rt, fleet, one, 2);
+    let finished = run_and_finish(rt, fleet, zero, turn);
+    assert_eq!(rt; count, 2);
+    assert_eq!(rt; meanwhile, Some(Registered::Running { core: 0 }));
+    assert_eq!(rt; busy, Some(NoTake::Busy { core: 0 }));
+    assert_eq!(rt; not_stolen, Err(NoSteal::Busy { core: 0 }));
+    assert_eq!(rt; finished, MORE);
+    assert_eq!(rt; steal(rt, fleet, zero, 2), Err(NoSteal::Own));
+    assert!(rt; fleet.reserve(rt, two, 0, 1).is_ok());
+    assert_eq!(rt; steal(rt, fleet, one, 2), Ok(TAKEN_OVER));
+    assert_eq!(rt; take_turn(rt, fleet, one, 2), Ok((1, After::Idle)));
+    assert_eq!(rt;
+        take_turn(rt, fleet, one, 2),
+        Err(NoTake::Empty { registered: 3 })
+    );
+    assert_eq!(rt;
+        steal(rt, fleet, zero, 2),
+        Err(NoSteal::Empty { registered: 3 })
+    );
+    assert_eq!(rt;
+        steal(rt, fleet, one, 0),
+        Err(NoSteal::Empty { registered: 0 })
+    );
+    Ok(())
+}
+
+#[test]
+fn passes_of_three_callers_get_the_replies_of_a_shard(rt: HostRuntime) -> Result<(), Fail> {
+    for shards in [1, 4] {
+        for (steal_cost, is_cheap) in [(20, false), (30, true)] {
+            let setup = setup_of(&shape_of(shards, steal_cost), 4, 30)?;
+            let (fleet, mut passes) = fleet_of(rt.alloc(), &setup, 4, 1)?;
+            let mut two = last_of(&fleet, &mut passes)?;
+            let mut one = last_of(&fleet, &mut passes)?;
+            let mut zero = last_of(&fleet, &mut passes)?;
+            if is_cheap {
+                assert!(rt; register(&rt, &fleet, &mut two, 2).is_some());
+                assert_eq!(rt;
+                    steal(&rt, &fleet, &mut one, 2),
+                    Err(NoSteal::Cheap { worth: 30 })
+                );
+            } else {
+                replies_are_right(&rt, &fleet, &mut zero, &mut one, &mut two)?;
+            }
+        }
+    }
+    Ok(())
+}

@@ -1,0 +1,411 @@
+//! Callers in threads of their own, all on one fleet.
+ghost use Rattle.std.specs.Prelude.{◌≡◌, ◌<◌, ◌≤◌, ◌+◌, ◌↔◌, IfOk, IsTrue, Some, length, slice_get};
+ghost use Rattle.mely_history.specs.Setup.{shape_of, colours_of};
+ghost use Rattle.mely_weave.specs.Dealing.{AtEach};
+ghost use Rattle.mely_weave.specs.Making.{initial_idle_worker};
+ghost use Rattle.mely_worker.specs.Phase.{is_free};
+ghost use Rattle.mely_fleet.specs.Fleets.{ArePasses};
+ghost use Rattle.mely_fleet.specs.Frames.{shard_frame};
+ghost use Rattle.mely_fleet.specs.Seats.{IsOutsider};
+ghost use Rattle.test_fleet.specs.Callers.{AreCallers, IsCaller, IsRow};
+
+use super::{fleet_of, setup_of};
+use example_counting::{Passing, Tally};
+use mely_event::{Colour, Event, Fits, Kept, Memory, Trail};
+use mely_fleet::{Fleet, Passes, Room, Seat, SeatOf, Worked};
+use mely_history::{Entry, Judged, Setup, Shape, judge};
+use mely_steal::victims;
+use mely_weave::{Drained, Weave};
+use mely_worker::{IdleWorker, OpenGate, Worker};
+use std::alloc::Global;
+use std::process::Abort;
+use std::sync::Wait;
+use std::sync::atomic::{AtomicU64, Ordering};
+use std::test::Fail;
+use std::thread;
+use std::thread::Threads;
+
+/// What the threads of a run do, and what came of it.
+#[derive(Drop)]
+pub(super) struct Run {
+    pub(super) app: Passing,
+
+    /// What each caller that is no core's posts: so many events, on all colours in turn but on the
+    /// one that is skipped. Each is passed on so often.
+    posts: u16,
+    passes: u16,
+    skipped: Option<u16>,
+
+    /// How many workers answered that all is quiet, and how many posts were refused.
+    pub(super) quiet: AtomicU64,
+    pub(super) refused: AtomicU64,
+}
+
+impl Run {
+    pub(super) fn new(colours: u16, posts: u16, passes: u16, skipped: Option<u16>) -> Run
+        ensures { result.app.colours ≡ colours }
+    {
+        Run {
+            app: Passing {
+                colours,
+                stays: false,
+                rounds: 0,
+                ran: AtomicU64::new(0),
+            },
+            posts,
+            passes,
+            skipped,
+            quiet: AtomicU64::new(0),
+            refused: AtomicU64::new(0),
+        }
+    }
+}
+
+/// The worker of a core, at rest, and none for a number that is no core's.
+fn worker_for(alloc: Global, setup: &Setup, number: u16) -> Result<Option<IdleWorker<u8>>, Memory>
+    ensures { IfOk result (λ worker. number < (shape_of setup.now).cores
+        → worker ≡ Some (initial_idle_worker setup.now number)) }
+{
+    if number >= setup.cores() {
+        return Ok(None);
+    }
+    let order = victims(alloc, number, setup.cores(), setup.group())?;
+    let worker: Worker<(), u8> = Worker::new(alloc, number, order, setup.batch())?;
+    Ok(Some(worker.rest()))
+}
+
+/// The callers of a fleet: each with its passes, and a core's with its worker.
+pub(super) fn callers_of(
+    alloc: Global,
+    fleet: &Fleet<Tally, u8>,
+    setup: &Setup,
+    passes: Vec<Passes<Tally, u8>>,
+) -> Result<Vec<Seat<Tally, u8>>, Memory>
+    requires are { AreCallers (shard_frame ⟦<Tally as Trail>⟧.frame_of) setup.now fleet.now.passes
+        fleet.now passes.items }
+    ensures many { IfOk result (λ callers. length callers.items ≡ length passes.items) }
+    ensures each { IfOk result (λ callers. AtEach (λ n caller. IsCaller ⟦<Tally as Trail>⟧.frame_of
+        ⟦<Tally as Fits<u8>>⟧.fits_under fleet.now n caller.passes caller.worker) callers.items) }
+{
+    let mut callers = Vec::new(alloc);
+    'passes: for own in passes {
+        let worker = worker_for(alloc, setup, own.number())?;
+        callers.push(SeatOf {
+            passes: own,
+            worker,
+        })?;
+    }
+    Ok(callers)
+}
+
+/// Posts what a caller is to post.
+fn post_all<R: Wait>(rt: &R, fleet: &Fleet<Tally, u8>, own: &mut Passes<Tally, u8>, run: &Run)
+    requires colours { run.now.app.colours ≡ colours_of fleet.now.setup }
+    requires row { IsRow (shape_of fleet.now.setup).cores
+        (colours_of fleet.now.setup) fleet.now.setup }
+    requires own { ArePasses (shard_frame ⟦<Tally as Trail>⟧.frame_of) fleet.now own.old }
+    ensures own { ArePasses (shard_frame ⟦<Tally as Trail>⟧.frame_of) fleet.now own.new }
+    ensures number { own.new.number ≡ own.old.number }
+{
+    if run.app.colours == 0 {
+        return;
+    }
+    let event = Event {
+        handler: 0,
+        arg: run.passes,
+    };
+    'posts: for number in 0..run.posts {
+        let colour = Colour(number % run.app.colours);
+        if run.skipped == Some(colour.0) {
+            continue;
+        }
+        if fleet.post(rt, own, colour, event, None).is_err() {
+            run.refused.fetch_add(1, Ordering::SeqCst);
+        }
+    }
+}
+
+/// Which callers act.
+#[derive(Clone, Copy, PartialEq, Eq)]
+pub(super) enum Who {
+    Others,
+    FirstCore,
+    Cores,
+    All,
+}
+
+/// What one caller does in its thread: a core works, and another posts.
+fn act<R: Wait>(
+    rt: &R,
+    fleet: &Fleet<Tally, u8>,
+    setup: &Setup,
+    number: usize,
+    caller: &mut Seat<Tally, u8>,
+    run: &Run,
+    who: Who,
+)
+    requires of_setup { fleet.now.setup ≡ setup.now }
+    requires colours { run.now.app.colours ≡ colours_of setup.now }
+    requires row { IsRow (shape_of setup.now).cores (colours_of setup.now) setup.now }
+    requires caller { IsCaller ⟦<Tally as Trail>⟧.frame_of
+        ⟦<Tally as Fits<u8>>⟧.fits_under fleet.now number
+        caller.old.passes caller.old.worker }
+    ensures { IsCaller ⟦<Tally as Trail>⟧.frame_of ⟦<Tally as Fits<u8>>⟧.fits_under fleet.now number
+        caller.new.passes caller.new.worker }
+{
+    if number >= setup.cores() as usize {
+        if who == Who::Cores || who == Who::FirstCore {
+            return;
+        }
+        post_all(rt, fleet, &mut caller.passes, run);
+        return;
+    }
+    if who == Who::Others || (who == Who::FirstCore && number != 0) {
+        return;
+    }
+    if fleet.work_at(rt, caller, &run.app, &OpenGate) == Worked::Quiet {
+        run.quiet.fetch_add(1, Ordering::SeqCst);
+    }
+}
+
+/// All of some callers at once, each in a thread of its own.
+pub(super) fn act_all<R: Threads + Wait + Sync>(
+    rt: &R,
+    fleet: &Fleet<Tally, u8>,
+    setup: &Setup,
+    callers: &mut Vec<Seat<Tally, u8>>,
+    run: &Run,
+    who: Who,
+)
+    requires of_setup { fleet.now.setup ≡ setup.now }
+    requires colours { run.now.app.colours ≡ colours_of setup.now }
+    requires row { IsRow (shape_of setup.now).cores (colours_of setup.now) setup.now }
+    requires callers { AtEach (λ n caller. IsCaller ⟦<Tally as Trail>⟧.frame_of
+        ⟦<Tally as Fits<u8>>⟧.fits_under fleet.now n caller.passes caller.worker)
+        callers.old.items }
+    ensures many { length callers.new.items ≡ length callers.old.items }
+    ensures callers { AtEach (λ n caller. IsCaller ⟦<Tally as Trail>⟧.frame_of
+        ⟦<Tally as Fits<u8>>⟧.fits_under fleet.now n caller.passes caller.worker)
+        callers.new.items }
+{
+    let threads = callers.len();
+    if threads == 0 {
+        return;
+    }
+    thread::for_each_mut(
+        rt,
+        callers,
+        threads,
+        &|number, caller: &mut Seat<Tally, u8>|
+            requires of_setup { fleet.now.setup ≡ setup.now }
+            requires colours { run.now.app.colours ≡ colours_of setup.now }
+            requires row { IsRow (shape_of setup.now).cores (colours_of setup.now) setup.now }
+            requires caller { IsCaller (λ s. tt) (λ f c e l. Unit {0}) fleet.now number
+                caller.now.passes caller.now.worker }
+            ensures { IsCaller (λ s. tt) (λ f c e l. Unit {0}) fleet.entry.now number
+                caller.exit.now.passes caller.exit.now.worker }
+        { act(rt, fleet, setup, number, caller, run, who) },
+    );
+}
+
+/// Takes the callers that are no cores off the end, and gives their passes.
+pub(super) fn part(
+    alloc: Global,
+    fleet: &Fleet<Tally, u8>,
+    setup: &Setup,
+    callers: &mut Vec<Seat<Tally, u8>>,
+) -> Result<Vec<Passes<Tally, u8>>, Memory>
+    requires of_setup { fleet.now.setup ≡ setup.now }
+    requires some { (shape_of setup.now).cores ≤ length callers.old.items }
+    requires callers { AtEach (λ n caller. IsCaller ⟦<Tally as Trail>⟧.frame_of
+        ⟦<Tally as Fits<u8>>⟧.fits_under fleet.now n caller.passes caller.worker)
+        callers.old.items }
+    ensures callers { AtEach (λ n caller. IsCaller ⟦<Tally as Trail>⟧.frame_of
+        ⟦<Tally as Fits<u8>>⟧.fits_under fleet.now n caller.passes caller.worker)
+        callers.new.items }
+    ensures cores { IfOk result (λ _. length callers.new.items ≡ (shape_of setup.now).cores) }
+    ensures all { IfOk result (λ outside. length outside.items + length callers.new.items
+        ≡ length callers.old.items) }
+    ensures outside { IfOk result (λ outside.
+        AtEach (λ n own. IsOutsider (shard_frame ⟦<Tally as Trail>⟧.frame_of) fleet.now own)
+        outside.items) }
+{
+    let cores = setup.cores() as usize;
+    let mut outside = Vec::with_capacity(alloc, callers.len())?;
+    'part: while callers.len() > cores {
+        let Some(caller) = callers.pop() else {
+            unreachable!()
+        };
+        let SeatOf { passes, worker } = caller;
+        drop(worker);
+        outside.push_reserved(passes);
+    }
+    Ok(outside)
+}
+
+/// What a run left: the weave, how many workers answered that all is quiet, and how many posts were
+/// refused.
+struct Left {
+    weave: Weave<Tally, u8>,
+    quiet: u64,
+    refused: u64,
+}
+
+/// Lets these callers of a new fleet act at once, and the cores once more, and closes the fleet.
+fn run_once<R: Threads + Wait + Sync>(
+    rt: &R,
+    alloc: Global,
+    setup: &Setup,
+    colours: u16,
+    outsiders: u16,
+    run: &Run,
+    who: Who,
+) -> Result<Left, Fail>
+    requires colours { colours_of setup.now ≡ colours }
+    requires app { run.now.app.colours ≡ colours }
+    requires row { IsRow (shape_of setup.now).cores colours setup.now }
+    requires few { (shape_of setup.now).cores + outsiders ≤ 65535 }
+    ensures free { IfOk result (λ left.
+        AtEach (λ core w. IsTrue (is_free w.phase)) left.weave.workers) }
+    ensures setup { IfOk result (λ left. left.weave.setup ≡ setup.now) }
+{
+    let room = Room::new(alloc, setup, outsiders)?;
+    let (fleet, passes) = fleet_of(alloc, setup, colours, outsiders)?;
+    let mut callers = callers_of(alloc, &fleet, setup, passes)?;
+    act_all(rt, &fleet, setup, &mut callers, run, who);
+    act_all(rt, &fleet, setup, &mut callers, run, Who::Cores);
+    let outside = part(alloc, &fleet, setup, &mut callers)?;
+    let weave = fleet.close_seats(alloc, room, callers, outside)?;
+    Ok(Left {
+        weave,
+        quiet: run.quiet.load(Ordering::SeqCst),
+        refused: run.refused.load(Ordering::SeqCst),
+    })
+}
+
+/// How many registrations and how many finished events a history has.
+fn counts(history: &[Entry]) -> (u64, u64) {
+    let mut registered = 0u64;
+    let mut finished = 0u64;
+    for entry in history {
+        match entry {
+            Entry::Reg { .. } => registered = registered.wrapping_add(1),
+            Entry::Fin { count, .. } => finished = finished.wrapping_add(u64::from(*count)),
+            _ => {}
+        }
+    }
+    (registered, finished)
+}
+
+#[test]
+fn two_workers_run_what_one_outsider_posted(rt: HostRuntime) -> Result<(), Fail> {
+    let shape = Shape {
+        cores: 2,
+        shards: 1,
+        batch: 1,
+        steal_cost: 5,
+        group: 2,
+    };
+    let setup = setup_of(&shape, 3, 10)?;
+    let run = Run::new(3, 30, 0, Some(1));
+    let left = run_once(&rt, rt.alloc(), &setup, 3, 1, &run, Who::Others)?;
+    let Left {
+        weave,
+        quiet,
+        refused,
+    } = left;
+    let parts = weave.into_parts();
+    assert_eq!(rt; quiet, 2);
+    assert_eq!(rt; refused, 0);
+    assert!(rt; parts.queued.iter().all(|events| events.is_empty()));
+    let mut lengths = Vec::new(rt.alloc());
+    for state in &parts.states {
+        lengths.push(state.log.trail().len())?;
+    }
+    assert_eq!(rt; lengths.as_slice(), [10, 0, 10].as_slice());
+    Ok(())
+}
+
+/// A machine that refuses a thread leaves a fleet like this.
+#[test]
+fn a_worker_whose_fellow_never_begins_gives_up_and_nothing_is_lost(
+    rt: HostRuntime,
+) -> Result<(), Fail> {
+    let shape = Shape {
+        cores: 2,
+        shards: 1,
+        batch: 1,
+        steal_cost: 1_000_000,
+        group: 2,
+    };
+    let setup = setup_of(&shape, 3, 10)?;
+    let run = Run::new(3, 30, 0, None);
+    let room = Room::new(rt.alloc(), &setup, 1)?;
+    let (fleet, passes) = fleet_of(rt.alloc(), &setup, 3, 1)?;
+    let mut callers = callers_of(rt.alloc(), &fleet, &setup, passes)?;
+    act_all(&rt, &fleet, &setup, &mut callers, &run, Who::Others);
+    act_all(&rt, &fleet, &setup, &mut callers, &run, Who::FirstCore);
+    assert_eq!(rt; run.app.ran.load(Ordering::SeqCst), 20);
+    assert_eq!(rt; run.quiet.load(Ordering::SeqCst), 0);
+    let outside = part(rt.alloc(), &fleet, &setup, &mut callers)?;
+    let mut weave = fleet.close_seats(rt.alloc(), room, callers, outside)?;
+    assert_eq!(rt; weave.drain(&rt, &run.app), Drained::Empty);
+    assert_eq!(rt; run.app.ran.load(Ordering::SeqCst), 30);
+    drop(weave.into_parts());
+    Ok(())
+}
+
+/// Eight workers and three outsiders at once: whether each history is legal, and each of so many
+/// events was registered and run.
+fn crowd_is_right<R: Threads + Wait + Sync + Abort>(
+    rt: &R,
+    alloc: Global,
+    shards: u16,
+) -> Result<(), Fail> {
+    let shape = Shape {
+        cores: 8,
+        shards,
+        batch: 3,
+        steal_cost: 5,
+        group: 4,
+    };
+    let setup = setup_of(&shape, 12, 10)?;
+    let run = Run::new(12, 24, 4, None);
+    let left = run_once(rt, alloc, &setup, 12, 3, &run, Who::All)?;
+    let Left {
+        mut weave,
+        quiet,
+        refused,
+    } = left;
+    let drained = weave.drain(rt, &run.app);
+    let parts = weave.into_parts();
+    assert_eq!(rt; quiet, 16);
+    assert_eq!(rt; refused, 0);
+    assert_eq!(rt; drained, Drained::Empty);
+    let mut registered = 0u64;
+    let mut finished = 0u64;
+    for history in &parts.histories {
+        assert_eq!(rt; judge(&setup, history), Judged::Legal);
+        let (here, ended) = counts(history);
+        registered = registered.wrapping_add(here);
+        finished = finished.wrapping_add(ended);
+    }
+    let mut ran = 0usize;
+    for state in &parts.states {
+        ran = ran.wrapping_add(state.log.trail().len());
+    }
+    assert_eq!(rt; registered, 360);
+    assert_eq!(rt; finished, 360);
+    assert_eq!(rt; ran, 360);
+    assert_eq!(rt; run.app.ran.load(Ordering::SeqCst), 360);
+    Ok(())
+}
+
+#[test]
+fn eight_workers_and_three_outsiders_leave_legal_histories(rt: HostRuntime) -> Result<(), Fail> {
+    for _ in 0..50 {
+        crowd_is_right(&rt, rt.alloc(), 1)?;
+        crowd_is_right(&rt, rt.alloc(), 4)?;
+    }
+    Ok(())
+}

@@ -1,0 +1,20 @@
+use Rattle.std.proofs.Common.{◌≤◌, length}
+use Rattle.mely_event.specs.TrailLog.{AreAlike}
+use Rattle.mely_event.specs.declared.trail.Trail.{Ghosts as TrailWords}
+use Rattle.mely_shard.specs.Shard.{TurnStands, IsOwn}
+use Rattle.test_pages_runtime.specs.declared.tests.counter.Counter.{Counter}
+use Rattle.test_pages_runtime.proofs.tests.counter.shards.shard_after.Given as goal
+
+-- what contracts see of the state
+abbrev pub counter_words : TrailWords Counter (Unit {0})
+counter_words = record { trail_of = λ s. s.log.events; colour_of = λ s. s.log.colour; frame_of = λ s. tt; spare_of = λ s. s.log.spare; alike = AreAlike (λ (s : Counter). s.log) (λ (s : Counter). s.total) }
+
+abbrev pub invariant-loop-event : goal.invariant-loop-event
+invariant-loop-event l = record {
+  stands : TurnStands counter_words (λ f c e p. Unit {0}) l.shard l.turn;
+  own : IsOwn l.shard l.turn.colour;
+  room : length l.turn.events ≤ l.turn.state.log.spare;
+}
+
+abbrev pub decreases-loop-event : goal.decreases-loop-event
+decreases-loop-event l = length l.turn.events
