@@ -1,17 +1,15 @@
 -- What one message more does to a balance and to what is paid, and that no money is lost.
-use Rattle.std.proofs.Common.{◌≡◌, ◌≤◌, ◌<◌, ◌+◌, ◌-◌, ◌^◌, ℕ, List, [], ◌∷◌, ◌++◌, map, refl, sym, ◌∙◌, ap, subst, arith, fold, min, append_assoc}
+use Rattle.std.proofs.Common.{◌≡◌, ◌<◌, ◌+◌, ◌-◌, ◌^◌, ℕ, List, [], ◌∷◌, ◌++◌, refl, sym, ◌∙◌, ap, arith, fold, min, append_assoc}
 use Rattle.std.proofs.lemmas.List.{append-nil}
 use Rattle.std.proofs.lemmas.List.Sums.{fold-append, sum_by-append, sum_by-cons}
 use Rattle.std.specs.Prelude.{sum_by}
 use Rattle.mely_event.specs.declared.colour.Colour.{Colour}
-use Rattle.mely_event.specs.declared.event.Event.{Event}
 use Rattle.mely_history.specs.declared.entry.Entry.{Entry}
 use Rattle.mely_history.specs.declared.setup.Setup.{Setup}
 use Rattle.mely_history.specs.Setup.{colours_of}
-use Rattle.mely_app.specs.Puts.{sum_colours}
 use Rattle.mely_actor.specs.declared.actor.Actor.{Ghosts as ActorWords}
-use Rattle.mely_actor.specs.Received.{AreKept, count_sent}
-use Rattle.mely_actor.specs.Sending.{as_events}
+use Rattle.mely_actor.specs.Received.{AreKept}
+use Rattle.mely_actor.proofs.ListLemmas.{counted_by}
 use Rattle.example_bank.specs.declared.bank.TheConstants.{ACCOUNTS}
 use Rattle.example_bank.specs.declared.message.Message.{Message}
 use Rattle.example_bank.specs.declared.message.Message.TheVariants.{Deposit, Transfer}
@@ -61,8 +59,5 @@ are_balanced a bank setup posts histories balances colours events keeps kept = r
   sent = kept.sent;
   account = λ c balance there. keeps c (kept.received c) (kept.sent c) balance (kept.kept c balance there);
   conserved = λ c balance there low. conserved (kept.received c) (kept.sent c) balance (keeps c (kept.received c) (kept.sent c) balance (kept.kept c balance there)) low;
-  counted = λ c low number.
-      let counts = subst (λ (e : Message → Event). sum_by number (map e (kept.received c)) ≡ count_sent c number (as_events e posts) + sum_colours (colours_of setup) (λ d. count_sent c number (as_events e (kept.sent d)))) events (kept.counted c (omega (arith, low, colours)) number) in
-      let many = ap (λ n. sum_colours n (λ d. count_sent c number (as_events event_of (kept.sent d)))) colours in
-      omega (arith, counts, many);
+  counted = λ c low number. counted_by a bank setup posts histories balances kept event_of ACCOUNTS events colours c number low;
 }

@@ -2,7 +2,7 @@
 use Rattle.std.proofs.Common.{◌≡◌, ◌≢◌, ◌≤◌, ◌<◌, ◌+◌, ◌==◌, ℕ, zero, suc, Bool, true, false, List, [], ◌∷◌, ◌++◌, nat_lt, if◌then◌else◌, map, refl, sym, ◌∙◌, ap, subst, arith, eq-eqb, ne_eqb}
 use Rattle.std.proofs.lemmas.List.Sums.{sum_by-append, sum_by-cons}
 use Rattle.std.specs.List.{AllByRecursion}
-use Rattle.std.specs.Prelude.{Result, Ok, Err, IfOk, sum_by}
+use Rattle.std.specs.Prelude.{sum_by}
 use Rattle.mely_event.specs.declared.colour.Colour.{Colour}
 use Rattle.mely_event.specs.declared.event.Event.{Event}
 use Rattle.mely_history.specs.declared.entry.Entry.{Entry}
@@ -14,6 +14,7 @@ use Rattle.mely_actor.specs.declared.actor.Actor.{Ghosts as ActorWords}
 use Rattle.mely_actor.specs.Received.{AreKept, count_sent}
 use Rattle.mely_actor.specs.Sending.{along, as_events}
 use Rattle.mely_actor.proofs.AlongLemmas.{events_append}
+use Rattle.mely_actor.proofs.ListLemmas.{all_so, counted_by}
 use Rattle.example_chat.specs.declared.message.Message.{Message}
 use Rattle.example_chat.specs.declared.message.Message.TheVariants.{Say, Line, Hear}
 use Rattle.example_chat.specs.declared.script.Line.{Line as ScriptLine}
@@ -125,17 +126,8 @@ module _ (script : List ScriptLine) (number : Event → ℕ) (c : Colour) where
       let one = heard_one (record { 0 = line.client }) (Say k line.text) ∙ none_said line.client (event_of (Say k line.text)) in
       omega (arith, rest, both, one)
 
--- what follows on an answer that is Ok
-pub if_talked : {A E : Type 0} (One Other : A → Type 0) (answer : Result A E) → IfOk answer One → ((a : A) → One a → Other a) → IfOk answer Other
-if_talked One Other (Ok a) one so = so a one
-if_talked One Other (Err e) one so = tt
-
 module _ {A : Type 0} (a : ActorWords A Seat Message) (chat : A) (script : List ScriptLine) (setup : Setup) (histories : List (List Entry)) (seats : List Seat) (colours : colours_of setup ≡ CLIENTS + 1) (events : a.event_of ≡ event_of) (sounds : (c : Colour) (message : Message) → a.sound chat c message → MayHear script c message)
     (keeps : (c : Colour) (received : List Message) (sent : List (Colour × Message)) (seat : Seat) → a.kept chat c received sent seat → IsSeat c received sent seat.heard.items) (posts : List (Colour × Message)) (posts_are : posts ≡ said 0 script) (by : AllByRecursion IsByClient script) (kept : AreKept a chat setup posts histories seats) where
-  all_so : {X : Type 0} (One Other : X → Type 0) (xs : List X) → ((x : X) → One x → Other x) → AllByRecursion One xs → AllByRecursion Other xs
-  all_so One Other [] so all = tt
-  all_so One Other (x ∷ xs) so all = (so x all.0, all_so One Other xs so all.1)
-
   may : (c : Colour) → c.0 < CLIENTS + 1 → AllByRecursion (MayHear script c) (kept.received c)
   may c low = all_so (a.sound chat c) (MayHear script c) (kept.received c) (sounds c) (kept.sound c (omega (arith, low, colours)))
 
@@ -152,10 +144,9 @@ module _ {A : Type 0} (a : ActorWords A Seat Message) (chat : A) (script : List 
   -- what a colour received is what was posted to it and what was sent to it
   counted_is : (f : Event → ℕ) (c : Colour) → c.0 < CLIENTS + 1 → sum_by f (map event_of (kept.received c)) ≡ to_it c f (said 0 script) + sum_colours (CLIENTS + 1) (λ d. to_it c f (kept.sent d))
   counted_is f c low =
-      let counted = subst (λ (e : Message → Event). sum_by f (map e (kept.received c)) ≡ count_sent c f (as_events e posts) + sum_colours (colours_of setup) (λ d. count_sent c f (as_events e (kept.sent d)))) events (kept.counted c (omega (arith, low, colours)) f) in
+      let counted = counted_by a chat setup posts histories seats kept event_of (CLIENTS + 1) events colours c f low in
       let all = ap (to_it c f) posts_are in
-      let many = ap (λ n. sum_colours n (λ d. to_it c f (kept.sent d))) colours in
-      omega (arith, counted, all, many)
+      omega (arith, counted, all)
 
   -- a client is to say what is posted to it
   client_says : (number : Event → ℕ) (d : ℕ) → d < CLIENTS + 1 → sum_by (of_said number) (map event_of (kept.received (record { 0 = d }))) ≡ posted_to script number d 0 script
@@ -188,10 +179,9 @@ module _ {A : Type 0} (a : ActorWords A Seat Message) (chat : A) (script : List 
 
   received_is : (number : Event → ℕ) (c : Colour) → c.0 < CLIENTS + 1 → sum_by (of_heard number) (map event_of (kept.received c)) ≡ sum_colours (CLIENTS + 1) (to_hear number c)
   received_is number c low =
-      let counted = subst (λ (e : Message → Event). sum_by (of_heard number) (map e (kept.received c)) ≡ count_sent c (of_heard number) (as_events e posts) + sum_colours (colours_of setup) (λ d. count_sent c (of_heard number) (as_events e (kept.sent d)))) events (kept.counted c (omega (arith, low, colours)) (of_heard number)) in
+      let counted = counted_by a chat setup posts histories seats kept event_of (CLIENTS + 1) events colours c (of_heard number) low in
       let none = ap (heard_of script number c) posts_are ∙ none_posted script number c 0 script in
-      let many = ap (λ n. sum_colours n (to_hear number c)) colours in
-      omega (arith, counted, none, many)
+      omega (arith, counted, none)
 
   by_room : (number : Event → ℕ) (c : Colour) → c.0 ≢ 1 → to_hear number c room ≡ 0
   by_room number c apart = ap (heard_of script number c) (passed room (omega arith)) ∙ room_other script number c 0 (kept.received room) apart (may room (omega arith))

@@ -1,13 +1,14 @@
 -- One message more for the room or a client, and the lines that are posted.
 use Rattle.std.proofs.Common.{◌≡◌, ◌≤◌, ◌<◌, ◌+◌, ℕ, Bool, List, [], ◌∷◌, ◌++◌, Some, if◌then◌else◌, length, map, refl, sym, ◌∙◌, ap, arith, append_assoc}
 use Rattle.std.proofs.lemmas.Bool.{le-ltb, lt-ltb}
-use Rattle.std.proofs.lemmas.List.{append-nil, length-append}
+use Rattle.std.proofs.lemmas.List.{append-nil}
 use Rattle.std.specs.List.{AllByRecursion}
 use Rattle.std.specs.Global.{Global}
 use Rattle.std.specs.Prelude.{Result, Ok, Err, OnOk, Vec, slice_get}
 use Rattle.mely_event.specs.declared.colour.Colour.{Colour}
 use Rattle.mely_weave.proofs.Wholes.DealLemmas.{seam_at}
 use Rattle.mely_actor.proofs.AlongLemmas.{along_push}
+use Rattle.mely_actor.proofs.ListLemmas.{one_longer}
 use Rattle.mely_actor.specs.Sending.{MaySend, along}
 use Rattle.example_chat.specs.declared.message.Message.{Message}
 use Rattle.example_chat.specs.declared.message.Message.TheVariants.{Say, Line, Hear}
@@ -26,10 +27,6 @@ seat_more colour received sent new heard after message before many sends keeps s
       noted = keeps ∙ ap (λ l. l ++ notes before message) seat.noted ∙ ap (λ n. along notes 0 received ++ notes n message) (sym at) ∙ sym (along_push notes 0 received message);
     }
 
--- what was sent behind nothing
-pub one_sent : (none after : List (Colour × Message)) (send : Colour × Message) → none ≡ [] → after ≡ none ++ send ∷ [] → after ≡ send ∷ []
-one_sent none after send empty is = is ∙ ap (λ l. l ++ send ∷ []) empty
-
 -- nothing is kept of a message
 pub none_more : (kept : List Note) → kept ≡ kept ++ []
 none_more kept = sym (append-nil kept)
@@ -40,9 +37,6 @@ pub seat_kept : {A E : Type 0} (answer : Result A E) (colour : Colour) (new : Li
 seat_kept (Ok a) colour new heard after message before sends keeps = λ received sent many seat. seat_more colour received sent new heard after message before many sends keeps seat
 seat_kept (Err e) colour new heard after message before sends keeps = tt
 
-pub one_more : {A : Type 0} (xs : List A) (x : A) → length (xs ++ x ∷ []) ≡ length xs + 1
-one_more xs x = let all = length-append xs (x ∷ []) in let one : length (x ∷ []) ≡ 1 = refl in omega (arith, all, one)
-
 -- one line more has the next number
 pub said_push : (number : ℕ) (lines : List ScriptLine) (line : ScriptLine) → said number (lines ++ line ∷ []) ≡ said number lines ++ (record { 0 = line.client }, Say (number + length lines) line.text) ∷ []
 said_push number [] line = ap (λ (n : ℕ). (record { 0 = line.client }, Say n line.text) ∷ []) (let none : number ≡ number + 0 = omega arith in none)
@@ -50,17 +44,13 @@ said_push number (first ∷ lines) line =
     let here : number + 1 + length lines ≡ number + length (first ∷ lines) = omega arith in
     ap (λ (l : List (Colour × Message)). (record { 0 = first.client }, Say number first.text) ∷ l) (said_push (number + 1) lines line ∙ ap (λ (n : ℕ). said (number + 1) lines ++ (record { 0 = line.client }, Say n line.text) ∷ []) here)
 
-pub said_many : (number : ℕ) (lines : List ScriptLine) → length (said number lines) ≡ length lines
-said_many number [] = refl
-said_many number (line ∷ lines) = let rest = said_many (number + 1) lines in omega (arith, rest)
-
 module _ (script : List ScriptLine) where
   -- each may be sent to its client
   may_from : (front lines : List ScriptLine) (number : ℕ) → front ++ lines ≡ script → number ≡ length front → AllByRecursion IsByClient lines → AllByRecursion (MaySend (CLIENTS + 1) 4 event_of (MayHear script)) (said number lines)
   may_from front [] number split at by = tt
   may_from front (line ∷ lines) number split at by =
       let is : slice_get script number ≡ Some line = ap (slice_get script) at ∙ ap (λ l. slice_get l (length front)) (sym split) ∙ seam_at front line lines in
-      let more = one_more front line in
+      let more = one_longer front line in
       let high : line.client ≤ CLIENTS = by.0.1 in (
         record { there = omega (arith, high); own = omega arith; row = omega arith; is_sound = (by.0.0, record { line = line; there = is; says = refl }) },
         may_from (front ++ line ∷ []) lines (number + 1) (append_assoc front (line ∷ []) lines ∙ split) (omega (arith, at, more)) by.1,

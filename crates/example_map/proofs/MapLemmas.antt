@@ -16,11 +16,9 @@ use Rattle.mely_weave.proofs.Wholes.DealLemmas.{seam_at}
 use Rattle.mely_actor.specs.declared.actor.Actor.{Ghosts as ActorWords}
 use Rattle.mely_actor.specs.Received.{AreKept, count_sent}
 use Rattle.mely_actor.specs.Sending.{MaySend, as_events}
+use Rattle.mely_actor.proofs.ListLemmas.{one_longer}
 use Rattle.mely_actor.proofs.SilentLemmas.{silent_many, one_of, is_mapped}
 use Rattle.example_map.specs.Mapped.{IsDone, numbered, one_event}
-
-pub one_more : {A : Type 0} (xs : List A) (x : A) → length (xs ++ x ∷ []) ≡ length xs + 1
-one_more xs x = let all = length-append xs (x ∷ []) in let one : length (x ∷ []) ≡ 1 = refl in omega (arith, all, one)
 
 -- one item more has the next number
 pub numbered_push : {M : Type 0} (place : ℕ) (xs : List M) (x : M) → numbered place (xs ++ x ∷ []) ≡ numbered place xs ++ (record { 0 = place + length xs }, x) ∷ []
@@ -37,7 +35,7 @@ module _ {M : Type 0} (items : List M) where
       let long = ap length split in
       let all = length-append front (x ∷ xs) in
       let is : slice_get items place ≡ Some x = ap (slice_get items) at ∙ ap (λ l. slice_get l (length front)) (sym split) ∙ seam_at front x xs in
-      let more = one_more front x in (
+      let more = one_longer front x in (
         record { there = slice_get_within items place x is; own = omega arith; row = omega arith; is_sound = is },
         may_from (front ++ x ∷ []) xs (place + 1) (append_assoc front (x ∷ []) xs ∙ split) (omega (arith, at, more)),
       )
@@ -113,10 +111,6 @@ none_missing of [] items same i value at none = cc
 none_missing of (v ∷ values) [] same i value at none = cc
 none_missing of (v ∷ values) (item ∷ items) same zero value at none = let one : v ≡ Some (of item) = cc in let other : v ≡ value = cc in cc
 none_missing {M} of (v ∷ values) (item ∷ items) same (suc i) value at none = none_missing of values items (let more : values ≡ map (λ (x : M). Some (of x)) items = cc in more) i value at none
-
-pub numbered_many : {M : Type 0} (place : ℕ) (xs : List M) → length (numbered place xs) ≡ length xs
-numbered_many place [] = refl
-numbered_many place (x ∷ xs) = let rest = numbered_many (place + 1) xs in omega (arith, rest)
 
 -- so it is of an answer with all that stood in options
 pub take_all : {M U E : Type 0} (of : M → U) (values : List (Option U)) (items : List M) (answer : Result (Vec U Global) E) → values ≡ map (λ item. Some (of item)) items → IfOk answer (λ outs. map (λ out. Some out) outs.items ≡ values) → IfOk answer (λ outs. outs.items ≡ map of items)

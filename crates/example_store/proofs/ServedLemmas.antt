@@ -1,7 +1,7 @@
 -- What the actors of the store keep is what it has come to.
 use Rattle.std.proofs.Common.{◌≡◌, ◌<◌, ◌+◌, ◌==◌, ℕ, Bool, true, false, List, [], ◌∷◌, map, if◌then◌else◌, refl, ◌∙◌, ap, subst, arith, ne_eqb}
 use Rattle.std.specs.List.{AllByRecursion}
-use Rattle.std.specs.Prelude.{Result, Ok, Err, IfOk, sum_by}
+use Rattle.std.specs.Prelude.{sum_by}
 use Rattle.mely_event.specs.declared.colour.Colour.{Colour}
 use Rattle.mely_event.specs.declared.event.Event.{Event}
 use Rattle.mely_history.specs.declared.entry.Entry.{Entry}
@@ -10,6 +10,7 @@ use Rattle.mely_history.specs.Setup.{colours_of}
 use Rattle.mely_actor.specs.declared.actor.Actor.{Ghosts as ActorWords}
 use Rattle.mely_actor.specs.Received.{AreKept, count_sent}
 use Rattle.mely_actor.specs.Sending.{as_events}
+use Rattle.mely_actor.proofs.ListLemmas.{all_so}
 use Rattle.mely_actor.proofs.SilentLemmas.{quiet_counts}
 use Rattle.example_store.specs.declared.message.Message.{Message}
 use Rattle.example_store.specs.declared.store.Slot.{Slot}
@@ -26,15 +27,6 @@ no_reply c number event low = of_two (event.handler == 2)
         let none : (if BUCKETS + event.arg == c.0 then number (record { handler = 3; arg = 0 }) else 0) ≡ 0 = ap (λ (b : Bool). if b then number (record { handler = 3; arg = 0 }) else 0) (ne_eqb (BUCKETS + event.arg) c.0 (λ e. omega (arith, e, low))) in
         omega (arith, none)
     of_two false = refl
-
-all_so : {X : Type 0} (One Other : X → Type 0) (xs : List X) → ((x : X) → One x → Other x) → AllByRecursion One xs → AllByRecursion Other xs
-all_so One Other [] so all = tt
-all_so One Other (x ∷ xs) so all = (so x all.0, all_so One Other xs so all.1)
-
--- what follows on an answer that is Ok
-pub if_served : {A E : Type 0} (One Other : A → Type 0) (answer : Result A E) → IfOk answer One → ((a : A) → One a → Other a) → IfOk answer Other
-if_served One Other (Ok a) one so = so a one
-if_served One Other (Err e) one so = tt
 
 pub are_served : {A : Type 0} (a : ActorWords A Slot Message) (store : A) (setup : Setup) (posts : List (Colour × Message)) (histories : List (List Entry)) (slots : List Slot) → colours_of setup ≡ BUCKETS + CLIENTS → a.event_of ≡ event_of → ((d : Colour) (n : ℕ) (event : Event) → a.sends_of store d n event ≡ replies_of event)
     → ((c : Colour) (message : Message) → a.sound store c message → IsPlaced c message) → ((c : Colour) (received : List Message) (sent : List (Colour × Message)) (slot : Slot) → a.kept store c received sent slot → IsStored received sent slot.map.entries slot.answers.items) → AreKept a store setup posts histories slots → IsServed posts slots

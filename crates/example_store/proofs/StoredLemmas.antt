@@ -57,7 +57,3 @@ pub answer_done : (received : List Message) (sent new : List (Colour × Message)
     → IsStored (received ++ message ∷ []) (sent ++ new) entries told
 answer_done received sent new entries answers told message key found stored is none answer =
     stored_more received sent new entries answers message stored entries told (ap (after_one entries) (sym answer)) (is ∙ ap (λ (m : Message). answers ++ filter_map answer_in (m ∷ [])) (sym answer)) (ap all_in none ∙ ap (reply_to entries) (sym answer))
-
--- what was sent behind nothing
-pub one_sent : (none after : List (Colour × Message)) (send : Colour × Message) → none ≡ [] → after ≡ none ++ send ∷ [] → after ≡ send ∷ []
-one_sent none after send empty is = is ∙ ap (λ (l : List (Colour × Message)). l ++ send ∷ []) empty

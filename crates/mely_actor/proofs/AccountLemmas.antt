@@ -1,7 +1,7 @@
 -- What colours have received is what was posted and what the messages received send.
-use Rattle.std.proofs.Common.{◌≡◌, ◌≢◌, ◌<◌, ◌+◌, ◌==◌, ℕ, zero, suc, Bool, true, false, List, [], ◌∷◌, ◌++◌, Option, Some, drop, take, nat_lt, length, if◌then◌else◌, refl, sym, ◌∙◌, ap, arith, inl, inr, eq-eqb, ne_eqb}
+use Rattle.std.proofs.Common.{◌≡◌, ◌≢◌, ◌<◌, ◌≤◌, ◌+◌, ◌*◌, ◌==◌, ℕ, zero, suc, Bool, true, false, List, [], ◌∷◌, ◌++◌, Option, Some, nat_lt, length, if◌then◌else◌, refl, sym, ◌∙◌, ap, arith, append_assoc, inl, inr, eq-eqb, ne_eqb}
 use Rattle.std.proofs.lemmas.Bool.{cases_eq, lt-ltb}
-use Rattle.std.proofs.lemmas.List.{drop-drop}
+use Rattle.std.proofs.lemmas.List.{append-nil}
 use Rattle.std.proofs.lemmas.List.Sums.{sum_by-append, sum_by-cons}
 use Rattle.std.specs.List.{AllByRecursion}
 use Rattle.std.specs.Prelude.{sum_by, slice_get}
@@ -12,16 +12,18 @@ use Rattle.mely_history.specs.declared.entry.Entry.{Entry}
 use Rattle.mely_history.specs.declared.setup.Setup.{Setup}
 use Rattle.mely_history.specs.History.{registered_of}
 use Rattle.mely_history.specs.Setup.{colours_of}
-use Rattle.mely_tally.specs.Account.{HandlerRun, IsRunOf, count_put, count_puts, sum_along}
+use Rattle.mely_history.proofs.LegalAccountLemmas.{same_colour}
+use Rattle.mely_tally.specs.Account.{HandlerRun, IsRunOf, count_put, count_puts, count_run, sum_along}
 use Rattle.mely_tally.proofs.AlongLemmas.{along-flat}
 use Rattle.mely_weave.specs.Side.{shard_of}
 use Rattle.mely_worker.specs.declared.app.App.{Ghosts as AppWords}
-use Rattle.mely_app.specs.Puts.{HasPutAll, sum_colours}
-use Rattle.mely_app.proofs.PutsLemmas.{put_as_counted, colours_same, colours_both}
+use Rattle.mely_app.specs.Puts.{HasPutAll, PutsAre, sum_colours}
+use Rattle.mely_app.proofs.PutsLemmas.{put_as_counted, colours_same, colours_both, colours_none, colours_one}
 use Rattle.mely_actor.proofs.MessageLemmas.{behind_message, behind_post}
-use Rattle.mely_actor.proofs.RunLemmas.{all_drop, message_told, post_told}
+use Rattle.mely_actor.proofs.WaitingLemmas.{none_there, of_some, of_true, one_turn, put_whole, waits_push}
 use Rattle.mely_actor.specs.Received.{count_sent}
-use Rattle.mely_actor.specs.Sending.{along, as_events, is_message, messages_in, post_next, told, without_loads}
+use Rattle.mely_actor.specs.Sending.{along, as_events, first_event, is_message, is_turn, messages_in, of_want, turn_event, without_loads}
+use Rattle.mely_actor.specs.Waiting.{AreTold, PutsAsTold, now_by, put_later, put_now, sent_by, to_send, turn_by, turn_is_put, turning, turns, waits_after}
 
 -- ---- numbers of events
 
@@ -59,20 +61,6 @@ sum_messages number (event ∷ events) = let rest = sum_messages number events i
         let all = ap (sum_by number) kept in
         omega (arith, one, rest, all)
 
-sum_split : (f g h : Event → ℕ) (events : List Event) → ((event : Event) → f event ≡ g event + h event) → sum_by f events ≡ sum_by g events + sum_by h events
-sum_split f g h [] both = refl
-sum_split f g h (event ∷ events) both =
-    let here = both event in
-    let rest = sum_split f g h events both in
-    let one = sum_by-cons f event events in
-    let two = sum_by-cons g event events in
-    let three = sum_by-cons h event events in
-    omega (arith, here, rest, one, two, three)
-
-sum_zero : (events : List Event) → sum_by (λ (e : Event). 0) events ≡ 0
-sum_zero [] = refl
-sum_zero (event ∷ events) = let rest = sum_zero events in let one = sum_by-cons (λ (e : Event). 0) event events in omega (arith, rest, one)
-
 -- ---- what is counted of one run
 
 module _ (c : Colour) (number : Event → ℕ) where
@@ -88,119 +76,51 @@ module _ (c : Colour) (number : Event → ℕ) where
   count_cons : (send : Colour × Event) (sends : List (Colour × Event)) → count_sent c number (send ∷ sends) ≡ (if send.0.0 == c.0 then number send.1 else 0) + count_sent c number sends
   count_cons send sends = sum_by-cons (λ (s : Colour × Event). if s.0.0 == c.0 then number s.1 else 0) send sends
 
--- messages count as messages, and not as posts
-own_messages : (c : Colour) (number : Event → ℕ) {P : Type 0} (puts : List (Colour × Event × Option P)) → AllByRecursion (λ put. 0 < put.1.handler) puts → count_puts c (of_messages number) puts ≡ count_puts c number puts
+-- numbers of messages alone, and of the library's own alone
+pub own_messages : (c : Colour) (number : Event → ℕ) (sends : List (Colour × Event)) → AllByRecursion (λ send. 0 < send.1.handler) sends → count_sent c (of_messages number) sends ≡ count_sent c number sends
 own_messages c number [] all = refl
-own_messages c number {P} (put ∷ puts) all =
-    let rest = own_messages c number puts all.1 in
-    let is : of_messages number put.1 ≡ number put.1 = is_own put.1 (number put.1) 0 all.0 in
-    let same : (if put.0.0 == c.0 then of_messages number put.1 else 0) ≡ (if put.0.0 == c.0 then number put.1 else 0) = ap (λ (x : ℕ). if put.0.0 == c.0 then x else 0) is in
-    let one = sum_by-cons (λ (p : Colour × Event × Option P). if p.0.0 == c.0 then of_messages number p.1 else 0) put puts in
-    let other = sum_by-cons (λ (p : Colour × Event × Option P). if p.0.0 == c.0 then number p.1 else 0) put puts in
+own_messages c number (send ∷ sends) all =
+    let rest = own_messages c number sends all.1 in
+    let is : of_messages number send.1 ≡ number send.1 = is_own send.1 (number send.1) 0 all.0 in
+    let same : (if send.0.0 == c.0 then of_messages number send.1 else 0) ≡ (if send.0.0 == c.0 then number send.1 else 0) = ap (λ (x : ℕ). if send.0.0 == c.0 then x else 0) is in
+    let one = count_cons c (of_messages number) send sends in
+    let other = count_cons c number send sends in
     omega (arith, rest, same, one, other)
 
-own_posts : (c : Colour) (h : ℕ → ℕ) {P : Type 0} (puts : List (Colour × Event × Option P)) → AllByRecursion (λ put. 0 < put.1.handler) puts → count_puts c (of_posts h) puts ≡ 0
+own_posts : (c : Colour) (h : ℕ → ℕ) (sends : List (Colour × Event)) → AllByRecursion (λ send. 0 < send.1.handler) sends → count_sent c (of_posts h) sends ≡ 0
 own_posts c h [] all = refl
-own_posts c h {P} (put ∷ puts) all =
-    let rest = own_posts c h puts all.1 in
-    let is : of_posts h put.1 ≡ 0 = not_post put.1 (h put.1.arg) 0 all.0 in
-    let none : (if put.0.0 == c.0 then of_posts h put.1 else 0) ≡ 0 = ap (λ (x : ℕ). if put.0.0 == c.0 then x else 0) is ∙ if_none (put.0.0 == c.0) in
-    let one = sum_by-cons (λ (p : Colour × Event × Option P). if p.0.0 == c.0 then of_posts h p.1 else 0) put puts in
+own_posts c h (send ∷ sends) all =
+    let rest = own_posts c h sends all.1 in
+    let is : of_posts h send.1 ≡ 0 = not_post send.1 (h send.1.arg) 0 all.0 in
+    let none : (if send.0.0 == c.0 then of_posts h send.1 else 0) ≡ 0 = ap (λ (x : ℕ). if send.0.0 == c.0 then x else 0) is ∙ if_none (send.0.0 == c.0) in
+    let one = count_cons c (of_posts h) send sends in
     omega (arith, rest, none, one)
 
--- a number where more than one is left
-abbrev pub if_more : {X : Type 0} → List X → ℕ → ℕ
-if_more [] x = 0
-if_more (y ∷ []) x = 0
-if_more (y ∷ z ∷ more) x = x
+-- a turn, and the first event
+abbrev pub of_turn : ℕ → ℕ
+of_turn k = if k == 1 then 1 else 0
 
-module _ {M : Type 0} (event_of : M → Event) (c colour : Colour) (done : ℕ) where
-  -- of a posting, its first post counts as a message
-  post_messages : (number : Event → ℕ) (left : List (Colour × M)) → AllByRecursion (λ post. 0 < (event_of post.1).handler) left
-      → count_sent c (of_messages number) (post_next event_of colour done left) ≡ count_sent c number (as_events event_of (take 1 left))
-  post_messages number [] all = refl
-  post_messages number (post ∷ []) all =
-      let is = is_own (event_of post.1) (number (event_of post.1)) 0 all.0 in
-      let same : (if post.0.0 == c.0 then of_messages number (event_of post.1) else 0) ≡ (if post.0.0 == c.0 then number (event_of post.1) else 0) = ap (λ (x : ℕ). if post.0.0 == c.0 then x else 0) is in
-      let one = count_cons c (of_messages number) (post.0, event_of post.1) [] in
-      let other = count_cons c number (post.0, event_of post.1) [] in
-      omega (arith, same, one, other)
-  post_messages number (post ∷ next ∷ more) all =
-      let is = is_own (event_of post.1) (number (event_of post.1)) 0 all.0 in
-      let same : (if post.0.0 == c.0 then of_messages number (event_of post.1) else 0) ≡ (if post.0.0 == c.0 then number (event_of post.1) else 0) = ap (λ (x : ℕ). if post.0.0 == c.0 then x else 0) is in
-      let rest : List (Colour × Event) = (colour, record { handler = 0; arg = done + 1 }) ∷ [] in
-      let one = count_cons c (of_messages number) (post.0, event_of post.1) rest in
-      let last = count_cons c (of_messages number) (colour, record { handler = 0; arg = done + 1 }) [] in
-      let none : (if colour.0 == c.0 then 0 else 0) ≡ 0 = if_none (colour.0 == c.0) in
-      let other = count_cons c number (post.0, event_of post.1) [] in
-      omega (arith, same, one, last, none, other)
+abbrev pub of_first : ℕ → ℕ → ℕ
+of_first x k = if k == 0 then x else 0
 
-  -- and what carries the rest as a post
-  post_posts : (h : ℕ → ℕ) (left : List (Colour × M)) → AllByRecursion (λ post. 0 < (event_of post.1).handler) left
-      → count_sent c (of_posts h) (post_next event_of colour done left) ≡ (if colour.0 == c.0 then if_more left (h (done + 1)) else 0)
-  post_posts h [] all = sym (if_none (colour.0 == c.0))
-  post_posts h (post ∷ []) all =
-      let is = not_post (event_of post.1) (h (event_of post.1).arg) 0 all.0 in
-      let none : (if post.0.0 == c.0 then of_posts h (event_of post.1) else 0) ≡ 0 = ap (λ (x : ℕ). if post.0.0 == c.0 then x else 0) is ∙ if_none (post.0.0 == c.0) in
-      let one = count_cons c (of_posts h) (post.0, event_of post.1) [] in
-      let other : (if colour.0 == c.0 then 0 else 0) ≡ 0 = if_none (colour.0 == c.0) in
-      omega (arith, none, one, other)
-  post_posts h (post ∷ next ∷ more) all =
-      let is = not_post (event_of post.1) (h (event_of post.1).arg) 0 all.0 in
-      let none : (if post.0.0 == c.0 then of_posts h (event_of post.1) else 0) ≡ 0 = ap (λ (x : ℕ). if post.0.0 == c.0 then x else 0) is ∙ if_none (post.0.0 == c.0) in
-      let rest : List (Colour × Event) = (colour, record { handler = 0; arg = done + 1 }) ∷ [] in
-      let one = count_cons c (of_posts h) (post.0, event_of post.1) rest in
-      let last = count_cons c (of_posts h) (colour, record { handler = 0; arg = done + 1 }) [] in
-      omega (arith, none, one, last)
+count_turns : (c colour : Colour) (number : Event → ℕ) (put : Bool) → count_sent c number (turns colour put) ≡ (if colour.0 == c.0 then number turn_event * of_true put else 0)
+count_turns c colour number true = let one = count_cons c number (colour, turn_event) [] in let same : number turn_event * 1 ≡ number turn_event = omega arith in let all = ap (λ (x : ℕ). if colour.0 == c.0 then x else 0) same in omega (arith, one, all)
+count_turns c colour number false = let same : number turn_event * 0 ≡ 0 = omega arith in sym (ap (λ (x : ℕ). if colour.0 == c.0 then x else 0) same ∙ if_none (colour.0 == c.0))
 
--- ---- the colours of a run
+times_none : (b : Bool) (n : ℕ) → (if b then 0 * n else 0) ≡ 0
+times_none true n = omega arith
+times_none false n = refl
 
--- a sum over colours of which only the first counts
-colours_first : (n : ℕ) (f : Colour → ℕ) → 0 < n → ((d : Colour) → d.0 ≢ 0 → f d ≡ 0) → sum_colours n f ≡ f (record { 0 = 0 })
-colours_first zero f some none = absurd (omega (arith, some))
-colours_first (suc zero) f some none = omega arith
-colours_first (suc (suc n)) f some none =
-    let rest = colours_first (suc n) f (omega arith) none in
-    let last = none (record { 0 = suc n }) (λ e. omega (arith, e)) in
-    omega (arith, rest, last)
+turn_is : (event : Event) → of_posts of_turn event ≡ of_true (is_turn event)
+turn_is event = both (event.handler == 0) (event.arg == 1)
+  where
+    last : (one : Bool) → (if one then 1 else 0) ≡ of_true one
+    last true = refl
+    last false = refl
 
-colours_zero : (n : ℕ) (f : Colour → ℕ) → ((d : Colour) → f d ≡ 0) → sum_colours n f ≡ 0
-colours_zero zero f none = refl
-colours_zero (suc n) f none = let rest = colours_zero n f none in let last = none (record { 0 = n }) in omega (arith, rest, last)
-
-zero_posts : (events : List Event) → sum_by (of_posts (λ k. 0)) events ≡ 0
-zero_posts [] = refl
-zero_posts (event ∷ events) = let rest = zero_posts events in let none = if_none (event.handler == 0) in let one = sum_by-cons (of_posts (λ k. 0)) event events in omega (arith, rest, none, one)
-
-if_sum : (b : Bool) (x y z : ℕ) → x ≡ y + z → (if b then x else 0) ≡ (if b then y else 0) + (if b then z else 0)
-if_sum true x y z is = is
-if_sum false x y z is = omega arith
-
-posts_same : (f h : ℕ → ℕ) (events : List Event) → ((k : ℕ) → f k ≡ h k) → sum_by (of_posts f) events ≡ sum_by (of_posts h) events
-posts_same f h [] same = refl
-posts_same f h (event ∷ events) same =
-    let here : of_posts f event ≡ of_posts h event = ap (λ (x : ℕ). if event.handler == 0 then x else 0) (same event.arg) in
-    let rest = posts_same f h events same in
-    let one = sum_by-cons (of_posts f) event events in
-    let other = sum_by-cons (of_posts h) event events in
-    omega (arith, here, rest, one, other)
-
-module _ {M : Type 0} (event_of : M → Event) (c : Colour) (number : Event → ℕ) where
-  -- what is counted of what is left, and of the first of it
-  abbrev pub count_left : List (Colour × M) → ℕ
-  count_left left = count_sent c number (as_events event_of left)
-
-  left_first : (left : List (Colour × M)) → count_left left ≡ count_left (take 1 left) + count_left (drop 1 left)
-  left_first [] = refl
-  left_first (post ∷ more) =
-      let one = count_cons c number (post.0, event_of post.1) (as_events event_of more) in
-      let other = count_cons c number (post.0, event_of post.1) [] in
-      omega (arith, one, other)
-
-  left_more : (left : List (Colour × M)) → if_more left (count_left (drop 1 left)) ≡ count_left (drop 1 left)
-  left_more [] = refl
-  left_more (post ∷ []) = refl
-  left_more (post ∷ next ∷ more) = refl
+    both : (own one : Bool) → (if own then (if one then 1 else 0) else 0) ≡ of_true (if own then one else false)
+    both true one = last one
+    both false one = refl
 
 -- what is sent along events, where the library's own send nothing of it
 module _ (c : Colour) (number : Event → ℕ) (sends : ℕ → Event → List (Colour × Event)) (one : ℕ → ℕ) where
@@ -232,105 +152,227 @@ module _ (c : Colour) (number : Event → ℕ) (sends : ℕ → Event → List (
         omega (arith, rest, same, kept, both, here, posts, all)
   ]
 
+-- ---- along a trail
+
+module _ {M : Type 0} (event_of : M → Event) (sends_of : Colour → ℕ → Event → List (Colour × Event)) (posts : List (Colour × M)) (d : Colour) where
+  abbrev pub Waits : List Event → List (Colour × Event)
+  Waits events = waits_after event_of sends_of posts d events
+
+  abbrev pub Sent : List Event → Event → List (Colour × Event)
+  Sent before event = sent_by event_of sends_of posts d (length (messages_in before)) event
+
+  abbrev pub Now : List Event → Event → List (Colour × Event)
+  Now before event = now_by event_of sends_of posts d before event
+
+  abbrev pub Turn : List Event → Event → Bool
+  Turn before event = turn_by event_of sends_of posts d before event
+
+  -- a turn sends nothing of its own
+  turn_sends : (before : List Event) (event : Event) → is_turn event ≡ true → Sent before event ≡ []
+  turn_sends before event is = elim (cases_eq event.handler 0) [
+    | inl none ↦
+        let own = eq-eqb event.handler 0 none in
+        let at : (event.arg == 1) ≡ true = sym (ap (λ (b : Bool). if b then event.arg == 1 else false) own) ∙ is in
+        let far : (event.arg == 0) ≡ false = ne_eqb event.arg 0 (λ zero_is. let no : (0 == 1) ≡ true = sym (ap (λ n. n == 1) zero_is) ∙ at in cc) in
+        ap (λ (b : Bool). if b then (if event.arg == 0 then as_events event_of posts else []) else sends_of d (length (messages_in before)) event) own
+        ∙ ap (λ (b : Bool). if b then as_events event_of posts else []) far
+    | inr apart ↦
+        let no : false ≡ true = sym (ap (λ (b : Bool). if b then event.arg == 1 else false) (ne_eqb event.handler 0 apart)) ∙ is in cc
+  ]
+
+  -- as many turns are put as are run, and one more where something waits
+  pub turns_split : (before events : List Event) → sum_along (λ l e. of_true (Turn l e)) before events + of_some (Waits before) ≡ of_some (Waits (before ++ events)) + sum_by (of_posts of_turn) events
+  turns_split before [] = let same = ap (λ l. of_some (Waits l)) (append-nil before) in omega (arith, same)
+  turns_split before (event ∷ events) =
+      let rest = turns_split (before ++ event ∷ []) events in
+      let here = one_turn (is_turn event) (Waits before) (Sent before event) (turn_sends before event) in
+      let next = ap of_some (waits_push event_of sends_of posts d before event) in
+      let whole = ap (λ l. of_some (Waits l)) (append_assoc before (event ∷ []) events) in
+      let is = turn_is event in
+      let all = sum_by-cons (of_posts of_turn) event events in
+      omega (arith, rest, here, next, whole, is, all)
+
+  module _ (c : Colour) (number : Event → ℕ) where
+    count_append : (sends more : List (Colour × Event)) → count_sent c number (sends ++ more) ≡ count_sent c number sends + count_sent c number more
+    count_append sends more = sum_by-append (λ (s : Colour × Event). if s.0.0 == c.0 then number s.1 else 0) sends more
+
+    -- what is put, and what waits in the end, is what the events send
+    pub puts_split : (before events : List Event) → sum_along (λ l e. count_sent c number (Now l e)) before events + count_sent c number (Waits (before ++ events)) ≡ count_sent c number (Waits before) + sum_along (λ l e. count_sent c number (Sent l e)) before events
+    puts_split before [] = let same = ap (λ l. count_sent c number (Waits l)) (append-nil before) in omega (arith, same)
+    puts_split before (event ∷ events) =
+        let rest = puts_split (before ++ event ∷ []) events in
+        let busy = turning (is_turn event) (Waits before) in
+        let all = Waits before ++ Sent before event in
+        let here = sym (count_append (put_now busy all) (put_later busy all)) ∙ ap (count_sent c number) (put_whole busy all) ∙ count_append (Waits before) (Sent before event) in
+        let next = ap (count_sent c number) (waits_push event_of sends_of posts d before event) in
+        let whole = ap (λ l. count_sent c number (Waits l)) (append_assoc before (event ∷ []) events) in
+        omega (arith, rest, here, next, whole)
+
+    -- what the events send is what is posted, by the first of a run, and what messages send
+    pub sent_split : (before events : List Event) → sum_along (λ l e. count_sent c number (Sent l e)) before events ≡ sum_by (of_posts (of_first (count_sent c number (as_events event_of posts)))) events + count_sent c number (along (sends_of d) (length (messages_in before)) (messages_in events))
+    sent_split before events = along_same before events ∙ along_split c number (sends_of d) (of_first (count_sent c number (as_events event_of posts))) before events
+      where
+        first_is : (k : ℕ) → count_sent c number (if k == 0 then as_events event_of posts else []) ≡ of_first (count_sent c number (as_events event_of posts)) k
+        first_is k = with_one (k == 0)
+          where
+            with_one : (b : Bool) → count_sent c number (if b then as_events event_of posts else []) ≡ (if b then count_sent c number (as_events event_of posts) else 0)
+            with_one true = refl
+            with_one false = refl
+
+        sent_is : (l : List Event) (e : Event) → count_sent c number (Sent l e) ≡ along_it c number (sends_of d) (of_first (count_sent c number (as_events event_of posts))) l e
+        sent_is l e = with_one (e.handler == 0)
+          where
+            with_one : (b : Bool) → count_sent c number (if b then (if e.arg == 0 then as_events event_of posts else []) else sends_of d (length (messages_in l)) e) ≡ (if b then of_first (count_sent c number (as_events event_of posts)) e.arg else count_sent c number (sends_of d (length (messages_in l)) e))
+            with_one true = first_is e.arg
+            with_one false = refl
+
+        along_same : (before events : List Event) → sum_along (λ l e. count_sent c number (Sent l e)) before events ≡ sum_along (along_it c number (sends_of d) (of_first (count_sent c number (as_events event_of posts)))) before events
+        along_same before [] = refl
+        along_same before (e ∷ events) = let here = sent_is before e in let rest = along_same (before ++ e ∷ []) events in omega (arith, here, rest)
+
 -- ---- what colours have received
 
+-- a number of a sum that is none
+part_none : {X : Type 0} (f : X → ℕ) (x : X) (xs : List X) → sum_by f (x ∷ xs) ≡ 0 → f x ≡ 0
+part_none f x xs none = let all = sum_by-cons f x xs in omega (arith, none, all)
+
+rest_none : {X : Type 0} (f : X → ℕ) (x : X) (xs : List X) → sum_by f (x ∷ xs) ≡ 0 → sum_by f xs ≡ 0
+rest_none f x xs none = let all = sum_by-cons f x xs in omega (arith, none, all)
+
+module _ {R S P F : Type 0} (t : TrailWords S F) (fits : F → Colour → Event → Option P → Type 0) (y : AppWords R P S F) (app : R) (setup : Setup) (frame : F) where
+  -- the same handlers, where no memory was wanted
+  abbrev pub calm : AppWords R P S F
+  calm = record y { runs = λ r before event load after puts. y.runs r before event load after puts × (of_want event + count_puts (t.colour_of before) of_want puts ≡ 0) }
+
+  all_calm : (runs : List (HandlerRun S P)) → AllByRecursion (IsRunOf t fits y app setup frame) runs → ((c : Colour) → c.0 < colours_of setup → sum_by (λ run. count_puts c of_want run.puts) runs ≡ 0) → ((c : Colour) → c.0 < colours_of setup → sum_by (count_run t c (λ _ e. of_want e)) runs ≡ 0)
+      → AllByRecursion (IsRunOf t fits calm app setup frame) runs
+  all_calm [] each put ran = tt
+  all_calm (run ∷ runs) each put ran =
+      let is = each.0 in
+      let puts = part_none (λ (r : HandlerRun S P). count_puts run.colour of_want r.puts) run runs (put run.colour is.there) in
+      let event = part_none (count_run t run.colour (λ _ e. of_want e)) run runs (ran run.colour is.there) in
+      let own : of_want run.event ≡ 0 = sym (ap (λ (b : Bool). if b then of_want run.event else 0) (eq-eqb run.colour.0 run.colour.0 refl)) ∙ event in
+      let there : count_puts (t.colour_of run.state) of_want run.puts ≡ 0 = ap (λ c. count_puts c of_want run.puts) is.coloured ∙ puts in (
+        record { ran = (is.ran, omega (arith, own, there)); there = is.there; coloured = is.coloured; framed = is.framed; fit = is.fit },
+        all_calm runs each.1 (λ c low. rest_none (λ (r : HandlerRun S P). count_puts c of_want r.puts) run runs (put c low)) (λ c low. rest_none (count_run t c (λ _ e. of_want e)) run runs (ran c low)),
+      )
+
 module _ {R S P F M : Type 0} (t : TrailWords S F) (fits : F → Colour → Event → Option P → Type 0) (y : AppWords R P S F) (app : R) (setup : Setup) (frame : F) (event_of : M → Event) (sends_of : Colour → ℕ → Event → List (Colour × Event)) (posts : List (Colour × M))
-    (posts_own : AllByRecursion (λ post. 0 < (event_of post.1).handler) posts)
-    (as_told : (run : HandlerRun S P) → IsRunOf t fits y app setup frame run → without_loads run.puts ≡ told event_of sends_of posts run.colour (length (messages_in (t.trail_of run.state))) run.event)
-    (own : (run : HandlerRun S P) → IsRunOf t fits y app setup frame run → 0 < run.event.handler → AllByRecursion (λ put. 0 < put.1.handler) run.puts)
-    (first : (run : HandlerRun S P) → IsRunOf t fits y app setup frame run → run.event.handler ≡ 0 → run.colour.0 ≡ 0) (some : 0 < colours_of setup)
+    (posts_own : AllByRecursion (λ post. 0 < post.1.handler) (as_events event_of posts))
+    (told : (run : HandlerRun S P) → IsRunOf t fits y app setup frame run → PutsAsTold event_of sends_of posts run.colour (t.trail_of run.state) run.event run.puts) (some : 0 < colours_of setup)
     (load : Option P) (histories : List (List Entry)) (all : HasPutAll t fits y app setup frame (record { 0 = 0 }, record { handler = 0; arg = 0 }, load) histories)
-    (of : Colour → List Event) (each : (d : Colour) → (history : List Entry) × (slice_get histories (shard_of setup d) ≡ Some history) × (registered_of history d ≡ of d)) where
+    (of : Colour → List Event) (each : (d : Colour) → (history : List Entry) × (slice_get histories (shard_of setup d) ≡ Some history) × (registered_of history d ≡ of d)) (unwanted : (d : Colour) → d.0 < colours_of setup → sum_by of_want (of d) ≡ 0) where
   abbrev pub begin : Colour × Event × Option P
   begin = (record { 0 = 0 }, record { handler = 0; arg = 0 }, load)
 
-  abbrev pub first_colour : Colour
-  first_colour = record { 0 = 0 }
+  abbrev y' : AppWords R P S F
+  y' = calm t fits y app setup frame
 
-  -- what a run puts is counted by its colour and its event
-  counted : (c : Colour) (number : Event → ℕ) (f : Colour → Event → ℕ) → ((run : HandlerRun S P) → IsRunOf t fits y app setup frame run → count_puts c number run.puts ≡ f run.colour run.event)
-      → sum_by number (of c) ≡ count_put c number begin + sum_colours (colours_of setup) (λ d. sum_by (f d) (of d))
-  counted c number f counts =
-      let put = put_as_counted t fits y app setup frame c number (λ d before e. f d e) counts begin histories all.0 all.1 of each in
-      let flat = colours_same (colours_of setup) (λ d. sum_along (λ _ e. f d e) [] (of d)) (λ d. sum_by (f d) (of d)) (λ d low. along-flat (f d) [] (of d)) in
-      omega (arith, put, flat)
+  none_put : (c : Colour) → c.0 < colours_of setup → sum_by (λ run. count_puts c of_want run.puts) all.0 ≡ 0
+  none_put c low =
+      let there = each c in
+      let put = all.1.put c there.0 there.1 of_want in
+      let is = ap (sum_by of_want) there.2 in
+      let none = unwanted c low in
+      omega (arith, put, is, none)
 
-  -- how many messages were run before
-  abbrev before_it : HandlerRun S P → ℕ
-  before_it run = length (messages_in (t.trail_of run.state))
+  none_ran : (c : Colour) → c.0 < colours_of setup → sum_by (count_run t c (λ _ e. of_want e)) all.0 ≡ 0
+  none_ran c low =
+      let there = each c in
+      all.1.ran c there.0 there.1 (λ _ e. of_want e) ∙ ap (λ l. sum_along (λ _ e. of_want e) [] l) there.2 ∙ along-flat of_want [] (of c) ∙ unwanted c low
 
-  messages_counts : (c : Colour) (number : Event → ℕ) (run : HandlerRun S P) → IsRunOf t fits y app setup frame run
-      → count_puts c (of_messages number) run.puts ≡ (if run.event.handler == 0 then count_left event_of c number (take 1 (drop run.event.arg posts)) else count_sent c number (sends_of run.colour (before_it run) run.event))
-  messages_counts c number run is = elim (cases_eq run.event.handler 0) [
-    | inl none ↦
-        count_without c (of_messages number) run.puts
-        ∙ ap (count_sent c (of_messages number)) (as_told run is ∙ post_told event_of sends_of posts run.colour (before_it run) run.event none)
-        ∙ post_messages event_of c run.colour run.event.arg number (drop run.event.arg posts) (all_drop _ run.event.arg posts posts_own)
-        ∙ sym (ap (λ (b : Bool). if b then count_left event_of c number (take 1 (drop run.event.arg posts)) else count_sent c number (sends_of run.colour (before_it run) run.event)) (eq-eqb run.event.handler 0 none))
-    | inr apart ↦
-        let is_message : 0 < run.event.handler = omega (arith, apart) in
-        own_messages c number run.puts (own run is is_message)
-        ∙ count_without c number run.puts
-        ∙ ap (count_sent c number) (as_told run is ∙ message_told event_of sends_of posts run.colour (before_it run) run.event is_message)
-        ∙ sym (not_post run.event (count_left event_of c number (take 1 (drop run.event.arg posts))) (count_sent c number (sends_of run.colour (before_it run) run.event)) is_message)
+  are : PutsAre t fits y' app setup frame begin histories all.0
+  are = record {
+    each = all_calm t fits y app setup frame all.0 all.1.each none_put none_ran;
+    put = all.1.put;
+    ran = all.1.ran;
+  }
+
+  told_by : (run : HandlerRun S P) → IsRunOf t fits y' app setup frame run → AreTold event_of sends_of posts run.colour (t.trail_of run.state) run.event (without_loads run.puts)
+  told_by run is = told run (record { ran = is.ran.0; there = is.there; coloured = is.coloured; framed = is.framed; fit = is.fit }) (ap (λ c. of_want run.event + count_puts c of_want run.puts) (sym is.coloured) ∙ is.ran.1)
+
+  -- what a run puts counts as what is sent now, and a turn
+  one_counts : (c : Colour) (number : Event → ℕ) (run : HandlerRun S P) → IsRunOf t fits y' app setup frame run
+      → count_puts c number run.puts ≡ count_sent c number (Now event_of sends_of posts run.colour (t.trail_of run.state) run.event) + (if run.colour.0 == c.0 then number turn_event * of_true (Turn event_of sends_of posts run.colour (t.trail_of run.state) run.event) else 0)
+  one_counts c number run is =
+      let now = Now event_of sends_of posts run.colour (t.trail_of run.state) run.event in
+      let turn = Turn event_of sends_of posts run.colour (t.trail_of run.state) run.event in
+      let loads = count_without c number run.puts in
+      let puts = ap (count_sent c number) (told_by run is).are in
+      let both = sum_by-append (λ (s : Colour × Event). if s.0.0 == c.0 then number s.1 else 0) now (turns run.colour turn) in
+      let last = count_turns c run.colour number turn in
+      omega (arith, loads, puts, both, last)
+
+  posts_counts : (c : Colour) (h : ℕ → ℕ) (run : HandlerRun S P) → IsRunOf t fits y' app setup frame run → count_puts c (of_posts h) run.puts ≡ (if run.colour.0 == c.0 then h 1 * of_true (Turn event_of sends_of posts run.colour (t.trail_of run.state) run.event) else 0)
+  posts_counts c h run is =
+      let one = one_counts c (of_posts h) run is in
+      let none = own_posts c h (Now event_of sends_of posts run.colour (t.trail_of run.state) run.event) (told_by run is).own in
+      omega (arith, one, none)
+
+  messages_counts : (c : Colour) (number : Event → ℕ) (run : HandlerRun S P) → IsRunOf t fits y' app setup frame run → count_puts c (of_messages number) run.puts ≡ count_sent c (of_messages number) (Now event_of sends_of posts run.colour (t.trail_of run.state) run.event)
+  messages_counts c number run is =
+      let one = one_counts c (of_messages number) run is in
+      let none = times_none (run.colour.0 == c.0) (of_true (Turn event_of sends_of posts run.colour (t.trail_of run.state) run.event)) in
+      omega (arith, one, none)
+
+  -- how many turns a colour puts
+  abbrev turns_at : Colour → ℕ
+  turns_at d = sum_along (λ l e. of_true (Turn event_of sends_of posts d l e)) [] (of d)
+
+  -- each on itself
+  turns_own : (c d : Colour) (before events : List Event) → sum_along (λ l e. if d.0 == c.0 then 1 * of_true (Turn event_of sends_of posts d l e) else 0) before events ≡ (if d.0 == c.0 then sum_along (λ l e. of_true (Turn event_of sends_of posts d l e)) before events else 0)
+  turns_own c d before events = with_one (d.0 == c.0) before events
+    where
+      with_one : (b : Bool) (before events : List Event) → sum_along (λ l e. if b then 1 * of_true (Turn event_of sends_of posts d l e) else 0) before events ≡ (if b then sum_along (λ l e. of_true (Turn event_of sends_of posts d l e)) before events else 0)
+      with_one true before [] = refl
+      with_one true before (e ∷ events) = let rest = with_one true (before ++ e ∷ []) events in omega (arith, rest)
+      with_one false before [] = refl
+      with_one false before (e ∷ events) = let rest = with_one false (before ++ e ∷ []) events in omega (arith, rest)
+
+  turns_same : (c d : Colour) → (if d.0 == c.0 then turns_at d else 0) ≡ (if c.0 == d.0 then turns_at c else 0)
+  turns_same c d = elim (cases_eq d.0 c.0) [
+    | inl same ↦ ap (λ (b : Bool). if b then turns_at d else 0) (eq-eqb d.0 c.0 same) ∙ ap turns_at (same_colour d c same) ∙ sym (ap (λ (b : Bool). if b then turns_at c else 0) (eq-eqb c.0 d.0 (sym same)))
+    | inr apart ↦ ap (λ (b : Bool). if b then turns_at d else 0) (ne_eqb d.0 c.0 apart) ∙ sym (ap (λ (b : Bool). if b then turns_at c else 0) (ne_eqb c.0 d.0 (λ e. apart (sym e))))
   ]
 
-  posts_counts : (c : Colour) (h : ℕ → ℕ) (run : HandlerRun S P) → IsRunOf t fits y app setup frame run
-      → count_puts c (of_posts h) run.puts ≡ of_posts (λ k. if 0 == c.0 then if_more (drop k posts) (h (k + 1)) else 0) run.event
-  posts_counts c h run is = elim (cases_eq run.event.handler 0) [
-    | inl none ↦
-        count_without c (of_posts h) run.puts
-        ∙ ap (count_sent c (of_posts h)) (as_told run is ∙ post_told event_of sends_of posts run.colour (before_it run) run.event none)
-        ∙ post_posts event_of c run.colour run.event.arg h (drop run.event.arg posts) (all_drop _ run.event.arg posts posts_own)
-        ∙ ap (λ (n : ℕ). if n == c.0 then if_more (drop run.event.arg posts) (h (run.event.arg + 1)) else 0) (first run is none)
-        ∙ sym (ap (λ (b : Bool). if b then (if 0 == c.0 then if_more (drop run.event.arg posts) (h (run.event.arg + 1)) else 0) else 0) (eq-eqb run.event.handler 0 none))
-    | inr apart ↦
-        let is_message : 0 < run.event.handler = omega (arith, apart) in
-        own_posts c h run.puts (own run is is_message) ∙ sym (not_post run.event (if 0 == c.0 then if_more (drop run.event.arg posts) (h (run.event.arg + 1)) else 0) 0 is_message)
-  ]
+  -- in the end nothing waits
+  none_waits : (c : Colour) → c.0 < colours_of setup → waits_after event_of sends_of posts c (of c) ≡ []
+  none_waits c low =
+      let put = put_as_counted t fits y' app setup frame c (of_posts of_turn) (λ d l e. if d.0 == c.0 then 1 * of_true (Turn event_of sends_of posts d l e) else 0) (posts_counts c of_turn) begin histories all.0 are of each in
+      let none : count_put c (of_posts of_turn) begin ≡ 0 = if_none (0 == c.0) in
+      let alone = colours_same (colours_of setup) (λ d. sum_along (λ l e. if d.0 == c.0 then 1 * of_true (Turn event_of sends_of posts d l e) else 0) [] (of d)) (λ d. if c.0 == d.0 then turns_at c else 0) (λ d _. turns_own c d [] (of d) ∙ turns_same c d) in
+      let one = colours_one (colours_of setup) c (turns_at c) low in
+      let split = turns_split event_of sends_of posts c [] (of c) in
+      none_there (waits_after event_of sends_of posts c (of c)) (omega (arith, put, none, alone, one, split))
 
-  posts_on : (c : Colour) (h : ℕ → ℕ) → sum_by (of_posts h) (of c) ≡ count_put c (of_posts h) begin + sum_colours (colours_of setup) (λ d. sum_by (of_posts (λ k. if 0 == c.0 then if_more (drop k posts) (h (k + 1)) else 0)) (of d))
-  posts_on c h = counted c (of_posts h) (λ d e. of_posts (λ k. if 0 == c.0 then if_more (drop k posts) (h (k + 1)) else 0) e) (posts_counts c h)
-
-  -- posting is on the first colour alone
-  none_on : (c : Colour) → c.0 ≢ 0 → (h : ℕ → ℕ) → sum_by (of_posts h) (of c) ≡ 0
-  none_on c apart h =
-      let no : (0 == c.0) ≡ false = ne_eqb 0 c.0 (λ e. apart (sym e)) in
-      let put : count_put c (of_posts h) begin ≡ 0 = ap (λ (b : Bool). if b then of_posts h (record { handler = 0; arg = 0 }) else 0) no in
-      let rest : sum_colours (colours_of setup) (λ d. sum_by (of_posts (λ k. if 0 == c.0 then if_more (drop k posts) (h (k + 1)) else 0)) (of d)) ≡ 0 =
-      ap (λ (b : Bool). sum_colours (colours_of setup) (λ d. sum_by (of_posts (λ k. if b then if_more (drop k posts) (h (k + 1)) else 0)) (of d))) no ∙ colours_zero (colours_of setup) (λ d. sum_by (of_posts (λ k. 0)) (of d)) (λ d. zero_posts (of d)) in
-      let on = posts_on c h in
-      omega (arith, put, rest, on)
-
-  on_first : (h : ℕ → ℕ) → sum_by (of_posts h) (of first_colour) ≡ h 0 + sum_by (of_posts (λ k. if_more (drop k posts) (h (k + 1)))) (of first_colour)
-  on_first h =
-      let on = posts_on first_colour h in
-      let alone = colours_first (colours_of setup) (λ d. sum_by (of_posts (λ k. if_more (drop k posts) (h (k + 1)))) (of d)) some (λ d apart. none_on d apart (λ k. if_more (drop k posts) (h (k + 1)))) in
-      omega (arith, on, alone)
-
-  -- each post is posted once
-  all_posted : (c : Colour) (number : Event → ℕ) → sum_by (of_posts (λ k. count_left event_of c number (take 1 (drop k posts)))) (of first_colour) ≡ count_left event_of c number posts
-  all_posted c number =
-      let left : ℕ → ℕ = λ k. count_left event_of c number (drop k posts) in
-      let one : ℕ → ℕ = λ k. count_left event_of c number (take 1 (drop k posts)) in
-      let behind : (k : ℕ) → count_left event_of c number (drop 1 (drop k posts)) ≡ left (k + 1) = λ k. ap (count_left event_of c number) (drop-drop 1 k posts) in
-      let more : (k : ℕ) → if_more (drop k posts) (left (k + 1)) ≡ left (k + 1) = λ k. (ap (if_more (drop k posts)) (sym (behind k)) ∙ left_more event_of c number (drop k posts) ∙ behind k) in
-      let falls : (k : ℕ) → left k ≡ one k + left (k + 1) = λ k. (left_first event_of c number (drop k posts) ∙ ap (λ n. one k + n) (behind k)) in
-      let step = on_first left in
-      let same = posts_same (λ k. if_more (drop k posts) (left (k + 1))) (λ k. left (k + 1)) (of first_colour) more in
-      let split = sum_split (of_posts left) (of_posts one) (of_posts (λ k. left (k + 1))) (of first_colour) (λ e. if_sum (e.handler == 0) (left e.arg) (one e.arg) (left (e.arg + 1)) (falls e.arg)) in
-      omega (arith, step, same, split)
+  -- the first event is on the first colour
+  firsts : (d : Colour) (x : ℕ) → sum_by (of_posts (of_first x)) (of d) ≡ (if 0 == d.0 then x else 0)
+  firsts d x =
+      let put = put_as_counted t fits y' app setup frame d (of_posts (of_first x)) (λ e l event. 0) (λ run is. posts_counts d (of_first x) run is ∙ times_none (run.colour.0 == d.0) (of_true (Turn event_of sends_of posts run.colour (t.trail_of run.state) run.event))) begin histories all.0 are of each in
+      let nothing = colours_same (colours_of setup) (λ e. sum_along (λ _ _. 0) [] (of e)) (λ e. 0) (λ e low. along_none [] (of e)) in
+      let none = colours_none (colours_of setup) in
+      omega (arith, put, nothing, none)
+    where
+      along_none : (before events : List Event) → sum_along (λ _ _. 0) before events ≡ 0
+      along_none before [] = refl
+      along_none before (e ∷ events) = let rest = along_none (before ++ e ∷ []) events in omega (arith, rest)
 
   -- what a colour received is what was posted to it and what the messages received send
-  pub received_counts : (c : Colour) (number : Event → ℕ) → sum_by number (messages_in (of c)) ≡ count_sent c number (as_events event_of posts) + sum_colours (colours_of setup) (λ d. count_sent c number (along (sends_of d) 0 (messages_in (of d))))
+  pub received_counts : (c : Colour) (number : Event → ℕ) → sum_by number (messages_in (of c)) ≡ count_sent c number (as_events event_of posts) + sum_colours (colours_of setup) (λ d. count_sent c (of_messages number) (along (sends_of d) 0 (messages_in (of d))))
   received_counts c number =
-      let one : ℕ → ℕ = λ k. count_left event_of c number (take 1 (drop k posts)) in
-      let put = put_as_counted t fits y app setup frame c (of_messages number) (λ d before e. along_it c number (sends_of d) one before e) (messages_counts c number) begin histories all.0 all.1 of each in
-      let none : count_put c (of_messages number) begin ≡ 0 = if_none (0 == c.0) in
+      let f : Event → ℕ = of_messages number in
+      let x = count_sent c f (as_events event_of posts) in
+      let put = put_as_counted t fits y' app setup frame c f (λ d l e. count_sent c f (Now event_of sends_of posts d l e)) (messages_counts c number) begin histories all.0 are of each in
+      let none : count_put c f begin ≡ 0 = if_none (0 == c.0) in
       let here = sum_messages number (of c) in
-      let apart = colours_same (colours_of setup) (λ d. sum_along (along_it c number (sends_of d) one) [] (of d)) (λ d. sum_by (of_posts one) (of d) + count_sent c number (along (sends_of d) 0 (messages_in (of d))))
-      (λ d low. along_split c number (sends_of d) one [] (of d)) in
-      let both = colours_both (colours_of setup) (λ d. sum_by (of_posts one) (of d)) (λ d. count_sent c number (along (sends_of d) 0 (messages_in (of d)))) in
-      let alone = colours_first (colours_of setup) (λ d. sum_by (of_posts one) (of d)) some (λ d far. none_on d far one) in
-      let posted = all_posted c number in
-      omega (arith, put, none, here, apart, both, alone, posted)
+      let each_sends = colours_same (colours_of setup) (λ d. sum_along (λ l e. count_sent c f (Now event_of sends_of posts d l e)) [] (of d)) (λ d. (if 0 == d.0 then x else 0) + count_sent c f (along (sends_of d) 0 (messages_in (of d))))
+      (λ d low.
+      let all_put = puts_split event_of sends_of posts d c f [] (of d) in
+      let nothing = ap (count_sent c f) (none_waits d low) in
+      let sends = sent_split event_of sends_of posts d c f [] (of d) in
+      let first = firsts d x in
+      omega (arith, all_put, nothing, sends, first)) in
+      let both = colours_both (colours_of setup) (λ d. if 0 == d.0 then x else 0) (λ d. count_sent c f (along (sends_of d) 0 (messages_in (of d)))) in
+      let alone = colours_one (colours_of setup) (record { 0 = 0 }) x some in
+      let posted = own_messages c number (as_events event_of posts) posts_own in
+      omega (arith, put, none, here, each_sends, both, alone, posted)

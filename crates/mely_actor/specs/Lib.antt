@@ -1,4 +1,5 @@
 pub mod Sending
+pub mod Waiting
 pub mod KeptState
 pub mod Keeping
 pub mod Loads

@@ -1,20 +1,28 @@
 -- Which events and loads may be together.
-use Rattle.std.specs.Prelude.{◌≡◌, ◌<◌, ◌+◌, ℕ, List, [], ◌∷◌, Option, None, Some, drop, length, map}
+use Rattle.std.specs.Prelude.{◌≡◌, ◌<◌, ◌++◌, ℕ, List, [], ◌∷◌, Option, None, Some, Bool, true, false, map}
 use Rattle.std.specs.List.{AllByRecursion}
 use Rattle.mely_event.specs.declared.colour.Colour.{Colour}
 use Rattle.mely_event.specs.declared.event.Event.{Event}
+use Rattle.mely_worker.specs.Access.{FitsIn}
+use Rattle.mely_actor.specs.declared.actor.Actor.{Ghosts as ActorWords}
 use Rattle.mely_actor.specs.declared.load.Load.{Load}
 use Rattle.mely_actor.specs.declared.load.Load.TheVariants.{Posts, Message}
 use Rattle.mely_actor.specs.declared.load.Plan.{Plan}
-use Rattle.mely_actor.specs.Sending.{MaySend, told, without_loads}
+use Rattle.mely_actor.specs.Sending.{MaySend, first_event, turn_event}
+use Rattle.mely_actor.specs.Waiting.{put_later, put_now}
 
--- an event of handler 0 is on colour 0 and carries what is left to post; its argument says how many
--- were posted
-pub record FitsPosts {M : Type 0} (posts left : List (Colour × M)) (colour : Colour)
+-- the first event of a run is on colour 0 and carries all posts
+pub record FitsPosts {M : Type 0} (colours : ℕ) (posts all : List (Colour × M)) (colour : Colour)
     (event : Event) : Type 0 where
-  pub first : colour.0 ≡ 0
+  pub there : colour.0 < colours
+  pub first : event ≡ first_event
+  pub are : all ≡ posts
+
+-- the library's other events carry nothing
+pub record FitsNothing (colours : ℕ) (colour : Colour) (event : Event) : Type 0 where
+  pub there : colour.0 < colours
   pub library : event.handler ≡ 0
-  pub rest : left ≡ drop event.arg posts
+  pub later : 0 < event.arg
 
 -- an event of a message carries it, and the colour may be sent it
 pub record FitsMessage {M : Type 0} (colours : ℕ) (event_of : M → Event)
@@ -28,17 +36,15 @@ module _ {M : Type 0} (colours : ℕ) (event_of : M → Event) (sound : Colour �
     (posts : List (Colour × M)) (colour : Colour) (event : Event) where
   -- each event carries either
   abbrev pub FitsLoad : Option (Load M) → Type 0
-  FitsLoad (Some (Posts left)) = FitsPosts posts left.items colour event
+  FitsLoad (Some (Posts all)) = FitsPosts colours posts all.items colour event
   FitsLoad (Some (Message message)) = FitsMessage colours event_of sound colour event message
-  FitsLoad None = ⊥
+  FitsLoad None = FitsNothing colours colour event
 
--- the app is of this actor, and all that is to be posted may be sent: so few that an argument can
--- say how many
+-- the app is of this actor, and all that is to be posted may be sent
 pub record Serves {A M : Type 0} (colours rows : ℕ) (event_of : M → Event)
     (sound : Colour → M → Type 0) (actor : A) (plan : Plan A M) : Type 0 where
   pub same : plan.actor ≡ actor
   pub library : 0 < rows
-  pub few : length plan.posts.items < 65536
   pub may : AllByRecursion (MaySend colours rows event_of sound) plan.posts.items
 
 -- what is registered for a message that is sent
@@ -50,20 +56,20 @@ abbrev pub as_puts : {M : Type 0} → (M → Event) → List (Colour × M)
     → List (Colour × Event × Option (Load M))
 as_puts event_of sends = map (as_put event_of) sends
 
--- what is registered where these posts are left: the first of them, and an event that carries the
--- others
-abbrev pub ArePosts : {M : Type 0} → (M → Event) → Colour → ℕ → List (Colour × M)
-    → List (Colour × Event × Option (Load M)) → Type 0
-ArePosts event_of colour done [] puts = puts ≡ []
-ArePosts event_of colour done (post ∷ []) puts = puts ≡ as_put event_of post ∷ []
-ArePosts event_of colour done (post ∷ next ∷ more) puts = (left : _) × (left.items ≡ next ∷ more)
-    × (puts ≡ as_put event_of post
-    ∷ (colour, record { handler = 0; arg = done + 1 }, Some (Posts left)) ∷ [])
+-- the turn, where it is registered
+abbrev pub turn_puts : {M : Type 0} → Colour → Bool → List (Colour × Event × Option (Load M))
+turn_puts colour true = (colour, turn_event, None) ∷ []
+turn_puts colour false = []
 
--- what a handler may put: what is told by the event, and where that is of a message, messages only
-pub record PutsAsTold {M : Type 0} (event_of : M → Event)
-    (sends_of : Colour → ℕ → Event → List (Colour × Event)) (posts : List (Colour × M))
-    (colour : Colour) (number : ℕ) (event : Event)
-    (puts : List (Colour × Event × Option (Load M))) : Type 0 where
-  pub as_told : without_loads puts ≡ told event_of sends_of posts colour number event
-  pub own : 0 < event.handler → AllByRecursion (λ put. 0 < put.1.handler) puts
+-- what is registered of what is to be sent, where a turn is registered already or not, and of what
+-- waits then
+pub record IsPut {M : Type 0} (event_of : M → Event) (colour : Colour) (busy turn : Bool)
+    (all left : List (Colour × M)) (puts : List (Colour × Event × Option (Load M))) : Type 0 where
+  pub puts_are : puts ≡ as_puts event_of (put_now busy all) ++ turn_puts colour turn
+  pub left_is : left ≡ put_later busy all
+
+-- each put fits
+abbrev pub ArePutsFit : {A V M : Type 0} → ActorWords A V M → A → List (Colour × M)
+    → List (Colour × Event × Option (Load M)) → Type 0
+ArePutsFit a actor posts puts = AllByRecursion (FitsIn (a.colours_of actor) (a.rows_of actor)
+    (FitsLoad (a.colours_of actor) a.event_of (a.sound actor) posts)) puts

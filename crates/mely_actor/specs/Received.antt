@@ -30,17 +30,12 @@ pub record AreMade {A M V : Type 0} (plan : Plan A M) (count : ℕ)
       → state.plan ≡ plan
 
 module _ {A V M : Type 0} (a : ActorWords A V M) where
-  -- what the value of a colour keeps, if these events were run there
-  abbrev pub KeepsOver : A → Colour → List Event → V → Type 0
-  KeepsOver actor colour events value =
-      Keeps a.event_of (a.sound actor) (a.sends_of actor) (a.kept actor) colour events value
-
   -- each value keeps its fact over what the trail of its state has
   pub record AreValues (states : List (KeptState A M V)) (values : List V) : Type 0 where
     pub many : length values ≡ length states
     pub each : (i : ℕ) (state : KeptState A M V) (value : V) → slice_get states i ≡ Some state
         → slice_get values i ≡ Some value
-        → KeepsOver state.plan.actor state.log.colour state.log.events value
+        → Keeps a state.plan.actor state.log.colour state.log.events value
 
   -- There is a value for each colour, and a legal history for each shard, in which nothing runs or
   -- waits. What each colour received is what its history says was registered on it, without the

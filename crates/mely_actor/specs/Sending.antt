@@ -1,5 +1,5 @@
--- What may be sent, under which events it stands in the histories, and how messages are posted.
-use Rattle.std.specs.Prelude.{◌==◌, ◌+◌, ◌<◌, ℕ, List, [], ◌∷◌, ◌++◌, Option, Bool, drop, map, filter, nat_lt, if◌then◌else◌}
+-- What may be sent, and under which events it stands in the histories.
+use Rattle.std.specs.Prelude.{◌==◌, ◌+◌, ◌<◌, ℕ, List, [], ◌∷◌, ◌++◌, Option, Bool, false, map, filter, nat_lt, if◌then◌else◌}
 use Rattle.mely_event.specs.declared.colour.Colour.{Colour}
 use Rattle.mely_event.specs.declared.event.Event.{Event}
 
@@ -15,7 +15,7 @@ pub record MaySend {M : Type 0} (colours rows : ℕ) (event_of : M → Event)
 abbrev pub as_events : {M : Type 0} → (M → Event) → List (Colour × M) → List (Colour × Event)
 as_events event_of sends = map (λ send. (send.0, event_of send.1)) sends
 
--- whether the event is that of a message, and not of the library's posting
+-- whether the event is that of a message, and not one of the library's own
 abbrev pub is_message : Event → Bool
 is_message event = nat_lt 0 event.handler
 
@@ -23,21 +23,24 @@ is_message event = nat_lt 0 event.handler
 abbrev pub messages_in : List Event → List Event
 messages_in events = filter is_message events
 
--- of posts that are left, the first is posted, and the rest on the same colour
-abbrev pub post_next : {M : Type 0} → (M → Event) → Colour → ℕ → List (Colour × M)
-    → List (Colour × Event)
-post_next event_of colour done [] = []
-post_next event_of colour done (post ∷ []) = (post.0, event_of post.1) ∷ []
-post_next event_of colour done (post ∷ next ∷ more) = (post.0, event_of post.1)
-    ∷ (colour, record { handler = 0; arg = done + 1 }) ∷ []
+-- The library's own events have handler 0: the first of a run, which sends what is posted; a turn,
+-- by which a colour sends more of what waits there; and one that says that memory was wanted.
+abbrev pub first_event : Event
+first_event = record { handler = 0; arg = 0 }
 
--- what an event puts, told by its colour, the number of messages before it and itself: handler 0
--- posts, and a message sends
-abbrev pub told : {M : Type 0} → (M → Event) → (Colour → ℕ → Event → List (Colour × Event))
-    → List (Colour × M) → Colour → ℕ → Event → List (Colour × Event)
-told event_of sends_of posts colour number event =
-    if event.handler == 0 then post_next event_of colour event.arg (drop event.arg posts)
-    else sends_of colour number event
+abbrev pub turn_event : Event
+turn_event = record { handler = 0; arg = 1 }
+
+abbrev pub want_event : Event
+want_event = record { handler = 0; arg = 2 }
+
+-- whether the event is a turn
+abbrev pub is_turn : Event → Bool
+is_turn event = if event.handler == 0 then event.arg == 1 else false
+
+-- 1 for an event that says that memory was wanted
+abbrev pub of_want : Event → ℕ
+of_want event = if event.handler == 0 then (if nat_lt 1 event.arg then 1 else 0) else 0
 
 -- what each of a list gives by how many stand before it, one after another; so many stand before
 -- the first

@@ -35,7 +35,7 @@ pub trait Actor {
     ghost colours_of: { Self → ℕ };
 
     /// How many rows the table of handlers has at least. Row 0 is the library's own, by which it
-    /// posts; the rows from 1 on are the author's.
+    /// posts, and sends what is more than two; the rows from 1 on are the author's.
     ghost rows_of: { Self → ℕ };
 
     /// Under which event a message stands in the histories: the row of its weight, and a number
@@ -67,11 +67,12 @@ pub trait Actor {
         requires { colour.0 < colours_of self.now }
         ensures { IfOk result (λ value. kept self.now colour [] [] value) };
 
-    /// A colour receives a message. It sends the same whether there is memory or not.
+    /// A colour receives a message, and sends any number.
     ///
     /// # Errors
     ///
-    /// There was no memory. Nothing is known of the value then, and the run will not end with Ok.
+    /// There was no memory. Nothing is known of the value then, nothing is sent, and the run will
+    /// not end with Ok.
     fn on(
         &self,
         place: Place,
@@ -86,8 +87,8 @@ pub trait Actor {
             (sent : List (Colour × Self.Message)) → length received ≡ place.number
             → kept self.now place.colour received sent value.old
             → kept self.now place.colour (received ++ message ∷ []) (sent ++ sends.new) value.new) }
-        ensures sent { as_events event_of sends.new
-            ≡ sends_of self.now place.colour place.number (event_of message) }
-        ensures allowed { AllByRecursion (MaySend (colours_of self.now) (rows_of self.now)
-            event_of (sound self.now)) sends.new };
+        ensures sent { OnOk result (as_events event_of sends.new
+            ≡ sends_of self.now place.colour place.number (event_of message)) }
+        ensures allowed { OnOk result (AllByRecursion (MaySend (colours_of self.now)
+            (rows_of self.now) event_of (sound self.now)) sends.new) };
 }

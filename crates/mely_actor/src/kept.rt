@@ -1,26 +1,29 @@
 //! The state of a colour.
-ghost use Rattle.std.specs.Prelude.{◌≡◌, ◌≤◌, ◌<◌, ◌-◌, ◌++◌, ◌∷◌, [], Some, IfSome, length};
-ghost use Rattle.std.specs.List.{AllByRecursion};
+ghost use Rattle.std.specs.Prelude.{◌≡◌, ◌≤◌, ◌-◌, ◌++◌, ◌∷◌, [], IfSome, length};
 ghost use Rattle.mely_actor.specs.Keeping.{Keeps};
-ghost use Rattle.mely_actor.specs.Loads.{FitsLoad};
-ghost use Rattle.mely_actor.specs.Sending.{MaySend, as_events, messages_in};
+ghost use Rattle.mely_actor.specs.Loads.{ArePutsFit, FitsLoad, FitsMessage, FitsNothing, FitsPosts, Serves};
+ghost use Rattle.mely_actor.specs.Waiting.{PutsAsTold};
 
 use crate::actor::{Actor, Place};
-use crate::load::{Load, Plan};
+use crate::load::{Load, Plan, TURN, WANT};
 use crate::sends::Sends;
+use crate::waiting::{send_all, send_some};
 use mely_event::{Colour, Event, Fits, Memory, Trail, TrailLog};
+use mely_worker::Outs;
 use std::alloc::Global;
+use std::collections::VecDeque;
 use std::marker::Model;
 use std::snapshot::Snapshot;
 
-/// The state of a colour: its trail, with the number of messages in it, and the value that the
-/// author's fact is about. Where a message wanted memory the value has failed, and keeps nothing
-/// from then on.
+/// The state of a colour: its trail, with the number of messages in it, what is still to be sent, and
+/// the value that the author's fact is about. Where memory was wanted the value has failed: it keeps
+/// nothing and sends nothing from then on, and events say so.
 #[derive(Drop)]
 pub struct Kept<A: Actor> {
     log: TrailLog,
     plan: Snapshot<Plan<A, A::Message>>,
     count: usize,
+    waiting: VecDeque<(Colour, A::Message)>,
     value: A::Value,
     failed: bool,
 }
@@ -35,13 +38,13 @@ impl<A: Actor> Model for Kept<A> {
       log = kept.log;
       plan = kept.plan.value;
       count = kept.count;
+      waiting = kept.waiting.items;
       value = kept.value;
       failed = kept.failed;
     } };
 
-    ghost invariant = { λ kept. IsKept A.event_of (A.sound kept.plan.value.actor)
-        (A.sends_of kept.plan.value.actor) (A.kept kept.plan.value.actor)
-        kept.log.colour kept.log.events kept.count kept.failed kept.value };
+    ghost invariant = { λ kept. IsKept A.Actor kept.plan.value kept.log.colour kept.log.events
+        kept.count kept.failed kept.waiting.items kept.value };
 }
 
 impl<A: Actor> Kept<A> {
@@ -60,6 +63,7 @@ impl<A: Actor> Kept<A> {
           log = record { colour = colour; events = []; spare = 0 };
           plan = plan.now;
           count = 0;
+          waiting = [];
           value = value;
           failed = false;
         } }
@@ -68,43 +72,37 @@ impl<A: Actor> Kept<A> {
             log: TrailLog::new(alloc, colour),
             plan: Snapshot::of(plan),
             count: 0,
+            waiting: VecDeque::new(alloc),
             value,
             failed: false,
         }
     }
 
-    /// The colour whose state this is.
-    pub(crate) fn colour(&self) -> Colour
-        ensures { result ≡ self.now.log.colour }
-    {
-        self.log.colour()
-    }
-
-    /// A message is received.
+    /// A message is received, and what it sends is registered.
     pub(crate) fn receive(
         &mut self,
+        alloc: Global,
         actor: &A,
         event: Event,
         message: A::Message,
-        sends: &mut Sends<A::Message>,
+        outs: &mut Outs<Load<A::Message>>,
     )
         requires room { 1 ≤ self.old.log.spare }
         requires actor { self.old.plan.actor ≡ actor.now }
-        requires colour { self.old.log.colour.0 < A.colours_of actor.now }
-        requires own { 0 < event.handler }
-        requires event { event ≡ A.event_of message }
-        requires sound { A.sound actor.now self.old.log.colour message }
-        requires empty { sends.old ≡ [] }
+        requires serves { Serves (A.colours_of self.old.plan.actor) (A.rows_of self.old.plan.actor)
+            A.event_of (A.sound self.old.plan.actor) self.old.plan.actor self.old.plan }
+        requires fits { FitsMessage (A.colours_of self.old.plan.actor) A.event_of
+            (A.sound self.old.plan.actor) self.old.log.colour event message }
+        requires empty { outs.old ≡ [] }
         ensures log { self.new.log ≡ record self.old.log {
           events = self.old.log.events ++ event ∷ [];
           spare = self.old.log.spare - 1;
         } }
         ensures plan { self.new.plan ≡ self.old.plan }
-        ensures sent { as_events A.event_of sends.new
-            ≡ A.sends_of actor.now self.old.log.colour
-            (length (messages_in self.old.log.events)) event }
-        ensures allowed { AllByRecursion (MaySend (A.colours_of actor.now) (A.rows_of actor.now)
-            A.event_of (A.sound actor.now)) sends.new }
+        ensures ran { PutsAsTold A.event_of (A.sends_of self.old.plan.actor)
+            self.old.plan.posts.items self.old.log.colour self.old.log.events event outs.new }
+        ensures puts { ArePutsFit A.Actor self.old.plan.actor self.old.plan.posts.items outs.new }
+        ensures few { length outs.new ≤ 2 }
     {
         let place = Place {
             colour: self.log.colour(),
@@ -113,35 +111,94 @@ impl<A: Actor> Kept<A> {
         // no more than the trail has, which fits into memory
         self.count = self.log.trail().len().min(place.number) + 1;
         self.log.push(event);
-        if actor.on(place, &mut self.value, message, sends).is_err() {
+        if !self.failed {
+            let mut sends = Sends::new(alloc);
+            if actor
+                .on(place, &mut self.value, message, &mut sends)
+                .is_ok()
+                && send_all::<A>(&mut self.waiting, sends, place.colour, outs).is_ok()
+            {
+                return;
+            }
             self.failed = true;
+        }
+        outs.put(place.colour, WANT, None);
+    }
+
+    /// What is posted is sent.
+    pub(crate) fn post(
+        &mut self,
+        event: Event,
+        posts: VecDeque<(Colour, A::Message)>,
+        outs: &mut Outs<Load<A::Message>>,
+    )
+        requires room { 1 ≤ self.old.log.spare }
+        requires serves { Serves (A.colours_of self.old.plan.actor) (A.rows_of self.old.plan.actor)
+            A.event_of (A.sound self.old.plan.actor) self.old.plan.actor self.old.plan }
+        requires fits { FitsPosts (A.colours_of self.old.plan.actor) self.old.plan.posts.items
+            posts.items self.old.log.colour event }
+        requires empty { outs.old ≡ [] }
+        ensures log { self.new.log ≡ record self.old.log {
+          events = self.old.log.events ++ event ∷ [];
+          spare = self.old.log.spare - 1;
+        } }
+        ensures plan { self.new.plan ≡ self.old.plan }
+        ensures ran { PutsAsTold A.event_of (A.sends_of self.old.plan.actor)
+            self.old.plan.posts.items self.old.log.colour self.old.log.events event outs.new }
+        ensures puts { ArePutsFit A.Actor self.old.plan.actor self.old.plan.posts.items outs.new }
+        ensures few { length outs.new ≤ 2 }
+    {
+        let colour = self.log.colour();
+        self.log.push(event);
+        if !self.failed {
+            if send_all::<A>(&mut self.waiting, Sends::of(posts), colour, outs).is_ok() {
+                return;
+            }
+            self.failed = true;
+        }
+        outs.put(colour, WANT, None);
+    }
+
+    /// A later event of the library's own is run: a turn, or one that says that memory was wanted.
+    pub(crate) fn turn(&mut self, event: Event, outs: &mut Outs<Load<A::Message>>)
+        requires room { 1 ≤ self.old.log.spare }
+        requires serves { Serves (A.colours_of self.old.plan.actor) (A.rows_of self.old.plan.actor)
+            A.event_of (A.sound self.old.plan.actor) self.old.plan.actor self.old.plan }
+        requires fits { FitsNothing (A.colours_of self.old.plan.actor) self.old.log.colour event }
+        requires empty { outs.old ≡ [] }
+        ensures log { self.new.log ≡ record self.old.log {
+          events = self.old.log.events ++ event ∷ [];
+          spare = self.old.log.spare - 1;
+        } }
+        ensures plan { self.new.plan ≡ self.old.plan }
+        ensures ran { PutsAsTold A.event_of (A.sends_of self.old.plan.actor)
+            self.old.plan.posts.items self.old.log.colour self.old.log.events event outs.new }
+        ensures puts { ArePutsFit A.Actor self.old.plan.actor self.old.plan.posts.items outs.new }
+        ensures few { length outs.new ≤ 2 }
+    {
+        let colour = self.log.colour();
+        self.log.push(event);
+        if event.arg > TURN.arg {
+            self.failed = true;
+        } else if self.failed {
+            outs.put(colour, WANT, None);
+        } else if self.waiting.is_empty() {
+            outs.put(colour, TURN, None);
+        } else {
+            send_some::<A>(&mut self.waiting, false, colour, outs);
         }
     }
 
-    /// An event of the library's own is run: it concerns no value.
-    pub(crate) fn pass(&mut self, event: Event)
-        requires room { 1 ≤ self.old.log.spare }
-        requires library { event.handler ≡ 0 }
-        ensures { self.new ≡ record self.old {
-          log = record self.old.log {
-            events = self.old.log.events ++ event ∷ [];
-            spare = self.old.log.spare - 1;
-          };
-        } }
-    {
-        self.log.push(event);
-    }
-
-    /// The value, where none of its messages wanted memory.
+    /// The value, where no memory was wanted.
     pub(crate) fn into_value(self) -> Option<A::Value>
-        ensures { IfSome result (λ value. Keeps A.event_of (A.sound self.plan.actor)
-            (A.sends_of self.plan.actor) (A.kept self.plan.actor) self.log.colour self.log.events
-            value) }
+        ensures { IfSome result (λ value. Keeps A.Actor self.plan.actor self.log.colour
+            self.log.events value) }
     {
         let Kept {
             log: _,
             plan: _,
             count: _,
+            waiting: _,
             value,
             failed,
         } = self;

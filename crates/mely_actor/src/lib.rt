@@ -24,6 +24,7 @@ mod kept;
 mod load;
 mod running;
 mod sends;
+mod waiting;
 
 pub use actor::{Actor, Place};
 pub use running::{Ended, run_actors};

@@ -1,6 +1,18 @@
-//! What an event of actors carries.
-use mely_event::Colour;
+//! What an event of actors carries, and the library's own events.
+ghost use Rattle.std.specs.Prelude.{◌≡◌};
+ghost use Rattle.mely_actor.specs.Sending.{first_event, turn_event, want_event};
+
+use mely_event::{Colour, Event};
 use std::collections::VecDeque;
+
+/// The first event of a run, which sends what is posted.
+pub(crate) const FIRST: Event = Event { handler: 0, arg: 0 };
+
+/// A turn, by which a colour sends more of what waits there.
+pub(crate) const TURN: Event = Event { handler: 0, arg: 1 };
+
+/// It says that memory was wanted on the colour.
+pub(crate) const WANT: Event = Event { handler: 0, arg: 2 };
 
 /// What stays the same over a run: the actor, and what is posted to begin with. It
 /// is for contracts alone.
@@ -10,10 +22,10 @@ pub struct Plan<A, M> {
     pub posts: Vec<(Colour, M)>,
 }
 
-/// What an event carries.
+/// What an event carries, but for the library's later ones, which carry nothing.
 #[derive(Drop)]
 pub enum Load<M> {
-    /// Messages that are still to be posted.
+    /// All that is posted.
     Posts(VecDeque<(Colour, M)>),
 
     /// A message for the colour.

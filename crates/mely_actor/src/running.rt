@@ -6,12 +6,12 @@ ghost use Rattle.mely_history.specs.Setup.{colours_of, handlers_of};
 ghost use Rattle.mely_actor.specs.Received.{AreKept, AreMade, AreValues};
 ghost use Rattle.mely_actor.specs.Sending.{MaySend};
 
-use crate::acting::{Acting, POST};
+use crate::acting::Acting;
 use crate::actor::Actor;
 use crate::kept::Kept;
-use crate::load::{Load, Plan};
+use crate::load::{FIRST, Load, Plan};
 use mely_app::run_states;
-use mely_event::{Colour, Event, Memory};
+use mely_event::{Colour, Memory};
 use mely_history::{Entry, Setup};
 use std::alloc::Global;
 use std::collections::VecDeque;
@@ -75,8 +75,8 @@ fn take_values<A: Actor + Drop>(
 /// Runs actors, a colour each, from the messages that are posted to begin with, with a thread for
 /// each core, until nothing is left. It need not return: messages may send for ever.
 ///
-/// Row 0 of the setup's table weighs the library's own events, one for each post; the rows from 1 on
-/// are the author's.
+/// Row 0 of the setup's table weighs the library's own events: one for each post, and one for each
+/// message beyond two that another sends. The rows from 1 on are the author's.
 ///
 /// # Errors
 ///
@@ -94,7 +94,6 @@ where
     requires colours { colours_of setup.now ≡ A.colours_of actor }
     requires rows { A.rows_of actor ≤ length (rows_of (handlers_of setup.now)) }
     requires own { 0 < A.rows_of actor }
-    requires few { length posts.items < 65536 }
     requires posts { AllByRecursion (MaySend (A.colours_of actor) (A.rows_of actor) A.event_of
         (A.sound actor)) posts.items }
     ensures { IfOk result (λ ended. AreKept A.Actor actor setup.now posts.items
@@ -103,12 +102,8 @@ where
     let plan = Plan { actor, posts };
     let states = make_states(alloc, setup, &plan)?;
     let Plan { actor, posts } = plan;
-    let first = Event {
-        handler: POST,
-        arg: 0,
-    };
     let load = Load::Posts(VecDeque::from(posts));
-    let acting = Acting { actor };
+    let acting = Acting { alloc, actor };
     let mely_app::Ended { states, histories } = run_states(
         rt,
         alloc,
@@ -116,7 +111,7 @@ where
         states,
         &acting,
         Colour(0),
-        first,
+        FIRST,
         Some(load),
     )?;
     let values = take_values(alloc, states)?;

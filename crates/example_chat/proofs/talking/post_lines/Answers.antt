@@ -2,7 +2,8 @@ use Rattle.std.proofs.Common.{◌≡◌, ◌+◌, ◌++◌, ◌∷◌, [], lengt
 use Rattle.std.specs.Vec.Iter.{into_iter_items}
 use Rattle.example_chat.specs.Chats.{said}
 use Rattle.example_chat.specs.declared.message.Message.TheVariants.{Say}
-use Rattle.example_chat.proofs.SeatLemmas.{one_more, said_push}
+use Rattle.mely_actor.proofs.ListLemmas.{one_longer}
+use Rattle.example_chat.proofs.SeatLemmas.{said_push}
 use Rattle.example_chat.proofs.talking.post_lines.Goals as goal
 
 pub lines-preserved : goal.lines-preserved
@@ -14,7 +15,7 @@ lines-preserved c =
     let left = at.left in
     let gone = c.in-Some.ensures.steps.1 in
     let many = at.many in
-    let more = one_more c.lines.yielded item in
+    let more = one_longer c.lines.yielded item in
     let split = ap length at.split in
     let both = length-append c.lines.yielded (into_iter_items c.lines.line-iterator) in
     let few = c.requires in

@@ -1,18 +1,12 @@
-use Rattle.std.proofs.Common.{◌+◌, length, refl, ap, ◌∙◌, sym, subst, arith}
+use Rattle.std.proofs.Common.{◌+◌, refl, sym, subst}
 use Rattle.std.proofs.lemmas.Result.{IfOk-weaker}
 use Rattle.std.specs.List.{AllByRecursion}
 use Rattle.mely_actor.specs.Sending.{MaySend}
 use Rattle.example_chat.specs.declared.chat.TheConstants.{CLIENTS}
 use Rattle.example_chat.specs.Chats.{MayHear, event_of}
 use Rattle.example_chat.proofs.HeardLemmas.{are_talked}
-use Rattle.example_chat.proofs.SeatLemmas.{may_say, said_many}
+use Rattle.example_chat.proofs.SeatLemmas.{may_say}
 use Rattle.example_chat.proofs.talking.talk.Goals as goal
-
-pub run_actors-requires-clause-few : goal.run_actors-requires-clause-few
-run_actors-requires-clause-few g c κs within =
-    let many = ap length c.in_ok-posts.ensures ∙ said_many 0 c.args.lines.items in
-    let few = c.requires.few in
-    omega (arith, many, few)
 
 pub run_actors-requires-clause-posts : goal.run_actors-requires-clause-posts
 run_actors-requires-clause-posts g c κs within =

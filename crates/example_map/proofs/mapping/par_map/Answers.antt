@@ -1,17 +1,11 @@
-use Rattle.std.proofs.Common.{◌≡◌, Some, length, refl, ap, ◌∙◌, sym, subst, arith, rules}
+use Rattle.std.proofs.Common.{◌≡◌, Some, length, refl, ap, ◌∙◌, sym, subst, rules}
 use Rattle.std.specs.List.{AllByRecursion}
 use Rattle.std.specs.Prelude.{slice_get}
 use Rattle.mely_history.specs.Setup.{colours_of}
 use Rattle.mely_actor.specs.Sending.{MaySend}
 use Rattle.example_map.specs.Mapped.{one_event}
-use Rattle.example_map.proofs.MapLemmas.{may_send, numbered_many, all_done, none_missing, take_all}
+use Rattle.example_map.proofs.MapLemmas.{may_send, all_done, none_missing, take_all}
 use Rattle.example_map.proofs.mapping.par_map.Goals as goal
-
-pub run_actors-requires-clause-few : goal.run_actors-requires-clause-few
-run_actors-requires-clause-few g c =
-    let many = ap length c.in_ok-posts.ensures ∙ numbered_many 0 c.args.items.items in
-    let few = c.requires.few in
-    omega (arith, many, few)
 
 pub run_actors-requires-clause-posts : goal.run_actors-requires-clause-posts
 run_actors-requires-clause-posts g c =

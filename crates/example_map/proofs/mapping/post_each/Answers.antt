@@ -2,7 +2,8 @@ use Rattle.std.proofs.Common.{◌≡◌, ◌+◌, ◌++◌, ◌∷◌, [], lengt
 use Rattle.std.proofs.lemmas.List.{nil_from_length}
 use Rattle.std.specs.Vec.Iter.{into_iter_items}
 use Rattle.example_map.specs.Mapped.{numbered}
-use Rattle.example_map.proofs.MapLemmas.{numbered_push, one_more}
+use Rattle.mely_actor.proofs.ListLemmas.{one_longer}
+use Rattle.example_map.proofs.MapLemmas.{numbered_push}
 use Rattle.example_map.proofs.mapping.post_each.Goals as goal
 
 pub items-preserved : goal.items-preserved
@@ -14,7 +15,7 @@ items-preserved g c =
     let left = at.left in
     let gone = c.in-Some.ensures.steps.1 in
     let many = at.many in
-    let more = one_more c.items.yielded item in
+    let more = one_longer c.items.yielded item in
     let split = ap length at.split in
     let both = length-append c.items.yielded (into_iter_items c.items.item-iterator) in
     let few = c.requires in

@@ -1,4 +1,4 @@
-use Rattle.std.proofs.Common.{◌≡◌, ◌≤◌, ◌∙◌, refl, ap, sym, subst, arith}
+use Rattle.std.proofs.Common.{◌≡◌, ◌≤◌, ◌<◌, ◌∙◌, refl, ap, sym, subst, arith}
 use Rattle.mely_history.specs.Setup.{colours_of}
 use Rattle.mely_weave.proofs.Wholes.GatherLemmas.{get_there}
 use Rattle.mely_actor.specs.declared.load.Plan.{Plan}
@@ -16,7 +16,7 @@ run_states-requires-clause-served g c = λ lifetimes outlives state at.
     record {
       colours = omega (arith, colours);
       handlers = c.requires.rows;
-      serves = subst (λ (p : Plan g.row.A.Denot g.row.A-Message.Denot). Serves (g.A.Actor.colours_of c.args.actor) (g.A.Actor.rows_of c.args.actor) g.A.Actor.event_of (g.A.Actor.sound c.args.actor) c.args.actor p) (sym of_plan) (record { same = refl; library = c.requires.own; few = c.requires.few; may = c.requires.posts });
+      serves = subst (λ (p : Plan g.row.A.Denot g.row.A-Message.Denot). Serves (g.A.Actor.colours_of c.args.actor) (g.A.Actor.rows_of c.args.actor) g.A.Actor.event_of (g.A.Actor.sound c.args.actor) c.args.actor p) (sym of_plan) (record { same = refl; library = c.requires.own; may = c.requires.posts });
     }
 
 pub run_states-requires-clause-fits : goal.run_states-requires-clause-fits
@@ -24,11 +24,16 @@ run_states-requires-clause-fits g c = λ lifetimes outlives state at.
     let of_plan = c.in_ok-states.ensures.plans 0 state at in
     let some : 1 ≤ colours_of c.args.setup.now = c.args.setup.now.colours_in.0 in
     let rows = c.requires.rows in
+    let colours = c.requires.colours in
     let own = c.requires.own in
     record {
       colour = some;
       handler = omega (arith, rows, own);
-      load = record { first = refl; library = refl; rest = c.from.ensures.0 ∙ ap (λ p. p.posts.items) (sym of_plan) };
+      load = record {
+        there = subst (λ (p : Plan g.row.A.Denot g.row.A-Message.Denot). 0 < g.A.Actor.colours_of p.actor) (sym of_plan) (omega (arith, some, colours));
+        first = refl;
+        are = c.from.ensures.0 ∙ ap (λ p. p.posts.items) (sym of_plan);
+      };
     }
 
 pub returns : goal.returns
@@ -39,4 +44,4 @@ returns g c =
     let first = get_there c.in_ok-states.states.items 0 (omega (arith, some, many)) in
     let of_plan : first.0.plan ≡ plan = c.in_ok-states.ensures.plans 0 first.0 first.1 in
     let left = c.in_ok-states-2.ensures in
-    are_kept g.A.Actor plan c.args.setup.now _ (λ s. refl) (λ s. refl) (λ s. refl) _ (λ colour event load fits. fits) _ _ (λ before event load after puts ran. ran) c.requires.posts _ _ c.in_ok-states-2.field-0.states.items c.in_ok-values.values.items left.ran first.0.plan of_plan (left.framed first.0 first.1) (left.puts first.0 first.1) c.in_ok-values.ensures
+    are_kept g.A.Actor plan c.args.setup.now _ (λ s. refl) (λ s. refl) (λ s. refl) _ _ _ (λ before event load after puts ran. ran) c.requires.posts _ _ c.in_ok-states-2.field-0.states.items c.in_ok-values.values.items left.ran first.0.plan of_plan (left.framed first.0 first.1) (left.puts first.0 first.1) c.in_ok-values.ensures

@@ -2,7 +2,8 @@ use Rattle.std.proofs.Common.{◌≡◌, ◌<◌, ◌≤◌, ◌++◌, ◌∷◌
 use Rattle.std.specs.Prelude.{OnOk}
 use Rattle.example_chat.specs.declared.chat.TheConstants.{CLIENTS}
 use Rattle.example_chat.specs.Chats.{note_of, notes, says}
-use Rattle.example_chat.proofs.SeatLemmas.{last_sent, late_noted, late_sent, line_noted, line_sent, next_sent, none_more, one_sent, seat_kept, seat_more}
+use Rattle.mely_actor.proofs.ListLemmas.{one_sent}
+use Rattle.example_chat.proofs.SeatLemmas.{last_sent, late_noted, late_sent, line_noted, line_sent, next_sent, none_more, seat_kept, seat_more}
 use Rattle.example_chat.proofs.chat.ChatActor.on.Goals as goal
 
 pub returns-then-at-ge-LINES-clause-kept : goal.returns-then-at-ge-LINES-clause-kept

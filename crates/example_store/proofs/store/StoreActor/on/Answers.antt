@@ -1,4 +1,5 @@
-use Rattle.example_store.proofs.StoredLemmas.{answer_done, get_done, one_sent, put_done}
+use Rattle.mely_actor.proofs.ListLemmas.{one_sent}
+use Rattle.example_store.proofs.StoredLemmas.{answer_done, get_done, put_done}
 use Rattle.example_store.proofs.store.StoreActor.on.Goals as goal
 
 pub returns-in-Get-clause-kept : goal.returns-in-Get-clause-kept
