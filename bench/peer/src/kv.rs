@@ -20,7 +20,7 @@ struct Bucket {
 }
 
 fn drawn_after(mut seed: u32, rounds: u32) -> u32 {
-    for _ in 0..=rounds {
+    for _ in 0..rounds + 1 {
         seed = seed.wrapping_mul(1_664_525).wrapping_add(1_013_904_223);
     }
     seed
