@@ -1,8 +1,6 @@
 //! The page of `mely_event::TrailLog`: a state that has one.
 ghost use Rattle.std.specs.Prelude.{◌≡◌, ◌≤◌, ◌-◌, ◌++◌, ◌∷◌, []};
 
-mod shards;
-
 use mely_event::{Colour, Event, Fits, Memory, Trail, TrailLog};
 use std::alloc::Global;
 use std::test::Fail;

@@ -1,5 +1,5 @@
 //! The page of `mely_queue`.
-ghost use Rattle.std.specs.Prelude.{◌≡◌, ◌≤◌};
+ghost use Rattle.std.specs.Prelude.{◌≡◌, []};
 
 use mely_event::{Colour, Event, Handlers, Trail, TrailLog};
 use mely_queue::{ColourQueue, Turn};
@@ -17,12 +17,13 @@ fn run(state: &mut TrailLog, event: Event, load: Option<u8>)
     }
 }
 
-/// Registers an event with a load, and runs a turn of the queue: the state after it.
-fn run_turn(alloc: Global, queue: &mut ColourQueue<u8>, batch: u16) -> Result<TrailLog, Fail>
-    requires { (1 ≤ batch) × (batch ≤ 1000) }
+/// Registers an event with a load on a new queue, and runs a turn of it: the state after it.
+fn after_turn(alloc: Global, queue: &mut ColourQueue<u8>) -> Result<TrailLog, Fail>
+    requires { queue.old ≡ record { events = []; weights = []; started = 0; finished = 0 } }
 {
     let handlers = Handlers::new(&[(60, 2), (7, 2)])?;
-    let (colour, core, event, load) = (Colour(2), 0, EVENT, Some(5));
+    let (colour, core, batch) = (Colour(2), 0, 10);
+    let (event, load) = (EVENT, Some(5));
     let state = TrailLog::new(alloc, colour);
     queue.push(event, load, handlers.weight(event.handler))?;
     let mut turn = Turn::new(colour, core, state, queue.take_up_to(batch)?);
@@ -36,7 +37,7 @@ fn run_turn(alloc: Global, queue: &mut ColourQueue<u8>, batch: u16) -> Result<Tr
 #[test]
 fn a_turn_is_taken_run_and_finished(rt: HostRuntime) -> Result<(), Fail> {
     let mut queue = ColourQueue::new(rt.alloc());
-    let state = run_turn(rt.alloc(), &mut queue, 10)?;
+    let state = after_turn(rt.alloc(), &mut queue)?;
     assert!(rt; state.trail() == [EVENT].as_slice());
     assert!(rt; (queue.started(), queue.finished()) == (1, 1));
     assert!(rt; queue.time_left() == 0);
