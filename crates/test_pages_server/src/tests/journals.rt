@@ -63,6 +63,6 @@ fn a_journal_is_written(rt: HostRuntime) -> Result<(), Fail> {
     let histories = vec![in alloc; turn]?;
     let mut sink = SureSink::new(alloc);
     write_journal(alloc, &mut sink, &histories);
-    assert!(rt; sink.written() == b"shard 0 3\nreg 0 0 1 2\ntake 0 0 1\nfin 0 0 1\n");
+    assert!(rt; sink.written() == b"shard 0 3\nreg 0 0 1 2\ntake 0 0 1\nfin 0 0 1\n".as_slice());
     Ok(())
 }
