@@ -1,5 +1,6 @@
 use Rattle.std.specs.Prelude.{List}
-use Rattle.sws_steps.specs.Path.{Handler, steps_left}
+use Rattle.sws_steps.specs.declared.Handler.{Handler}
+use Rattle.sws_steps.specs.Path.{steps_left}
 use Rattle.sws_steps.specs.Run.{HasRun}
 use Rattle.sws_conn.specs.Http.{http}
 use Rattle.test_pages_server.proofs.tests.connections.served.Given as goal
