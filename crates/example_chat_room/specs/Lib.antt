@@ -1,0 +1,4 @@
+pub mod Loads
+pub mod Heard
+pub mod Seats
+pub mod Talked

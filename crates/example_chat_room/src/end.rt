@@ -1,0 +1,44 @@
+//! How a client's time in the room ends.
+use std::alloc::AllocError;
+use std::fmt;
+
+/// How a client's time in the room ends.
+#[derive(Clone, Copy, Debug, PartialEq, Eq)]
+pub enum End {
+    /// It hung up.
+    Left,
+
+    /// It said a line of more than 512 bytes.
+    LongLine,
+
+    /// It took so little of what others said that more than 64 KiB were on their way to it.
+    Slow,
+
+    /// Its connection failed, or the network.
+    Fault,
+
+    /// There was no memory for what it said or was to be shown.
+    Memory,
+
+    /// A line came to it out of the room's order, and was not shown.
+    Disorder,
+}
+
+impl fmt::Display for End {
+    fn fmt<W: fmt::Write>(&self, f: &mut fmt::Formatter<W>) -> fmt::Result {
+        f.write_str(match self {
+            End::Left => "left",
+            End::LongLine => "was dropped: its line was too long",
+            End::Slow => "was dropped: it didn't take what others said",
+            End::Fault => "was dropped: its connection failed",
+            End::Memory => "was dropped: there was no memory",
+            End::Disorder => "was dropped: a line came out of order",
+        })
+    }
+}
+
+impl From<AllocError> for End {
+    fn from(_error: AllocError) -> End {
+        End::Memory
+    }
+}
