@@ -1,4 +1,0 @@
-mod actors;
-mod apps;
-mod lanes;
-mod runs;
