@@ -44,7 +44,7 @@ fn what_is_done(bytes: &[u8]) -> Done {
 fn a_head_is_cut_off_and_viewed(rt: HostRuntime) {
     let answered = Done::Answered {
         method: 3,
-        target: 5,
+        target: 4,
     };
     assert!(rt; what_is_done(b"GET /a.b HTTP/1.1\r\nHost: x\r\n\r\n") == answered);
     assert!(rt; what_is_done(b"GET /a.b\r\n\r\n") == Done::Refused);
