@@ -13,8 +13,8 @@
 //!
 //! A program brings the state of each colour, which implements [`Trail`] (it keeps the list of the
 //! events that were run on it) and [`Fits`] (which loads its events may carry). [`TrailLog`] is
-//! such a state, ready to use or to be held in another. A value that a lock keeps implements
-//! [`Kept`]. The crate itself runs nothing, and nothing in it but a `TrailLog` takes memory.
+//! such a state, ready to use or to be held in another, and [`Logged`] one with a value beside it.
+//! A value that a lock keeps implements [`Kept`]. The crate itself runs nothing, and nothing in it but a `TrailLog` takes memory.
 //!
 //! ```text
 //! // handler 0 weighs 60 / 2 = 30, handler 1 weighs 7 / 2 = 3
@@ -27,6 +27,7 @@ mod event;
 mod fits;
 mod handlers;
 mod kept;
+mod logged;
 mod mark;
 mod memory;
 mod table_fault;
@@ -40,6 +41,7 @@ pub use event::Event;
 pub use fits::Fits;
 pub use handlers::{Handlers, MAX_HANDLERS};
 pub use kept::Kept;
+pub use logged::Logged;
 pub use mark::Mark;
 pub use memory::Memory;
 pub use table_fault::TableFault;

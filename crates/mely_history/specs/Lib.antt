@@ -1,5 +1,6 @@
 pub mod Ranges
 pub mod Setup
+pub mod Schedules
 pub mod Entries
 pub mod History
 pub mod Legal

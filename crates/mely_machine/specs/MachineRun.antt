@@ -1,8 +1,9 @@
 -- Runs of the machine, from its first event to where nothing is left.
-use Rattle.std.specs.Prelude.{◌≡◌, ◌<◌, ℕ, zero, suc, ◌+◌, Bool, true, false, ◌&&◌, List, [], ◌∷◌, replicate, flat_map}
+use Rattle.std.specs.Prelude.{◌≡◌, ◌<◌, ℕ, zero, suc, ◌+◌, Bool, true, false, ◌&&◌, List, [], ◌∷◌, replicate}
 use Rattle.std.specs.List.{range_with_len, list_all}
 use Rattle.mely_event.specs.declared.colour.Colour.{Colour}
 use Rattle.mely_event.specs.declared.event.Event.{Event}
+use Rattle.mely_history.specs.Schedules.{spelled_out}
 use Rattle.mely_history.specs.declared.entry.Entry.{Entry}
 use Rattle.mely_history.specs.declared.entry.Entry.TheVariants.{Reg}
 use Rattle.mely_worker.specs.declared.delivery.Delivery.{Delivery}
@@ -11,11 +12,6 @@ use Rattle.mely_machine.specs.Rules.{Rules}
 use Rattle.mely_machine.specs.Listing.{Listed}
 use Rattle.mely_machine.specs.Machine.{Acts, Doing, Free, Popped, Picked, Landing, Pushing, Turning, Machine, pushes}
 use Rattle.mely_machine.specs.MachineStep.{history_for, after_entry, reports, delivery_by, step}
-
--- a schedule spelled out: the core of each step that it names, as a list of cores
--- and how many steps of each
-abbrev pub spelled_out : List (ℕ × ℕ) → List ℕ
-spelled_out schedule = flat_map (λ part. replicate part.1 part.0) schedule
 
 -- nothing was registered, every list is empty, and every worker is free
 abbrev pub initial_machine : {X : Type 0} → Rules → X → Machine X

@@ -8,7 +8,8 @@ use Rattle.mely_history.specs.declared.entry.Entry.TheVariants.{Reg, Take, Fin, 
 use Rattle.mely_machine.specs.Rules.{Rules}
 use Rattle.mely_machine.specs.Listing.{Listed, hears, first_to_steal, without_colour}
 use Rattle.mely_machine.specs.Machine.{Acts, Machine}
-use Rattle.mely_machine.specs.MachineRun.{initial_machine, post, steps, rounds, is_quiet, spelled_out}
+use Rattle.mely_machine.specs.MachineRun.{initial_machine, post, steps, rounds, is_quiet}
+use Rattle.mely_history.specs.Schedules.{spelled_out}
 
 -- the colour of this number
 abbrev pub col : ℕ → Colour

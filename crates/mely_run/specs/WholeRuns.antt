@@ -15,7 +15,8 @@ use Rattle.mely_weave.specs.Lanes.{AreByColour}
 use Rattle.mely_weave.specs.Making.{IsInitialWeave}
 use Rattle.mely_weave.specs.declared.running.Went.TheVariants as went
 use Rattle.mely_weave.specs.declared.draining.Drained.TheVariants as drained
-use Rattle.mely_weave.specs.Runs.{RunsTo, KeepsSetup, spelled_out}
+use Rattle.mely_weave.specs.Runs.{RunsTo, KeepsSetup}
+use Rattle.mely_history.specs.Schedules.{spelled_out}
 use Rattle.mely_weave.specs.Drains.{Drains}
 
 module _ {S P F : Type 0} (t : TrailWords S F) (fits : F → Colour → Event → Option P → Type 0) where

@@ -1,5 +1,5 @@
 -- Steps that are made one after another, and runs of a schedule.
-use Rattle.std.specs.Prelude.{◌≡◌, ◌≢◌, ℕ, List, [], ◌∷◌, ◌++◌, Option, All, length, map, take, replicate, flat_map}
+use Rattle.std.specs.Prelude.{◌≡◌, ◌≢◌, ℕ, List, [], ◌∷◌, ◌++◌, Option, All, length, map, take}
 use Rattle.mely_event.specs.declared.colour.Colour.{Colour}
 use Rattle.mely_event.specs.declared.event.Event.{Event}
 use Rattle.mely_event.specs.declared.trail.Trail.{Ghosts as TrailWords}
@@ -24,10 +24,6 @@ CoreStep = ℕ × Made
 -- no step met want of memory
 abbrev pub NoneMetWant : List CoreStep → Type 0
 NoneMetWant steps = All (λ step. step.1 ≢ made.Memory) steps
-
--- the schedule spelled out: the core of each step that it names
-abbrev pub spelled_out : List (ℕ × ℕ) → List ℕ
-spelled_out schedule = flat_map (λ part. replicate part.1 part.0) schedule
 
 -- only the last of so many steps met want of memory, and the cores are named in this order
 pub record StopsAfter (cores : List ℕ) (steps : List CoreStep) (count : ℕ) : Type 0 where

@@ -3,7 +3,8 @@ ghost use Rattle.std.specs.Prelude.{◌≡◌, ◌<◌, ◌^◌, ℕ, All, sum_b
 ghost use Rattle.mely_history.specs.Setup.{shape_of};
 ghost use Rattle.mely_worker.specs.Conditions.{AppServes};
 ghost use Rattle.mely_weave.specs.StandsWell.{StandsWell};
-ghost use Rattle.mely_weave.specs.Runs.{KeepsSetup, RunsTo, spelled_out};
+ghost use Rattle.mely_weave.specs.Runs.{KeepsSetup, RunsTo};
+ghost use Rattle.mely_history.specs.Schedules.{spelled_out};
 ghost use Rattle.mely_weave.specs.WeaveRun.{IsRun};
 
 use crate::weave::Weave;

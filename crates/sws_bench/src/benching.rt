@@ -5,7 +5,7 @@ ghost use Rattle.sws_link.specs.Counts.{HasCause};
 ghost use Rattle.sws_replay.specs.Replays.{WritesOne};
 ghost use Rattle.sws_bench.specs.BenchScript.{bench_bytes};
 ghost use Rattle.sws_bench.specs.BenchSummary.{bench_ends, bench_written, bench_summary};
-ghost use Rattle.sws_engine.specs.Limits.{conn_limit};
+ghost use Rattle.sws_link.specs.Limits.{conn_limit};
 
 use crate::script::generate;
 use crate::site::bench_site;

@@ -13,7 +13,7 @@ use Rattle.sws_steps.specs.declared.talk.Talk.{Ghosts as TalkWords}
 use Rattle.sws_engine.specs.Initial.{AreInitialPlacesOver}
 use Rattle.sws_engine.specs.Counting.{colours_over}
 use Rattle.sws_engine.specs.Place.{PlaceState}
-use Rattle.sws_engine.specs.Limits.{conn_limit}
+use Rattle.sws_link.specs.Limits.{conn_limit}
 use Rattle.sws_engine.specs.Tasks.{handler_count}
 
 -- the setup has the server's handlers, and a colour for polling, for accepting, for each link of a

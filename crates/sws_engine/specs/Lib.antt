@@ -40,4 +40,3 @@ pub mod ConnFollows
 pub mod Begins
 pub mod LogTurns
 pub mod LogStream
-pub mod Limits

@@ -3,7 +3,7 @@ ghost use Rattle.std.specs.Prelude.{◌≡◌, ◌<◌, ◌≤◌, ◌∷◌, �
 ghost use Rattle.sws_engine.specs.Handling.{RunsAccept, RunsAccepting, poll_put, open_put};
 ghost use Rattle.sws_engine.specs.Polling.{MayAccept};
 ghost use Rattle.sws_engine.specs.Tasks.{task_of};
-ghost use Rattle.sws_engine.specs.Limits.{conn_limit};
+ghost use Rattle.sws_link.specs.Limits.{conn_limit};
 
 use crate::load::{Load, WorldLoad};
 use crate::task::Task;

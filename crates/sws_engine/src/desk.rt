@@ -4,7 +4,7 @@ ghost use Rattle.sws_engine.specs.Handling.{Asks, is_to_ask, step_put, onward, r
 ghost use Rattle.sws_engine.specs.Tasks.{task_of};
 ghost use Rattle.mely_worker.specs.Outs.{in_place};
 ghost use Rattle.sws_engine.specs.Polling.{LetsGo, asked_as, PollsOnce};
-ghost use Rattle.sws_engine.specs.Limits.{conn_limit};
+ghost use Rattle.sws_link.specs.Limits.{conn_limit};
 
 use crate::load::{Load, WorldLoad};
 use crate::place::Desk;

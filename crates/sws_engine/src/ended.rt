@@ -1,7 +1,7 @@
 //! What a run leaves.
 ghost use Rattle.std.specs.Prelude.{◌≡◌, ◌≤◌, ◌+◌, [], IfOk, vec_capacity};
 ghost use Rattle.sws_engine.specs.EndRoom.{HasEndRoom};
-ghost use Rattle.sws_engine.specs.Limits.{conn_limit};
+ghost use Rattle.sws_link.specs.Limits.{conn_limit};
 
 use mely_event::Event;
 use mely_history::Entry;

@@ -47,7 +47,7 @@ impl<'g, W: World + Drop, T: Talk<W::Link> + Drop, G: Gate> App for Gated<'g, W,
     ghost use Rattle.std.specs.Prelude.{◌≡◌, ◌≤◌, ◌+◌};
     ghost use Rattle.sws_engine.specs.Handling.{Runs};
     ghost use Rattle.sws_engine.specs.Counting.{colours_over};
-    ghost use Rattle.sws_engine.specs.Limits.{conn_limit};
+    ghost use Rattle.sws_link.specs.Limits.{conn_limit};
     ghost use Rattle.sws_engine.specs.Tasks.{handler_count};
     ghost use Rattle.sws_engine.specs.PlaceFields.{frame_in};
 

@@ -8,7 +8,7 @@ ghost use Rattle.mely_run.specs.WholeRuns.{IsRunOut};
 ghost use Rattle.sws_engine.specs.Counting.{colours_over};
 ghost use Rattle.sws_engine.specs.LogStream.{LogsInOrder};
 ghost use Rattle.sws_engine.specs.RunFact.{RunFact};
-ghost use Rattle.sws_engine.specs.Limits.{conn_limit};
+ghost use Rattle.sws_link.specs.Limits.{conn_limit};
 ghost use Rattle.sws_engine.specs.Tasks.{handler_count};
 
 use crate::gated::Gated;

@@ -5,7 +5,7 @@ ghost use Rattle.sws_engine.specs.Seating.{LoadSuits, IsUnopened, HasRunSome, Is
 ghost use Rattle.sws_conn.specs.Talks.{due, due_after, reported_next, opened_view};
 ghost use Rattle.sws_engine.specs.Tasks.{number_of};
 ghost use Rattle.sws_engine.specs.Invariant.{RanBy};
-ghost use Rattle.sws_engine.specs.Limits.{conn_limit};
+ghost use Rattle.sws_link.specs.Limits.{conn_limit};
 ghost use Rattle.sws_engine.specs.Handling.{is_due, next_puts, log_put, line_puts, KeepsEnd, PutsNext, RunsSeat};
 
 use crate::load::Load;

@@ -6,7 +6,7 @@ ghost use Rattle.sws_engine.specs.Initial.{IsInitialPlaceOver, AreInitialPlacesO
 ghost use Rattle.sws_engine.specs.Counting.{colours_over};
 ghost use Rattle.sws_engine.specs.LogStream.{LogsInOrder};
 ghost use Rattle.sws_engine.specs.RunFact.{RunFact};
-ghost use Rattle.sws_engine.specs.Limits.{conn_limit};
+ghost use Rattle.sws_link.specs.Limits.{conn_limit};
 
 use crate::load::{Load, WorldLoad};
 use crate::place::{Desk, Place, Role, Seat};

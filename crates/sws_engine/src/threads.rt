@@ -12,7 +12,7 @@ ghost use Rattle.sws_engine.specs.Invariant.{IsConsistent};
 ghost use Rattle.sws_engine.specs.RunFits.{RunFits};
 ghost use Rattle.sws_engine.specs.PartsKept.{PartsKept};
 ghost use Rattle.sws_engine.specs.ThreadsLeave.{ThreadsLeave};
-ghost use Rattle.sws_engine.specs.Limits.{conn_limit};
+ghost use Rattle.sws_link.specs.Limits.{conn_limit};
 ghost use Rattle.sws_engine.specs.Modelled.{IsModelled};
 ghost use Rattle.sws_engine.specs.Scripted.{IsScheduled};
 ghost use Rattle.sws_engine.specs.StepsLeave.{StepsLeave};

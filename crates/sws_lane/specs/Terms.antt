@@ -2,7 +2,7 @@
 use Rattle.std.specs.Prelude.{ℕ, ◌≤◌}
 use Rattle.mely_history.specs.Ranges.{core_limit, shard_limit, batch_limit, group_limit}
 use Rattle.mely_history.specs.declared.shape.Shape.{Shape}
-use Rattle.sws_engine.specs.Limits.{conn_limit}
+use Rattle.sws_link.specs.Limits.{conn_limit}
 use Rattle.sws_lane.specs.declared.lane.Terms.{Terms}
 
 -- the number is in the range, whose ends belong to it

@@ -7,7 +7,7 @@ ghost use Rattle.sws_replay.specs.Expected.{by_http, of_talk};
 ghost use Rattle.sws_replay.specs.OfInput.{AreOfInput};
 ghost use Rattle.sws_replay.specs.Replays.{IsReplay, IsScheduledReplay, WritesOne, result_of};
 ghost use Rattle.sws_engine.specs.Counting.{colours_over};
-ghost use Rattle.sws_engine.specs.Limits.{conn_limit};
+ghost use Rattle.sws_link.specs.Limits.{conn_limit};
 
 use crate::fault::RunFault;
 use crate::running::{run_steps, run_talks};

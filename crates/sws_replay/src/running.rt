@@ -8,7 +8,7 @@ ghost use Rattle.sws_script.specs.Scripted.{script_of, told_of};
 ghost use Rattle.sws_replay.specs.Expected.{by_http, of_talk};
 ghost use Rattle.sws_replay.specs.OfInput.{AreOfInput};
 ghost use Rattle.sws_replay.specs.Runs.{RunsWell, histories_of};
-ghost use Rattle.sws_engine.specs.Limits.{conn_limit};
+ghost use Rattle.sws_link.specs.Limits.{conn_limit};
 
 use crate::fault::RunFault;
 use mely_history::Shape;

@@ -9,7 +9,7 @@ ghost use Rattle.sws_log.specs.Lines.{log_text};
 ghost use Rattle.sws_report.specs.Transcript.{transcript, conn_text};
 ghost use Rattle.sws_replay.specs.Runs.{histories_of};
 ghost use Rattle.sws_replay.specs.Showing.{IsShowable, journal_part, shown_of};
-ghost use Rattle.sws_engine.specs.Limits.{conn_limit};
+ghost use Rattle.sws_link.specs.Limits.{conn_limit};
 
 use crate::fitting::journal_fits;
 use mely_history::Entry;

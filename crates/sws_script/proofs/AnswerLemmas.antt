@@ -15,7 +15,7 @@ use Rattle.sws_script.specs.declared.line.Line.TheVariants as line
 use Rattle.sws_script.specs.Lines.{SpellsLine, IsSpelled}
 use Rattle.sws_script.specs.Inputs.{step_lines, cut_lines, conn_lines, run_line, schedule_lines, script_lines, input_lines}
 use Rattle.sws_script.specs.Grammar.{lines_of, size_of, Spells, Begin, MayStand, IsFirstOutside, IsFirstTooMany, is_conn, conns_in, IsCause, IsUnlessMemory}
-use Rattle.sws_script.specs.Limits.{conn_limit}
+use Rattle.sws_link.specs.Limits.{conn_limit}
 use Rattle.sws_script.specs.Order.{grown, conns_of, input_of, no_contents, bare_conn}
 use Rattle.sws_script.proofs.SplitLemmas.{to-spelled, spelled-unique}
 use Rattle.sws_script.proofs.StandingLemmas.{is_conn-line, is_conn_line, length-conns_of-grown}

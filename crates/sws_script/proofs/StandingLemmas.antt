@@ -18,7 +18,8 @@ use Rattle.sws_script.specs.declared.place.Place.TheVariants.{ScheduleHead, Step
 use Rattle.sws_script.specs.Lines.{SpellsLine, IsSpelled}
 use Rattle.sws_script.specs.Inputs.{input_lines, script_lines, schedule_lines, run_line}
 use Rattle.sws_script.specs.Grammar.{lines_of, size_of, Spells, Begin, MayStand, IsFirstOutside, IsFirstTooMany, is_conn, conns_in, IsCause}
-use Rattle.sws_script.specs.Limits.{byte_limit, conn_limit}
+use Rattle.sws_script.specs.Limits.{byte_limit}
+use Rattle.sws_link.specs.Limits.{conn_limit}
 use Rattle.sws_script.specs.Order.{in_script, place_after, State, total_after, state_of, state_after, run, start, grown, conns_of, input_of, no_contents}
 use Rattle.sws_text.specs.Lines.{IsFirstLine}
 use Rattle.sws_script.specs.Parsers.{state}

@@ -8,7 +8,7 @@ use Rattle.sws_script.specs.declared.line.Line.TheVariants as line
 use Rattle.sws_script.specs.Lines.{IsSpelled}
 use Rattle.sws_script.specs.Order.{state_after, conns_of}
 use Rattle.sws_script.specs.Parsers.{state, Adds}
-use Rattle.sws_script.specs.Limits.{conn_limit}
+use Rattle.sws_link.specs.Limits.{conn_limit}
 
 -- the line was added, and begins no connection too many
 pub record AddsSpelled (old new : Parser) (text : List ℕ) : Type 0 where

@@ -8,7 +8,8 @@ use Rattle.sws_script.specs.declared.fault.ScriptFault.TheVariants.{Bad, TooMany
 pub use Rattle.sws_text.specs.Lines.{lines_of}
 use Rattle.sws_script.specs.Lines.{SpellsLine}
 use Rattle.sws_script.specs.Inputs.{IsInput, input_lines}
-use Rattle.sws_script.specs.Limits.{byte_limit, conn_limit}
+use Rattle.sws_script.specs.Limits.{byte_limit}
+use Rattle.sws_link.specs.Limits.{conn_limit}
 
 -- each line spells a line of the input, in order
 abbrev pub SpellLines : Bool → List (List ℕ) → Input → Type 0

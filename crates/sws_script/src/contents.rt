@@ -1,7 +1,7 @@
 //! What lines have said.
 ghost use Rattle.std.specs.Prelude.{◌≡◌, ◌≤◌, [], ◌++◌, ◌∷◌, length, Some, None, IfOk, OnOk, option_map, option_to_list};
 ghost use Rattle.sws_script.specs.declared.line.Line.TheVariants as line;
-ghost use Rattle.sws_script.specs.Limits.{conn_limit};
+ghost use Rattle.sws_link.specs.Limits.{conn_limit};
 ghost use Rattle.sws_script.specs.Order.{grown, no_contents, conns_of, input_of, bare_conn, with_step, with_cut, with_item};
 
 use crate::line::Line;

@@ -5,7 +5,8 @@ ghost use Rattle.sws_script.specs.declared.fault.ScriptFault.TheVariants.{Memory
 ghost use Rattle.sws_script.specs.declared.input.Input.{Input as InputValue};
 ghost use Rattle.sws_script.specs.Inputs.{IsInput};
 ghost use Rattle.sws_script.specs.Grammar.{Spells, IsCause};
-ghost use Rattle.sws_script.specs.Limits.{byte_limit, conn_limit};
+ghost use Rattle.sws_script.specs.Limits.{byte_limit};
+ghost use Rattle.sws_link.specs.Limits.{conn_limit};
 ghost use Rattle.sws_script.specs.Printed.{print_input};
 ghost use Rattle.sws_script.specs.Scripted.{fill_pieces};
 ghost use Rattle.sws_link.specs.LinkItems.{all_bytes};

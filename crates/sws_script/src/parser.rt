@@ -1,6 +1,7 @@
 //! An input in the making.
 ghost use Rattle.std.specs.Prelude.{◌≡◌, ◌≤◌, length, IfOk, IfSome};
-ghost use Rattle.sws_script.specs.Limits.{step_limit, conn_limit};
+ghost use Rattle.sws_script.specs.Limits.{step_limit};
+ghost use Rattle.sws_link.specs.Limits.{conn_limit};
 ghost use Rattle.sws_script.specs.Order.{start, no_contents, conns_of, total_after};
 ghost use Rattle.sws_script.specs.Parsers.{state, TakesLine, Finishes};
 

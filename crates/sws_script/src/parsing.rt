@@ -4,7 +4,8 @@ ghost use Rattle.sws_script.specs.declared.fault.ScriptFault.{ScriptFault as Fau
 ghost use Rattle.sws_script.specs.declared.fault.ScriptFault.TheVariants.{Memory};
 ghost use Rattle.sws_script.specs.declared.input.Input.{Input as InputValue};
 ghost use Rattle.sws_script.specs.declared.line.Line.TheVariants as line;
-ghost use Rattle.sws_script.specs.Limits.{step_limit, conn_limit};
+ghost use Rattle.sws_script.specs.Limits.{step_limit};
+ghost use Rattle.sws_link.specs.Limits.{conn_limit};
 ghost use Rattle.sws_script.specs.Grammar.{Spells, IsCause, IsUnlessMemory};
 ghost use Rattle.sws_script.specs.Order.{conns_of};
 ghost use Rattle.sws_script.specs.Adding.{AddsLine};

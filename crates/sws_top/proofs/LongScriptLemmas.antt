@@ -4,7 +4,8 @@ use Rattle.std.specs.Prelude.{codes}
 use Rattle.std.specs.List.{onto_first}
 use Rattle.std.proofs.Common.{◌≡◌, ℕ, zero, suc, ◌+◌, ◌<◌, ◌≤◌, Bool, true, false, cond, eqb, List, [], ◌∷◌, ◌++◌, length, take, refl, sym, ◌∙◌, ap, subst, arith, length-append}
 use Rattle.sws_script.specs.Grammar.{lines_of, size_of, conns_in, Begin, MayStand, IsFirstOutside, IsFirstTooMany, IsCause}
-use Rattle.sws_script.specs.Limits.{byte_limit, conn_limit}
+use Rattle.sws_script.specs.Limits.{byte_limit}
+use Rattle.sws_link.specs.Limits.{conn_limit}
 use Rattle.sws_script.specs.declared.fault.ScriptFault.{ScriptFault}
 use Rattle.sws_script.specs.declared.fault.ScriptFault.TheVariants.{Bad, TooMany, Memory}
 use Rattle.sws_script.proofs.AnswerLemmas.{MayStand-earlier}

@@ -8,7 +8,7 @@ use Rattle.sws_link.specs.declared.world.World.{Ghosts as WorldWords}
 use Rattle.sws_engine.specs.declared.ended.Ended.{Ended}
 use Rattle.sws_engine.specs.declared.ended.Verdict.TheVariants as verdict
 use Rattle.sws_script.specs.Grammar.{Spells}
-use Rattle.sws_script.specs.Limits.{conn_limit}
+use Rattle.sws_link.specs.Limits.{conn_limit}
 use Rattle.sws_script.specs.declared.input.Input.{Input}
 use Rattle.sws_words.specs.Orders.{Order, answer, replay, serve, bench, check, gopher}
 use Rattle.sws_top.specs.declared.faults.TopFault.TheVariants.{ReadFault, WriteFault, WorldFault, Memory, Apart}

@@ -4,7 +4,7 @@ use Rattle.mely_history.specs.declared.shape.Shape.{Shape as RunShape}
 use Rattle.mely_history.specs.Ranges.{core_limit, shard_limit, batch_limit, group_limit}
 use Rattle.sws_site.specs.Site.{last_second}
 use Rattle.sws_words.specs.Orders.{Order, Shape, cost_limit, host_limit, answer, replay, serve, bench, check, gopher}
-use Rattle.sws_engine.specs.Limits.{conn_limit}
+use Rattle.sws_link.specs.Limits.{conn_limit}
 
 -- the number is in the range, whose ends belong to it
 abbrev pub IsBetween : ℕ → ℕ → ℕ → Type 0

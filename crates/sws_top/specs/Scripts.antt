@@ -3,7 +3,8 @@ use Rattle.std.specs.Prelude.{◌≡◌, ◌≤◌, ◌<◌, ◌++◌, ◌⊎◌
 use Rattle.sws_link.specs.Counts.{Rose, IsLater, HasCause}
 use Rattle.sws_link.specs.declared.Source.{Ghosts as SourceWords}
 use Rattle.sws_script.specs.Grammar.{Spells, IsCause}
-use Rattle.sws_script.specs.Limits.{byte_limit, conn_limit}
+use Rattle.sws_script.specs.Limits.{byte_limit}
+use Rattle.sws_link.specs.Limits.{conn_limit}
 use Rattle.sws_script.specs.Inputs.{IsInput}
 use Rattle.sws_script.specs.declared.fault.ScriptFault.TheVariants as script_fault
 use Rattle.sws_script.specs.declared.input.Input.{Input}

@@ -2,7 +2,7 @@
 ghost use Rattle.sws_top.specs.Faults.{fault_of};
 ghost use Rattle.sws_top.specs.RanBench.{RanBench};
 ghost use Rattle.sws_top.specs.Ranges.{IsBetween, IsRunShape};
-ghost use Rattle.sws_engine.specs.Limits.{conn_limit};
+ghost use Rattle.sws_link.specs.Limits.{conn_limit};
 
 use crate::faults::{TopFault, run_fault};
 use mely_history::Shape;

@@ -4,7 +4,7 @@ ghost use Rattle.sws_replay.specs.Accepted.{IsServerSetup};
 ghost use Rattle.sws_top.specs.Faults.{fault_of};
 ghost use Rattle.sws_top.specs.RanCheck.{RanCheck};
 ghost use Rattle.sws_top.specs.Ranges.{IsRunShape};
-ghost use Rattle.sws_engine.specs.Limits.{conn_limit};
+ghost use Rattle.sws_link.specs.Limits.{conn_limit};
 
 use crate::checked::write_report;
 use crate::faults::{TopFault, check_fault};

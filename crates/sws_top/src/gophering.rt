@@ -6,7 +6,7 @@ ghost use Rattle.sws_top.specs.Faults.{fault_of, status_of};
 ghost use Rattle.sws_top.specs.Hands.{hands};
 ghost use Rattle.sws_top.specs.RanGopher.{RanGopher, RanGopherScript, RanGopherServe};
 ghost use Rattle.sws_top.specs.Ranges.{IsBetween, IsRunShape};
-ghost use Rattle.sws_engine.specs.Limits.{conn_limit};
+ghost use Rattle.sws_link.specs.Limits.{conn_limit};
 
 use crate::faults::TopFault;
 use crate::outcomes::Outcome;

@@ -1,7 +1,7 @@
 //! The command `replay`: a script, run in memory.
 ghost use Rattle.std.specs.Prelude.{◌≡◌, ◌≤◌, true, length};
 ghost use Rattle.sws_replay.specs.Expected.{of_talk};
-ghost use Rattle.sws_script.specs.Limits.{conn_limit};
+ghost use Rattle.sws_link.specs.Limits.{conn_limit};
 ghost use Rattle.sws_script.specs.Inputs.{IsInput};
 ghost use Rattle.sws_top.specs.Faults.{fault_of};
 ghost use Rattle.sws_top.specs.Hands.{hands};

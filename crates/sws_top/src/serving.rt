@@ -6,7 +6,7 @@ ghost use Rattle.sws_log.specs.Lines.{log_text};
 ghost use Rattle.sws_top.specs.Faults.{put_fault_of, status_of};
 ghost use Rattle.sws_top.specs.RanServe.{ends_of, summary_of, CanSumUp, EndsBy, IsServeEnd, RanServe};
 ghost use Rattle.sws_top.specs.Ranges.{IsBetween, IsDate, IsRunShape};
-ghost use Rattle.sws_engine.specs.Limits.{conn_limit};
+ghost use Rattle.sws_link.specs.Limits.{conn_limit};
 
 use crate::faults::TopFault;
 use crate::outcomes::Outcome;

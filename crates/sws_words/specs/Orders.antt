@@ -5,6 +5,7 @@ use Rattle.std.specs.List.{list_all}
 use Rattle.std.specs.Str.{bytes_eq, all_ascii_digits}
 use Rattle.std.specs.Str.Parse.{digits_value, without_leading_plus}
 use Rattle.mely_history.specs.Ranges.{core_limit, shard_limit, batch_limit, group_limit}
+use Rattle.sws_link.specs.Limits.{conn_limit}
 use Rattle.sws_words.specs.Grammar.{Text, Known, Given, given_of, places, value_of, has_flag}
 
 -- ---- numbers
@@ -57,10 +58,6 @@ pub data Order : Type 0 where
 -- the highest cost of a steal, which is what the time left of a colour has to exceed for it
 abbrev pub cost_limit : ℕ
 cost_limit = 1000000
-
--- the most connections of a run
-abbrev pub conn_limit : ℕ
-conn_limit = 1024
 
 -- the options that shape a run
 abbrev pub shape_options : List Text

@@ -6,7 +6,8 @@ use Rattle.mely_event.specs.declared.event.Event.{Event}
 use Rattle.mely_event.specs.declared.mark.Mark.{Mark}
 use Rattle.mely_machine.specs.Rules.{Rules}
 use Rattle.mely_machine.specs.Machine.{Acts, Machine}
-use Rattle.mely_machine.specs.MachineRun.{initial_machine, post, steps, spelled_out}
+use Rattle.mely_machine.specs.MachineRun.{initial_machine, post, steps}
+use Rattle.mely_history.specs.Schedules.{spelled_out}
 
 -- shorter names for what the cases are made of: a colour by its number
 abbrev pub col : ℕ → Colour

@@ -10,7 +10,7 @@ use Rattle.mely_history.specs.declared.entry.Entry.{Entry}
 use Rattle.mely_worker.specs.declared.app.App.{Ghosts as AppWords}
 use Rattle.mely_worker.specs.declared.delivery.Delivery.{Delivery}
 use Rattle.mely_worker.specs.declared.delivery.Delivery.TheVariants.{Nothing, PushMark, Report}
-use Rattle.mely_weave.specs.Runs.{spelled_out}
+use Rattle.mely_history.specs.Schedules.{spelled_out}
 use Rattle.mely_machine.specs.Rules.{Rules, rules_of}
 use Rattle.mely_machine.specs.Machine.{Acts, Machine}
 use Rattle.mely_machine.specs.MachineRun.{initial_machine, delivers, post, steps, rounds, RunsTo}

@@ -1,7 +1,8 @@
 use Rattle.std.proofs.Common.{◌<◌, ◌∙◌, sym, subst, get_or}
 use Rattle.mely_history.specs.declared.setup.Setup.{Setup}
 use Rattle.mely_history.specs.Setup.{shape_of}
-use Rattle.mely_weave.specs.Runs.{RunsTo, spelled_out}
+use Rattle.mely_weave.specs.Runs.{RunsTo}
+use Rattle.mely_history.specs.Schedules.{spelled_out}
 use Rattle.mely_weave.specs.Drains.{Drains}
 use Rattle.mely_weave.specs.declared.running.Went.{Went}
 use Rattle.mely_weave.specs.declared.draining.Drained.{Drained}

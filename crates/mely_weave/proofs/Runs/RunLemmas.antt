@@ -46,7 +46,8 @@ use Rattle.mely_weave.specs.Weave.{WeaveState}
 use Rattle.mely_weave.proofs.Runs.SidedStepLemmas.{step_on_side}
 use Rattle.mely_weave.specs.declared.running.Went.{Went}
 use Rattle.mely_weave.specs.declared.running.Went.TheVariants as went
-use Rattle.mely_weave.specs.Runs.{KeepsSetup, CoreStep, NoneMetWant, StopsAfter, StepsWell, Makes, RunsTo, spelled_out}
+use Rattle.mely_weave.specs.Runs.{KeepsSetup, CoreStep, NoneMetWant, StopsAfter, StepsWell, Makes, RunsTo}
+use Rattle.mely_history.specs.Schedules.{spelled_out}
 
 -- the history is the earlier one, and more
 abbrev pub Grows : {S P : Type 0} → ShardState S P → ShardState S P → Type 0

@@ -15,7 +15,8 @@ use Rattle.mely_weave.specs.StandsWell.{StandsWell}
 use Rattle.mely_weave.specs.Weave.{WeaveState}
 use Rattle.mely_weave.specs.Steps.{PostsAt}
 use Rattle.mely_weave.specs.Making.{IsInitialWeave}
-use Rattle.mely_weave.specs.Runs.{KeepsSetup, RunsTo, spelled_out}
+use Rattle.mely_weave.specs.Runs.{KeepsSetup, RunsTo}
+use Rattle.mely_history.specs.Schedules.{spelled_out}
 use Rattle.mely_weave.specs.Drains.{Drains}
 use Rattle.mely_weave.specs.declared.running.Went.TheVariants as went
 use Rattle.mely_weave.specs.declared.draining.Drained.{Drained}

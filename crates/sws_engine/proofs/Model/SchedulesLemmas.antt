@@ -6,7 +6,8 @@ use Rattle.sws_steps.specs.declared.Handler.TheVariants as handler
 use Rattle.mely_machine.specs.Rules.{Rules}
 use Rattle.mely_machine.specs.Machine.{Acts, Machine}
 use Rattle.mely_machine.specs.MachineStep.{step}
-use Rattle.mely_machine.specs.MachineRun.{initial_machine, post, steps, rounds, is_quiet, spelled_out}
+use Rattle.mely_machine.specs.MachineRun.{initial_machine, post, steps, rounds, is_quiet}
+use Rattle.mely_history.specs.Schedules.{spelled_out}
 use Rattle.sws_engine.specs.Server.{initial_server, serve}
 use Rattle.sws_engine.specs.ServerRun.{server_rules, IsRunOfPaths}
 use Rattle.sws_engine.specs.ServerRows.{col, event, two_cores, worked_histories, polled_histories, step as step_of, answered, logged_histories}

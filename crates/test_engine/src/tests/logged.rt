@@ -2,7 +2,7 @@
 ghost use Rattle.std.specs.Prelude.{◌≤◌, ◌<◌, ◌^◌, All, sum_by, length};
 ghost use Rattle.std.specs.List.{AllByRecursion};
 ghost use Rattle.sws_link.specs.MemWorlds.{IsInitialMemLink};
-ghost use Rattle.sws_engine.specs.Limits.{conn_limit};
+ghost use Rattle.sws_link.specs.Limits.{conn_limit};
 
 use super::replaying::{links_of, site};
 use super::{ASKS, BEGIN, BOTH, G, PLAIN, Part};

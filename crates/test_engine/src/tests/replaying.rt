@@ -2,7 +2,7 @@
 ghost use Rattle.std.specs.Prelude.{◌≤◌, ◌<◌, ◌^◌, All, IfSome, sum_by, length};
 ghost use Rattle.std.specs.List.{AllByRecursion};
 ghost use Rattle.sws_link.specs.MemWorlds.{IsInitialMemLink};
-ghost use Rattle.sws_engine.specs.Limits.{conn_limit};
+ghost use Rattle.sws_link.specs.Limits.{conn_limit};
 
 use mely_event::Handlers;
 use mely_history::{Setup, Shape};

@@ -3,7 +3,7 @@ ghost use Rattle.std.specs.Prelude.{◌≡◌, ◌≤◌, ◌<◌, ◌^◌, None
 ghost use Rattle.std.specs.List.{AllByRecursion};
 ghost use Rattle.mely_history.specs.Setup.{first_out_of_range};
 ghost use Rattle.sws_link.specs.MemWorlds.{IsInitialMemLink};
-ghost use Rattle.sws_engine.specs.Limits.{conn_limit};
+ghost use Rattle.sws_link.specs.Limits.{conn_limit};
 
 use super::replaying::{Client, Part, links_of, site};
 use super::starving::{Starving, Thrifty};

@@ -1,6 +1,7 @@
 use Rattle.std.proofs.Common.{◌≡◌, ◌+◌, sym, subst, replicate, length, take, suc, get_or, List, ℕ, refl, arith}
 use Rattle.std.proofs.lemmas.List.{length-replicate, take_all}
-use Rattle.mely_weave.specs.Runs.{RunsTo, spelled_out}
+use Rattle.mely_weave.specs.Runs.{RunsTo}
+use Rattle.mely_history.specs.Schedules.{spelled_out}
 use Rattle.mely_weave.specs.declared.running.Went.TheVariants as went
 use Rattle.mely_weave.proofs.Runs.RunLemmas.{run_none, run_same, same_onward, low_on, serves_on, parts_more, parts_stop, parts_within, parts_counted, stops_within}
 use Rattle.mely_weave.proofs.Runs.CallRunsLemmas.{makes_is_run}

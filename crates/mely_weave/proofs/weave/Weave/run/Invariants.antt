@@ -1,6 +1,7 @@
 use Rattle.std.proofs.Common.{◌≡◌, take, length}
 use Rattle.mely_weave.specs.StandsWell.{StandsWell}
-use Rattle.mely_weave.specs.Runs.{RunsTo, spelled_out}
+use Rattle.mely_weave.specs.Runs.{RunsTo}
+use Rattle.mely_history.specs.Schedules.{spelled_out}
 use Rattle.mely_weave.specs.declared.running.Went.TheVariants as went
 use Rattle.mely_weave.proofs.weave.Weave.run.Given as goal
 
