@@ -10,7 +10,7 @@ don't count, nor do line breaks, indentation, and a comma before a bracket that 
 A block that is no code has another word than `text` behind its fence: `usage` for words of a command, `output` for what is printed, `diagram`
 for a picture; nothing is asked of it.
 
---check prints a line for each example that stands nowhere, but for those of the files in NOT_YET, and one of the sums; the status is 1 where there is one. --list says of
+--check prints a line for each example that stands nowhere, and one of the sums; the status is 1 where there is one. --list says of
 each where it stands. --docs says the same of the blocks with the word `rust` in README.md and docs/*.md; its status is 0, since a document
 may show a text that no crate has.
 """
@@ -23,11 +23,6 @@ from typing import NamedTuple
 
 TOP = os.path.dirname(os.path.dirname(os.path.abspath(__file__)))
 NO_CODE = ("usage", "output", "diagram")
-# The files of examples that no crate has yet. One that a crate has by now is told as wrong, so that this list grows shorter.
-NOT_YET = tuple(
-    f"crates/{crate}/src/lib.rt"
-    for crate in ("mely_shard", "mely_app", "mely_actor", "example_chat_room", "sws_lane", "sws_replay", "sws_bench", "sws_top")
-)
 TOKEN = re.compile(
     r"""(?P<gap>\s+|//[^\n]*|/\*.*?\*/)"""
     r"""|b?r(?P<hashes>\#+)".*?"(?P=hashes)|b?r"[^"]*"|b?"(?:\\.|[^"\\])*\""""
@@ -114,8 +109,6 @@ def told_of(block, sources):
     if tokens_of(block.text) == "\0":
         return False, f"{block.place}: it has no code"
     files = sources.where(block.text)
-    if block.file in NOT_YET:
-        return not files, f"{block.place}: {'stands in ' + files[0] + ' by now' if files else 'not compiled yet'}"
     return bool(files), f"{block.place}: {', '.join(files) or 'no crate has this text as code'}"
 
 
@@ -136,8 +129,7 @@ def main():
         if not good or not options.check and (options.list or options.docs):
             print(line)
     missing = sum(not good for good, _line in told)
-    later = sum(block.file in NOT_YET and block.word not in NO_CODE for block in blocks)
-    print(f"{len(blocks)} blocks, {sum(block.word in NO_CODE for block in blocks)} of them no code, {later} not compiled yet, {missing} wrong")
+    print(f"{len(blocks)} blocks, {sum(block.word in NO_CODE for block in blocks)} of them no code, {missing} wrong")
     sys.exit(1 if missing and not options.docs else 0)
 
 

@@ -16,10 +16,20 @@
 //! than 64 KiB are on their way to it, is dropped, and its [`End`] says so.
 //!
 //! ```text
-//! let ended = run_chat(&rt, alloc, 2, world)?;   // a world that is open, on two workers
-//! for seat in &ended.states {
-//!     if let Part::Client(client) = seat.part() { /* client.end() */ }
+//! let ended = run_chat(threads, rt.alloc(), words.workers, world)?;
+//! tell(rt, &ended.states)
+//! ```
+//!
+//! The world is open by then. What it leaves is read off the states, as the program of
+//! `example_chat_server` does:
+//!
+//! ```text
+//! Part::Room => {
+//!     if println!(rt; "the room had {} lines", seat.events()).is_err() {
+//!         return Err(Fault::Network);
+//!     }
 //! }
+//! Part::Client(client) => tell_client(rt, colour.saturating_sub(1), client.end())?
 //! ```
 //!
 //! What is promised is [`IsChat`](../specs/Talked.antt): each line that the room got was handed to

@@ -2,13 +2,15 @@
 //! message, and one fact about them.
 //!
 //! An [`Actor`] says how the value of a colour begins and what a message does to it, and what it
-//! keeps over the messages that it has received and those that it has sent. [`run_actors`] posts the first messages, as many
-//! as are given, runs all on threads until nothing is left, and hands out the values.
+//! keeps over the messages that it has received and those that it has sent. [`run_actors`] posts
+//! the first messages, as many as are given, runs all on threads until nothing is left, and hands
+//! out the values ([`Ended`]), as here in `example_bank`:
 //!
 //! ```text
-//! let posts = vec![in alloc; (Colour(0), Add(3)), (Colour(1), Add(4))]?;
-//! let ended = run_actors(&rt, alloc, &setup, Adder, posts)?;
-//! ended.values[1] // what colour 1 has come to
+//! let Ok(setup) = Setup::new(&shape, ACCOUNTS, handlers, 0) else {
+//!     unreachable!()
+//! };
+//! run_actors(rt, alloc, &setup, Bank, posts)
 //! ```
 //!
 //! What is promised is [`AreKept`](../specs/Received.antt): what each colour received is what its

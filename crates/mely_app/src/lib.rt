@@ -4,12 +4,18 @@
 //! colour. Here a state says how it begins ([`Initial`]), and [`run_app`] does all the rest: it
 //! makes the states and the fleet, posts the first event, lets a thread for each core work until
 //! nothing is left, closes the fleet, and hands out the states with the histories ([`Ended`]).
-//! [`run_states`] takes states that its caller has made. `docs/FIRST_APP.md` walks a whole program, the crate `example_hello`.
+//! [`run_states`] takes states that its caller has made. `docs/FIRST_APP.md` walks a whole program,
+//! the crate `example_hello`, which ends so:
 //!
 //! ```text
-//! let setup = Setup::new(&shape, 2, handlers, 0)?;
-//! let ended = run_app(&rt, rt.alloc(), &setup, &app, Colour(0), event, None)?;
-//! ended.states[1] // what colour 1 has come to
+//! let Ok(setup) = Setup::new(&shape, COLOURS, handlers, 0) else {
+//!     unreachable!()
+//! };
+//! let first = Event {
+//!     handler: GREET,
+//!     arg: times - 1,
+//! };
+//! run_app(rt, alloc, &setup, &Greeting, Colour(0), first, None)
 //! ```
 //!
 //! What is promised is [`RanAll`](../specs/RanAll.antt): every event that was registered was run,

@@ -12,12 +12,8 @@ use crate::trail_log::TrailLog;
 /// [`TrailLog`] shows.
 ///
 /// ```text
-/// fn sum_up(state: &mut Logged<u64>, event: Event, load: Option<u32>)
-///     requires room { 1 ≤ state.old.log.spare }
-/// {
-///     state.log.push(event);
-///     state.value = state.value.wrapping_add(u64::from(load.unwrap_or(0)));
-/// }
+/// state.log.push(event);
+/// state.value = state.value.wrapping_add(u64::from(load.unwrap_or(0)));
 /// ```
 #[derive(Debug, Drop)]
 pub struct Logged<T> {

@@ -10,17 +10,13 @@
 //! the shard's history, and the type keeps that the history is legal by the rules of
 //! `mely_history`. A history has at most [`MAX_ENTRIES`].
 //!
+//! A worker runs what a turn has, and takes the state home:
+//!
 //! ```text
-//! let mut shard = Shard::new(alloc, &setup, 0, states)?;
-//! shard.register(Colour(2), event, None, 0)?;
-//! let mut turn = shard.take(Colour(2), 0)?;
 //! while let Some((event, load)) = turn.next() {
 //!     turn.state().run(event, load);
 //! }
-//! match shard.finish(turn) {
-//!     After::More { started, worth } => println!(rt; "ready after {started} events, worth {worth}")?,
-//!     After::Idle => println!(rt; "nothing of the colour waits")?,
-//! }
+//! shard.finish(turn)
 //! ```
 #![tactic(auto)]
 

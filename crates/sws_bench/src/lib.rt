@@ -5,9 +5,14 @@
 //! whatever the shape of the run.
 //!
 //! ```text
-//! bench(&rt, alloc, 1, 1, &shape, &mut sink)?;
-//! // connections 1 done 1 idle 0 fault 0
-//! // read 33 written 142
+//! bench(rt, alloc, connections, number, shape, &mut sink)?;
+//! ```
+//!
+//! What is written of one connection, by the number 1:
+//!
+//! ```output
+//! connections 1 done 1 idle 0 fault 0
+//! read 33 written 142
 //! ```
 #![tactic(auto)]
 

@@ -9,10 +9,14 @@
 //! connection of the lane is the k-th to come, and what it was sent begins the responses to its
 //! input, out of the site of its generation.
 //!
+//! It ends where the keeper wants no further one, or where the world is lost; `sws_daemon` gives the
+//! lane a new one then:
+//!
 //! ```text
-//! let mut lane = Lane::new(world, keeper);
-//! keep_serving(&rt, alloc, &terms, &mut lane);
-//! println!(rt; "{}", lane.totals.connections)?;
+//! keep_serving(threads, threads.alloc(), &job.terms, &mut job.lane);
+//! if job.lane.world.is_some() {
+//!     return;
+//! }
 //! ```
 #![tactic(auto)]
 

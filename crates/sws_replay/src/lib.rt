@@ -15,15 +15,30 @@
 //! of which it is proved.
 //!
 //! ```text
-//! let input = parse(alloc, text, false, shape.cores)?;
-//! replay(&rt, alloc, &site, &shape, input.conns.as_slice(), false, false, &mut sink)?;
-//! // conn 0 done 79
-//! // | HTTP/1.1 200 OK~
-//! // | Server: sws~
-//! // | Content-Type: text/html~
-//! // | Content-Length: 3~
-//! // | ~
-//! // | hi\n
+//! let input = read(rt, script, false, shape);
+//! let conns = input.conns.as_slice();
+//! replay(
+//!     rt,
+//!     rt.alloc(),
+//!     &site(rt),
+//!     shape,
+//!     conns,
+//!     journal,
+//!     false,
+//!     sink,
+//! )
+//! ```
+//!
+//! What is written, where one connection asks for a file of three bytes:
+//!
+//! ```output
+//! conn 0 done 79
+//! | HTTP/1.1 200 OK~
+//! | Server: sws~
+//! | Content-Type: text/html~
+//! | Content-Length: 3~
+//! | ~
+//! | hi\n
 //! ```
 #![tactic(auto)]
 

@@ -16,10 +16,9 @@
 //! ```
 //!
 //! ```text
-//! let outcome = sws(&rt, &words, &mut folder, &mut source, world, &mut sink);
-//! if let Some(fault) = outcome.fault {
-//!     eprintln!(rt; "{fault}")?;
-//! }
+//! let outcome = sws(rt, words, folder, source, world, out);
+//! let is_whole = out.finish();
+//! fault_at_last(outcome.fault, is_whole)
 //! ```
 #![tactic(auto)]
 
