@@ -27,8 +27,10 @@ module _ {W L : Type 0} (tells : W → WorldContents) (is_shut : L → Bool) (cl
   -- the desk asks the world on colour 0, the room gets lines on colour 1, and clients have those
   -- behind it
   abbrev pub FitsChat : Option (Load W L) → Type 0
-  FitsChat (Some (Poll held)) = IsAt 0 0 colour event × (held.accepted < clients → Holds tells clients held)
-  FitsChat (Some (Accept held)) = IsAt 1 0 colour event × (held.accepted < clients) × Holds tells clients held
+  FitsChat (Some (Poll held)) =
+      IsAt 0 0 colour event × (held.accepted < clients → Holds tells clients held)
+  FitsChat (Some (Accept held)) =
+      IsAt 1 0 colour event × (held.accepted < clients) × Holds tells clients held
   FitsChat (Some (Wait client)) = IsAt 2 0 colour event × (client < clients)
   FitsChat (Some (Open link)) = IsOfClient 3 clients colour event × (is_shut link ≡ false)
   FitsChat (Some Wake) = IsOfClient 4 clients colour event

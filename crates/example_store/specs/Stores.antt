@@ -74,7 +74,8 @@ replies entries (message ∷ more) =
 -- the map is the fold of the puts that were received, the answers are those that were, and what was
 -- sent is what the messages received have the bucket reply
 pub record IsStored (received : List Message) (sent : List (Colour × Message))
-    (entries : List (ℕ × String Global)) (answers : List (ℕ × Option (String Global))) : Type 0 where
+    (entries : List (ℕ × String Global))
+    (answers : List (ℕ × Option (String Global))) : Type 0 where
   pub replied : map (λ send. reply_in send.0 send.1) sent ≡ replies [] received
   pub map_is : entries ≡ fold after_one [] received
   pub answers_are : answers ≡ filter_map answer_in received

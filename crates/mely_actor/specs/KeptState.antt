@@ -15,5 +15,6 @@ pub record KeptState (A M V : Type 0) : Type 0 where
   pub failed : Bool
 
 -- all of a state but its trail
-abbrev pub rest_of : {A M V : Type 0} → KeptState A M V → Plan A M × ℕ × List (Colour × M) × V × Bool
+abbrev pub rest_of : {A M V : Type 0} → KeptState A M V
+    → Plan A M × ℕ × List (Colour × M) × V × Bool
 rest_of state = (state.plan, state.count, state.waiting, state.value, state.failed)

@@ -13,7 +13,7 @@ shard_limit = 64
 abbrev pub colour_limit : ℕ
 colour_limit = 65536
 
--- the most events of one turn
+-- the highest batch: so many events a turn has at most
 abbrev pub batch_limit : ℕ
 batch_limit = 1000
 

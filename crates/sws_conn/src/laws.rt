@@ -31,8 +31,8 @@ pub fn a_path_is_of_steps()
         (path_of site script) }
     ensures alone { (from : Scripted SiteState) (one other : List Handler)
         → IsPathFrom http from one → IsPathFrom http from other → one ≡ other }
-    ensures open { (site : SiteState) (script : Script) → path_of site script
-        ≡ Handler.Open ∷ rest_of_path http (going_to (core_before_open site) NextValue.Read) script }
+    ensures open { (site : SiteState) (script : Script) → path_of site script ≡ Handler.Open
+        ∷ rest_of_path http (going_to (core_before_open site) NextValue.Read) script }
     ensures close { (site : SiteState) (script : Script) → IsWithinLimits site.files
         → (before : List Handler) × (path_of site script ≡ before ++ Handler.Close ∷ []) }
     ensures pause { (site : SiteState) (step cut : Option ℕ) → IsWithinLimits site.files

@@ -51,8 +51,9 @@ step handler line = record { handler = handler; line = line }
 -- the steps of a connection with one answer, which closes it: the second write ends the answer, and
 -- so gives its line
 abbrev pub answered : List Step
-answered = step handler.Open false ∷ step handler.Read false ∷ step handler.Parse false ∷ step handler.Look false
-    ∷ step handler.Write false ∷ step handler.Write true ∷ step handler.Close false ∷ []
+answered = step handler.Open false ∷ step handler.Read false ∷ step handler.Parse false
+    ∷ step handler.Look false ∷ step handler.Write false ∷ step handler.Write true
+    ∷ step handler.Close false ∷ []
 
 -- the histories of one such connection with the log, six steps of core 0 and twelve of core 1: the
 -- line is registered behind the close that comes next, on the last colour

@@ -131,7 +131,7 @@ module _ {W L T G : Type 0} (x : WorldWords W L) (l : LinkWords L)
   -- generation comes behind all links that the world gave in those before
   abbrev pub InTurn : Option W → List (Generation W L) → Type 0
   InTurn world generations = (first : W) (coming : List Coming)
-      (before after : List (Generation W L)) (one : Generation W L) (i : ℕ) (s : Served L) (link : L) → world ≡ Some first
-      → (x.tells first).coming ≡ Some coming → generations ≡ before ++ one ∷ after
+      (before after : List (Generation W L)) (one : Generation W L) (i : ℕ) (s : Served L) (link : L)
+      → world ≡ Some first → (x.tells first).coming ≡ Some coming → generations ≡ before ++ one ∷ after
       → slice_get (served_by one.ended) i ≡ Some s → s.link ≡ Some link
       → IsServedInTurn one.site coming (all_accepted before + i) s link

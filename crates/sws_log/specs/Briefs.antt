@@ -18,7 +18,8 @@ pub fields_are : (brief : Inside) → IsBrief brief → fields_of (take brief.le
 fields_are brief is =
     let many : length (take brief.len brief.bytes) ≡ brief.len =
     length-take-le brief.len brief.bytes (subst (λ n. brief.len ≤ n) (sym is.whole) is.within) in
-    let bytes : take brief.len brief.bytes ++ replicate (64 - length (take brief.len brief.bytes)) 0 ≡ brief.bytes =
+    let bytes : take brief.len brief.bytes ++ replicate (64 - length (take brief.len brief.bytes)) 0
+    ≡ brief.bytes =
     ap (λ n. take brief.len brief.bytes ++ replicate (64 - n) 0) many
     ∙ ap (λ rest. take brief.len brief.bytes ++ rest) (sym is.zeros)
     ∙ take-append-drop brief.len brief.bytes in

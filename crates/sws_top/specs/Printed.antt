@@ -15,7 +15,8 @@ use Rattle.sws_top.specs.Scripts.{IsInputRead}
 -- journal which `check` accepts, of as many connections, of the same shape, and with the log or
 -- without it.
 pub record PrintsAccepted {R O : Type 0} (r : SourceWords R) (o : SinkWords O)
-    (source source_now : R) (sent : List ℕ) (out_now : O) (schedule log : Bool) (shape : Shape) : Type 0 where
+    (source source_now : R) (sent : List ℕ) (out_now : O) (schedule log : Bool)
+    (shape : Shape) : Type 0 where
   pub input : Input
   pub read : IsInputRead r schedule shape.cores source source_now input
   pub expected : Expected

@@ -48,7 +48,8 @@ abbrev pub serve_app : App
 serve_app =
     with_rule (shape_app (with_rule
     (with_rule (with_rule (with_rule (bare_app (codes "serve")) (place_rule (codes "folder")))
-    (option_rule (codes "port"))) (option_rule (codes "connections"))) (option_rule (codes "date"))))
+    (option_rule (codes "port"))) (option_rule (codes "connections")))
+    (option_rule (codes "date"))))
     (flag_rule (codes "log"))
 
 -- the words of `bench`
@@ -68,5 +69,6 @@ abbrev pub gopher_app : App
 gopher_app =
     with_rule (shape_app (with_rule
     (with_rule (with_rule (with_rule (bare_app (codes "gopher")) (place_rule (codes "folder")))
-    (option_rule (codes "host"))) (option_rule (codes "port"))) (option_rule (codes "connections"))))
+    (option_rule (codes "host"))) (option_rule (codes "port")))
+    (option_rule (codes "connections"))))
     (flag_rule (codes "journal"))
