@@ -2,6 +2,7 @@
 -- and the list of them. It is defined twice: `IsPathFrom` says what a path is, and `path_of` gives
 -- it, counting with a bound on the steps. A law has that both are the same.
 use Rattle.std.specs.Prelude.{ℕ, ◌+◌, ◌-◌, ◌*◌, zero, suc, Bool, true, false, if◌then◌else◌, List, [], ◌∷◌, ◌++◌, length, Option, Some, None, ◌≡◌, ⊤}
+use Rattle.std.specs.Option.{option_to_list}
 use Rattle.sws_link.specs.Scripts.{Script, read_of, write_of}
 use Rattle.sws_link.specs.declared.Link.{Ghosts as LinkWords}
 use Rattle.sws_link.specs.Links.{LinkContents}
@@ -16,16 +17,20 @@ use Rattle.sws_steps.specs.Step.{going_to, room_of, after_read, after_parse, aft
 use Rattle.sws_steps.specs.Sound.{core_before_open}
 use Rattle.sws_steps.specs.Outcome.{UnlessMemory}
 
--- the event that does the step
+-- the event that is due after a step that answered this, if one is
+abbrev pub due_after : Next → Option Handler
+due_after next.Open = Some handler.Open
+due_after next.Read = Some handler.Read
+due_after next.Parse = Some handler.Parse
+due_after next.Look = Some handler.Look
+due_after next.Write = Some handler.Write
+due_after next.Wait = Some handler.Resume
+due_after next.Close = Some handler.Close
+due_after next.Nothing = None
+
+-- the event that does a step, in a list
 abbrev pub handler_of : Next → List Handler
-handler_of next.Open = handler.Open ∷ []
-handler_of next.Read = handler.Read ∷ []
-handler_of next.Parse = handler.Parse ∷ []
-handler_of next.Look = handler.Look ∷ []
-handler_of next.Write = handler.Write ∷ []
-handler_of next.Wait = []
-handler_of next.Close = handler.Close ∷ []
-handler_of next.Nothing = []
+handler_of pending = option_to_list (due_after pending)
 
 -- the event that is due: the step, or the same one again where the link was not ready
 abbrev pub event_of : {Hall : Type 0} → ConnCoreState Hall → List Handler

@@ -20,7 +20,7 @@ use Rattle.sws_steps.specs.Step.{wait_limit}
 use Rattle.sws_steps.specs.Outcome.{Outcome, UnlessMemory}
 use Rattle.sws_steps.specs.declared.Handler.{Handler}
 use Rattle.sws_steps.specs.declared.Handler.TheVariants as handler
-use Rattle.sws_steps.specs.Path.{answers_to_come}
+use Rattle.sws_steps.specs.Path.{answers_to_come, due_after}
 use Rattle.sws_steps.specs.Logs.{lines_given, Step, last_line}
 use Rattle.sws_steps.specs.Run.{HasRun}
 use Rattle.sws_steps.specs.Serving.{RoseBy}
@@ -63,17 +63,6 @@ reported_next view = reported_by view.waiting view.pending
 -- the end, which is told once the link is shut
 abbrev pub reported_end : TalkView → Option End
 reported_end view = end_at view.pending view.end
-
--- the event that is due after a step that answered this, if one is
-abbrev pub due_after : Next → Option Handler
-due_after next.Open = Some handler.Open
-due_after next.Read = Some handler.Read
-due_after next.Parse = Some handler.Parse
-due_after next.Look = Some handler.Look
-due_after next.Write = Some handler.Write
-due_after next.Wait = Some handler.Resume
-due_after next.Close = Some handler.Close
-due_after next.Nothing = None
 
 -- the event that does the pending step, if one is pending
 abbrev pub due : TalkView → Option Handler

@@ -11,7 +11,7 @@
 #![tactic(auto)]
 
 ghost use Rattle.std.specs.Prelude.{◌≡◌};
-ghost use Rattle.sws_steps.specs.Talks.{due_after};
+ghost use Rattle.sws_steps.specs.Path.{due_after};
 
 mod conn;
 mod conn_core;

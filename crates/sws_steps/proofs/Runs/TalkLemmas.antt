@@ -18,11 +18,11 @@ use Rattle.sws_steps.specs.Sound.{core_before_open, IsSound, IsReadyTo, IsEnded,
 use Rattle.sws_steps.specs.Outcome.{outcome_of, UnlessMemory}
 use Rattle.sws_steps.specs.declared.Handler.{Handler}
 use Rattle.sws_steps.specs.declared.Handler.TheVariants as handler
-use Rattle.sws_steps.specs.Path.{handler_of, event_of, path_of, path_by, known_path, rest_by, known_rest, rest_of_path, answers_to_come, told_by_link, TakesOff, HasNoEvents, scripted_step}
+use Rattle.sws_steps.specs.Path.{due_after, handler_of, event_of, path_of, path_by, known_path, rest_by, known_rest, rest_of_path, answers_to_come, told_by_link, TakesOff, HasNoEvents, scripted_step}
 use Rattle.sws_steps.specs.Run.{HasRun, RunsBy}
 use Rattle.sws_steps.specs.RestOutcome.{HeadsForLink}
 use Rattle.sws_steps.specs.Serving.{EndsAs, EndsByScript, RoseBy}
-use Rattle.sws_steps.specs.Talks.{TalkView, unopened_view, opened_view, OpensTalk, OpensBy, due, due_after, Consumes, ServesTold, ComesTo, HasServed, ServesNow, path_to_come, BeginsWith, IsDue}
+use Rattle.sws_steps.specs.Talks.{TalkView, unopened_view, opened_view, OpensTalk, OpensBy, due, Consumes, ServesTold, ComesTo, HasServed, ServesNow, path_to_come, BeginsWith, IsDue}
 use Rattle.sws_steps.specs.Talks.{talk_view, HasRunOpen}
 use Rattle.sws_steps.proofs.Steps.HallLemmas.{step_hall}
 use Rattle.sws_steps.proofs.Inputs.SinceLemmas.{Since, SinceLink, SameInput}
