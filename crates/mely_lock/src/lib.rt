@@ -42,6 +42,7 @@
 //! hand. Let one that is large hold what it has in a box.
 #![tactic(auto)]
 
+mod calling;
 mod claim;
 mod closing;
 mod dealing;
