@@ -207,8 +207,10 @@ def of_order(repository, order):
 
 CALLER = "What its caller has to show"
 RUN_APP = ("crates/mely_app/src/running.rt", "run_app")
+RUN_ACTORS = ("crates/mely_actor/src/running.rt", "run_actors")
 SERVE_ONE = ("crates/sws_conn/src/serving.rt", "serve_one")
 SERVE_ALL = ("crates/sws_engine/src/threads.rt", "serve_all")
+KEEP_SERVING = ("crates/sws_lane/src/keeping.rt", "keep_serving")
 REPLAY = ("crates/sws_replay/src/replaying.rt", "replay")
 BY_SCHEDULE = ("crates/sws_replay/src/replaying.rt", "replay_by_schedule")
 CHECK = ("crates/mely_check/src/checking.rt", "check_journal")
@@ -217,11 +219,15 @@ CHECK = ("crates/mely_check/src/checking.rt", "check_journal")
 TEXTS = {
     "run_app": "Where it comes to its end, every event that was registered was run, on the state of its colour, once, in the order in which the "
                "events of that colour were registered, and there is a legal history for each shard.",
+    "run_actors": "Where it comes to its end, the value of each colour keeps the author's fact over the messages that the colour received and those "
+                  "that it sent. What was received is what was posted and what was sent, by the events under which messages stand in the histories.",
     "answer": "What is written is what the definition of the responses says of the bytes that are read, out of the files of the folder. "
               "`serve_one` says it of one connection over any link that lets contracts know what it carries.",
     "serve": "The world was opened for so many connections, and each was served. A connection whose link tells what it carries was sent a prefix "
              "of the responses to its input, and all of them where it is done; of one over a socket its calls and counts are promised. The "
              "histories are legal.",
+    "keep_serving": "The promise of `swsd`, lane by lane: runs of the server follow one another, each over the world that the one before left and out of "
+                    "the site of that time. Each leaves what `serve_all` promises, and the totals are their sums.",
     "replay": "What is written is the one transcript of the script, whatever the shape is and however the threads run. With a schedule every line "
               "of the journal is determined too.",
     "check": "A journal is accepted exactly where its bytes are those of a legal run of the setup that has come to its end; else the first line "
@@ -232,8 +238,8 @@ TEXTS = {
 
 
 # the definitions at the core of each promise, to which the page shows the way
-CORES = {"run_app": ["IsAllowed"], "answer": ["responses_of"], "serve": ["responses_of", "Exchanges", "IsAllowed"], "replay": ["transcript_of", "step"],
-         "check": ["IsAllowed"], "gopher": ["reply_of"]}
+CORES = {"run_app": ["IsAllowed"], "run_actors": ["IsAllowed"], "answer": ["responses_of"], "serve": ["responses_of", "Exchanges", "IsAllowed"],
+         "keep_serving": ["responses_of", "ThreadsLeave"], "replay": ["transcript_of", "step"], "check": ["IsAllowed"], "gopher": ["reply_of"]}
 
 
 def impls_of_http(repository):
@@ -255,10 +261,13 @@ def promises_of(repository):
         found.append((name, title, parts))
 
     promise("run_app", "an app on threads", of_call(repository, RUN_APP, "ensures", ""), (RUN_APP, "requires", CALLER))
+    promise("run_actors", "actors with data", of_call(repository, RUN_ACTORS, "ensures", ""), (RUN_ACTORS, "requires", CALLER))
     promise("answer", "what one connection is sent", of_order(repository, "answer"),
             (SERVE_ONE, "ensures", "The call below it, over any link"), (SERVE_ONE, "requires", CALLER))
     promise("serve", "connections on threads", of_order(repository, "serve"),
             (SERVE_ALL, "ensures", "The call below it, over any world"), (SERVE_ALL, "requires", CALLER), impls=talk)
+    promise("keep_serving", "one run of the server after another", of_call(repository, KEEP_SERVING, "ensures", ""),
+            (KEEP_SERVING, "requires", CALLER), impls=talk)
     promise("replay", "a script has one transcript", of_order(repository, "replay"), (REPLAY, "ensures", "The call below it, on threads"),
             (BY_SCHEDULE, "ensures", "The call below it, by a schedule"), (REPLAY, "requires", CALLER), (BY_SCHEDULE, "requires", CALLER))
     promise("check", "a journal is accepted exactly where it is that of a legal run", of_order(repository, "check"),
@@ -394,7 +403,7 @@ class Page:
     def trusted(self):
         """The trusted base, with the ported crates and the adapters by name."""
         below = self.repository.below
-        needed, work = set(), ["sws_main", "mely_app", "mely_check"]
+        needed, work = set(), ["sws_main", "swsd", "mely_actor", "mely_check"]
         while work:
             crate = work.pop()
             if crate not in needed and crate in below:
@@ -438,7 +447,7 @@ A proof shows that the code meets its contract. It can't show that the contract 
 believes two things: that the definitions which its clauses name mean what they are taken for, and that what every proof rests on is right.
 This page lists both; nothing in `proofs/` has to be read. [READING.md](READING.md) says how to read a clause and a definition.
 
-For each of five public calls it gives the clauses word for word, and then the chain: every definition that they name, that those name in
+For each of eight promises, of public calls, it gives the clauses word for word, and then the chain: every definition that they name, that those name in
 turn, and so on, each behind those that it needs. A line has the name, where it stands, and the first sentence of the comment above it. What
 several promises need is listed once, under the first of them. Beside the definitions there are types of the code, whose fields and variants
 contracts see as they are; views, which are what contracts see of a type with private fields; and ghost members of traits, which are values
@@ -488,15 +497,15 @@ def unknown_of(page):
 
 
 def only(repository, name):
-    """The chain of one definition, for a look."""
-    for file in repository.all_specs():
-        if name in file.scope.own:
-            chain = Chain(repository, [file.scope.own[name]])
-            numbers = counted(repository, chain.items.values())
-            print("{} definitions of {} lines in {} files; {} types, traits and views of {} lines".format(*numbers))
-            print("\n".join(listed(repository, chain.items.values())))
-            return
-    raise SystemExit(f"belief: there is no definition {name}")
+    """The chain of a definition, for a look; of each, where several files have one of that name."""
+    found = [file for file in repository.all_specs() if name in file.scope.own]
+    for file in found:
+        chain = Chain(repository, [file.scope.own[name]])
+        numbers = counted(repository, chain.items.values())
+        print(f"`{name}` of {file.path}: " + "{} definitions of {} lines in {} files; {} types, traits and views of {} lines".format(*numbers))
+        print("\n".join(listed(repository, chain.items.values())))
+    if not found:
+        raise SystemExit(f"belief: there is no definition {name}")
 
 
 def main():
