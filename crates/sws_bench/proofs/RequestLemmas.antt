@@ -1,5 +1,5 @@
--- The requests of a bench: each is whole at its end and no earlier, and its answer doesn't close the
--- connection. So the more of them were taken, the more is answered.
+-- The requests of a bench: each is whole at its end and no earlier, and its answer doesn't close
+-- the connection. So the more of them were taken, the more is answered.
 use Rattle.std.proofs.Common.{◌≡◌, ◌≢◌, ◌⊎◌, inl, inr, ℕ, zero, suc, ◌+◌, ◌-◌, ◌<◌, ◌≤◌, ◌%◌, Bool, true, false, true≢false, List, [], ◌∷◌, ◌++◌, length, take, drop, codes, Some, refl, sym, ap, ◌∙◌, subst, arith, length-append, length-take, take_all, append_assoc, append-nil, ne_eqb}
 use Rattle.std.specs.Prelude.{◌==◌, ◌||◌, ◌&&◌, not, if◌then◌else◌, is_none, nat_lt}
 use Rattle.std.specs.Str.{IsAscii}

@@ -38,9 +38,9 @@ fn fault_at_last(fault: Option<TopFault>, is_whole: bool) -> Option<TopFault>
     }
 }
 
-/// Runs the words on these objects, hands over what they wrote, and answers the fault of the run, if
-/// it has one: that of its outcome, or one of writing where there is none but the output couldn't be
-/// handed over.
+/// Runs the words on these objects, hands over what they wrote, and answers the fault of the run,
+/// if it has one: that of its outcome, or one of writing where there is none but the output
+/// couldn't be handed over.
 pub fn run_to_end<
     T: AllocGlobal + Threads + Wait + Sync,
     F: Folder,

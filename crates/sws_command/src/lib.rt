@@ -5,13 +5,18 @@
 //! others beside it run it on data of their own, since a program has one stored run.
 //!
 //! ```usage
-//! sws answer FOLDER [--date SECONDS]              the responses to standard input, out of the files below a folder
-//! sws replay FOLDER [..] [--journal] [--schedule] the connections of a script on standard input, and what each is sent
-//! sws serve FOLDER --port P --connections N [..]  so many connections to a TCP port, and then a summary
-//! sws bench N NUMBER [..]                         so many connections of a generated script, and then a summary
-//! sws check --connections N [..]                  the journal of a run on standard input, and what is wrong with it
-//! sws gopher FOLDER --host H --port P [..]        the same folder by Gopher: a script on standard input, or
-//!     [--connections N | --journal]               so many connections to the port
+//! sws answer FOLDER [--date SECONDS]
+//!     the responses to standard input, out of the files below a folder
+//! sws replay FOLDER [..] [--journal] [--schedule]
+//!     the connections of a script on standard input, and what each is sent
+//! sws serve FOLDER --port P --connections N [..]
+//!     so many connections to a TCP port, and then a summary
+//! sws bench N NUMBER [..]
+//!     so many connections of a generated script, and then a summary
+//! sws check --connections N [..]
+//!     the journal of a run on standard input, and what is wrong with it
+//! sws gopher FOLDER --host H --port P [..] [--connections N | --journal]
+//!     the same folder by Gopher: a script on standard input, or so many connections to the port
 //! ```
 #![tactic(auto)]
 
@@ -60,9 +65,9 @@ fn words(rt: &HostRuntime) -> Result<Vec<String>, TopFault> {
     Ok(words)
 }
 
-/// Runs the command of these words, those behind the program's name, on the machine's files, streams
-/// and sockets, and answers its fault, if it has one. Nothing is said on standard error but the line
-/// of `serve`, and of `gopher` with connections.
+/// Runs the command of these words, those behind the program's name, on the machine's files,
+/// streams and sockets, and answers its fault, if it has one. Nothing is said on standard error but
+/// the line of `serve`, and of `gopher` with connections.
 ///
 /// The words are read here for that line alone; `sws` reads them again.
 pub fn fault_of<T: AllocGlobal + Threads + Wait + Sync>(

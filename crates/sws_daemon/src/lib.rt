@@ -1,8 +1,8 @@
 //! The program `swsd`: a folder served by HTTP, until somebody says stop.
 //!
-//! Its words become an [`Order`]. By this some lanes of `sws_lane` run, each in a thread of its own,
-//! over worlds of `sws_net` behind one door: a few of them take connections at a time, and those
-//! whose generation is over see the connections out that are left.
+//! Its words become an [`Order`]. By this some lanes of `sws_lane` run, each in a thread of its
+//! own, over worlds of `sws_net` behind one door: a few of them take connections at a time, and
+//! those whose generation is over see the connections out that are left.
 //!
 //! | Part | What it does |
 //! |---|---|

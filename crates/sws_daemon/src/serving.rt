@@ -84,8 +84,8 @@ struct Job<'d, T: Wait + Clock> {
     ghost in_range: { AreTerms terms },
 }
 
-/// How generations are served: by at least one worker, and at most as many as a run has, in the shape
-/// that serves best by so many, and with at least one connection.
+/// How generations are served: by at least one worker, and at most as many as a run has, in the
+/// shape that serves best by so many, and with at least one connection.
 fn terms_of(order: &Order) -> Terms
     ensures { AreTerms result }
 {
@@ -162,8 +162,8 @@ impl House {
         })
     }
 
-    /// What worlds need to know, of which each takes connections for so many seconds, and cuts those
-    /// that are left after so many more.
+    /// What worlds need to know, of which each takes connections for so many seconds, and cuts
+    /// those that are left after so many more.
     fn entrance<'d>(&'d self, listener: &'d TcpListener, age: u64, grace: u64) -> Entrance<'d> {
         let stop = self.stop.as_ref();
         let (age, grace) = (age.saturating_mul(1000), grace.saturating_mul(1000));

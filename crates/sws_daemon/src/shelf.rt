@@ -95,8 +95,8 @@ fn load(rt: &HostRuntime, path: &str, hidden: bool) -> Result<Arc<Site>, LoadFau
 
 /// The site of a folder, as it was when it was last seen to have changed.
 ///
-/// All lanes share it. One at a time looks whether the folder has changed; the others go on with the
-/// site that is there.
+/// All lanes share it. One at a time looks whether the folder has changed; the others go on with
+/// the site that is there.
 #[derive(Drop)]
 pub struct Shelf {
     path: String,
@@ -127,13 +127,13 @@ impl Shelf {
         Arc::try_clone(&*self.site.lock(rt))
     }
 
-    /// Looks whether the folder has changed, and loads it anew then. True where that was done; where
-    /// nobody else does it just now.
+    /// Looks whether the folder has changed, and loads it anew then. True where that was done;
+    /// where nobody else does it just now.
     ///
     /// # Errors
     ///
-    /// The folder can't be read, or there is no memory for it. The old site stays, and the folder is
-    /// tried again at the next look.
+    /// The folder can't be read, or there is no memory for it. The old site stays, and the folder
+    /// is tried again at the next look.
     pub fn look<R: Wait>(&self, rt: &HostRuntime, threads: &R) -> Result<bool, LoadFault> {
         let Some(mut mark) = self.mark.try_lock() else {
             return Ok(false);

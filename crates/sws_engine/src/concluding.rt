@@ -42,8 +42,9 @@ fn split_world<W: Drop>(found: Option<WorldLoad<W>>) -> (Option<W>, u16, bool)
 /// rest. It takes no memory.
 ///
 /// The verdict is [`Memory`](crate::Verdict::Memory) exactly where memory was refused: the weave
-/// wasn't drained, a registration was refused, or a link met want of memory. With the log, the lines
-/// of each connection that was to be served are numbered too, or the connection counts as lost.
+/// wasn't drained, a registration was refused, or a link met want of memory. With the log, the
+/// lines of each connection that was to be served are numbered too, or the connection counts as
+/// lost.
 pub fn conclude<W: World + Drop, T: Talk<W::Link> + Drop>(
     room: EndRoom<W::Link>,
     total: u16,

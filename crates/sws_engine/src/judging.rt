@@ -119,8 +119,8 @@ fn first_lacking<L>(
 }
 
 /// The verdict: by the lines of the log where there is one, whether all was run, how many links
-/// there are, whether the world is there, how many links it gave and whether it failed, and what has
-/// become of each connection. The table counts the lines.
+/// there are, whether the world is there, how many links it gave and whether it failed, and what
+/// has become of each connection. The table counts the lines.
 pub(crate) fn judge<L>(
     log: bool,
     lines: &[LogLine],

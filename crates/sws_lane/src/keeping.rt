@@ -79,8 +79,8 @@ where
     }
 }
 
-/// What is sent to a front of an input begins what is sent to all of it, for contracts alone. A call
-/// does nothing.
+/// What is sent to a front of an input begins what is sent to all of it, for contracts alone. A
+/// call does nothing.
 fn responses_begin<L: Link, T: Talk<L>>()
     ensures { (hall : T.Contents) (front bytes : List ℕ) → IsPrefix front bytes
         → IsPrefix (T.responses hall front) (T.responses hall bytes) }

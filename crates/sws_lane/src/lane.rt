@@ -21,8 +21,8 @@ pub struct Terms {
     pub log: bool,
 }
 
-/// A world, who keeps the lane going, and what has come of the generations that were served over the
-/// world.
+/// A world, who keeps the lane going, and what has come of the generations that were served over
+/// the world.
 #[derive(Drop)]
 pub struct Lane<W: World, K: Keeper> {
     /// The world, unless a generation has lost it.

@@ -9,8 +9,8 @@
 //! connection of the lane is the k-th to come, and what it was sent begins the responses to its
 //! input, out of the site of its generation.
 //!
-//! It ends where the keeper wants no further one, or where the world is lost; `sws_daemon` gives the
-//! lane a new one then:
+//! It ends where the keeper wants no further one, or where the world is lost; `sws_daemon` gives
+//! the lane a new one then:
 //!
 //! ```text
 //! keep_serving(threads, threads.alloc(), &job.terms, &mut job.lane);

@@ -107,8 +107,8 @@ pub struct FileWalk<'r> {
 }
 
 impl<'r> FileWalk<'r> {
-    /// A walk that begins in the folder of this path. Entries whose names begin with a dot, and what
-    /// is below them, are given only where these are asked for.
+    /// A walk that begins in the folder of this path. Entries whose names begin with a dot, and
+    /// what is below them, are given only where these are asked for.
     pub fn new(rt: &'r HostRuntime, path: &str, hidden: bool) -> io::Result<FileWalk<'r>> {
         let folder = open_folder(rt, path)?;
         let mut levels = Vec::new(rt.alloc());

@@ -205,7 +205,8 @@ impl<S: Socket + Drop> Link for KeptLink<S> {
             }
             LinkWrite::Memory => LinkWrite::Memory,
             LinkWrite::NotReady => {
-                // The socket may have taken all that was kept, so the piece isn't to be kept next time.
+                // The socket may have taken all that was kept, so the piece isn't to be kept next
+                // time.
                 self.in_piece = true;
                 self.waits = self.waits.saturating_add(1);
                 LinkWrite::NotReady

@@ -41,12 +41,12 @@ pub struct Entrance<'d> {
 /// Whoever opens it has entered the door as its lane. The world leaves once it has given as many
 /// links as it was opened for, at the age of its [`Entrance`], and where the door is closed or the
 /// stop file is there. From then on it gives no further link: others take those connections. Where
-/// it was opened for more, it waits until those that it gave are gone, and then says that it failed,
-/// so that a run over it ends. After the grace, it cuts those that are still there.
+/// it was opened for more, it waits until those that it gave are gone, and then says that it
+/// failed, so that a run over it ends. After the grace, it cuts those that are still there.
 ///
 /// It counts this, the errors of the machine, and how often it had nobody to name, though somebody
-/// waited, or nothing to give. It waits as [`TcpWorld`](crate::TcpWorld) does, but for a quarter of a
-/// second at most, and sees out the connections that have ended.
+/// waited, or nothing to give. It waits as [`TcpWorld`](crate::TcpWorld) does, but for a quarter of
+/// a second at most, and sees out the connections that have ended.
 ///
 /// It may be opened again and again. The connections of the time before that are still on their way
 /// are then seen out beside the new ones.

@@ -1,20 +1,20 @@
 //! The machine as the outside of the server: files, standard input and output, and TCP.
 //!
-//! Each of these types implements a trait of `sws_link` by an object of the machine. It has no ghost
-//! model of contents, and counts the machine's errors. What a file, a terminal or a socket carries
-//! is trusted, and no contract speaks of it.
+//! Each of these types implements a trait of `sws_link` by an object of the machine. It has no
+//! ghost model of contents, and counts the machine's errors. What a file, a terminal or a socket
+//! carries is trusted, and no contract speaks of it.
 //!
 //! | Type | Is | Over |
 //! |---|---|---|
 //! | [`FileFolder`] | a folder | the regular files below a folder of the machine, by descriptors |
 //! | [`StdSource`] | a source | a reader, such as standard input |
-//! | [`StdSink`] | a sink | a writer, such as standard output, by an [`Output`] that collects small pieces |
+//! | [`StdSink`] | a sink | a writer, such as standard output, by an [`Output`] |
 //! | [`TcpWorld`] | a world | a socket that listens, and epoll |
-//! | [`LaneWorld`] | a world | the same, over a socket that several worlds share behind a [`Door`] |
+//! | [`LaneWorld`] | a world | the same, over a socket that worlds share behind a [`Door`] |
 //! | [`TcpLink`] | a link | a socket, by a [`KeptLink`] |
 //!
-//! What a link keeps back of a response is proved over any [`Socket`] that tells what it carries, as
-//! [`MemSocket`] does: [`KeptLink`] meets the clauses of every link on contents too.
+//! What a link keeps back of a response is proved over any [`Socket`] that tells what it carries,
+//! as [`MemSocket`] does: [`KeptLink`] meets the clauses of every link on contents too.
 //!
 //! ```text
 //! let mut world = TcpWorld::new(&rt)?;

@@ -41,8 +41,8 @@ impl Model for MemSocket {
     ghost invariant = { IsMemSocket };
 }
 
-/// Copies as many of the bytes behind the first `taken` as there is room for, and says how many these
-/// are.
+/// Copies as many of the bytes behind the first `taken` as there is room for, and says how many
+/// these are.
 fn copy_behind(bytes: &[u8], taken: usize, into: &mut [u8]) -> usize
     requires { taken ≤ length bytes.now }
     ensures count { result ≡ min (length into.old) (length (drop taken bytes.now)) }

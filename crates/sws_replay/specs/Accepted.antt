@@ -33,9 +33,9 @@ IsServerJournal connections log shape text = (histories : List (List Entry))
     × ((setup : Setup) → IsServerSetup connections log shape setup
     → IsDrainedRun setup histories text)
 
--- Behind the transcript and the lines of the log stands a journal, and where it has fewer lines than
--- a checker reads, it is one that is accepted, of as many connections, of the same shape, and with
--- the log or without it.
+-- Behind the transcript and the lines of the log stands a journal, and where it has fewer lines
+-- than a checker reads, it is one that is accepted, of as many connections, of the same shape, and
+-- with the log or without it.
 pub record EndsAccepted (expected : Expected) (shape : Shape) (conns : List ScriptConn) (log : Bool)
     (text : List ℕ) : Type 0 where
   pub lines : List LogLine

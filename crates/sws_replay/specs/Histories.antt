@@ -22,8 +22,8 @@ abbrev pub colour_for : ℕ → Colour
 colour_for i = record { 0 = i + 2 }
 
 -- the histories of a server of this shape that has served these connections: one for each shard,
--- legal and drained, by which the events that were run of each connection are those of its path, and
--- with the log those of its colour are of the connections of its lines, in order
+-- legal and drained, by which the events that were run of each connection are those of its path,
+-- and with the log those of its colour are of the connections of its lines, in order
 pub record AreServed (expected : Expected) (shape : Shape) (conns : List ScriptConn) (log : Bool)
     (lines : List LogLine) (histories : List (List Entry)) : Type 0 where
   pub setup : Setup

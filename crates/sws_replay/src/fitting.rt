@@ -45,8 +45,8 @@ fn history_fits(history: &[Entry])
     }
 }
 
-/// The numbers of all histories are within the ranges of a journal's, as their types have no others.
-/// It reads each entry once, as a contract knows of a number's range only where it is read.
+/// The numbers of all histories are within the ranges of a journal's, as their types have no
+/// others. It reads each entry once, as a contract knows of a number's range only where it is read.
 fn histories_fit(histories: &[Vec<Entry>])
     ensures { AllByRecursion IsFitHistory (map (λ history. history.items) histories.now) }
 {

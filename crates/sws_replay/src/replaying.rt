@@ -22,13 +22,13 @@ use sws_script::{Input, ScriptConn};
 use sws_site::Site;
 
 /// Serves the connections of a script out of a site, with a thread for each of several workers, and
-/// writes their transcript; where they are asked for, the lines of the access log behind it, and the
-/// journal of the shards' histories behind these. It need not return.
+/// writes their transcript; where they are asked for, the lines of the access log behind it, and
+/// the journal of the shards' histories behind these. It need not return.
 ///
-/// The transcript is the one-core transcript, whatever the shape is and however the threads run. The
-/// log has a line for each answer that was written whole. The lines of one connection stand in the
-/// order of its answers; those of all stand in the order in which their events of the log's colour
-/// were run, as the journal tells it.
+/// The transcript is the one-core transcript, whatever the shape is and however the threads run.
+/// The log has a line for each answer that was written whole. The lines of one connection stand in
+/// the order of its answers; those of all stand in the order in which their events of the log's
+/// colour were run, as the journal tells it.
 ///
 /// # Errors
 ///

@@ -111,8 +111,8 @@ fn run_again<R: Wait, T: Talk<MemLink> + Drop>(
 }
 
 /// Serves the connections of a script out of a site on one thread: the schedule's steps of each
-/// core, and then rounds of one step a core until nothing is left; with the access log where that is
-/// asked for. It need not return.
+/// core, and then rounds of one step a core until nothing is left; with the access log where that
+/// is asked for. It need not return.
 ///
 /// # Errors
 ///

@@ -19,8 +19,8 @@ use sws_link::{MemLink, MemWorld, Put, Sink};
 use sws_log::{LogLine, write_log};
 use sws_report::{write_conn, write_journal};
 
-/// Writes the transcript of the connections of a run, behind it the lines of its log, of which there
-/// are none without one, and then the journal of its histories where that is asked for.
+/// Writes the transcript of the connections of a run, behind it the lines of its log, of which
+/// there are none without one, and then the journal of its histories where that is asked for.
 pub fn write_run<O: Sink>(alloc: Global, out: &mut O, ended: &Ended<MemWorld>, journal: bool) -> Put
     requires few { length ended.now.served.items ≤ conn_limit }
     requires showable { AllByRecursion IsShowable ended.now.served.items }

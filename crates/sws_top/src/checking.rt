@@ -14,8 +14,8 @@ use std::alloc::Global;
 use sws_engine::handler_table;
 use sws_link::{Sink, Source};
 
-/// Runs `check`: on the journal that the source gives, of a run with so many connections, with the log
-/// or without it.
+/// Runs `check`: on the journal that the source gives, of a run with so many connections, with the
+/// log or without it.
 pub fn check<R: Source, O: Sink>(
     alloc: Global,
     connections: u16,

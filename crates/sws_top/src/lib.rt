@@ -7,12 +7,18 @@
 //! folder, source, sink and world with a ghost model of its contents.
 //!
 //! ```usage
-//! answer FOLDER ..                              one connection, from the source to the sink
-//! replay FOLDER .. [--journal] [--schedule]     a script of the source's, run in memory; its transcript is written
-//! serve FOLDER --port P --connections N ..      the connections that the world gives; a summary is written
-//! bench N NUMBER ..                             a generated site and script, run in memory; a summary is written
-//! check --connections N ..                      a journal of the source's is checked; what each core did is written
-//! gopher FOLDER --host H --port P ..            a script of the source's, run by Gopher, or the connections that the world gives
+//! answer FOLDER ..
+//!     one connection, from the source to the sink
+//! replay FOLDER .. [--journal] [--schedule]
+//!     a script of the source's, run in memory; its transcript is written
+//! serve FOLDER --port P --connections N ..
+//!     the connections that the world gives; a summary is written
+//! bench N NUMBER ..
+//!     a generated site and script, run in memory; a summary is written
+//! check --connections N ..
+//!     a journal of the source's is checked; what each core did is written
+//! gopher FOLDER --host H --port P ..
+//!     a script of the source's, run by Gopher, or the connections that the world gives
 //! ```
 //!
 //! ```text

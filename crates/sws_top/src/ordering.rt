@@ -27,8 +27,8 @@ use sws_words::{Order, WordFault, read_words};
 /// Runs the command that the words say, and says how that ended.
 ///
 /// The words are those behind the program's name. The order is: words, site, the hall of Gopher,
-/// reading the source, script, run, output; the first fault decides. `answer` answers what was read before it tells a
-/// fault of the source; the others write nothing before their run has ended well.
+/// reading the source, script, run, output; the first fault decides. `answer` answers what was read
+/// before it tells a fault of the source; the others write nothing before their run has ended well.
 ///
 /// # Errors
 ///

@@ -61,8 +61,8 @@ where
     }
 }
 
-/// Serves the connections that the world gives by talks of one hall, and writes the lines of the log
-/// where that is kept, and their summary.
+/// Serves the connections that the world gives by talks of one hall, and writes the lines of the
+/// log where that is kept, and their summary.
 pub fn serve_hall<
     T: AllocGlobal + Threads + Wait + Sync,
     W: World + Drop + Send,
