@@ -3,8 +3,8 @@ ghost use Rattle.std.specs.Prelude.{None, false, IfOk, IfSome, Contains};
 ghost use Rattle.sws_link.specs.Counts.{kept_count};
 ghost use Rattle.sws_net.specs.Initial.{IsInitialIfCame};
 
+use crate::counted::{Counted, Origin};
 use crate::door::Door;
-use crate::errors::is_want_of_memory;
 use crate::server::{Came, Server, time_of};
 use crate::stop_file::StopFile;
 use crate::tcp_link::TcpLink;
@@ -52,7 +52,7 @@ pub struct Entrance<'d> {
 /// are then seen out beside the new ones.
 #[derive(Drop)]
 pub struct LaneWorld<'d> {
-    state: Box<Behind<'d>>,
+    state: Box<Counted<Behind<'d>>>,
 }
 
 /// How long a world has been behind the door, and what it does there.
@@ -67,18 +67,13 @@ struct Stay<'d> {
     left: Option<u64>,
 }
 
-/// A world that isn't in a box.
+/// What is behind the door of a lane.
 struct Behind<'d> {
     stay: Stay<'d>,
     server: Option<Server>,
 
     /// The server of the time before, while connections that it has ended are on their way.
     before: Option<Server>,
-    port: u16,
-    total: u16,
-    accepted: u16,
-    faults: u64,
-    waits: u64,
 }
 
 impl<'d> Drop for Behind<'d> {
@@ -87,11 +82,6 @@ impl<'d> Drop for Behind<'d> {
             stay,
             server,
             before,
-            port: _,
-            total: _,
-            accepted: _,
-            faults: _,
-            waits: _,
         } = self;
         see_out(stay.rt, before);
         see_out(stay.rt, server);
@@ -191,7 +181,7 @@ impl<'d> LaneWorld<'d> {
         entrance: Entrance<'d>,
         lane: usize,
     ) -> Result<LaneWorld<'d>, AllocError> {
-        let state = Behind {
+        let behind = Behind {
             stay: Stay {
                 rt,
                 entrance,
@@ -201,14 +191,9 @@ impl<'d> LaneWorld<'d> {
             },
             server: None,
             before: None,
-            port: 0,
-            total: 0,
-            accepted: 0,
-            faults: 0,
-            waits: 0,
         };
         Ok(LaneWorld {
-            state: Box::new(rt.alloc(), state)?,
+            state: Box::new(rt.alloc(), Counted::new(behind))?,
         })
     }
 }
@@ -224,86 +209,29 @@ fn see_out_some(rt: &HostRuntime, before: &mut Option<Server>) {
     }
 }
 
-impl<'d> World for Behind<'d> {
-    type Link = TcpLink;
-
-    ghost tells = { λ world. record {
-      coming = None;
-      total = world.total;
-      accepted = world.accepted;
-      port = world.port;
-      scripted = false;
-    } };
-
-    ghost faults = { λ world. kept_count world.faults };
-
-    ghost waits = { λ world. kept_count world.waits };
-
-    fn open(&mut self, port: u16, total: u16) -> Opened {
-        match begin(self.stay.rt, self.stay.entrance.listener, total) {
-            Ok((server, now)) => {
-                see_out(self.stay.rt, self.before.take());
-                self.before = self.server.take();
-                self.server = Some(server);
-                self.stay.opened = now;
-                self.stay.left = None;
-                self.port = port;
-                self.total = total;
-                self.accepted = 0;
-                Opened::Ready
-            }
-            Err(error) if is_want_of_memory(&error) => Opened::Memory,
-            Err(_) => {
-                self.faults = self.faults.saturating_add(1);
-                Opened::Failed
-            }
-        }
+impl<'d> Origin for Behind<'d> {
+    fn begin(&mut self, _port: u16, total: u16) -> io::Result<()> {
+        let (server, now) = begin(self.stay.rt, self.stay.entrance.listener, total)?;
+        see_out(self.stay.rt, self.before.take());
+        self.before = self.server.take();
+        self.server = Some(server);
+        self.stay.opened = now;
+        self.stay.left = None;
+        Ok(())
     }
 
-    fn total(&self) -> u16 {
-        self.total
-    }
-
-    fn poll(&mut self, waiting: &[u16]) -> Polled {
-        let is_last = self.accepted >= self.total;
+    fn look(&mut self, waiting: &[u16], accepted: u16, total: u16) -> io::Result<Option<u16>> {
         see_out_some(self.stay.rt, &mut self.before);
-        let answer = match &mut self.server {
+        match &mut self.server {
             None => Ok(None),
-            Some(server) => self.stay.look(server, waiting, self.accepted, is_last),
-        };
-        match answer {
-            Ok(Some(conn)) => Polled::Ready(conn),
-            Ok(None) => {
-                if !waiting.is_empty() {
-                    self.waits = self.waits.saturating_add(1);
-                }
-                Polled::Quiet
-            }
-            Err(_) => {
-                self.faults = self.faults.saturating_add(1);
-                Polled::Failed
-            }
+            Some(server) => self.stay.look(server, waiting, accepted, accepted >= total),
         }
     }
 
-    fn accept(&mut self) -> Accepted<TcpLink> {
-        let came = match &mut self.server {
+    fn next(&mut self, number: u16, total: u16) -> Came {
+        match &mut self.server {
             None => Came::NotYet,
-            Some(server) => self.stay.next(server, self.accepted, self.total),
-        };
-        match came {
-            Came::Link(link) => {
-                self.accepted += 1;
-                Accepted::Link(link)
-            }
-            Came::NotYet => {
-                self.waits = self.waits.saturating_add(1);
-                Accepted::NotYet
-            }
-            Came::Failed => {
-                self.faults = self.faults.saturating_add(1);
-                Accepted::Failed
-            }
+            Some(server) => self.stay.next(server, number, total),
         }
     }
 }

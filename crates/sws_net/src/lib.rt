@@ -29,6 +29,7 @@
 //! ```
 #![tactic(auto)]
 
+mod counted;
 mod departures;
 mod door;
 mod errors;

@@ -2,10 +2,11 @@
 ghost use Rattle.std.specs.Prelude.{◌≡◌, None, false, nat_lt};
 ghost use Rattle.sws_link.specs.Counts.{kept_count};
 
-use crate::errors::is_want_of_memory;
+use crate::counted::{Counted, Origin};
 use crate::server::{Came, Server};
 use crate::tcp_link::TcpLink;
 use std::alloc::AllocError;
+use std::io;
 use sws_link::{Accepted, Opened, Polled, World};
 
 /// Gives the connections to a port of the machine as links; of what they bring nothing is known.
@@ -23,31 +24,18 @@ use sws_link::{Accepted, Opened, Polled, World};
 /// It lies in a box, since a server moves its world from event to event.
 #[derive(Drop)]
 pub struct TcpWorld<'r> {
-    state: Box<Listening<'r>>,
+    state: Box<Counted<Listening<'r>>>,
 }
 
-/// A world that isn't in a box.
+/// A listener of the world's own, once it was opened.
 struct Listening<'r> {
     rt: &'r HostRuntime,
     server: Option<Server>,
-    port: u16,
-    total: u16,
-    accepted: u16,
-    faults: u64,
-    waits: u64,
 }
 
 impl<'r> Drop for Listening<'r> {
     fn drop(self) {
-        let Listening {
-            rt,
-            server,
-            port: _,
-            total: _,
-            accepted: _,
-            faults: _,
-            waits: _,
-        } = self;
+        let Listening { rt, server } = self;
         if let Some(server) = server {
             see_out(rt, server);
         }
@@ -59,18 +47,32 @@ fn see_out(rt: &HostRuntime, mut server: Server) {
     server.see_out(rt);
 }
 
+impl<'r> Origin for Listening<'r> {
+    fn begin(&mut self, port: u16, total: u16) -> io::Result<()> {
+        self.server = Some(Server::new(self.rt, port, total)?);
+        Ok(())
+    }
+
+    fn look(&mut self, waiting: &[u16], accepted: u16, total: u16) -> io::Result<Option<u16>> {
+        let is_last = accepted >= total;
+        match &mut self.server {
+            None => Ok(None),
+            Some(server) => server.look(self.rt, waiting, accepted, is_last, u64::MAX),
+        }
+    }
+
+    fn next(&mut self, number: u16, _total: u16) -> Came {
+        match &mut self.server {
+            None => Came::NotYet,
+            Some(server) => server.next(number),
+        }
+    }
+}
+
 impl<'r> TcpWorld<'r> {
     /// A world that was not opened yet.
     pub fn new(rt: &'r HostRuntime) -> Result<TcpWorld<'r>, AllocError> {
-        let state = Listening {
-            rt,
-            server: None,
-            port: 0,
-            total: 0,
-            accepted: 0,
-            faults: 0,
-            waits: 0,
-        };
+        let state = Counted::new(Listening { rt, server: None });
         Ok(TcpWorld {
             state: Box::new(rt.alloc(), state)?,
         })
@@ -81,85 +83,6 @@ impl<'r> TcpWorld<'r> {
         ensures { result ≡ nat_lt self.now.state.value.accepted self.now.state.value.total }
     {
         self.state.accepted < self.state.total
-    }
-}
-
-impl<'r> World for Listening<'r> {
-    type Link = TcpLink;
-
-    ghost tells = { λ world. record {
-      coming = None;
-      total = world.total;
-      accepted = world.accepted;
-      port = world.port;
-      scripted = false;
-    } };
-
-    ghost faults = { λ world. kept_count world.faults };
-
-    ghost waits = { λ world. kept_count world.waits };
-
-    fn open(&mut self, port: u16, total: u16) -> Opened {
-        match Server::new(self.rt, port, total) {
-            Ok(server) => {
-                self.server = Some(server);
-                self.port = port;
-                self.total = total;
-                self.accepted = 0;
-                Opened::Ready
-            }
-            Err(error) if is_want_of_memory(&error) => Opened::Memory,
-            Err(_) => {
-                self.faults = self.faults.saturating_add(1);
-                Opened::Failed
-            }
-        }
-    }
-
-    fn total(&self) -> u16 {
-        self.total
-    }
-
-    fn poll(&mut self, waiting: &[u16]) -> Polled {
-        let is_last = self.accepted >= self.total;
-        let answer = match &mut self.server {
-            None => Ok(None),
-            Some(server) => server.look(self.rt, waiting, self.accepted, is_last, u64::MAX),
-        };
-        match answer {
-            Ok(Some(conn)) => Polled::Ready(conn),
-            Ok(None) => {
-                if !waiting.is_empty() {
-                    self.waits = self.waits.saturating_add(1);
-                }
-                Polled::Quiet
-            }
-            Err(_) => {
-                self.faults = self.faults.saturating_add(1);
-                Polled::Failed
-            }
-        }
-    }
-
-    fn accept(&mut self) -> Accepted<TcpLink> {
-        let came = match &mut self.server {
-            None => Came::NotYet,
-            Some(server) => server.next(self.accepted),
-        };
-        match came {
-            Came::Link(link) => {
-                self.accepted += 1;
-                Accepted::Link(link)
-            }
-            Came::NotYet => {
-                self.waits = self.waits.saturating_add(1);
-                Accepted::NotYet
-            }
-            Came::Failed => {
-                self.faults = self.faults.saturating_add(1);
-                Accepted::Failed
-            }
-        }
     }
 }
 
