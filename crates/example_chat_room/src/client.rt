@@ -132,8 +132,8 @@ impl<L: Link + Drop> Client<L> {
         }
     }
 
-    /// The client is shown a line. Its head goes first, by itself: a link that keeps heads back sends
-    /// it with what is behind it.
+    /// The client is shown a line. Its head goes first, by itself: a link that keeps heads back
+    /// sends it with what is behind it.
     fn show(&mut self, line: &Line) -> Result<(), End>
         ensures { self.new.heard ≡ self.old.heard }
     {

@@ -49,8 +49,8 @@ impl<W> Desk<W> {
 }
 
 impl<W: World> Desk<W> {
-    /// Asks the world who may go on. Where it has failed, one after another of those that wait is to
-    /// leave.
+    /// Asks the world who may go on. Where it has failed, one after another of those that wait is
+    /// to leave.
     pub(crate) fn ask(&mut self, world: &mut W) -> Named
         ensures { W.tells world.new ≡ W.tells world.old }
     {

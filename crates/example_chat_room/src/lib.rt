@@ -1,6 +1,7 @@
 //! A room in which clients talk, over any world of links: what the runtime is for, with sockets.
 //!
-//! A colour for each client, one for the room, and one that asks the world; no handler takes a lock.
+//! A colour for each client, one for the room, and one that asks the world; no handler takes a
+//! lock.
 //!
 //! | Colour | Its state | Its events |
 //! |---|---|---|
@@ -9,11 +10,11 @@
 //! | `2 + i` | the [`Client`] `i`: its link, and what is on its way from it and to it | it comes, goes on, is to leave, or hears a line |
 //!
 //! A client whose link may be ready reads what has come. It says the first line to the room, or
-//! tells the desk that it waits. The room tells the first client a line, with its place; each client
-//! is shown it, unless it said it, and passes it on; the last one has who said it go on. So each
-//! client has one line on its way at most. What a client says after its last line feed is dropped
-//! with it. A client that says a line of more than [`LONGEST`] bytes, or takes so little that more
-//! than 64 KiB are on their way to it, is dropped, and its [`End`] says so.
+//! tells the desk that it waits. The room tells the first client a line, with its place; each
+//! client is shown it, unless it said it, and passes it on; the last one has who said it go on. So
+//! each client has one line on its way at most. What a client says after its last line feed is
+//! dropped with it. A client that says a line of more than [`LONGEST`] bytes, or takes so little
+//! that more than 64 KiB are on their way to it, is dropped, and its [`End`] says so.
 //!
 //! ```text
 //! let ended = run_chat(threads, rt.alloc(), words.workers, world)?;
@@ -33,11 +34,11 @@
 //! ```
 //!
 //! What is promised is [`IsChat`](../specs/Talked.antt): each line that the room got was handed to
-//! each client's colour, once, by its place ([`AllHear`](../specs/Heard.antt)); and a client is shown
-//! no line out of its place, and none of its own. **Not promised**, since nothing tells it: what a
-//! socket brings or carries away, that a client reads, that a line comes to a client with the text
-//! with which it was put (no entry of a history has a load; the functions that put one say that they
-//! pass it on), and that the run ends.
+//! each client's colour, once, by its place ([`AllHear`](../specs/Heard.antt)); and a client is
+//! shown no line out of its place, and none of its own. **Not promised**, since nothing tells it:
+//! what a socket brings or carries away, that a client reads, that a line comes to a client with
+//! the text with which it was put (no entry of a history has a load; the functions that put one say
+//! that they pass it on), and that the run ends.
 #![tactic(auto)]
 
 mod app;

@@ -54,9 +54,9 @@ fn listen(rt: &HostRuntime, port: u16) -> io::Result<TcpListener> {
     Ok(listener)
 }
 
-/// Serves a chat, until all its clients have left, and says how each of them did. Threads are of the
-/// second handle, which is the same runtime: only where a program begins does it have threads to
-/// give.
+/// Serves a chat, until all its clients have left, and says how each of them did. Threads are of
+/// the second handle, which is the same runtime: only where a program begins does it have threads
+/// to give.
 ///
 /// # Errors
 ///

@@ -1,7 +1,8 @@
-//! `example_store < SCRIPT`: a store of keys that is spread over colours, and clients that put and get.
+//! `example_store < SCRIPT`: a store of keys that is spread over colours, and clients that put and
+//! get.
 //!
-//! A line of the script is `CLIENT put KEY VALUE` or `CLIENT get KEY`; a client is a number below 8,
-//! a key is a number, and a value is a word. The keys are spread over 16 colours by their
+//! A line of the script is `CLIENT put KEY VALUE` or `CLIENT get KEY`; a client is a number below
+//! 8, a key is a number, and a value is a word. The keys are spread over 16 colours by their
 //! remainder, each client has a colour, and all run on four workers. The program prints what is
 //! stored, and then what each client was answered.
 //!
