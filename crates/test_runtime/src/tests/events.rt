@@ -1,58 +1,18 @@
 ghost use Rattle.std.specs.Prelude.{◌≡◌, ◌≤◌, OnOk};
 
 use mely_event::{
-    Colour, Event, Fits, Handlers, Kept, Mark, Memory, TableFault, There, Trail, TrailLog,
+    Colour, Event, Fits, Handlers, Kept, Logged, Mark, Memory, TableFault, There, Trail, TrailLog,
     Unregistered,
 };
 use std::test::Fail;
 
-/// A state that counts the letters in its events' loads.
+/// What a lock keeps: a log, which is noted event by event.
 #[derive(Drop)]
-struct Ledger {
+struct Noted {
     log: TrailLog,
-    letters: usize,
 }
 
-impl Trail for Ledger {
-    ghost use Rattle.mely_event.specs.TrailLog.{AreAlike, alike_itself, alike_onward};
-    ghost use Rattle.std.proofs.Common.{refl};
-
-    type Frame = ();
-
-    ghost trail_of = { λ s. s.log.events };
-
-    ghost colour_of = { λ s. s.log.colour };
-
-    ghost frame_of = { λ s. tt };
-
-    ghost spare_of = { λ s. s.log.spare };
-
-    ghost alike = { AreAlike (λ s. s.log) (λ s. s.letters) };
-
-    fn trail(&self) -> &[Event] {
-        self.log.trail()
-    }
-
-    fn reserve(&mut self, n: usize) -> Result<(), Memory> {
-        self.log.reserve(n)
-    }
-
-    ghost alike_itself = { λ s. alike_itself s };
-
-    ghost alike_onward = { λ r s t one other. alike_onward one other };
-
-    ghost alike_trail = { λ s t same. same.events };
-
-    ghost alike_colour = { λ s t same. same.colour };
-
-    ghost alike_frame = { λ s t same. refl };
-}
-
-impl Fits<Vec<u8>> for Ledger {
-    ghost fits_under = { λ frame colour event load. Unit {0} };
-}
-
-impl Kept for Ledger {
+impl Kept for Noted {
     type Note = Event;
 
     type Frame = ();
@@ -112,9 +72,9 @@ fn a_table_has_at_most_32_rows_and_no_penalty_0(rt: HostRuntime) {
 
 #[test]
 fn a_state_makes_room_through_its_bounds(rt: HostRuntime) -> Result<(), Fail> {
-    let mut ledger = Ledger {
+    let mut ledger = Logged {
         log: TrailLog::new(rt.alloc(), Colour(2)),
-        letters: 0,
+        value: 7,
     };
     for arg in 7..9 {
         assert!(rt; with_room(&mut ledger) == Ok(arg - 7));
@@ -125,9 +85,9 @@ fn a_state_makes_room_through_its_bounds(rt: HostRuntime) -> Result<(), Fail> {
         ledger.log.push(event);
         assert!(rt; ledger.trail().last() == Some(&event));
     }
-    assert!(rt; ledger.notes() == 2);
     assert!(rt; ledger.log.colour() == Colour(2));
-    assert!(rt; ledger.letters == 0);
+    assert!(rt; ledger.value == 7);
+    assert!(rt; Noted { log: ledger.log }.notes() == 2);
     Ok(())
 }
 
