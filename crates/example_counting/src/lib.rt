@@ -9,4 +9,4 @@ mod passing;
 mod tally;
 
 pub use passing::{Passing, pass_on};
-pub use tally::{Tally, initial_states, initial_tally};
+pub use tally::{Tally, draw, initial_states, initial_tally};

@@ -4,7 +4,7 @@ ghost use Rattle.std.specs.List.{AllByRecursion};
 ghost use Rattle.mely_worker.specs.Access.{FitsIn};
 ghost use Rattle.example_counting.specs.Joining.{Joins};
 
-use crate::tally::Tally;
+use crate::tally::{Tally, draw};
 use mely_event::{Colour, Event};
 use mely_worker::{App, Outs};
 use std::sync::atomic::{AtomicU64, Ordering};
@@ -49,7 +49,7 @@ impl App for Passing {
         ensures few { length outs.new ≤ 2 }
     {
         self.ran.fetch_add(1, Ordering::Relaxed);
-        let drawn = state.run(event, self.rounds);
+        let drawn = draw(state, event, self.rounds);
         let to = if self.stays {
             state.log.colour().0
         } else {
@@ -68,7 +68,7 @@ pub fn pass_on(state: &mut Tally, event: Event, colours: u16, rounds: u32, outs:
     ensures puts { AllByRecursion (FitsIn colours 1 (λ colour event load. Unit {0})) outs.new }
     ensures few { length outs.new ≤ 2 }
 {
-    let drawn = state.run(event, rounds);
+    let drawn = draw(state, event, rounds);
     pass_to(drawn, event, colours, outs);
 }
 

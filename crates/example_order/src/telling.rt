@@ -47,11 +47,11 @@ impl App for Telling {
         ensures few { length outs.new ≤ 2 }
     {
         state.log.push(event);
-        if event.handler == TELL && state.log.colour().0 == 1 && state.told < u16::MAX {
-            state.told += 1;
+        if event.handler == TELL && state.log.colour().0 == 1 && state.value < u16::MAX {
+            state.value += 1;
             let hear = Event {
                 handler: HEAR,
-                arg: state.told,
+                arg: state.value,
             };
             outs.put(Colour(0), hear, None);
             if event.arg > 0 {
