@@ -29,10 +29,10 @@ fn play<R: Wait>(
     requires some { 0 < app.now.colours }
     requires colours { app.now.colours ≤ colours_of weave.setup }
     requires handlers { 1 ≤ length (rows_of (handlers_of weave.setup)) }
-    ensures { sum_by (λ purse. purse.coins) result.states.items
+    ensures { sum_by (λ purse. purse.value) result.states.items
         + sum_by (λ way. unwrap_or way.1 0) (flat_map (λ events.
         events) (map (λ queue. queue.items) result.queued.items) ++ carried_by result.lost.items)
-        ≡ total_of (λ purse. purse.coins) (λ way. unwrap_or way.1 0) weave }
+        ≡ total_of (λ purse. purse.value) (λ way. unwrap_or way.1 0) weave }
 {
     what_each_handler_keeps_a_run_keeps::<Purse, u64, Paying>();
     the_parts_are_what_the_weave_had::<Purse, u64>();
@@ -109,7 +109,7 @@ fn coins_that_go_round_are_as_many_at_the_end(rt: HostRuntime) -> Result<(), Fai
     let parts = play(&rt, weave, &Paying { colours: 3 }, &[(0, 7), (1, 9)]);
     let mut coins = 0u64;
     for purse in &parts.states {
-        coins = coins.wrapping_add(purse.coins);
+        coins = coins.wrapping_add(purse.value);
     }
     assert!(rt; coins == 1300);
     assert!(rt; parts.lost.is_empty());

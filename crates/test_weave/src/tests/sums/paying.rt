@@ -4,67 +4,23 @@ ghost use Rattle.std.specs.List.{AllByRecursion};
 ghost use Rattle.mely_worker.specs.Access.{FitsIn};
 ghost use Rattle.mely_tally.specs.Tallies.{carried_by};
 
-use mely_event::{Colour, Event, Fits, Memory, Trail, TrailLog};
+use mely_event::{Colour, Event, Logged, TrailLog};
 use mely_worker::{App, Outs};
 use std::alloc::Global;
 use std::mem;
 
 /// A trail, and coins.
-#[derive(Drop)]
-pub(super) struct Purse {
-    pub(super) log: TrailLog,
-    pub(super) coins: u64,
-}
+pub(super) type Purse = Logged<u64>;
 
 /// A purse of a colour, on which nothing was run.
 pub(super) fn purse_of(alloc: Global, colour: u16, coins: u64) -> Purse
     ensures log { result.log ≡ record { colour = record { 0 = colour }; events = []; spare = 0 } }
-    ensures coins { result.coins ≡ coins }
+    ensures coins { result.value ≡ coins }
 {
-    Purse {
+    Logged {
         log: TrailLog::new(alloc, Colour(colour)),
-        coins,
+        value: coins,
     }
-}
-
-impl Trail for Purse {
-    ghost use Rattle.mely_event.specs.TrailLog.{AreAlike, alike_itself, alike_onward};
-    ghost use Rattle.std.proofs.Common.{refl};
-
-    type Frame = ();
-
-    ghost trail_of = { λ s. s.log.events };
-
-    ghost colour_of = { λ s. s.log.colour };
-
-    ghost frame_of = { λ s. tt };
-
-    ghost spare_of = { λ s. s.log.spare };
-
-    ghost alike = { AreAlike (λ s. s.log) (λ s. s.coins) };
-
-    fn trail(&self) -> &[Event] {
-        self.log.trail()
-    }
-
-    fn reserve(&mut self, n: usize) -> Result<(), Memory> {
-        self.log.reserve(n)
-    }
-
-    ghost alike_itself = { λ s. alike_itself s };
-
-    ghost alike_onward = { λ r s t one other. alike_onward one other };
-
-    ghost alike_trail = { λ s t same. same.events };
-
-    ghost alike_colour = { λ s t same. same.colour };
-
-    ghost alike_frame = { λ s t same. refl };
-}
-
-/// Every event fits, with coins or without.
-impl Fits<u64> for Purse {
-    ghost fits_under = { λ frame colour event load. Unit {0} };
 }
 
 /// One handler, whose event brings coins. Where its argument isn't 0, the purse keeps these and
@@ -86,15 +42,15 @@ impl App for Paying {
 
     ghost serves = { λ app frame. 0 < app.colours };
 
-    ghost runs = { λ app before event load after puts. after.coins + sum_by (λ way.
-        unwrap_or way.1 0) (carried_by puts) ≡ before.coins + unwrap_or load 0 };
+    ghost runs = { λ app before event load after puts. after.value + sum_by (λ way.
+        unwrap_or way.1 0) (carried_by puts) ≡ before.value + unwrap_or load 0 };
 
     fn run(&self, state: &mut Purse, event: Event, load: Option<u64>, outs: &mut Outs<u64>)
         requires serves { 0 < self.now.colours }
         requires room { 1 ≤ state.old.log.spare }
         requires empty { outs.old ≡ [] }
-        ensures ran { state.new.coins + sum_by (λ way. unwrap_or way.1 0) (carried_by outs.new)
-            ≡ state.old.coins + unwrap_or load 0 }
+        ensures ran { state.new.value + sum_by (λ way. unwrap_or way.1 0) (carried_by outs.new)
+            ≡ state.old.value + unwrap_or load 0 }
         ensures colour { state.new.log.colour ≡ state.old.log.colour }
         ensures frame { Unit {0} }
         ensures trail { state.new.log.events ≡ state.old.log.events ++ event ∷ [] }
@@ -106,14 +62,14 @@ impl App for Paying {
         state.log.push(event);
         let brought = load.unwrap_or(0);
         if event.arg > 0 {
-            let had = mem::replace(&mut state.coins, brought);
+            let had = mem::replace(&mut state.value, brought);
             let next = Event {
                 handler: 0,
                 arg: event.arg - 1,
             };
             outs.put(Colour(next.arg % self.colours), next, Some(had));
-        } else if let Some(sum) = state.coins.checked_add(brought) {
-            state.coins = sum;
+        } else if let Some(sum) = state.value.checked_add(brought) {
+            state.value = sum;
         } else {
             let again = Event { handler: 0, arg: 0 };
             outs.put(Colour(0), again, Some(brought));

@@ -3,55 +3,12 @@ ghost use Rattle.std.specs.Prelude.{◌≡◌, ◌≤◌, ◌+◌, ◌++◌, ◌
 ghost use Rattle.std.specs.List.{AllByRecursion};
 ghost use Rattle.mely_worker.specs.Access.{FitsIn};
 
-use mely_event::{Colour, Event, Fits, Memory, Trail, TrailLog};
+use mely_event::{Colour, Event, Logged, Trail};
 use mely_worker::{App, Gate, Outs};
 use std::cell::Cell;
 
-/// A state that keeps its trail, and adds up the loads.
-#[derive(Drop)]
-pub(super) struct Ledger {
-    pub(super) log: TrailLog,
-    pub(super) total: u64,
-}
-
-impl Trail for Ledger {
-    ghost use Rattle.mely_event.specs.TrailLog.{AreAlike, alike_itself, alike_onward};
-    ghost use Rattle.std.proofs.Common.{refl};
-
-    type Frame = ();
-
-    ghost trail_of = { λ s. s.log.events };
-
-    ghost colour_of = { λ s. s.log.colour };
-
-    ghost frame_of = { λ s. tt };
-
-    ghost spare_of = { λ s. s.log.spare };
-
-    ghost alike = { AreAlike (λ s. s.log) (λ s. s.total) };
-
-    fn trail(&self) -> &[Event] {
-        self.log.trail()
-    }
-
-    fn reserve(&mut self, n: usize) -> Result<(), Memory> {
-        self.log.reserve(n)
-    }
-
-    ghost alike_itself = { λ s. alike_itself s };
-
-    ghost alike_onward = { λ r s t one other. alike_onward one other };
-
-    ghost alike_trail = { λ s t same. same.events };
-
-    ghost alike_colour = { λ s t same. same.colour };
-
-    ghost alike_frame = { λ s t same. refl };
-}
-
-impl Fits<u8> for Ledger {
-    ghost fits_under = { λ frame colour event load. Unit {0} };
-}
+/// A state that adds up the loads.
+pub(super) type Ledger = Logged<u64>;
 
 /// What handler 1 registers.
 pub(super) const NOTE: Event = Event { handler: 0, arg: 9 };
@@ -114,7 +71,7 @@ impl App for Forwarding {
         ensures few { length outs.new ≤ 2 }
     {
         state.log.push(event);
-        state.total = state.total.wrapping_add(u64::from(load.unwrap_or(0)));
+        state.value = state.value.wrapping_add(u64::from(load.unwrap_or(0)));
         self.ran.set(state.log.trail().len());
         if event.handler == 1 {
             outs.put(Colour(0), NOTE, load);

@@ -3,7 +3,7 @@ ghost use Rattle.std.specs.Prelude.{◌≡◌, ◌≤◌, ◌<◌, ◌-◌, ◌�
 ghost use Rattle.mely_history.specs.Setup.{shape_of, colours_of};
 
 use super::ledger::Ledger;
-use mely_event::{Colour, Event, Mark, There, Trail, TrailLog, Unregistered};
+use mely_event::{Colour, Event, Logged, Mark, There, Trail, TrailLog, Unregistered};
 use mely_history::{After, NoSteal, NoTake, Registered, Setup, Stolen};
 use mely_queue::Turn;
 use mely_worker::Access;
@@ -81,9 +81,9 @@ fn turn_of(alloc: Global, colour: Colour) -> Option<Turn<Ledger, u8>>
     ensures of_colour { IfSome result (λ turn. turn.state.log.colour ≡ colour) }
     ensures room { IfSome result (λ turn. 2 ≤ turn.state.log.spare) }
 {
-    let mut state = Ledger {
+    let mut state = Logged {
         log: TrailLog::new(alloc, colour),
-        total: 0,
+        value: 0,
     };
     let mut events = Vec::new(alloc);
     state.reserve(2).ok()?;
@@ -177,7 +177,7 @@ impl Access<Ledger, u8> for Script {
         match self.next() {
             Some(Call::Finish(c, total, after))
                 if c == state.log.colour()
-                    && total == state.total
+                    && total == state.value
                     && state.log.trail().len() == 2 => { after }
             _ => {
                 self.astray = true;

@@ -1,13 +1,13 @@
 -- The schedule keeps the total, the drain keeps it, and the parts have it.
 use Rattle.std.proofs.Common.{ℕ, ◌≡◌, Option, unwrap_or, ◌∙◌, arith}
 use Rattle.mely_event.specs.declared.event.Event.{Event}
-use Rattle.test_weave.specs.declared.tests.sums.paying.Purse.{Purse}
+use Rattle.mely_event.specs.declared.logged.Logged.{Logged}
 use Rattle.mely_tally.specs.Tells.{total_of}
 use Rattle.test_weave.proofs.tests.sums.play.Goals as goal
 
 pub returns : goal.returns
 returns g c =
-    let coins : Purse → ℕ = λ p. p.coins in
+    let coins : Logged ℕ → ℕ = λ p. p.value in
     let brought : Event × Option ℕ → ℕ = λ way. unwrap_or way.1 0 in
     let keeps = c.what_each_handler_keeps_a_run_keeps.ensures in
     let run = keeps.run c.args.app.now coins brought (λ a b alike. alike.rest) (λ state event load becomes puts fit ran. ran) _ _ c.args.weave c.run.new.self c.stands_well.ensures.keeps c.run.ensures.runs in
