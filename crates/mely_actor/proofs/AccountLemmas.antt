@@ -1,5 +1,5 @@
 -- What colours have received is what was posted and what the messages received send.
-use Rattle.std.proofs.Common.{◌≡◌, ◌≢◌, ◌<◌, ◌≤◌, ◌+◌, ◌*◌, ◌==◌, ℕ, zero, suc, Bool, true, false, List, [], ◌∷◌, ◌++◌, Option, Some, nat_lt, length, if◌then◌else◌, refl, sym, ◌∙◌, ap, arith, append_assoc, inl, inr, eq-eqb, ne_eqb}
+use Rattle.std.proofs.Common.{◌≡◌, ◌<◌, ◌+◌, ◌*◌, ◌==◌, ℕ, Bool, true, false, List, [], ◌∷◌, ◌++◌, Option, Some, nat_lt, length, if◌then◌else◌, refl, sym, ◌∙◌, ap, arith, append_assoc, inl, inr, eq-eqb, ne_eqb}
 use Rattle.std.proofs.lemmas.Bool.{cases_eq, lt-ltb}
 use Rattle.std.proofs.lemmas.List.{append-nil}
 use Rattle.std.proofs.lemmas.List.Sums.{sum_by-append, sum_by-cons}
@@ -22,8 +22,8 @@ use Rattle.mely_app.proofs.PutsLemmas.{put_as_counted, colours_same, colours_bot
 use Rattle.mely_actor.proofs.MessageLemmas.{behind_message, behind_post}
 use Rattle.mely_actor.proofs.WaitingLemmas.{none_there, of_some, of_true, one_turn, put_whole, waits_push}
 use Rattle.mely_actor.specs.Received.{count_sent}
-use Rattle.mely_actor.specs.Sending.{along, as_events, first_event, is_message, is_turn, messages_in, of_want, turn_event, without_loads}
-use Rattle.mely_actor.specs.Waiting.{AreTold, PutsAsTold, now_by, put_later, put_now, sent_by, to_send, turn_by, turn_is_put, turning, turns, waits_after}
+use Rattle.mely_actor.specs.Sending.{along, as_events, is_message, is_turn, messages_in, of_want, turn_event, without_loads}
+use Rattle.mely_actor.specs.Waiting.{AreTold, PutsAsTold, now_by, put_later, put_now, sent_by, turn_by, turning, turns, waits_after}
 
 -- ---- numbers of events
 

@@ -1,16 +1,13 @@
 -- The messages among events, where one event is more, and what a value keeps over them then.
-use Rattle.std.proofs.Common.{◌≡◌, ◌≤◌, ◌<◌, ◌+◌, ℕ, suc, Bool, true, false, List, [], ◌∷◌, ◌++◌, nat_lt, if◌then◌else◌, length, map, min, refl, sym, ◌∙◌, ap, subst, arith}
+use Rattle.std.proofs.Common.{◌≡◌, ◌≤◌, ◌<◌, ◌+◌, ℕ, Bool, true, false, List, [], ◌∷◌, ◌++◌, nat_lt, if◌then◌else◌, length, min, refl, ◌∙◌, ap, arith}
 use Rattle.std.proofs.lemmas.Bool.{lt-ltb}
-use Rattle.std.proofs.lemmas.List.{append-nil, length-append, length-map, map-append}
+use Rattle.std.proofs.lemmas.List.{append-nil, length-append}
 use Rattle.std.proofs.lemmas.List.Elements.{filter-append}
 use Rattle.std.specs.List.{AllByRecursion}
 use Rattle.std.specs.Prelude.{Result, Ok, Err, OnErr, OnOk}
 use Rattle.std.specs.Result.{is_ok}
-use Rattle.mely_event.specs.declared.colour.Colour.{Colour}
 use Rattle.mely_event.specs.declared.event.Event.{Event}
-use Rattle.mely_actor.specs.Keeping.{IsKept, Keeps}
-use Rattle.mely_actor.specs.Sending.{along, as_events, is_message, messages_in}
-use Rattle.mely_actor.proofs.AlongLemmas.{along_push, events_append}
+use Rattle.mely_actor.specs.Sending.{is_message, messages_in}
 
 -- an event of the library's own is no message
 pub behind_post : (before : List Event) (event : Event) → event.handler ≡ 0 → messages_in (before ++ event ∷ []) ≡ messages_in before

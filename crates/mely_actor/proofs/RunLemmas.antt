@@ -1,5 +1,5 @@
 -- One event more on a colour: what it puts fits and is told, and what the colour keeps then.
-use Rattle.std.proofs.Common.{◌≡◌, ◌≢◌, ◌<◌, ◌≤◌, ◌+◌, ◌==◌, ℕ, Bool, true, false, List, [], ◌∷◌, ◌++◌, Option, None, Some, nat_lt, if◌then◌else◌, length, map, refl, sym, ◌∙◌, ap, subst, arith, eq-eqb, ne_eqb, length-append}
+use Rattle.std.proofs.Common.{◌≡◌, ◌≢◌, ◌<◌, ◌≤◌, ◌+◌, ◌==◌, ℕ, Bool, true, false, List, [], ◌∷◌, ◌++◌, Option, None, nat_lt, if◌then◌else◌, length, refl, sym, ◌∙◌, ap, subst, arith, eq-eqb, ne_eqb}
 use Rattle.std.proofs.lemmas.Bool.{lt-ltb}
 use Rattle.std.proofs.lemmas.List.{append-nil, length-map, map-append}
 use Rattle.std.proofs.lemmas.List.Sums.{sum_by-append}
@@ -11,9 +11,8 @@ use Rattle.mely_tally.specs.Account.{count_puts}
 use Rattle.mely_worker.specs.Access.{FitsIn}
 use Rattle.mely_actor.specs.declared.actor.Actor.{Ghosts as ActorWords}
 use Rattle.mely_actor.specs.declared.load.Load.{Load}
-use Rattle.mely_actor.specs.declared.load.Load.TheVariants.{Posts, Message}
 use Rattle.mely_actor.specs.declared.load.Plan.{Plan}
-use Rattle.mely_actor.specs.Keeping.{IsKept, Keeps, Stands}
+use Rattle.mely_actor.specs.Keeping.{Keeps, Stands}
 use Rattle.mely_actor.specs.Loads.{ArePutsFit, FitsLoad, IsPut, as_put, as_puts, turn_puts}
 use Rattle.mely_actor.specs.Sending.{MaySend, along, as_events, first_event, is_turn, messages_in, of_want, turn_event, want_event, without_loads}
 use Rattle.mely_actor.specs.Waiting.{AreTold, PutsAsTold, are_many, put_later, put_now, sent_by, turn_is_put, turning, turns, waits_after}

@@ -1,5 +1,5 @@
--- Where nothing sends to a colour, what it has received is what was posted to it. And what is of use to
--- all who post an item to each colour.
+-- Where nothing sends to a colour, what it has received is what was posted to it. And what is of
+-- use to all who post an item to each colour.
 use Rattle.std.proofs.Common.{◌≡◌, ◌<◌, ◌+◌, ◌==◌, ℕ, zero, suc, List, [], ◌∷◌, Some, if◌then◌else◌, length, map, refl, sym, ◌∙◌, ap, arith}
 use Rattle.std.proofs.lemmas.List.Sums.{sum_by-append, sum_by-cons}
 use Rattle.std.specs.Prelude.{slice_get, sum_by}

@@ -1,12 +1,10 @@
 -- What is put now and what waits, and what follows where all has been put.
-use Rattle.std.proofs.Common.{◌≡◌, ◌≢◌, ◌<◌, ◌≤◌, ◌+◌, ◌==◌, ℕ, zero, suc, Bool, true, false, List, [], ◌∷◌, ◌++◌, drop, take, nat_lt, length, if◌then◌else◌, map, refl, sym, ◌∙◌, ap, arith, append_assoc}
-use Rattle.std.proofs.lemmas.List.{append-nil, length-append}
-use Rattle.std.proofs.lemmas.List.Sums.{sum_by-append, sum_by-cons}
+use Rattle.std.proofs.Common.{◌≡◌, ◌≤◌, ◌+◌, ℕ, Bool, true, false, List, [], ◌∷◌, ◌++◌, length, map, refl, sym, ◌∙◌, ap, arith}
+use Rattle.std.proofs.lemmas.List.{length-append}
 use Rattle.std.specs.List.{AllByRecursion}
-use Rattle.std.specs.Prelude.{sum_by}
 use Rattle.mely_event.specs.declared.colour.Colour.{Colour}
 use Rattle.mely_event.specs.declared.event.Event.{Event}
-use Rattle.mely_actor.specs.Sending.{as_events, is_message, is_turn, messages_in}
+use Rattle.mely_actor.specs.Sending.{is_turn, messages_in}
 use Rattle.mely_actor.specs.Waiting.{are_many, put_later, put_now, sent_by, turn_is_put, turning, waiting_from, waits_after}
 use Rattle.mely_actor.proofs.MessageLemmas.{messages_append}
 

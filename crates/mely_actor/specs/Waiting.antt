@@ -1,6 +1,6 @@
--- How a colour that has more to send than two messages sends them: the first at once, and the others
--- wait there for turns, which are events of the library's own on the same colour.
-use Rattle.std.specs.Prelude.{◌≡◌, ◌==◌, ◌+◌, ◌<◌, ℕ, List, [], ◌∷◌, ◌++◌, Option, None, Bool, true, false, if◌then◌else◌, length, map}
+-- How a colour that has more to send than two messages sends them: the first at once, and the
+-- others wait there for turns, which are events of the library's own on the same colour.
+use Rattle.std.specs.Prelude.{◌≡◌, ◌==◌, ◌+◌, ◌<◌, ℕ, List, [], ◌∷◌, ◌++◌, Option, Bool, true, false, if◌then◌else◌, length}
 use Rattle.std.specs.List.{AllByRecursion}
 use Rattle.mely_event.specs.declared.colour.Colour.{Colour}
 use Rattle.mely_event.specs.declared.event.Event.{Event}
@@ -14,8 +14,8 @@ turning true waiting = false
 turning false [] = false
 turning false (x ∷ waiting) = true
 
--- Of all that is to be sent so much is put now. Where a turn is registered something is left for it;
--- else up to two are put, or of more the first, since a turn is put with it.
+-- Of all that is to be sent so much is put now. Where a turn is registered something is left for
+-- it; else up to two are put, or of more the first, since a turn is put with it.
 abbrev pub put_now : {X : Type 0} → Bool → List X → List X
 put_now true [] = []
 put_now true (x ∷ []) = []
@@ -44,8 +44,8 @@ are_many (x ∷ []) = false
 are_many (x ∷ y ∷ []) = false
 are_many (x ∷ y ∷ z ∷ more) = true
 
--- whether a turn is put, where so much waited before an event and so much is to be sent with what it
--- sends: by an event that is no turn where nothing waited, by a turn where something did. A turn
+-- whether a turn is put, where so much waited before an event and so much is to be sent with what
+-- it sends: by an event that is no turn where nothing waited, by a turn where something did. A turn
 -- for which nothing waits puts itself again: none is ever registered, but histories don't say so.
 abbrev pub turn_is_put : {X : Type 0} → Bool → List X → List X → Bool
 turn_is_put true [] all = true

@@ -12,7 +12,8 @@ use mely_event::{Event, Fits, Trail};
 use mely_worker::{App, Outs};
 use std::alloc::Global;
 
-/// An app whose handlers are these actors. Handler 0 is the library's: it posts, and sends what waits.
+/// An app whose handlers are these actors. Handler 0 is the library's: it posts, and sends what
+/// waits.
 #[derive(Drop)]
 pub(crate) struct Acting<A> {
     pub(crate) alloc: Global,

@@ -15,9 +15,9 @@ use std::collections::VecDeque;
 use std::marker::Model;
 use std::snapshot::Snapshot;
 
-/// The state of a colour: its trail, with the number of messages in it, what is still to be sent, and
-/// the value that the author's fact is about. Where memory was wanted the value has failed: it keeps
-/// nothing and sends nothing from then on, and events say so.
+/// The state of a colour: its trail, with the number of messages in it, what is still to be sent,
+/// and the value that the author's fact is about. Where memory was wanted the value has failed: it
+/// keeps nothing and sends nothing from then on, and events say so.
 #[derive(Drop)]
 pub struct Kept<A: Actor> {
     log: TrailLog,
@@ -49,7 +49,6 @@ impl<A: Actor> Model for Kept<A> {
 
 impl<A: Actor> Kept<A> {
     ghost use Rattle.std.specs.Prelude.{false};
-    ghost use Rattle.mely_event.specs.TrailLog.{TrailLogState};
 
     /// The state of a colour that has received nothing.
     pub(crate) fn new(

@@ -1,6 +1,4 @@
 //! What an event of actors carries, and the library's own events.
-ghost use Rattle.std.specs.Prelude.{◌≡◌};
-ghost use Rattle.mely_actor.specs.Sending.{first_event, turn_event, want_event};
 
 use mely_event::{Colour, Event};
 use std::collections::VecDeque;

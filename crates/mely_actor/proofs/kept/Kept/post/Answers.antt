@@ -2,7 +2,7 @@ use Rattle.std.proofs.Common.{◌≡◌, ◌<◌, ◌++◌, length, false, ap, s
 use Rattle.std.specs.List.{AllByRecursion}
 use Rattle.mely_actor.specs.Keeping.{IsKept}
 use Rattle.mely_actor.specs.Loads.{ArePutsFit, IsPut}
-use Rattle.mely_actor.specs.Sending.{MaySend, messages_in}
+use Rattle.mely_actor.specs.Sending.{MaySend}
 use Rattle.mely_actor.specs.Waiting.{PutsAsTold, turn_is_put, turning}
 use Rattle.mely_actor.proofs.MessageLemmas.{behind_post, of_ok}
 use Rattle.mely_actor.proofs.RunLemmas.{Stepped, post_stepped}

@@ -1,9 +1,8 @@
-use Rattle.std.proofs.Common.{◌≡◌, ◌+◌, ◌<◌, ◌++◌, ◌∷◌, [], List, length, ap, sym, subst, ◌∙◌, false}
+use Rattle.std.proofs.Common.{◌≡◌, ◌+◌, ◌<◌, ◌++◌, ◌∷◌, [], length, ap, sym, subst, ◌∙◌, false}
 use Rattle.std.specs.List.{AllByRecursion}
-use Rattle.mely_event.specs.declared.colour.Colour.{Colour}
 use Rattle.mely_actor.specs.Keeping.{IsKept}
 use Rattle.mely_actor.specs.Loads.{ArePutsFit, IsPut}
-use Rattle.mely_actor.specs.Sending.{MaySend, as_events, messages_in}
+use Rattle.mely_actor.specs.Sending.{MaySend, messages_in}
 use Rattle.mely_actor.specs.Waiting.{PutsAsTold, turn_is_put, turning}
 use Rattle.mely_actor.proofs.MessageLemmas.{counted_more, of_err, of_ok}
 use Rattle.mely_actor.proofs.RunLemmas.{Stepped, message_stepped, wanted}

@@ -1,9 +1,8 @@
-use Rattle.std.proofs.Common.{◌≡◌, ◌≢◌, ◌<◌, ◌≤◌, ◌++◌, ◌∷◌, ◌∙◌, [], length, false, true, ap, sym, subst, eqb-true, eq-eqb, deque_len, arith}
+use Rattle.std.proofs.Common.{◌≡◌, ◌≢◌, ◌<◌, ◌++◌, ◌∷◌, ◌∙◌, [], length, false, true, ap, sym, subst, eqb-true, eq-eqb, deque_len}
 use Rattle.std.proofs.lemmas.List.{nil_from_length}
 use Rattle.mely_actor.specs.Keeping.{IsKept}
-use Rattle.mely_actor.specs.Loads.{ArePutsFit, IsPut}
-use Rattle.mely_actor.specs.Sending.{messages_in}
-use Rattle.mely_actor.specs.Waiting.{PutsAsTold, are_many}
+use Rattle.mely_actor.specs.Loads.{IsPut}
+use Rattle.mely_actor.specs.Waiting.{are_many}
 use Rattle.mely_actor.proofs.MessageLemmas.{behind_post}
 use Rattle.mely_actor.proofs.RunLemmas.{Stepped, turn_again, turn_some, turn_stepped}
 use Rattle.mely_actor.proofs.kept.Kept.turn.Goals as goal
