@@ -3,16 +3,14 @@
 //! Several threads share a value whose history grows by notes ([`mely_event::Kept`]), as the
 //! queues of a shard do in an event-driven runtime: each change is a note, and each note has the
 //! number of the pass that made it. [`Ticketed::new`] puts the value behind a lock and deals out
-//! the passes, one for each caller. [`Ticketed::enter`] waits until nobody is inside and gives
-//! the value, [`Held::leave`] puts it back, and once all passes are back [`Ticketed::close`]
-//! gives the value for good.
+//! the passes, one for each caller. [`Ticketed::call`] waits until nobody is inside and lets a
+//! closure have the value; it is [`Ticketed::enter`], which gives the value, and [`Held::leave`],
+//! which puts it back. Once all passes are back [`Ticketed::close`] gives the value for good.
 //!
 //! ```text
 //! let (lock, mut passes) = Ticketed::new(alloc, diary, 2)?;
 //! let mut pass = passes.pop().ok_or("no pass")?;
-//! let mut held = lock.enter(rt, &mut pass);
-//! let wrote = held.value().add(pass.number(), text);
-//! held.leave(&mut pass);
+//! let wrote = lock.call(rt, &mut pass, text, |diary, text, by| diary.add(by, text));
 //! ```
 //!
 //! A contract of most locks can only say of the value what always holds of it. With a pass it says

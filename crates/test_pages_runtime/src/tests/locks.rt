@@ -53,9 +53,7 @@ fn written<R: Wait>(rt: &R, alloc: Global, text: char) -> Result<Diary, Fail> {
     };
     let (lock, mut passes) = Ticketed::new(alloc, diary, 2)?;
     let mut pass = passes.pop().ok_or("no pass")?;
-    let mut held = lock.enter(rt, &mut pass);
-    let wrote = held.value().add(pass.number(), text);
-    held.leave(&mut pass);
+    let wrote = lock.call(rt, &mut pass, text, |diary, text, by| diary.add(by, text));
     wrote?;
     passes.push(pass)?;
     Ok(lock.close(passes))
