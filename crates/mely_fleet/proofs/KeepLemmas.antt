@@ -1,5 +1,5 @@
 -- What a shard behind its lock does and keeps.
-use Rattle.std.proofs.Common.{◌≡◌, ℕ, zero, suc, List, [], ◌∷◌, ◌++◌, Option, Some, None, Result, Ok, Err, map, take, sym, ◌∙◌, ap, subst, arith, OnErr, IfOk, IfErr, ◌⊎◌, inl, inr, refl}
+use Rattle.std.proofs.Common.{◌≡◌, ℕ, zero, suc, List, [], ◌∷◌, ◌++◌, Option, Some, None, Result, Ok, Err, map, take, sym, ◌∙◌, ap, subst, arith, OnErr, IfOk, IfErr}
 use Rattle.std.specs.List.{slice_get, AllByRecursion}
 use Rattle.std.specs.Prelude.{option_map}
 use Rattle.std.proofs.lemmas.Option.{slice_get-map}
@@ -10,12 +10,10 @@ use Rattle.mely_event.specs.declared.unregistered.Unregistered.{Unregistered}
 use Rattle.mely_event.specs.declared.trail.Trail.{Ghosts as TrailWords}
 use Rattle.mely_history.specs.declared.setup.Setup.{Setup}
 use Rattle.mely_history.specs.declared.entry.Entry.{Entry}
-use Rattle.mely_history.specs.declared.entry.Entry.TheVariants.{Reg, Take, Steal}
 use Rattle.mely_history.specs.declared.registered.Registered.{Registered}
 use Rattle.mely_history.specs.declared.no_take.NoTake.{NoTake}
 use Rattle.mely_history.specs.declared.no_steal.NoSteal.{NoSteal}
 use Rattle.mely_history.specs.declared.stolen.Stolen.{Stolen}
-use Rattle.mely_history.specs.declared.after.After.{After}
 use Rattle.mely_history.specs.Entries.{pass_of}
 use Rattle.mely_history.specs.History.{ran_of, worth_of}
 use Rattle.mely_history.specs.Legal.{IsLegal}
@@ -25,8 +23,7 @@ use Rattle.mely_queue.specs.Turn.{TurnState, EachFits}
 use Rattle.mely_shard.specs.Shard.{ShardState, ColourState, lane_at, givens, IsOwn, KeepsFrame, Registers, RegisteredAs, KeepsAllButSpare, Takes, KeepsStates, TurnStands, NoTakeAs, Steals, NoStealAs, IsConsistent, HomeStands}
 use Rattle.mely_lock.specs.Seen.{OthersSince}
 use Rattle.mely_fleet.specs.Frames.{HaveFrame, shard_frame}
-use Rattle.mely_fleet.specs.declared.kept_shard.ShardFrame.{ShardFrame}
-use Rattle.mely_fleet.specs.Calls.{RegistersAt, TakesAt, FinishesAt, StealsAt, IsSeen}
+use Rattle.mely_fleet.specs.Calls.{RegistersAt, TakesAt, StealsAt}
 
 -- the state that was given at first, where its lane stands
 given_there : {S P : Type 0} (lanes : List (ColourState S P)) (i : ℕ) (lane : ColourState S P) → slice_get lanes i ≡ Some lane → slice_get (map (λ (l : ColourState S P). l.given) lanes) i ≡ Some lane.given
@@ -113,41 +110,3 @@ module _ {S P : Type 0} (old new : ShardState S P) where
   pub steals_at : (c : Colour) (to : ℕ) (answer : Result Stolen NoSteal) → IfOk answer (λ stolen. Steals old new c to stolen) → OnErr answer (KeepsAllButSpare old new) → IfErr answer (λ why. NoStealAs old.setup old.history c to why) → StealsAt old.setup to c answer old.history new.history
   steals_at c to (Ok stolen) ok err why = (ok.history, ok.allowed, ok.started, ok.worth ∙ ap (λ s. worth_of s new.history c) ok.same_setup)
   steals_at c to (Err e) ok err why = (err.history, why)
-
--- a finish of a turn of the pass's core is seen
-pub finish_seen : (n core : ℕ) (c : Colour) (count : ℕ) (answer : After) (setup s : Setup) (front mid after point new : List Entry) → core ≡ n → s ≡ setup → OthersSince pass_of n front mid → mid ≡ point → after ≡ new → FinishesAt s core c count answer point new → IsLegal s new → IsSeen setup n front after (FinishesAt setup n c count answer)
-finish_seen n core c count answer setup s front mid after point new core_is setup_is others mid_is after_is does legal = record {
-  point = point;
-  others = subst (λ h. OthersSince pass_of n front h) mid_is others;
-  does = subst (λ h. FinishesAt setup n c count answer point h) (sym after_is) (subst (λ k. FinishesAt setup k c count answer point new) core_is (subst (λ k. FinishesAt k core c count answer point new) setup_is does));
-  legal = subst (IsLegal setup) (sym after_is) (subst (λ k. IsLegal k new) setup_is legal);
-}
-
--- the history as it was, or with one entry more, of this pass
-abbrev pub AddsOwn : ℕ → List Entry → List Entry → Type 0
-AddsOwn n before after = (after ≡ before) ⊎ ((entry : Entry) × (after ≡ before ++ entry ∷ []) × (pass_of entry ≡ n))
-
-pub registers_own : {P : Type 0} (setup : Setup) (n : ℕ) (c : Colour) (event : Event) (load : Option P) (answer : Result Registered (Unregistered P)) (point after : List Entry) → RegistersAt setup n c event load answer point after → AddsOwn n point after
-registers_own setup n c event load (Ok reply) point after does = inr (Reg c event n, does.0, refl)
-registers_own setup n c event load (Err back) point after does = inl does.0
-
-pub takes_own : {S P F : Type 0} (t : TrailWords S F) (fits : F → Colour → Event → Option P → Type 0) (setup : Setup) (f : F) (n : ℕ) (c : Colour) (answer : Result (TurnState S P) NoTake) (point after : List Entry) → TakesAt t fits setup f n c answer point after → AddsOwn n point after
-takes_own t fits setup f n c (Ok turn) point after does = inr (Take c n turn.count, does.0, refl)
-takes_own t fits setup f n c (Err why) point after does = inl does.0
-
-pub steals_own : (setup : Setup) (n : ℕ) (c : Colour) (answer : Result Stolen NoSteal) (point after : List Entry) → StealsAt setup n c answer point after → AddsOwn n point after
-steals_own setup n c (Ok stolen) point after does = inr (Steal c stolen.from n, does.0, refl)
-steals_own setup n c (Err why) point after does = inl does.0
-
--- the same, by what the pass had seen
-pub adds_seen : (n by : ℕ) (mid point after : List Entry) → mid ≡ point → by ≡ n → AddsOwn by point after → AddsOwn n mid after
-adds_seen n by mid point after mid_is by_is adds = subst (λ m. AddsOwn m mid after) by_is (subst (λ h. AddsOwn by h after) (sym mid_is) adds)
-
--- a call on the shard behind the lock is seen
-pub call_seen : {F : Type 0} (D : ShardFrame F → ℕ → List Entry → List Entry → Type 0) (of made : ShardFrame F) (by n : ℕ) (front mid after point new : List Entry) → of ≡ made → by ≡ n → OthersSince pass_of n front mid → mid ≡ point → after ≡ new → D of by point new → IsLegal of.setup new → IsSeen made.setup n front after (D made n)
-call_seen D of made by n front mid after point new of_is by_is others mid_is after_is does legal = record {
-  point = point;
-  others = subst (λ h. OthersSince pass_of n front h) mid_is others;
-  does = subst (λ h. D made n point h) (sym after_is) (subst (λ m. D made m point new) by_is (subst (λ f. D f by point new) of_is does));
-  legal = subst (IsLegal made.setup) (sym after_is) (subst (λ (f : ShardFrame _). IsLegal f.setup new) of_is legal);
-}

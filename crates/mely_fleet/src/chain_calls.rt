@@ -1,7 +1,6 @@
 //! One call on the chain behind a lock. What it leaves there is hinted at before the lock is left.
-ghost use Rattle.std.specs.Prelude.{◌≡◌, ◌<◌, ◌+◌, ◌^◌, IfSome, length};
-ghost use Rattle.mely_lock.specs.Words.{initial_value, front, IsInside, IsPassOf};
-ghost use Rattle.mely_lock.specs.Seen.{OthersSince};
+ghost use Rattle.std.specs.Prelude.{◌<◌, ◌+◌, ◌^◌, IfSome, length};
+ghost use Rattle.mely_lock.specs.Words.{initial_value, front};
 ghost use Rattle.mely_fleet.specs.Chains.{IsOnChain, PushesAt, PopsAt, RetellsAt, PicksAt};
 ghost use Rattle.mely_fleet.specs.Rows.{MayEnter, HasLeft};
 ghost use Rattle.mely_fleet.specs.Frames.{chain_frame};
@@ -9,31 +8,16 @@ ghost use Rattle.mely_fleet.specs.Frames.{chain_frame};
 use crate::hint::Hint;
 use crate::kept_chain::KeptChain;
 use mely_event::{Colour, Kept, Mark, There};
-use mely_lock::{Held, Pass, Ticketed};
+use mely_lock::{Pass, Ticketed};
 use std::sync::Wait;
 
-/// Goes in. Where the history is as long as one can be counted, which no machine lives
-/// to see, it waits for ever.
-fn enter_with_room<'a, R: Wait>(
-    rt: &R,
-    lock: &'a Ticketed<KeptChain>,
-    pass: &mut Pass<KeptChain>,
-) -> Held<'a, KeptChain>
-    requires { MayEnter chain_frame lock.now pass.old }
-    ensures pass { IsPassOf chain_frame lock.now pass.new × IsInside pass.new
-        × (pass.new.number ≡ pass.old.number) }
-    ensures point { OthersSince (λ change. change.0) pass.old.number
-        (front pass.old) (front pass.new) }
-    ensures seen { front pass.new ≡ result.value.changes }
-    ensures held { (result.lock.now ≡ lock.now)
-        × (chain_frame result.value ≡ chain_frame (initial_value lock.now)) }
-    ensures room { length result.value.changes + 1 < 2 ^ 64 }
+/// Waits for ever where the history is as long as one can be counted, which no machine lives to see.
+fn wait_for_room<R: Wait>(rt: &R, chain: &KeptChain)
+    ensures { length chain.now.changes + 1 < 2 ^ 64 }
 {
-    let mut held = lock.enter(rt, pass);
-    if held.value().is_full() {
+    if chain.is_full() {
         'full: for _ in rt.forever() {}
     }
-    held
 }
 
 /// Puts a mark at the back; whether thieves may take it there. Whether the chain has other marks is
@@ -52,14 +36,20 @@ pub(crate) fn push_at<R: Wait>(
     ensures does { IsOnChain pass.old.number (front pass.old) (front pass.new)
         (PushesAt (chain_frame (initial_value lock.now)) pass.old.number mark result.0) }
 {
-    let by = pass.number();
-    let mut held = enter_with_room(rt, lock, pass);
-    let chain = held.value();
-    let answer = chain.push(mark, by);
-    let is_crowded = chain.is_crowded();
-    hint.came(is_worthy & answer.is_ok());
-    held.leave(pass);
-    (answer, is_crowded)
+    lock.call(
+        rt,
+        pass,
+        mark,
+        |chain, mark, by|
+            requires { mark.colour.0 < chain.old.has.colours }
+        {
+            wait_for_room(rt, chain);
+            let answer = chain.push(mark, by);
+            let is_crowded = chain.is_crowded();
+            hint.came(is_worthy & answer.is_ok());
+            (answer, is_crowded)
+        },
+    )
 }
 
 /// Takes the mark at the front of a chain, under its lock.
@@ -75,13 +65,12 @@ pub(crate) fn pop_at<R: Wait>(
     ensures does { IsOnChain pass.old.number (front pass.old) (front pass.new)
         (PopsAt (chain_frame (initial_value lock.now)) pass.old.number result) }
 {
-    let by = pass.number();
-    let mut held = enter_with_room(rt, lock, pass);
-    let chain = held.value();
-    let answer = chain.pop(by);
-    hint.popped(chain.is_empty());
-    held.leave(pass);
-    answer
+    lock.call(rt, pass, (), |chain, _, by| {
+        wait_for_room(rt, chain);
+        let answer = chain.pop(by);
+        hint.popped(chain.is_empty());
+        answer
+    })
 }
 
 /// Tells the mark of a colour in a chain what its events are worth, under its lock; whether thieves
@@ -103,12 +92,19 @@ pub(crate) fn retell_at<R: Wait>(
         (RetellsAt (chain_frame (initial_value lock.now)) pass.old.number
         colour started worth result) }
 {
-    let by = pass.number();
-    let mut held = enter_with_room(rt, lock, pass);
-    let answer = held.value().retell(colour, started, worth, by);
-    hint.told(is_worthy & answer);
-    held.leave(pass);
-    answer
+    lock.call(
+        rt,
+        pass,
+        colour,
+        |chain, colour, by|
+            requires { colour.0 < chain.old.has.colours }
+        {
+            wait_for_room(rt, chain);
+            let answer = chain.retell(colour, started, worth, by);
+            hint.told(is_worthy & answer);
+            answer
+        },
+    )
 }
 
 /// Takes the first mark of the highest class that has one off a chain, under its lock; nothing
@@ -125,11 +121,10 @@ pub(crate) fn pick_at<R: Wait>(
     ensures does { IsOnChain pass.old.number (front pass.old) (front pass.new)
         (PicksAt (chain_frame (initial_value lock.now)) pass.old.number result) }
 {
-    let by = pass.number();
-    let mut held = enter_with_room(rt, lock, pass);
-    let chain = held.value();
-    let answer = chain.pick(by);
-    hint.picked(answer.is_some(), chain.is_empty());
-    held.leave(pass);
-    answer
+    lock.call(rt, pass, (), |chain, _, by| {
+        wait_for_room(rt, chain);
+        let answer = chain.pick(by);
+        hint.picked(answer.is_some(), chain.is_empty());
+        answer
+    })
 }

@@ -97,7 +97,8 @@ impl KeptChain {
 
     /// Whether its history is as long as one can be counted.
     pub(crate) fn is_full(&self) -> bool
-        ensures { IsTrue result ↔ (length self.now.changes + 1 ≡ 2 ^ 64) }
+        ensures full { IsTrue result ↔ (length self.now.changes + 1 ≡ 2 ^ 64) }
+        ensures counted { length self.now.changes < 2 ^ 64 }
     {
         self.count == u64::MAX
     }

@@ -1,5 +1,5 @@
 //! What the lock of a shard keeps.
-ghost use Rattle.std.specs.Prelude.{◌≡◌, ◌<◌, ◌≤◌, ◌↔◌, [], List, IfOk, IsTrue, OnOk, slice_get};
+ghost use Rattle.std.specs.Prelude.{◌≡◌, ◌<◌, ◌≤◌, [], List, IfOk, OnOk, slice_get};
 
 use mely_event::{Colour, Event, Fits, Kept, Memory, Trail, Unregistered};
 use mely_history::{After, Entry, NoSteal, NoTake, Registered, Setup, Stolen};
@@ -63,14 +63,14 @@ impl<S: Fits<P>, P> Kept for KeptShard<S, P> {
 
 impl<S: Fits<P>, P> KeptShard<S, P> {
     ghost use Rattle.mely_history.specs.Entries.{pass_of};
-    ghost use Rattle.mely_history.specs.Legal.{IsLegal, IsDrained, MayRegister};
+    ghost use Rattle.mely_history.specs.Legal.{IsLegal, MayRegister};
     ghost use Rattle.mely_history.specs.Owing.{IsOwed};
     ghost use Rattle.mely_history.specs.Setup.{shape_of};
     ghost use Rattle.mely_history.specs.declared.entry.Entry.{Entry};
     ghost use Rattle.mely_lock.specs.Seen.{OthersSince};
     ghost use Rattle.mely_shard.specs.Shard.{givens};
     ghost use Rattle.mely_fleet.specs.Frames.{HaveFrame, IsColourOf, shard_frame};
-    ghost use Rattle.mely_fleet.specs.Calls.{RegistersAt, TakesAt, FinishesAt, StealsAt};
+    ghost use Rattle.mely_fleet.specs.Calls.{RegistersAt, TakesAt, FinishesAt, StealsAt, IsDrainedAs};
 
     /// A shard whose states have the frame of the sample.
     ///
@@ -182,7 +182,7 @@ impl<S: Fits<P>, P> KeptShard<S, P> {
 
     /// Whether no colour runs and nothing is queued.
     pub(crate) fn is_drained(&self) -> bool
-        ensures drained { IsTrue result ↔ IsDrained self.now.has.history }
+        ensures drained { IsDrainedAs result self.now.has.history }
         ensures legal { IsLegal self.now.has.setup self.now.has.history }
     {
         let _entries = self.shard.history();

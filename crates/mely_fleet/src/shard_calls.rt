@@ -1,12 +1,12 @@
 //! One call on the shard behind a lock.
-ghost use Rattle.std.specs.Prelude.{◌≡◌, ◌<◌, ◌↔◌, [], IsTrue};
-ghost use Rattle.mely_history.specs.Legal.{MayRegister, IsDrained};
+ghost use Rattle.std.specs.Prelude.{◌≡◌, ◌<◌, []};
+ghost use Rattle.mely_history.specs.Legal.{MayRegister};
 ghost use Rattle.mely_history.specs.Owing.{IsOwed};
 ghost use Rattle.mely_history.specs.Setup.{shape_of};
 ghost use Rattle.mely_lock.specs.Words.{initial_value, front};
 ghost use Rattle.mely_fleet.specs.Rows.{MayEnter, HasLeft};
 ghost use Rattle.mely_fleet.specs.Frames.{shard_frame, IsColourOf};
-ghost use Rattle.mely_fleet.specs.Calls.{RegistersAt, TakesAt, FinishesAt, StealsAt, LooksAt, IsSeen};
+ghost use Rattle.mely_fleet.specs.Calls.{RegistersAt, TakesAt, FinishesAt, StealsAt, LooksAt, IsDrainedAs, IsSeen};
 
 use crate::kept_shard::KeptShard;
 use mely_event::{Colour, Event, Fits, Kept, Memory, Unregistered};
@@ -33,11 +33,12 @@ pub(crate) fn register_at<S: Fits<P>, P, R: Wait>(
         (front pass.old) (front pass.new)
         (RegistersAt (initial_value lock.now).has.setup pass.old.number colour event load result) }
 {
-    let mut held = lock.enter(rt, pass);
-    let by = pass.number();
-    let answer = held.value().register(colour, event, load, by);
-    held.leave(pass);
-    answer
+    lock.call(
+        rt,
+        pass,
+        load,
+        |shard, load, by| shard.register(colour, event, load, by),
+    )
 }
 
 /// Moves the state of a colour and its first events out.
@@ -55,11 +56,12 @@ pub(crate) fn take_at<S: Fits<P>, P, R: Wait>(
         (TakesAt S.Trail S.fits_under (initial_value lock.now).has.setup
         (S.frame_of (initial_value lock.now).sample) pass.old.number colour result) }
 {
-    let mut held = lock.enter(rt, pass);
-    let core = pass.number();
-    let answer = held.value().take(colour, core);
-    held.leave(pass);
-    answer
+    lock.call(
+        rt,
+        pass,
+        colour,
+        |shard, colour, core| shard.take(colour, core),
+    )
 }
 
 /// Takes the state of a turn home.
@@ -82,10 +84,7 @@ pub(crate) fn finish_at<S: Fits<P> + Drop, P: Drop, R: Wait>(
         (FinishesAt (initial_value lock.now).has.setup pass.old.number
         turn.colour turn.count result) }
 {
-    let mut held = lock.enter(rt, pass);
-    let answer = held.value().finish(turn);
-    held.leave(pass);
-    answer
+    lock.call(rt, pass, turn, |shard, turn, _| shard.finish(turn))
 }
 
 /// Moves a colour with all that is queued to the core of the pass.
@@ -103,11 +102,12 @@ pub(crate) fn steal_at<S: Fits<P>, P, R: Wait>(
         (front pass.old) (front pass.new)
         (StealsAt (initial_value lock.now).has.setup pass.old.number colour result) }
 {
-    let mut held = lock.enter(rt, pass);
-    let to = pass.number();
-    let answer = held.value().steal(colour, to);
-    held.leave(pass);
-    answer
+    lock.call(
+        rt,
+        pass,
+        colour,
+        |shard, colour, to| shard.steal(colour, to),
+    )
 }
 
 /// Makes room for this many entries.
@@ -123,10 +123,12 @@ pub(crate) fn reserve_at<S: Fits<P>, P, R: Wait>(
         (front pass.old) (front pass.new)
         LooksAt }
 {
-    let mut held = lock.enter(rt, pass);
-    let answer = held.value().reserve(entries);
-    held.leave(pass);
-    answer
+    lock.call(
+        rt,
+        pass,
+        entries,
+        |shard, entries, _| shard.reserve(entries),
+    )
 }
 
 /// Looks whether no colour of the shard runs and nothing is queued.
@@ -140,10 +142,7 @@ pub(crate) fn look_at<S: Fits<P>, P, R: Wait>(
     ensures seen { IsSeen (initial_value lock.now).has.setup pass.old.number
         (front pass.old) (front pass.new)
         LooksAt }
-    ensures drained { IsTrue result ↔ IsDrained (front pass.new) }
+    ensures drained { IsDrainedAs result (front pass.new) }
 {
-    let mut held = lock.enter(rt, pass);
-    let answer = held.value().is_drained();
-    held.leave(pass);
-    answer
+    lock.call(rt, pass, (), |shard, _, _| shard.is_drained())
 }
