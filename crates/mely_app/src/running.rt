@@ -52,6 +52,8 @@ pub fn run_app<
     requires fits { FitsSetup S.fits_under setup.now S.initial_frame (colour, event, load) }
     ensures ran { IfOk result (λ ended. RanAll S.Trail setup.now colour event
         (map (λ history. history.items) ended.histories.items) ended.states.items) }
+    ensures framed { IfOk result (λ ended.
+        AllFramed S.Trail S.initial_frame ended.states.items) }
     ensures puts { IfOk result (λ ended. HasPutAll S.Trail S.fits_under A.App app.now
         setup.now S.initial_frame (colour, event, load)
         (map (λ history. history.items) ended.histories.items)) }

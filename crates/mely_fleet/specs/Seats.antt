@@ -1,5 +1,5 @@
 -- The threads of a fleet's cores.
-use Rattle.std.specs.Prelude.{◌≡◌, ◌<◌, ◌≤◌, ℕ, List, [], Option, None, Some, slice_get}
+use Rattle.std.specs.Prelude.{◌≡◌, ◌<◌, ◌≤◌, ℕ, false, List, [], Option, None, Some, slice_get}
 use Rattle.mely_event.specs.declared.colour.Colour.{Colour}
 use Rattle.mely_event.specs.declared.event.Event.{Event}
 use Rattle.mely_event.specs.declared.trail.Trail.{Ghosts as TrailWords}
@@ -51,12 +51,13 @@ pub record IsOutsider {V F : Type 0} {g : _} (kept_frame : V → ShardFrame F)
   pub passes : ArePasses kept_frame fleet own
   pub outside : (shape_of fleet.setup).cores ≤ own.number
 
--- passes that have seen nothing, and a worker at rest that was refused nothing
+-- passes that have seen nothing, and a worker at rest that isn't halted and was refused nothing
 pub record IsFresh {P V F : Type 0} {g : _} (own : PassesOf V Entry (ShardFrame F) g)
     (worker : Option (IdleWorkerState P)) : Type 0 where
   pub unseen : (k : ℕ) → front_in (fronts own.shards.items) k ≡ []
   pub rest : IdleWorkerState P
   pub rested : worker ≡ Some rest
+  pub awake : rest.halted ≡ false
   pub none_lost : rest.lost ≡ []
 
 -- the worker at rest made steps with these passes, and rests again

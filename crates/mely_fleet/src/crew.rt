@@ -2,7 +2,7 @@
 ghost use Rattle.std.specs.Prelude.{◌≡◌, ◌<◌, ◌≤◌, ◌+◌, ◌∷◌, [], ℕ, IfOk, IfErr, Some, length, slice_get, vec_capacity};
 ghost use Rattle.mely_history.specs.Setup.{shape_of};
 ghost use Rattle.mely_weave.specs.Dealing.{AtEach};
-ghost use Rattle.mely_weave.specs.Drains.{AllFree, HistoriesAreDrained};
+ghost use Rattle.mely_weave.specs.Drains.{AllFree, HistoriesAreDrained, SomeHalted};
 ghost use Rattle.mely_weave.specs.Making.{AreInitial};
 ghost use Rattle.mely_weave.specs.StandsWell.{StandsWell};
 ghost use Rattle.mely_worker.specs.Access.{FitsSetup};
@@ -180,6 +180,7 @@ pub fn run_crew<
     ensures stands { IfOk result (λ ran. StandsWell S.Trail S.fits_under ran.0) }
     ensures free { IfOk result (λ ran. AllFree ran.0) }
     ensures drained { IfOk result (λ ran. ran.1 ≡ Drained.Empty → HistoriesAreDrained ran.0) }
+    ensures memory { IfOk result (λ ran. ran.1 ≡ Drained.Memory → SomeHalted ran.0) }
     ensures back { IfErr result (λ refused. refused ≡ record { event = begin.1; load = begin.2 }) }
 {
     let (colour, event, load) = begin;

@@ -38,5 +38,6 @@ returns-clause-fresh g c = λ n seat at.
       unseen = first.unseen;
       rest = initial_idle_worker fleet.setup n;
       rested = made.ensures.workers n rest.0 seat rest.1 at ∙ ap (λ r. Some r) (c.in_ok-rested.ensures.first n rest.0 rest.1);
+      awake = refl;
       none_lost = refl;
     }
