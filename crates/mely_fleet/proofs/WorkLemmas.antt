@@ -28,6 +28,7 @@ use Rattle.mely_lock.specs.Seen.{OthersSince}
 use Rattle.mely_queue.specs.Turn.{TurnState}
 use Rattle.mely_worker.specs.declared.phase.Phase.{Phase}
 use Rattle.mely_worker.specs.declared.phase.Phase.TheVariants.{Free, Popped, Picked, Landing, Pushing, Turning}
+use Rattle.mely_worker.specs.Delivery.{Delivers}
 use Rattle.mely_worker.specs.declared.delivery.Delivery.{Delivery}
 use Rattle.mely_worker.specs.declared.delivery.Delivery.TheVariants.{Nothing, PushMark, Report}
 use Rattle.mely_worker.specs.declared.made.Made.{Made}
@@ -41,7 +42,7 @@ use Rattle.mely_worker.specs.Step.{Steps, StepsFrom, StepsTurning, StepsPuts, St
 use Rattle.mely_weave.specs.Hands.{colour_in, colour_run_by}
 use Rattle.mely_weave.specs.Side.{shard_of}
 use Rattle.mely_fleet.specs.Calls.{RegistersAt, TakesAt, FinishesAt, StealsAt, LooksAt, IsSeen, SeesAt, front_in, front_for}
-use Rattle.mely_fleet.specs.Chains.{ReachesChain, PushesAt, PopsAt, RetellsAt, PicksAt}
+use Rattle.mely_fleet.specs.Chains.{DeliversAt, ReachesChain, PushesAt, PopsAt, RetellsAt, PicksAt}
 use Rattle.mely_fleet.specs.Fleets.{chain_frame_for}
 use Rattle.mely_fleet.specs.Work.{Standpoint, words, SeesMore, HasFinishedBut, HasFinished, WorksOn}
 
@@ -337,6 +338,13 @@ side_words t fits view keeps = record {
   retells = λ s core c started worth found u. ((view u).fronts ≡ (view s).fronts) × ReachesChain (view s).number core (view s).chains (view u).chains (RetellsAt (chain_frame_for (view s).setup) (view s).number c started worth found);
   picks = λ s core answer u. ((view u).fronts ≡ (view s).fronts) × ReachesChain (view s).number core (view s).chains (view u).chains (PicksAt (chain_frame_for (view s).setup) (view s).number answer);
 }
+
+-- a delivery by a side is the one call on the chain that it names, and nothing more is seen of the shards
+module _ {B S P F : Type 0} (t : TrailWords S F) (fits : F → Colour → Event → Option P → Type 0) (view : B → Standpoint F) (keeps : B → B → Type 0) (s u : B) where
+  pub side_delivers : (delivery : Delivery) (arrived : Bool) → Delivers (side_words t fits view keeps) s delivery arrived u → ((view u).fronts ≡ (view s).fronts) × DeliversAt (chain_frame_for (view s).setup) (view s).number delivery (view s).chains (view u).chains
+  side_delivers Nothing arrived is = (ap (λ b. (view b).fronts) is.0, ap (λ b. (view b).chains) is.0)
+  side_delivers (PushMark core mark) arrived is = (is.1.0, (is.0, is.1.1))
+  side_delivers (Report core c started worth) arrived does = (does.0, (arrived, does.1))
 
 module _ {B R S P F : Type 0} (t : TrailWords S F) (fits : F → Colour → Event → Option P → Type 0) (view : B → Standpoint F) (keeps : B → B → Type 0) (y : AppWords R P S F) (app : R) (s u : B) (w v : WorkerState S P) (step : Made) (steps : Steps (side_words t fits view keeps) y app s w step u v) where
   pub standpoint_steps : Steps (words t fits) y app (view s) w step (view u) v

@@ -9,6 +9,7 @@ use crate::kept_chain::KeptChain;
 use crate::kept_shard::KeptShard;
 use crate::passes::Passes;
 use crate::shard_calls::{finish_at, look_at, register_at, reserve_at, steal_at, take_at};
+use crate::side::Side;
 use mely_event::{Colour, Event, Fits, Kept, Mark, Memory, There, Trail, Unregistered};
 use mely_history::{After, NoSteal, NoTake, Registered, Setup, Stolen};
 use mely_lock::Ticketed;
@@ -46,7 +47,7 @@ fn is_woken<P>(answer: &Result<Registered, Unregistered<P>>) -> bool {
     matches!(answer, Ok(Registered::Woke { .. }))
 }
 
-impl<S: Fits<P>, P> FleetOf<KeptShard<S, P>> {
+impl<S: Fits<P> + Drop, P: Drop> FleetOf<KeptShard<S, P>> {
     ghost use Rattle.mely_history.specs.Legal.{IsDrained};
     ghost use Rattle.mely_worker.specs.Access.{IsColour, IsCore, FitsSetup};
     ghost use Rattle.mely_worker.specs.Delivery.{MayDeliver};
@@ -55,8 +56,8 @@ impl<S: Fits<P>, P> FleetOf<KeptShard<S, P>> {
     ghost use Rattle.mely_fleet.specs.Chains.{PushesAt, PopsAt, RetellsAt, PicksAt};
     ghost use Rattle.mely_fleet.specs.Frames.{shard_frame};
     ghost use Rattle.mely_fleet.specs.Rows.{fronts};
-    ghost use Rattle.mely_fleet.specs.Fleets.{ArePasses, DeliversOn, frame_in, KeepChains, KeepShards, ReachesOn, SeesOn, owed_by};
-    ghost use Rattle.mely_fleet.specs.Posted.{IsPosted};
+    ghost use Rattle.mely_fleet.specs.Fleets.{ArePasses, frame_in, KeepChains, KeepShards, ReachesOn, SeesOn, owed_by};
+    ghost use Rattle.mely_fleet.specs.Posted.{HasDelivered, IsPosted};
 
     /// The place of the shard of a colour.
     fn place(&self, colour: Colour) -> usize
@@ -132,9 +133,6 @@ impl<S: Fits<P>, P> FleetOf<KeptShard<S, P>> {
     /// turn. It takes no memory. Where more is queued no chain is told, as after
     /// [`register`](FleetOf::register).
     pub fn finish<R: Wait>(&self, rt: &R, passes: &mut Passes<S, P>, turn: Turn<S, P>) -> After
-    where
-        S: Drop,
-        P: Drop,
         requires passes { ArePasses (shard_frame S.frame_of) self.now passes.old }
         requires colour { IsColour self.now.setup turn.colour }
         requires spent { turn.events ≡ [] }
@@ -251,30 +249,18 @@ impl<S: Fits<P>, P> FleetOf<KeptShard<S, P>> {
         Ok(reply)
     }
 
-    /// Makes the one call on a chain that delivers a mark or a report.
+    /// Makes the one call on a chain that delivers a mark or a report, as a worker does.
     fn deliver<R: Wait>(&self, rt: &R, passes: &mut Passes<S, P>, delivery: Delivery)
         requires passes { ArePasses (shard_frame S.frame_of) self.now passes.old }
         requires may { MayDeliver self.now.setup delivery }
-        ensures passes { ArePasses (shard_frame S.frame_of) self.now passes.new }
-        ensures same { KeepShards passes.old passes.new }
-        ensures delivered { DeliversOn self.now delivery passes.old passes.new }
+        ensures { HasDelivered (shard_frame S.frame_of) self.now delivery passes.old passes.new }
     {
-        match delivery {
-            Delivery::Nothing => {}
-            Delivery::PushMark { core, mark } => {
-                let _ = self.push(rt, passes, core, mark);
-                return;
-            }
-            Delivery::Report {
-                core,
-                colour,
-                started,
-                worth,
-            } => {
-                let _ = self.retell(rt, passes, core, colour, started, worth);
-                return;
-            }
-        }
+        let mut side = Side {
+            rt,
+            fleet: self,
+            passes,
+        };
+        let _ = delivery.deliver(&mut side);
     }
 
     /// Whether a thief may take a mark of this colour and worth.

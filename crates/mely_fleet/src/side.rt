@@ -1,6 +1,5 @@
 //! The access of a worker in a fleet.
-ghost use Rattle.std.specs.Prelude.{◌≡◌, ◌<◌, MatchResult};
-ghost use Rattle.mely_history.specs.Setup.{shape_of};
+ghost use Rattle.std.specs.Prelude.{◌≡◌, MatchResult};
 ghost use Rattle.mely_worker.specs.Access.{Stays, FitsSetup, IsSpent, StillOwes, NamesCore, GivesBack};
 ghost use Rattle.mely_weave.specs.Side.{shard_of};
 ghost use Rattle.mely_fleet.specs.Calls.{RegistersAt, TakesAt, FinishesAt, StealsAt};
@@ -18,7 +17,8 @@ use mely_queue::Turn;
 use mely_worker::Access;
 use std::sync::Wait;
 
-/// A fleet with the passes of one core, as they are lent for a step of its worker.
+/// A fleet with the passes of one caller, as they are lent for a step of a core's worker, or for a
+/// delivery.
 #[derive(Drop)]
 pub(crate) struct Side<'a, S: Fits<P>, P, R: Wait>
 where
@@ -27,7 +27,6 @@ where
     pub(crate) rt: &'a R,
     pub(crate) fleet: &'a Fleet<S, P>,
     pub(crate) passes: &'a mut Passes<S, P>,
-    ghost core: { passes.now.number < (shape_of fleet.now.setup).cores },
     ghost are: { ArePasses ⟦<KeptShard<S, P> as Kept>⟧.frame_of fleet.now passes.now },
 }
 
