@@ -1,4 +1,4 @@
-use Rattle.std.proofs.Common.{◌≡◌, ◌≤◌, [], length, true, sym, ◌∙◌, eqb-true, deque_len}
+use Rattle.std.proofs.Common.{◌≡◌, ◌≤◌, [], length, sym, ◌∙◌, eqb-true, deque_len}
 use Rattle.std.proofs.lemmas.List.{nil_from_length}
 use Rattle.mely_actor.proofs.RunLemmas.{few_put}
 use Rattle.mely_actor.proofs.waiting.send_all.Goals as goal
