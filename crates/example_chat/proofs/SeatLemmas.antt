@@ -1,29 +1,30 @@
 -- One message more for the room or a client, and the lines that are posted.
-use Rattle.std.proofs.Common.{◌≡◌, ◌≤◌, ◌<◌, ◌+◌, ℕ, Bool, List, [], ◌∷◌, ◌++◌, Some, if◌then◌else◌, length, map, refl, sym, ◌∙◌, ap, arith, append_assoc}
+use Rattle.std.proofs.Common.{◌≡◌, ◌≤◌, ◌<◌, ◌+◌, ◌*◌, ℕ, Bool, List, [], ◌∷◌, ◌++◌, Some, if◌then◌else◌, length, map, refl, sym, ◌∙◌, ap, arith, append_assoc}
 use Rattle.std.proofs.lemmas.Bool.{le-ltb, lt-ltb}
-use Rattle.std.proofs.lemmas.List.{append-nil}
+use Rattle.std.proofs.lemmas.List.{append-nil, map-append}
 use Rattle.std.specs.List.{AllByRecursion}
 use Rattle.std.specs.Global.{Global}
 use Rattle.std.specs.Prelude.{Result, Ok, Err, OnOk, Vec, slice_get}
 use Rattle.mely_event.specs.declared.colour.Colour.{Colour}
+use Rattle.mely_event.specs.declared.event.Event.{Event}
 use Rattle.mely_weave.proofs.Wholes.DealLemmas.{seam_at}
 use Rattle.mely_actor.proofs.AlongLemmas.{along_push}
 use Rattle.mely_actor.proofs.ListLemmas.{one_longer}
-use Rattle.mely_actor.specs.Sending.{MaySend, along}
+use Rattle.mely_actor.specs.Sending.{MaySend, along, as_events}
 use Rattle.example_chat.specs.declared.message.Message.{Message}
-use Rattle.example_chat.specs.declared.message.Message.TheVariants.{Say, Line, Hear}
+use Rattle.example_chat.specs.declared.message.Message.TheVariants.{Say, Line}
 use Rattle.example_chat.specs.declared.script.Line.{Line as ScriptLine}
 use Rattle.example_chat.specs.declared.seat.Heard.{Heard}
 use Rattle.example_chat.specs.declared.chat.TheConstants.{CLIENTS}
-use Rattle.example_chat.specs.Chats.{IsByClient, IsSeat, MayHear, Note, event_of, note_of, notes, said, says}
+use Rattle.example_chat.specs.Chats.{IsByClient, IsSeat, MayHear, Note, Sent, event_of, events_to_clients, note_of, notes, said, says, sends_of, sent_as, to_clients}
 
 -- a message more
-pub seat_more : (colour : Colour) (received : List Message) (sent new : List (Colour × Message)) (heard after : List Heard) (message : Message) (before : ℕ) → length received ≡ before → new ≡ says colour before message → map note_of after ≡ map note_of heard ++ notes before message → IsSeat colour received sent heard
-    → IsSeat colour (received ++ message ∷ []) (sent ++ new) after
-seat_more colour received sent new heard after message before many sends keeps seat =
+pub seat_more : (received : List Message) (sent new : List (Colour × Message)) (heard after : List Heard) (message : Message) (before : ℕ) → length received ≡ before → map sent_as new ≡ says before message → map note_of after ≡ map note_of heard ++ notes before message → IsSeat received sent heard
+    → IsSeat (received ++ message ∷ []) (sent ++ new) after
+seat_more received sent new heard after message before many sends keeps seat =
     let at : 0 + length received ≡ before = omega (arith, many) in
     record {
-      passed = ap (λ l. l ++ new) seat.passed ∙ ap (λ l. along (says colour) 0 received ++ l) (sends ∙ ap (λ n. says colour n message) (sym at)) ∙ sym (along_push (says colour) 0 received message);
+      passed = map-append sent_as sent new ∙ ap (λ l. l ++ map sent_as new) seat.passed ∙ ap (λ l. along says 0 received ++ l) (sends ∙ ap (λ n. says n message) (sym at)) ∙ sym (along_push says 0 received message);
       noted = keeps ∙ ap (λ l. l ++ notes before message) seat.noted ∙ ap (λ n. along notes 0 received ++ notes n message) (sym at) ∙ sym (along_push notes 0 received message);
     }
 
@@ -32,10 +33,23 @@ pub none_more : (kept : List Note) → kept ≡ kept ++ []
 none_more kept = sym (append-nil kept)
 
 -- the same on an answer
-pub seat_kept : {A E : Type 0} (answer : Result A E) (colour : Colour) (new : List (Colour × Message)) (heard after : List Heard) (message : Message) (before : ℕ) → new ≡ says colour before message → OnOk answer (map note_of after ≡ map note_of heard ++ notes before message)
-    → OnOk answer ((received : List Message) (sent : List (Colour × Message)) → length received ≡ before → IsSeat colour received sent heard → IsSeat colour (received ++ message ∷ []) (sent ++ new) after)
-seat_kept (Ok a) colour new heard after message before sends keeps = λ received sent many seat. seat_more colour received sent new heard after message before many sends keeps seat
-seat_kept (Err e) colour new heard after message before sends keeps = tt
+pub seat_kept : {A E : Type 0} (answer : Result A E) (new : List (Colour × Message)) (heard after : List Heard) (message : Message) (before : ℕ) → map sent_as new ≡ says before message → OnOk answer (map note_of after ≡ map note_of heard ++ notes before message)
+    → OnOk answer ((received : List Message) (sent : List (Colour × Message)) → length received ≡ before → IsSeat received sent heard → IsSeat (received ++ message ∷ []) (sent ++ new) after)
+seat_kept (Ok a) new heard after message before sends keeps = λ received sent many seat. seat_more received sent new heard after message before many sends keeps seat
+seat_kept (Err e) new heard after message before sends keeps = tt
+
+-- what is so is so on an answer
+pub on_ok : {A E P : Type 0} (answer : Result A E) → P → OnOk answer P
+on_ok (Ok a) is = is
+on_ok (Err e) is = tt
+
+-- the events of what is sent are what stands in facts, without the texts
+abbrev pub without_text : Sent → Colour × Event
+without_text sent = (sent.0, sent.1)
+
+pub events_of : (sends : List (Colour × Message)) → as_events event_of sends ≡ map without_text (map sent_as sends)
+events_of [] = refl
+events_of (send ∷ sends) = ap (λ l. (send.0, event_of send.1) ∷ l) (events_of sends)
 
 -- one line more has the next number
 pub said_push : (number : ℕ) (lines : List ScriptLine) (line : ScriptLine) → said number (lines ++ line ∷ []) ≡ said number lines ++ (record { 0 = line.client }, Say (number + length lines) line.text) ∷ []
@@ -60,20 +74,17 @@ module _ (script : List ScriptLine) where
   may_say by = may_from [] script 0 refl refl by
 
 -- a line that comes behind 256 others goes nowhere
-pub late_sent : (colour : Colour) (before k : ℕ) (text : Vec ℕ Global) → 256 ≤ before → [] ≡ says colour before (Line k text)
-late_sent colour before k text late = sym (ap (λ (b : Bool). if b then (record { 0 = 1 }, Hear before k text) ∷ [] else []) (le-ltb before 256 late))
+pub late_sent : (before k : ℕ) (text : Vec ℕ Global) → 256 ≤ before → [] ≡ says before (Line k text)
+late_sent before k text late = sym (ap (λ (b : Bool). if b then to_clients (record { handler = 3; arg = before * 256 + k }) text.items else []) (le-ltb before 256 late))
 
 pub late_noted : (before k : ℕ) (text : Vec ℕ Global) → 256 ≤ before → [] ≡ notes before (Line k text)
 late_noted before k text late = sym (ap (λ (b : Bool). if b then (before, k, text.items) ∷ [] else []) (le-ltb before 256 late))
 
-pub line_sent : (colour : Colour) (before k : ℕ) (text : Vec ℕ Global) → before < 256 → (record { 0 = 1 }, Hear before k text) ∷ [] ≡ says colour before (Line k text)
-line_sent colour before k text low = sym (ap (λ (b : Bool). if b then (record { 0 = 1 }, Hear before k text) ∷ [] else []) (lt-ltb before 256 low))
+pub line_sent : (before k : ℕ) (text : Vec ℕ Global) → before < 256 → to_clients (record { handler = 3; arg = before * 256 + k }) text.items ≡ says before (Line k text)
+line_sent before k text low = sym (ap (λ (b : Bool). if b then to_clients (record { handler = 3; arg = before * 256 + k }) text.items else []) (lt-ltb before 256 low))
 
 pub line_noted : (before k : ℕ) (text : Vec ℕ Global) → before < 256 → (before, k, text.items) ∷ [] ≡ notes before (Line k text)
 line_noted before k text low = sym (ap (λ (b : Bool). if b then (before, k, text.items) ∷ [] else []) (lt-ltb before 256 low))
 
-pub next_sent : (colour : Colour) (before p k : ℕ) (text : Vec ℕ Global) → colour.0 < CLIENTS → (record { 0 = colour.0 + 1 }, Hear p k text) ∷ [] ≡ says colour before (Hear p k text)
-next_sent colour before p k text low = sym (ap (λ (b : Bool). if b then (record { 0 = colour.0 + 1 }, Hear p k text) ∷ [] else []) (lt-ltb colour.0 CLIENTS low))
-
-pub last_sent : (colour : Colour) (before p k : ℕ) (text : Vec ℕ Global) → CLIENTS ≤ colour.0 → [] ≡ says colour before (Hear p k text)
-last_sent colour before p k text high = sym (ap (λ (b : Bool). if b then (record { 0 = colour.0 + 1 }, Hear p k text) ∷ [] else []) (le-ltb colour.0 CLIENTS high))
+pub line_told : {A : Type 0} (chat : A) (colour : Colour) (before k : ℕ) (text : Vec ℕ Global) → before < 256 → events_to_clients (record { handler = 3; arg = before * 256 + k }) ≡ sends_of chat colour before (event_of (Line k text))
+line_told chat colour before k text low = sym (ap (λ (b : Bool). if b then events_to_clients (record { handler = 3; arg = before * 256 + k }) else []) (lt-ltb before 256 low))

@@ -1,5 +1,6 @@
 -- What the room and the clients are sent, send, and keep.
 use Rattle.std.specs.Prelude.{◌≡◌, ◌==◌, ◌+◌, ◌*◌, ◌<◌, ◌≤◌, ℕ, List, [], ◌∷◌, Some, if◌then◌else◌, map, nat_lt, slice_get}
+use Rattle.std.specs.List.{range_with_len}
 use Rattle.mely_actor.specs.Sending.{along}
 use Rattle.mely_event.specs.declared.colour.Colour.{Colour}
 use Rattle.mely_event.specs.declared.event.Event.{Event}
@@ -38,25 +39,42 @@ MayHear script colour (Line number text) = (colour.0 ≡ 0) × IsOfScript script
 MayHear script colour (Hear place number text) =
     (0 < colour.0) × IsOfScript script number text.items
 
+-- what a message says
+abbrev pub text_of : Message → List ℕ
+text_of (Say number text) = text.items
+text_of (Line number text) = text.items
+text_of (Hear place number text) = text.items
+
+-- what is sent, as facts have it: to whom, under which event, and what it says; these determine it
+abbrev pub Sent : Type 0
+Sent = Colour × Event × List ℕ
+
+abbrev pub sent_as : Colour × Message → Sent
+sent_as send = (send.0, event_of send.1, text_of send.1)
+
+-- a line goes to each client, with its text, and by its event alone
+abbrev pub to_clients : Event → List ℕ → List Sent
+to_clients event text = map (λ n. (record { 0 = n }, event, text)) (range_with_len 1 CLIENTS)
+
+abbrev pub events_to_clients : Event → List (Colour × Event)
+events_to_clients event = map (λ n. (record { 0 = n }, event)) (range_with_len 1 CLIENTS)
+
 -- What a message has a colour send, so many others before it: what a client is to say goes to the
--- room. The room's next line goes to the first client, and the number of those before is its place.
--- And each client passes on what it hears, but for the last one.
-abbrev pub says : Colour → ℕ → Message → List (Colour × Message)
-says colour before (Say number text) = (room, Line number text) ∷ []
-says colour before (Line number text) =
-    if nat_lt before 256 then (record { 0 = 1 }, Hear before number text) ∷ [] else []
-says colour before (Hear place number text) = if nat_lt colour.0 CLIENTS
-    then (record { 0 = colour.0 + 1 }, Hear place number text) ∷ [] else []
+-- room, which has each client hear it. The number of the room's lines before it is its place.
+abbrev pub says : ℕ → Message → List Sent
+says before (Say number text) =
+    (room, record { handler = 2; arg = number }, text.items) ∷ []
+says before (Line number text) = if nat_lt before 256
+    then to_clients (record { handler = 3; arg = before * 256 + number }) text.items else []
+says before (Hear place number text) = []
 
 -- the same by the events
 abbrev pub sends_of : {A : Type 0} → A → Colour → ℕ → Event → List (Colour × Event)
 sends_of chat colour before event =
     if event.handler == 1 then (room, record { handler = 2; arg = event.arg }) ∷ []
-    else if event.handler == 2 then (if nat_lt before 256 then (
-      record { 0 = 1 },
-      record { handler = 3; arg = before * 256 + event.arg },
-    ) ∷ [] else [])
-    else (if nat_lt colour.0 CLIENTS then (record { 0 = colour.0 + 1 }, event) ∷ [] else [])
+    else if event.handler == 2 then (if nat_lt before 256
+    then events_to_clients (record { handler = 3; arg = before * 256 + event.arg }) else [])
+    else []
 
 -- a line that was heard: its place, its number and its text
 abbrev pub Note : Type 0
@@ -74,9 +92,9 @@ notes before (Hear place number text) = (place, number, text.items) ∷ []
 
 -- what was sent is what the messages received have the colour send, and what is kept is what is
 -- kept of them, in that order
-pub record IsSeat (colour : Colour) (received : List Message) (sent : List (Colour × Message))
-    (heard : List Heard) : Type 0 where
-  pub passed : sent ≡ along (says colour) 0 received
+pub record IsSeat (received : List Message) (sent : List (Colour × Message)) (heard : List Heard)
+    : Type 0 where
+  pub passed : map sent_as sent ≡ along says 0 received
   pub noted : map note_of heard ≡ along notes 0 received
 
 -- the lines, each for the client that says it, under its number

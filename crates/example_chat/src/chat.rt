@@ -1,7 +1,10 @@
 //! The room and the clients, as actors.
-ghost use Rattle.std.specs.Prelude.{◌≡◌, ◌+◌, ◌++◌, ◌∷◌, [], OnOk, map};
+ghost use Rattle.std.specs.Prelude.{◌≡◌, ◌+◌, ◌*◌, ◌++◌, ◌∷◌, [], List, OnOk, map};
+ghost use Rattle.std.specs.List.{AllByRecursion};
+ghost use Rattle.mely_actor.specs.Sending.{MaySend};
 ghost use Rattle.example_chat.specs.declared.chat.TheConstants.{CLIENTS};
-ghost use Rattle.example_chat.specs.Chats.{IsSeat, MayHear, event_of, note_of, sends_of};
+ghost use Rattle.example_chat.specs.declared.script.Line.{Line as ScriptLine};
+ghost use Rattle.example_chat.specs.Chats.{IsOfScript, IsSeat, MayHear, event_of, note_of, sends_of, sent_as, to_clients};
 
 use crate::message::Message;
 use crate::script::Line;
@@ -39,7 +42,7 @@ impl Actor for Chat {
 
     ghost sends_of = { sends_of };
 
-    ghost kept = { λ chat colour received sent seat. IsSeat colour received sent seat.heard.items };
+    ghost kept = { λ chat colour received sent seat. IsSeat received sent seat.heard.items };
 
     fn event(message: &Message) -> Event {
         let (handler, arg) = match message {
@@ -73,36 +76,53 @@ impl Actor for Chat {
                     return Ok(());
                 }
                 let place = at.number as u8;
-                let kept = keep(self.alloc, seat, place, number, &text);
-                sends.send(Colour(1), Message::Hear(place, number, text));
-                kept
+                send_to_all(self.alloc, place, number, &text, sends)?;
+                keep(seat, place, number, text)
             }
-            Message::Hear(place, number, text) => {
-                let kept = keep(self.alloc, seat, place, number, &text);
-                if at.colour.0 < CLIENTS {
-                    sends.send(Colour(at.colour.0 + 1), Message::Hear(place, number, text));
-                }
-                kept
-            }
+            Message::Hear(place, number, text) => keep(seat, place, number, text),
         }
     }
 }
 
-/// Keeps a copy of a line.
+/// Has each client hear a line at its place, with a copy of the text for each.
 ///
 /// # Errors
 ///
 /// There was no memory.
-fn keep(alloc: Global, seat: &mut Seat, place: u8, number: u8, text: &[u8]) -> Result<(), Memory>
-    ensures { OnOk result (map note_of seat.new.heard.items
-        ≡ map note_of seat.old.heard.items ++ (place, number, text.now) ∷ []) }
+fn send_to_all(
+    alloc: Global,
+    place: u8,
+    number: u8,
+    text: &[u8],
+    sends: &mut Sends<Message>,
+) -> Result<(), Memory>
+    requires { sends.old ≡ [] }
+    ensures sent { OnOk result (map sent_as sends.new
+        ≡ to_clients (record { handler = 3; arg = place * 256 + number }) text.now) }
+    ensures allowed { OnOk result ((script : List ScriptLine) → IsOfScript script number text.now
+        → AllByRecursion (MaySend (CLIENTS + 1) 4 event_of (MayHear script)) sends.new) }
 {
-    let mut copy = Vec::new(alloc);
-    copy.extend_from_slice(text)?;
+    'clients: for client in 0..CLIENTS {
+        let mut copy = Vec::new(alloc);
+        copy.extend_from_slice(text)?;
+        sends.send_more(Colour(client + 1), Message::Hear(place, number, copy))?;
+    }
+    Ok(())
+}
+
+/// Keeps a line.
+///
+/// # Errors
+///
+/// There was no memory.
+fn keep(seat: &mut Seat, place: u8, number: u8, text: Vec<u8>) -> Result<(), Memory>
+    ensures { OnOk result (map note_of seat.new.heard.items
+        ≡ map note_of seat.old.heard.items ++ (place, number, text.items) ∷ []) }
+{
     seat.heard.push(Heard {
         place,
         number,
-        text: copy,
+        text,
     })?;
     Ok(())
 }

@@ -1,8 +1,8 @@
 //! `example_chat < SCRIPT`: a room in which clients talk, a colour for the room and one for each.
 //!
 //! A line of the script is `CLIENT WORDS..`, and a client is a number from 1 to 4. Each client says
-//! its lines to the room, which puts what all say into one order and has the clients hear it; all
-//! run on four workers. The order is the run's own, so the program prints each line that client 1
+//! its lines to the room, which puts what all say into one order and sends it to every client; all
+//! run on four workers. The order is the run's own, so the program prints each line that client 4
 //! heard in the order of the script, and whether each client heard the lines of the room in the
 //! room's order.
 //!
