@@ -5,9 +5,9 @@ use Rattle.std.proofs.Math.Seq.{take-append_seam}
 use Rattle.std.proofs.lemmas.Option.{slice_get_within}
 use Rattle.mely_event.specs.declared.colour.Colour.{Colour}
 use Rattle.mely_event.specs.declared.event.Event.{Event}
+use Rattle.mely_event.specs.declared.logged.Logged.{Logged}
 use Rattle.mely_event.specs.declared.trail.Trail.{Ghosts as TrailWords}
 use Rattle.mely_event.specs.TrailLog.{AreAlike}
-use Rattle.example_counting.specs.declared.tally.Tally.{Tally}
 use Rattle.mely_history.specs.declared.entry.Entry.{Entry}
 use Rattle.mely_history.specs.declared.no_take.NoTake.{NoTake}
 use Rattle.mely_history.specs.declared.setup.Setup.{Setup}
@@ -34,8 +34,8 @@ use Rattle.mely_fleet.proofs.SeatLemmas.{first_seat}
 use Rattle.test_fleet.specs.Callers.{IsCaller, MayFinish}
 
 -- what contracts see of the state
-abbrev pub tally_words : TrailWords Tally (Unit {0})
-tally_words = record { trail_of = λ s. s.log.events; colour_of = λ s. s.log.colour; frame_of = λ s. tt; spare_of = λ s. s.log.spare; alike = AreAlike (λ (s : Tally). s.log) (λ (s : Tally). s.seed) }
+abbrev pub tally_words : TrailWords (Logged ℕ) (Unit {0})
+tally_words = record { trail_of = λ s. s.log.events; colour_of = λ s. s.log.colour; frame_of = λ s. tt; spare_of = λ s. s.log.spare; alike = AreAlike (λ (s : Logged ℕ). s.log) (λ (s : Logged ℕ). s.value) }
 
 module _ {S P F : Type 0} {g : _} (t : TrailWords S F) (fits : F → Colour → Event → Option P → Type 0) (fleet : FleetOf (KeptShardState S P) Entry (ShardFrame F)) (before after : PassesOf (KeptShardState S P) Entry (ShardFrame F) g) (same : after.number ≡ before.number) (c : Colour) (answer : Result (TurnState S P) NoTake)
     (sees : SeesOn fleet (shard_of fleet.setup c) before after (λ setup n. TakesAt t fits setup (frame_in (shard_frame t.frame_of) fleet) n c answer)) where

@@ -8,7 +8,7 @@ ghost use Rattle.mely_fleet.specs.Opening.{AreInitialPasses};
 ghost use Rattle.test_fleet.specs.Callers.{IsRow, MayFinish};
 
 use super::{EVENT, fleet_of, setup_of};
-use example_counting::Tally;
+use example_counting::{Tally, draw};
 use mely_event::{Colour, Fits, Kept, Trail};
 use mely_fleet::{Fleet, KeptShard, Passes};
 use mely_history::{After, NoSteal, NoTake, Registered, Shape, Stolen};
@@ -126,7 +126,7 @@ fn run_and_finish<R: Wait>(
     ensures number { own.new.number ≡ own.old.number }
 {
     while let Some((event, _load)) = turn.next() {
-        turn.state().run(event, 0);
+        draw(turn.state(), event, 0);
     }
     fleet.finish(rt, own, turn)
 }
