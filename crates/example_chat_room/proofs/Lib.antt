@@ -1,3 +1,4 @@
 mod HeardLemmas
 mod RunLemmas
 mod SeatsLemmas
+mod ShownLemmas

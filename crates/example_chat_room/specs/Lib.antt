@@ -1,4 +1,5 @@
 pub mod Loads
 pub mod Heard
 pub mod Seats
+pub mod Shown
 pub mod Talked

@@ -1,5 +1,5 @@
 //! A client of the room.
-ghost use Rattle.std.specs.Prelude.{◌≡◌, ◌≢◌, ◌+◌, ◌-◌, ◌^◌, false, min};
+ghost use Rattle.std.specs.Prelude.{◌≡◌, ◌≢◌, ◌+◌, ◌-◌, ◌^◌, ◌++◌, None, OnOk, false, min, option_map};
 ghost use Rattle.std.specs.Option.{ForSome};
 
 use crate::end::End;
@@ -45,6 +45,8 @@ pub struct Client<L: Link> {
 const PIECE: usize = 512;
 
 impl<L: Link + Drop> Client<L> {
+    ghost use Rattle.example_chat_room.specs.Shown.{shown, shown_to};
+
     /// A client that is still to come. It takes no memory.
     pub(crate) fn new(alloc: Global) -> Client<L> {
         Client {
@@ -84,13 +86,15 @@ impl<L: Link + Drop> Client<L> {
 
     /// The client writes what its link takes of what is on its way. Where that is all, it says the
     /// next line of what has come, if there is one: who doesn't take lines isn't heard either.
-    pub(crate) fn go_on(&mut self) -> Turn {
+    pub(crate) fn go_on(&mut self) -> Turn
+        ensures { self.new.end ≡ None → shown_to self.new ≡ shown_to self.old }
+    {
         self.flush();
         if self.end.is_none() && !self.outbox.bytes().is_empty() {
             return Turn::Waits;
         }
         // each read brings a byte at least, and a line has few
-        for _ in 0..=LONGEST {
+        'reads: for _ in 0..=LONGEST {
             if self.end.is_some() {
                 break;
             }
@@ -110,13 +114,16 @@ impl<L: Link + Drop> Client<L> {
         Turn::Gone
     }
 
-    /// A line of the room comes to the client: it is shown it, unless it said it.
+    /// A line of the room comes to the client: it is shown it, unless it said it. Over a link that
+    /// tells what is written, it is then shown just that line more, unless its time has ended.
     pub(crate) fn hear(&mut self, own: u16, line: &Line)
         ensures heard { self.new.heard ≡ min (self.old.heard + 1) (2 ^ 64 - 1) }
         ensures own { line.now.from ≡ own → (self.new.link ≡ self.old.link)
             × (self.new.outbox ≡ self.old.outbox) }
         ensures in_order { line.now.place ≢ self.old.heard → (self.new.link ≡ self.old.link)
             × (self.new.outbox ≡ self.old.outbox) }
+        ensures shown { line.now.from ≢ own → self.new.end ≡ None → shown_to self.new
+            ≡ option_map (λ before. before ++ shown line.now) (shown_to self.old) }
     {
         let heard = self.heard;
         self.heard = heard.saturating_add(1);
@@ -135,7 +142,10 @@ impl<L: Link + Drop> Client<L> {
     /// The client is shown a line. Its head goes first, by itself: a link that keeps heads back
     /// sends it with what is behind it.
     fn show(&mut self, line: &Line) -> Result<(), End>
-        ensures { self.new.heard ≡ self.old.heard }
+        ensures heard { self.new.heard ≡ self.old.heard }
+        ensures shown { OnOk result (self.new.end ≡ None → shown_to self.new
+            ≡ option_map (λ before. before ++ shown line.now) (shown_to self.old)) }
+        ensures ended { self.new.end ≡ None → self.old.end ≡ None }
     {
         let mut number = Buffer::new();
         self.outbox
@@ -150,7 +160,9 @@ impl<L: Link + Drop> Client<L> {
 
     /// Writes what is on its way, as far as the link takes it.
     fn flush(&mut self)
-        ensures { self.new.heard ≡ self.old.heard }
+        ensures heard { self.new.heard ≡ self.old.heard }
+        ensures shown { self.new.end ≡ None → shown_to self.new ≡ shown_to self.old }
+        ensures ended { self.new.end ≡ None → self.old.end ≡ None }
     {
         if self.end.is_some() {
             return;
@@ -175,7 +187,10 @@ impl<L: Link + Drop> Client<L> {
     }
 
     /// Reads what has come, and answers whether anything has, the end among it.
-    fn read(&mut self) -> bool {
+    fn read(&mut self) -> bool
+        ensures shown { shown_to self.new ≡ shown_to self.old }
+        ensures ended { self.new.end ≡ None → self.old.end ≡ None }
+    {
         let Some(link) = &mut self.link else {
             return false;
         };
@@ -200,7 +215,9 @@ impl<L: Link + Drop> Client<L> {
     }
 
     /// The connection is ended.
-    fn leave(&mut self) {
+    fn leave(&mut self)
+        ensures { self.new.end ≡ self.old.end }
+    {
         if let Some(mut link) = self.link.take() {
             link.shut();
             self.gone = Some(link);

@@ -35,10 +35,11 @@
 //!
 //! What is promised is [`IsChat`](../specs/Talked.antt): each line that the room got was handed to
 //! each client's colour, once, by its place ([`AllHear`](../specs/Heard.antt)); and a client is
-//! shown no line out of its place, and none of its own. **Not promised**, since nothing tells it:
-//! what a socket brings or carries away, that a client reads, that a line comes to a client with
-//! the text with which it was put (no entry of a history has a load; the functions that put one say
-//! that they pass it on), and that the run ends.
+//! shown no line out of its place, and none of its own, and over a link that tells what is written
+//! to it each other line whole ([`shown`](../specs/Shown.antt)). **Not promised**, since nothing
+//! tells it: what a socket brings or carries away, that a client reads, that a line comes to a
+//! client with the text with which it was put (no entry of a history has a load; the functions that
+//! put one say that they pass it on), and that the run ends.
 #![tactic(auto)]
 
 mod app;
