@@ -124,6 +124,22 @@ fn talked(
     (lines, came)
 }
 
+/// The room got so many lines, each guest was shown this, and its time has ended so.
+fn has_come(
+    rt: &(impl AllocGlobal + Abort),
+    talked: &(usize, Vec<Came>),
+    lines: usize,
+    guests: &[(End, &[u8])],
+) {
+    let (got, came) = talked;
+    assert_eq!(rt; *got, lines);
+    assert_eq!(rt; came.len(), guests.len());
+    for ((end, written), (ended, shown)) in came.iter().zip(guests) {
+        assert_eq!(rt; *end, Some(*ended));
+        assert_eq!(rt; written.as_slice(), *shown);
+    }
+}
+
 /// The room got so many lines, and each guest was shown this and left by itself.
 fn is_left(
     rt: &(impl AllocGlobal + Abort),
@@ -199,16 +215,17 @@ fn long_line(rt: &(impl AllocGlobal + Abort), letters: usize) -> Vec<u8> {
 #[test]
 fn a_line_has_512_bytes_at_most(rt: HostRuntime) {
     let (longest, longer) = (long_line(&rt, 512), long_line(&rt, 513));
+    let mut shown = owned(&rt, b"1: ");
+    shown.extend_from_slice(&longest).expect(&rt, "memory");
     let guests = [speaker(20, &longest), speaker(40, &longer), LISTENER];
-    let (lines, came) = talked(&rt, 1, &guests, &[]);
-    assert_eq!(rt; lines, 1);
-    assert_eq!(rt; came[0].0, Some(End::Left));
-    assert_eq!(rt; came[1].0, Some(End::LongLine));
-    assert_eq!(rt; came[2].0, Some(End::Left));
-    for (_, shown) in &came[1..] {
-        assert_eq!(rt; shown[..3], b"1: "[..]);
-        assert_eq!(rt; shown[3..], longest[..]);
-    }
+    let came = talked(&rt, 1, &guests, &[]);
+    let shown = shown.as_slice();
+    has_come(
+        &rt,
+        &came,
+        1,
+        &[(End::Left, b""), (End::LongLine, shown), (End::Left, shown)],
+    );
 }
 
 /// Who takes nothing is dropped where more than 64 KiB are on their way: 130 lines of 504 bytes are
@@ -224,11 +241,8 @@ fn who_takes_nothing_is_dropped(rt: HostRuntime) {
     for _ in 0..131 {
         all.extend_from_slice(&line).expect(&rt, "memory");
     }
-    let (lines, came) = talked(&rt, 1, &[speaker(20, &all), deaf], &[]);
-    assert_eq!(rt; lines, 131);
-    assert_eq!(rt; came[0].0, Some(End::Left));
-    assert_eq!(rt; came[1].0, Some(End::Slow));
-    assert_eq!(rt; came[1].1.len(), 0);
+    let came = talked(&rt, 1, &[speaker(20, &all), deaf], &[]);
+    has_come(&rt, &came, 131, &[(End::Left, b""), (End::Slow, b"")]);
 }
 
 #[test]
@@ -239,19 +253,13 @@ fn a_link_that_fails_ends_its_client_alone(rt: HostRuntime) {
         ..LISTENER
     };
     let guests = [speaker(20, b"a\n"), broken, speaker(60, b"b\n")];
-    let (lines, came) = talked(&rt, 1, &guests, &[]);
-    assert_eq!(rt; lines, 2);
-    assert_eq!(rt;
-        (came[0].0, came[0].1.as_slice()),
-        (Some(End::Left), b"3: b\n".as_slice())
-    );
-    assert_eq!(rt;
-        (came[1].0, came[1].1.as_slice()),
-        (Some(End::Fault), b"1: a\n".as_slice())
-    );
-    assert_eq!(rt;
-        (came[2].0, came[2].1.as_slice()),
-        (Some(End::Left), b"1: a\n".as_slice())
+    let came = talked(&rt, 1, &guests, &[]);
+    let (one, two) = (b"1: a\n".as_slice(), b"3: b\n".as_slice());
+    has_come(
+        &rt,
+        &came,
+        2,
+        &[(End::Left, two), (End::Fault, one), (End::Left, one)],
     );
 }
 

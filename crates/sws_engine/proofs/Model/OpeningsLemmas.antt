@@ -92,7 +92,7 @@ handler_opened next.Read event is e = other handler.Read event e (λ k. omega (a
 handler_opened next.Parse event is e = other handler.Parse event e (λ k. omega (arith, k))
 handler_opened next.Look event is e = other handler.Look event e (λ k. omega (arith, k))
 handler_opened next.Write event is e = other handler.Write event e (λ k. omega (arith, k))
-handler_opened next.Wait event is e = let no_event : [] ≡ event ∷ [] = e in cc
+handler_opened next.Wait event is e = other handler.Resume event e (λ k. omega (arith, k))
 handler_opened next.Close event is e = other handler.Close event e (λ k. omega (arith, k))
 handler_opened next.Nothing event is e = let no_event : [] ≡ event ∷ [] = e in cc
 
