@@ -133,6 +133,8 @@ impl<'a, S: Fits<P> + Drop, P: Drop, R: Wait> Access<S, P> for Side<'a, S, P, R>
         self.fleet.steal(self.rt, self.passes, colour)
     }
 
+    // Inlined, these two lie in the worker's loop, although a post makes them too.
+    #[inline(always)]
     fn push(&mut self, core: u16, mark: Mark) -> Result<(), There> {
         self.fleet.push(self.rt, self.passes, core, mark)
     }
@@ -142,6 +144,7 @@ impl<'a, S: Fits<P> + Drop, P: Drop, R: Wait> Access<S, P> for Side<'a, S, P, R>
         self.fleet.pop(self.rt, self.passes, core)
     }
 
+    #[inline(always)]
     fn retell(&mut self, core: u16, colour: Colour, started: u64, worth: u128) -> bool {
         self.fleet
             .retell(self.rt, self.passes, core, colour, started, worth)
