@@ -7,7 +7,7 @@ An example is a line `$ COMMAND` in a block of `sh` or `console`, with the lines
 what stands below it, up to the next such line, is what it is to print, on standard output and standard error together. A block without a
 `$` only shows commands, and isn't run. A line `...` stands for any number of lines, and blanks at the end of a line don't count.
 
-Run are only: `./sws ..`, which is the program that was built (nothing is built here), `curl ..` of 127.0.0.1 alone, `printf ..` into one of
+Run are only: `./sws ..` and `./swsd ..`, which are the programs that were built (nothing is built here), `curl ..` of 127.0.0.1 alone, `printf ..` into one of
 these by `|`, and `wait`; behind a further `|` also cat, grep, head, sed, sort, tail and wc. Everything else is skipped, as is a line that
 writes a file, or has `;`, `&&`, `||` or a substitution, and with it what follows in its block, which may need what it would have done. Where
 there is no curl, its lines are skipped.
@@ -35,6 +35,7 @@ import time
 
 TOP = os.path.dirname(os.path.dirname(os.path.abspath(__file__)))
 PROGRAM = os.path.join(TOP, "crates", "sws_main", "out", "sws_main")
+DAEMON = os.path.join(TOP, "crates", "swsd", "out", "swsd")
 PAGES = ["README.md", "docs/*.md"]
 FILTERS = {"cat", "grep", "head", "sed", "sort", "tail", "wc"}
 MARK = re.compile(r"<<-?\s*(['\"]?)(\w+)\1")
@@ -125,7 +126,7 @@ def why_not_stages(stages):
     if not all(stages):
         return "it can't be read"
     first = stages[0][0]
-    if first == "printf" and len(stages) == 1 or first not in ("./sws", "curl", "printf", "wait"):
+    if first == "printf" and len(stages) == 1 or first not in ("./sws", "./swsd", "curl", "printf", "wait"):
         return f"{first} isn't run"
     for stage in stages[1:]:
         if stage[0] not in FILTERS | {"./sws", "curl"}:
@@ -137,6 +138,8 @@ def why_not_stages(stages):
                 return "curl is of another machine"
             if shutil.which("curl") is None:
                 return "there is no curl"
+    if first == "./swsd" and not os.access(DAEMON, os.X_OK):
+        return "swsd isn't built"
     return None
 
 
@@ -218,6 +221,7 @@ class Session:
         until = time.monotonic() + self.seconds
         command = self.with_ports(example.command)
         command = re.sub(r"(^|[|]\s*)\./sws\b", lambda found: found.group(1) + shlex.quote(self.program), command)
+        command = re.sub(r"^\./swsd\b", shlex.quote(DAEMON), command)
         command = re.sub(r"(^|[|]\s*)curl\b", r"\1curl -sS", command)
         expected = [self.with_ports(line) for line in example.expected]
         if example.first().split()[0] == "wait":
@@ -249,7 +253,7 @@ class Session:
     @staticmethod
     def listens(command):
         """Whether something listens at the port of a command, or it has none."""
-        port = re.search(r"--port[ =](\d+)", command)
+        port = re.search(r"(?:--port[ =]|--listen[ =]\S*:)(\d+)", command)
         with open("/proc/net/tcp", encoding="ascii") as table:
             rows = [row.split() for row in table]
         return port is None or any(row[1].endswith(f":{int(port.group(1)):04X}") and row[3] == "0A" for row in rows[1:])

@@ -1,0 +1,62 @@
+#!/usr/bin/env python3
+"""Compares what ./sws and ./swsd answer before a build (scripts/words.sh, scripts/swsd.txt) with what the built programs say.
+
+    words.py --check    status 1 where they differ; programs that aren't built are left out
+    words.py --write    writes scripts/swsd.txt, the help of the built swsd
+"""
+import os
+import subprocess
+import sys
+import tempfile
+
+TOP = os.path.dirname(os.path.dirname(os.path.abspath(__file__)))
+HELP = f"{TOP}/scripts/swsd.txt"
+SWS, SWSD = f"{TOP}/crates/sws_main/out/sws_main", f"{TOP}/crates/swsd/out/swsd"
+
+# Words that need no program, and of which one line of standard error is the program's own too.
+WRONG = {"sws": [["nonsense"], ["--workers"], []], "swsd": [["--nonsense"], [], ["folder", "--log", "--lane", "3"]]}
+
+
+def said(words):
+    run = subprocess.run(words, capture_output=True, text=True, timeout=20, stdin=subprocess.DEVNULL)
+    return run.returncode, run.stdout, run.stderr
+
+
+def unbuilt(folder):
+    """A copy of the scripts in which no program is built."""
+    for name in ("sws", "swsd", "app", "crates.txt", "HANDLES", "scripts"):
+        subprocess.run(["cp", "-R", f"{TOP}/{name}", folder], check=True)
+    os.makedirs(f"{folder}/crates")
+    return folder
+
+
+def differences():
+    with tempfile.TemporaryDirectory() as folder:
+        unbuilt(folder)
+        if os.access(SWSD, os.X_OK):
+            for words in (["--help"], ["--version"]):
+                if said([f"{folder}/swsd", *words]) != said([SWSD, *words]):
+                    yield f"swsd {words[0]}: ./swsd says something else than the program"
+        for name, program in (("sws", SWS), ("swsd", SWSD)):
+            for words in WRONG[name] if os.access(program, os.X_OK) else []:
+                early, late = said([f"{folder}/{name}", *words]), said([program, *words])
+                if early[0] != late[0] or early[2].split("\n")[0] != late[2].split("\n")[0]:
+                    yield f"{name} {' '.join(words)}: ./{name} begins with {early[0]} {early[2][:60]!r}, the program with {late[0]} {late[2][:60]!r}"
+        for words in (["--help"], ["--version"]):
+            if said([f"{folder}/sws", *words])[0] != 0:
+                yield f"sws {words[0]}: not answered"
+
+
+def main():
+    if sys.argv[1:] == ["--write"]:
+        with open(HELP, "w", encoding="utf-8") as it:
+            it.write(said([SWSD, "--help"])[1])
+    elif sys.argv[1:] == ["--check"]:
+        found = list(differences())
+        print(*found, f"words: {len(found)} differ", sep="\n")
+        sys.exit(1 if found else 0)
+    else:
+        sys.exit(__doc__)
+
+
+main()
