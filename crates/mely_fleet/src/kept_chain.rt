@@ -2,9 +2,9 @@
 ghost use Rattle.std.specs.Prelude.{◌≡◌, ◌<◌, IfSome};
 
 use crate::chain_note::ChainNote;
-use http_server::Log;
 use mely_core::CoreQueue;
 use mely_event::{Colour, Kept, Mark, Memory, There};
+use mely_log::Log;
 use std::alloc::Global;
 use std::marker::Model;
 
@@ -27,7 +27,7 @@ pub struct KeptChain {
 
     /// The changes, each with the number of the pass that made it. It is for contracts
     /// alone and holds no bytes.
-    log: Log<u16, ChainNote>,
+    log: Log<(u16, ChainNote)>,
 }
 
 impl Model for KeptChain {
@@ -112,7 +112,7 @@ impl KeptChain {
             self.old.changes self.new.changes }
     {
         self.queue.push(mark)?;
-        self.log = self.log.and(&by, &ChainNote::Pushed(mark));
+        self.log.push(&(by, ChainNote::Pushed(mark)));
         self.count += 1;
         Ok(())
     }
@@ -139,7 +139,7 @@ impl KeptChain {
         ensures does { PopsAt (chain_frame self.old) by result self.old.changes self.new.changes }
     {
         let mark = self.queue.pop()?;
-        self.log = self.log.and(&by, &ChainNote::Popped(mark));
+        self.log.push(&(by, ChainNote::Popped(mark)));
         self.count += 1;
         Some(mark)
     }
@@ -156,9 +156,8 @@ impl KeptChain {
         if !self.queue.retell(colour, started, worth) {
             return false;
         }
-        self.log = self
-            .log
-            .and(&by, &ChainNote::Retold(colour, started, worth));
+        self.log
+            .push(&(by, ChainNote::Retold(colour, started, worth)));
         self.count += 1;
         true
     }
@@ -172,7 +171,7 @@ impl KeptChain {
         ensures does { PicksAt (chain_frame self.old) by result self.old.changes self.new.changes }
     {
         let mark = self.queue.pick()?;
-        self.log = self.log.and(&by, &ChainNote::Picked(mark));
+        self.log.push(&(by, ChainNote::Picked(mark)));
         self.count += 1;
         Some(mark)
     }

@@ -3,6 +3,7 @@ mod chains;
 mod counter;
 mod histories;
 mod locks;
+mod logs;
 mod queues;
 mod stealing;
 mod tables;

@@ -1,0 +1,83 @@
+-- `new` makes a struct without bytes, with no note.
+use Rattle.std.proofs.Common.{[], ◌∷◌, refl}
+use base.Logic.{SProp, ent}
+use contract.Monad.{Fun}
+use contract.Running.{tables, tables_of}
+use denote.Param.{layouts, param}
+use denote.RattleType.{RattleType, owns}
+use denote.Signature.{types_at}
+use denote.Steps.{nothing}
+use denote.Triple.Clauses.{Clauses, Ended, closing}
+use denote.Triple.Entry.{alive}
+use denote.Triple.Spec.{Meets, triple_of}
+use denote.Triple.Table.{entered}
+use denote.Triple.Walked.{Stays, ends_at, says, walk_Meets, walk_of}
+use mir.MapTy.{inst_fn}
+use mir.Syntax.{Args, Fn, a_type}
+use mir.Val.{Val}
+use prog.Memory.{Memory}
+use prog.Routine.{Routine}
+use prog.Wp.{Calls, Loops, Tables, WpFn}
+use seplogic.Ra.Ura.{Ura}
+use sound.WpLaws.{WpFn-mono}
+use types.ByLocal.{alloc_all, free_all, get, look_at, pass_all, sets}
+use types.Kit.{ !, ‵, ◌$◌, ◌∵◌, ◌⊛◌, done, keep, move, qed, raw, split, suffices}
+use types.Logic.{Logic}
+use types.Part.{agg}
+use types.Run.{and_then, enter, no_more, returns}
+use Rattle.mely_log.proofs.MadeLemmas.{log_of, makes_log, no_bytes}
+use Rattle.mely_log.proofs.log.Log.new.Code as code
+use Rattle.mely_log.proofs.log.Log.new.Statement as stated
+use Rattle.mely_log.specs.contracts.log.Log.new as F
+use Rattle.mely_log.specs.contracts.log.Log.new.Key.{name as #self}
+
+module _ (A : RattleType) where
+  abbrev args : Args
+  args = layouts (a_type ∷ []) (A, tt)
+
+  abbrev function : Fn
+  function = inst_fn args code.function
+
+  abbrev ended : Ended
+  ended = F.ended A
+
+  abbrev stayed : Stays ended.signature.params ended.kept
+  stayed = tt
+
+  module _ {M : Type 1} {𝓤 : Ura M} (𝓛 : Logic 𝓤) (at_mem : Memory → SProp 𝓤) (run : Routine → Fun 𝓤) where
+    open 𝓛 use {H}
+
+    abbrev held : Clauses 𝓤 ended
+    held = F.clauses A 𝓛 at_mem run
+
+    module _ (C : Calls 𝓤 H) (Λ : Loops 𝓤 H) (z : (walk_of 𝓛 ended stayed held).Ghost) where
+      abbrev Post : Val → SProp 𝓤
+      Post = (walk_of 𝓛 ended stayed held).post z
+
+      walks : ent 𝓤 ((walk_of 𝓛 ended stayed held).pre z) (WpFn 𝓤 H C Λ function ((walk_of 𝓛 ended stayed held).args z) Post)
+      walks =
+          let a = z.0.3 in
+          let items = [] in
+          let log = log_of (param 0 A) items in
+          let toks = alive 𝓛 ended.signature z.0.0 z.0.1 in
+          let passed = owns (types_at ended.signature.params z.0.0) a z.0.4 in
+          qed 𝓛 ((raw toks ⊛ ‵ passed) ∷ raw ((held z.0.0 a).requires z.1) ∷ []) ∵
+          keep ! (0 ∷ []) $ split ! $ keep ! (0 ∷ []) $
+          enter ! C Λ function [] Post $ alloc_all ! (λ l. pass_all ! refl tt $
+          sets ! (agg ! (no_more !)) refl (tt, tt) $
+          sets ! (agg ! (and_then ! (get ! refl) (no_more !))) refl (tt, (tt, tt)) $
+          returns ! (look_at ! 0 refl) $ free_all ! refl $ makes_log ! (param 0 A) items $
+          suffices ! _ (ends_at 𝓛 ended stayed held z no_bytes log tt tt) $ says ! refl $
+          nothing ! $ move ! (2 ∷ 0 ∷ 1 ∷ []) $ done !)
+
+    meets : (𝓣 : Tables 𝓤 H) → Meets 𝓛 ended.signature (WpFn 𝓤 H 𝓣.C 𝓣.Λ function) (closing 𝓛 ended held)
+    meets 𝓣 =
+        walk_Meets 𝓛 ended stayed tt held
+        (WpFn 𝓤 H 𝓣.C 𝓣.Λ function) (WpFn-mono 𝓤 H 𝓛.laws 𝓣 function) (walks 𝓣.C 𝓣.Λ)
+
+pub new_spec : {M : Type 1} → stated.statement M
+unfolding tables_of
+new_spec 𝓤 𝓛 𝓜 𝓡 wired A LA =
+    let 𝓣 : Tables 𝓤 𝓛.H = tables_of 𝓤 𝓛.H 𝓜 (tables 𝓤 𝓛.H 𝓜 𝓡 𝓡.env) in
+    entered 𝓤 𝓛.H (triple_of 𝓛 (ended A).signature (closing 𝓛 (ended A) (held A 𝓛 𝓜.mem 𝓡.returns))) 𝓣.C 𝓣.Λ (#self (args A)) (function A)
+    (code.unfolded 𝓤 𝓛.H 𝓜 𝓡 wired (A, tt)) (meets A 𝓛 𝓜.mem 𝓡.returns 𝓣)
