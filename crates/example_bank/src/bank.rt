@@ -1,5 +1,5 @@
 //! The accounts, and their run on two workers.
-ghost use Rattle.std.specs.Prelude.{◌≡◌, ◌<◌, IfOk, length};
+ghost use Rattle.std.specs.Prelude.{◌≡◌, IfOk};
 ghost use Rattle.std.specs.List.{AllByRecursion};
 ghost use Rattle.mely_actor.specs.Sending.{MaySend};
 ghost use Rattle.example_bank.specs.declared.bank.TheConstants.{ACCOUNTS};
@@ -81,7 +81,6 @@ pub fn run_bank<R: Threads + Wait + Sync>(
     alloc: Global,
     posts: Vec<(Colour, Message)>,
 ) -> Result<Ended<u64>, Memory>
-    requires few { length posts.items < 65536 }
     requires may { AllByRecursion
         (MaySend ACCOUNTS 3 event_of (λ colour message. IsSound message)) posts.items }
     ensures { IfOk result (λ ended. AreBalanced posts.items ended.values.items) }

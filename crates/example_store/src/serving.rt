@@ -1,5 +1,5 @@
 //! A run of the store.
-ghost use Rattle.std.specs.Prelude.{◌≡◌, ◌<◌, ◌+◌, IfOk, length};
+ghost use Rattle.std.specs.Prelude.{◌≡◌, ◌+◌, IfOk};
 ghost use Rattle.std.specs.List.{AllByRecursion};
 ghost use Rattle.mely_actor.specs.Sending.{MaySend};
 ghost use Rattle.example_store.specs.declared.store.TheConstants.{BUCKETS, CLIENTS};
@@ -25,7 +25,6 @@ pub fn serve<R: Threads + Wait + Sync>(
     alloc: Global,
     posts: Vec<(Colour, Message)>,
 ) -> Result<Ended<Slot>, Memory>
-    requires few { length posts.items < 65536 }
     requires may { AllByRecursion (MaySend (BUCKETS + CLIENTS) 4 event_of IsPlaced) posts.items }
     ensures { IfOk result (λ ended. IsServed posts.items ended.values.items) }
 {
