@@ -9,6 +9,7 @@ client or the server ends it early. Each case has servers of its own, which end 
 most of them waiting for connections that are given up after half a minute. The status is 1 where a case went otherwise.
 """
 import argparse
+import concurrent.futures
 import contextlib
 import os
 import resource
@@ -25,6 +26,7 @@ import time
 
 TOP = os.path.dirname(os.path.dirname(os.path.abspath(__file__)))
 SWS = os.path.join(TOP, "crates", "sws_main", "out", "sws_main")
+SWSD = os.path.join(TOP, "crates", "swsd", "out", "swsd")
 HEAD = b"GET /a.txt HTTP/1.1\r\nHost: x\r\n\r\n"
 LARGE = 32 << 20
 MOST = 1024
@@ -636,12 +638,97 @@ def threads_are_started(site):
             yield status == 0 and seen == workers, f"{command[0]} on {workers} workers: {seen} threads at once, status {status}"
 
 
+def thread_refuser(folder):
+    """The library of late.c, built; nothing where there is no compiler."""
+    made = os.path.join(folder, "late.so")
+    with contextlib.suppress(OSError):
+        if subprocess.run(["gcc", "-O2", "-shared", "-fPIC", "-o", made, os.path.join(TOP, "bench", "late.c"), "-ldl"]).returncode == 0:
+            return made
+    return None
+
+
+def answered_in(port, count, seconds, owed):
+    """How many of so many clients at once got what is owed before the time was over, and how long that took."""
+    began = time.monotonic()
+    clients = [socket.create_connection(("127.0.0.1", port), timeout=seconds) for _ in range(count)]
+    right = 0
+    with contextlib.suppress(OSError):
+        for client in clients:
+            client.sendall(HEAD)
+            client.shutdown(socket.SHUT_WR)
+    for client in clients:
+        client.settimeout(max(0.01, began + seconds - time.monotonic()))
+        with contextlib.suppress(OSError), client:
+            right += read_all(client)[0] == owed
+    return right, time.monotonic() - began
+
+
+def without_threads(words, port, threads, library, owed):
+    """A server on this port whose threads are refused or late: whether each of two crowds was answered within some seconds, and what was seen."""
+    environment = {**os.environ, "LD_PRELOAD": library, **threads}
+    child = subprocess.Popen(words, stdin=subprocess.DEVNULL, stdout=subprocess.DEVNULL, stderr=subprocess.PIPE, env=environment)
+    try:
+        until = time.monotonic() + 20
+        while not is_listening(port) and child.poll() is None and time.monotonic() < until:
+            time.sleep(0.01)
+        crowds = [answered_in(port, LATE_CROWD, LATE_SECONDS, owed) for _ in range(2)]
+    finally:
+        # `sws` ends by itself once all were answered.
+        with contextlib.suppress(subprocess.TimeoutExpired):
+            child.wait(0 if "--lanes" in words else 2)
+        if child.poll() is None:
+            child.kill()
+        said = child.communicate()[1].decode().strip().splitlines()
+    right = sum(crowd[0] for crowd in crowds)
+    took = max(crowd[1] for crowd in crowds)
+    return right == 2 * LATE_CROWD, f"{right} of {2 * LATE_CROWD} answered, in {took:.2f} s" + ("" if right == 2 * LATE_CROWD else f" ({said[-2:]})")
+
+
+LATE_CROWD = 12
+LATE_SECONDS = 6
+
+
+def late_threads(site):
+    """Servers of several workers whose threads the machine refuses or starts late: each connection is answered all the same."""
+    with tempfile.TemporaryDirectory(prefix="sws-late-") as folder:
+        library = thread_refuser(folder)
+        if not library:
+            yield True, "not tried, as there is no compiler"
+            return
+        ways = {
+            "no thread granted": {"THREADS_GRANTED": "0"},
+            "one granted": {"THREADS_GRANTED": "1"},
+            "two granted": {"THREADS_GRANTED": "2"},
+            "all 0.25 s late": {"THREADS_LATE": "250"},
+            "all 1 s late": {"THREADS_LATE": "1000"},
+        }
+        owed, runs = answer(site, HEAD), []
+        for name, threads in ways.items():
+            for workers in ("2", "4", "5"):
+                if int(workers) <= int(threads.get("THREADS_GRANTED", "0")) + 1 and "THREADS_LATE" not in threads:
+                    continue
+                for cost in ("9", "20"):
+                    port = next(port for port in PORTS if not is_listening(port))
+                    words = [SWS, "serve", site, "--port", str(port), "--connections", str(2 * LATE_CROWD), "--workers", workers, "--shards", "64", "--cost", cost]
+                    runs.append((f"sws, {workers} workers, cost {cost}, {name}", words, port, threads))
+                if os.access(SWSD, os.X_OK):
+                    port = next(port for port in PORTS if not is_listening(port))
+                    words = [SWSD, site, "--listen", f"127.0.0.1:{port}", "--lanes", "1", "--accepting", "1", "--workers", workers]
+                    runs.append((f"swsd, {workers} workers, {name}", words, port, threads))
+        with concurrent.futures.ThreadPoolExecutor(4) as pool:
+            results = list(pool.map(lambda run: without_threads(*run[1:], library, owed), runs))
+        for (name, *_), (is_right, seen) in zip(runs, results):
+            if not is_right:
+                yield False, f"{name}: {seen}"
+        yield all(result[0] for result in results), f"{sum(result[0] for result in results)} of {len(runs)} servers without their threads answered everybody"
+
+
 CASES = [
-    threads_are_started, targets, no_folder, reads_slowly, sends_while_it_reads_nothing, posts_much, header_bombs, pipelined, input_limit, half_closed, slow_heads, resets, urgent_bytes, sends_on_behind_the_end, few_descriptors, descriptors_for_all_but_a_few,
+    late_threads, threads_are_started, targets, no_folder, reads_slowly, sends_while_it_reads_nothing, posts_much, header_bombs, pipelined, input_limit, half_closed, slow_heads, resets, urgent_bytes, sends_on_behind_the_end, few_descriptors, descriptors_for_all_but_a_few,
     reset_before_it_is_accepted, kinds_that_change, more_than_are_served, changing_folder, silent_clients, dripping_client, stopped_client, takes_nothing,
 ]
 
-QUICK = [threads_are_started, targets, no_folder, posts_much, half_closed, urgent_bytes, few_descriptors, reset_before_it_is_accepted, kinds_that_change]
+QUICK = [late_threads, threads_are_started, targets, no_folder, posts_much, half_closed, urgent_bytes, few_descriptors, reset_before_it_is_accepted, kinds_that_change]
 
 
 def make_site():
@@ -661,13 +748,14 @@ def make_site():
 
 
 def main():
-    global SWS, answer_of_head
+    global SWS, SWSD, answer_of_head
     words = argparse.ArgumentParser(description="Uses the server as badly as it can.")
     words.add_argument("--only", default="")
     words.add_argument("--quick", action="store_true")
     words.add_argument("--program", default=SWS)
+    words.add_argument("--daemon", default=SWSD)
     given = words.parse_args()
-    SWS = given.program
+    SWS, SWSD = given.program, given.daemon
     if not os.access(SWS, os.X_OK):
         sys.exit("hostile: the program isn't built")
     hard = resource.getrlimit(resource.RLIMIT_NOFILE)[1]

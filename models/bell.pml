@@ -5,8 +5,8 @@
  * is one step, since nobody else sees a part of it. `rung` says whether the bed's `rings` differ from
  * what its worker read when it lay down.
  *
- * How often a worker hunts before it lies down is left open, and so is how often it hunts in vain
- * before its patience ends: so a check holds for every number of looks.
+ * How often a worker hunts before it lies down is left open, and so is how often it looks before its
+ * patience ends where not all have begun: so a check holds for every number of looks.
  *
  * What a check is made of:
  *
@@ -15,6 +15,8 @@
  *   LATE       each worker begins at any time; else all have begun
  *   REFUSED    from this round on, counted from 0, the machine refuses the last worker a thread: it
  *              begins when the first one has left
+ *   CREW       a worker that would begin when another has left doesn't, as in `run_crew`: what is left
+ *              is run once the fleet is closed
  *   OUTSIDER   so many events are posted from outside in the first round, at any time
  *   UNMARKED   so many events are registered from outside, and nobody pushes their marks
  *   HALTS      a worker may be halted once, for want of memory, when it is about to run
@@ -24,8 +26,10 @@
  *   FROM_SLEEP the workers from this one on begin asleep, as they are once they have hunted in vain
  *              while a handler runs
  *   PROMPT     a worker is counted as searching as soon as it finds its own chain empty, lies down
- *              after its first hunt in vain, and its patience is one hunt: for checks that are too
+ *              after its first hunt in vain, and its patience is a few looks: for checks that are too
  *              large without
+ *   PLACES     a worker remembers by itself whether it has just looked at its own chain, as the code
+ *              does: else it hunts from its own chain to its own chain
  *
  * Properties:
  *
@@ -37,8 +41,10 @@
  *   `patient`  with NO_CAUSE nobody gives up at all
  *   `clean`    after a round nobody is counted any more
  *   `again`    what was left behind is run in the next round
+ *   `hunted`   with PLACES: a worker waits only when it has looked at each victim since it lay down
  *   `ends`     with ENDS: each run comes to an end, where each thread is run now and then and who
- *              waits for a mutex gets it
+ *              waits for a mutex gets it. With PAIR, where it has none: the event of the third colour
+ *              is run, or all leave, and it is run once the fleet is closed
  *
  * Wrong bells, which a check has to find:
  *
@@ -55,6 +61,10 @@
  *   UNCOUNTED       who was woken to search isn't counted as searching, though the waker counted it
  *   LEAVE_COUNTED   a worker leaves without giving back that it searches
  *   WOKEN_ALONE     a mark that the owner alone may take wakes nobody while somebody searches
+ *   IN_VAIN_ONLY    a worker gives up, or leaves as another has, only where it has hunted in vain, and
+ *                   its patience begins anew with each mark that it finds
+ *   STALE_HOME      with PLACES: a worker that finds a mark still takes it that its last look was at its
+ *                   own chain
  *
  * Another order, of which no check says that it is wrong:
  *
@@ -113,6 +123,7 @@ byte began;            /* workers that began in this round */
 byte gone;             /* workers that have left in this round */
 bool outside_done;
 bool first_left;
+bool is_one_back;      /* a worker has left */
 
 /* `wake`: as an owner (`as` is Up), or to search (Called). */
 inline wake(b, as, did) {
@@ -228,7 +239,7 @@ inline search_no_more(v, did) {
 /* `pushed`; a report that makes a mark worth a steal calls alike. */
 inline told(to, by, is_for_thieves, v, did) {
     if
-    :: is_for_thieves -> call(v, did)
+    :: is_for_thieves -> IS_KNOWN(to); call(v, did)
     :: !is_for_thieves && by == to
     :: !is_for_thieves && by != to ->
         if
@@ -272,7 +283,7 @@ inline deliver(by, d, to, is_new, is_worthy, other, v, did) {
     :: to != NONE && !is_new ->
         retell(d, to, is_worthy, other);
         if
-        :: other && is_worthy -> call(v, did); STORES_HINT_AFTER(to, is_worthy)
+        :: other && is_worthy -> IS_KNOWN(to); call(v, did); STORES_HINT_AFTER(to, is_worthy)
         :: else
         fi
     :: else
@@ -286,6 +297,27 @@ inline deliver(by, d, to, is_new, is_worthy, other, v, did) {
 #define STOP_IF_TOLD skip
 #endif
 
+/* `is_over`: before a hunt a worker leaves where another has given up, and gives up itself where not all
+ * have begun and its patience ends. The code looks before each step of a hunt, which is as good, as one
+ * that finds nothing changes nothing. */
+#if defined(NO_CAUSE) || defined(IN_VAIN_ONLY)
+#define LEAVE_IF_OVER skip
+#elif !defined(LATE) && !defined(REFUSED)
+#define LEAVE_IF_OVER if :: has_given_up -> d = 0; c = 0; goto give_up :: else fi
+#elif defined(ENDS) || defined(PROMPT)
+#define LEAVE_IF_OVER \
+    if :: has_given_up -> d = 0; c = 0; goto give_up :: else fi; \
+    if \
+    :: atomic { begun < K && patience > 0 -> patience-- } \
+    :: begun < K && patience == 0 -> d = 0; c = 0; goto give_up \
+    :: begun == K \
+    fi
+#else
+#define LEAVE_IF_OVER \
+    if :: has_given_up -> d = 0; c = 0; goto give_up :: else fi; \
+    if :: begun < K -> d = 0; c = 0; goto give_up :: true fi
+#endif
+
 inline begin(me) {
     atomic { begun++; at_work++; is_here[me] = true; began++ }
 }
@@ -294,8 +326,21 @@ proctype Worker(byte me) {
     byte c, d, to, v, crew;
     bool lain, has_missed, seeks, did, is_new, is_worthy, other;
     short sum;
+#if defined(LATE) || defined(REFUSED)
+    byte patience = 2;
+#endif
+#ifdef PLACES
+    byte place, looked;
+    bool is_home, is_long;
+#endif
 
 #if defined(LATE) || defined(REFUSED)
+#ifdef CREW
+    if
+    :: is_one_back -> goto over
+    :: else
+    fi;
+#endif
     begin(me);
 #endif
 #ifdef FROM_SLEEP
@@ -305,8 +350,62 @@ proctype Worker(byte me) {
     fi;
 #endif
 
+#ifdef PLACES
 free:
     STOP_IF_TOLD;
+    LEAVE_IF_OVER;
+    if
+    :: is_home && is_long -> goto pause
+    /* It has waited for a hint for long. */
+    :: atomic { place == 0 && !lain && !is_long -> is_long = true };
+        if
+        :: atomic { !seeks -> searching++; seeks = true }
+        :: true
+        fi;
+        goto free
+    :: !(is_home && is_long)
+    fi;
+
+hunt:
+    if
+    :: place == 0 -> pop(c, me)
+    :: else -> pick(c, (me + place) % K)
+    fi;
+    if
+    :: c != NONE ->
+        atomic {
+            is_long = false;
+            d = place;
+            place = 0;
+#ifndef STALE_HOME
+            is_home = false
+#endif
+        };
+        rise();
+        search_no_more(v, did);
+        if
+        :: d == 0 -> goto popped
+        :: else -> d = 0; goto picked
+        fi
+    :: atomic {
+            c == NONE ->
+            c = 0;
+            is_home = (place == 0);
+            looked = (place > 0 -> looked + 1 : looked);
+            place = (place + 1) % K;
+            if
+            :: is_long = true
+#if !defined(ENDS) && !defined(PROMPT)
+            :: true
+#endif
+            fi
+        };
+        goto free
+    fi;
+#else
+free:
+    STOP_IF_TOLD;
+    LEAVE_IF_OVER;
     pop(c, me);
     if
     :: c != NONE -> rise(); search_no_more(v, did); has_missed = false; goto popped
@@ -338,6 +437,7 @@ hunt:
     c = 0;
 #endif
     goto free;
+#endif
 
 pause:
     /* A whole hunt has found nothing. */
@@ -361,7 +461,11 @@ pause:
     :: !lain -> goto hunt
 #endif
     :: !lain ->
+#ifdef PLACES
+        atomic { rung[me] = false; lain = true; looked = 0 };
+#else
         atomic { rung[me] = false; lain = true };
+#endif
 #ifdef FLAG_FIRST
         bed[me] = Asleep;
         sleepers++;
@@ -379,6 +483,7 @@ pause:
     fi;
 
 rest:
+#ifdef IN_VAIN_ONLY
     if
     :: has_given_up -> goto give_up
     :: else
@@ -393,6 +498,12 @@ rest:
         fi
     :: else
     fi;
+#else
+    if
+    :: begun < K -> goto hunt
+    :: else
+    fi;
+#endif
 #ifndef CREW_AFTER
     crew = at_work;
 #endif
@@ -401,6 +512,10 @@ rest:
     :: atomic { rung[me] -> crew = 0; to = 0 }; goto rise_again
     :: atomic {
             !rung[me] && !IS_WANTED(me) ->
+#ifdef PLACES
+            assert(looked >= K - 1);                                /* hunted */
+            looked = 0;
+#endif
             held[me] = true; waits[me] = true; waiting++; v = waiting;
             other = IS_STUCK && began == K
         }
@@ -439,6 +554,10 @@ asleep:
 
 rise_again:
     rise();
+#ifdef PLACES
+    is_home = false;
+    is_long = false;
+#endif
     has_missed = false;
     goto free;
 
@@ -463,11 +582,25 @@ popped:
     fi;
 #endif
     take(c, me);
+#ifdef PAIR
+    /* The first two put each other, and one of them the third once. */
+    if
+    :: atomic { c < 2 -> d = 1 - c; register(d, to, is_new, is_worthy) };
+        deliver(me, d, to, is_new, is_worthy, other, v, did);
+        if
+        :: atomic { c == 1 && puts > 0 -> puts = 0; d = 2; register(d, to, is_new, is_worthy) };
+            deliver(me, d, to, is_new, is_worthy, other, v, did)
+        :: else
+        fi
+    :: else -> is_served = true
+    fi;
+#else
     do
     :: atomic { puts > 0 -> puts--; choose(d); register(d, to, is_new, is_worthy) };
         deliver(me, d, to, is_new, is_worthy, other, v, did)
     :: break
     od;
+#endif
 #ifdef LONG
     if
     :: c < PINNED -> !IS_GOOD || at_work == 1   /* nobody is left to come for them */
@@ -550,7 +683,13 @@ leave:
 #ifdef AT_ONCE
     }
 #endif
-    atomic { if :: me == 0 -> first_left = true :: else fi; gone++; c = 0; other = false; crew = 0 }
+#if defined(CREW) && (defined(LATE) || defined(REFUSED))
+over:
+#endif
+    atomic {
+        if :: me == 0 -> first_left = true :: else fi;
+        is_one_back = true; gone++; c = 0; other = false; crew = 0
+    }
 }
 
 #if defined(OUTSIDER) || defined(UNMARKED)
@@ -598,7 +737,13 @@ init {
         do
         :: v < C -> owner[v] = v % OWNERS; v++
         :: else -> v = 0; break
-        od
+        od;
+#ifdef PAIR
+        if
+        :: owner[2] = 0
+        :: owner[2] = 1
+        fi
+#endif
     }
     do
     :: round < ROUNDS ->
@@ -617,6 +762,7 @@ init {
             gone = 0;
             began = 0;
             first_left = false;
+            is_one_back = false;
             v = 0;
             do
             :: v < K ->
@@ -681,6 +827,8 @@ init {
     od
 }
 
-#ifdef ENDS
+#ifdef PAIR
+ltl ends { <> (is_served || gone == K) }
+#elif defined(ENDS)
 ltl ends { <> (gone == K) }
 #endif

@@ -65,6 +65,7 @@ large() {
 
 two="-DK=2 -DC=2"
 three="-DK=3 -DC=3 -DCOARSE -DAT_ONCE"
+pair="-DK=2 -DC=3 -DCOARSE -DPAIR -DENDS -DSTART=0"
 sleeper="$three -DEVENTS=2 -DSTART=2 -DIN_TURN=0 -DPROMPT -DNO_CAUSE"
 helper="$three -DOWNERS=2 -DPINNED=2 -DEVENTS=2 -DSTART=0 -DIN_TURN=1 -DPROMPT -DFROM_SLEEP=1 -DLONG -DNO_CAUSE"
 
@@ -92,6 +93,19 @@ large late-three holds $three -DEVENTS=1 -DLATE -DSTART=0
 check refused holds $two -DPINNED=2 -DEVENTS=1 -DROUNDS=2 -DREFUSED=1 -DCOARSE
 check halted holds $two -DEVENTS=2 -DHALTS -DCOARSE
 
+# The same beside two handlers that register on each other for ever: what they register on a third colour
+# is run, or all leave.
+check pair holds $pair
+check late-pair holds $pair -DLATE -DCREW
+check late-pair-pinned holds $pair -DLATE -DCREW -DPINNED=3
+check late-pair-alone holds $pair -DLATE
+check refused-pair holds $pair -DREFUSED=0 -DCREW
+check refused-pair-pinned holds $pair -DREFUSED=0 -DCREW -DPINNED=3
+check refused-pair-alone holds $pair -DREFUSED=0
+
+# What a worker remembers of its looks.
+check places holds $two -DEVENTS=1 -DCOARSE -DPLACES -DPROMPT
+
 # Each run ends.
 check ends-two holds $two -DPINNED=2 -DEVENTS=2 -DENDS
 check ends-no-victims holds $two -DALONE -DEVENTS=1 -DENDS -DCOARSE
@@ -113,6 +127,9 @@ check wrong-second-look asleep $two -DEVENTS=1 -DOUTSIDER=1 -DCOARSE -DLONG -DNO
 check wrong-hint cause $two -DALONE -DEVENTS=0 -DOUTSIDER=1 -DCOARSE -DHINT_AFTER
 check wrong-called clean $two -DEVENTS=1 -DOUTSIDER=1 -DCOARSE -DUNCOUNTED
 check wrong-leave-counted clean $two -DEVENTS=1 -DOUTSIDER=1 -DCOARSE -DLEAVE_COUNTED
+check wrong-vain-late ends $pair -DLATE -DIN_VAIN_ONLY
+check wrong-vain-refused ends $pair -DREFUSED=0 -DIN_VAIN_ONLY
+check wrong-home hunted $two -DEVENTS=1 -DCOARSE -DPLACES -DPROMPT -DSTALE_HOME
 check wrong-own cause $two -DEVENTS=0 -DOUTSIDER=1 -DCOARSE -DWOKEN_ALONE
 
 while ((jobs_now > 0)); do

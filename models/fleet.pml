@@ -11,10 +11,12 @@
  *   EVENTS    how many events all handlers together may register, on any colours in any order
  *   IN_TURN   these go to the colours IN_TURN + EVENTS - 1, .., IN_TURN, in this order
  *   COARSE    a bed's counts are added up, and the shards looked at, in one step
- *   LONG      the handler of a pinned colour goes on until no mark that thieves may have lies in any
- *             chain, or all other workers have left: it ends only if somebody comes to help. Thieves
- *             are told of each mark that is worth it then, as which mark is popped next is left open
- *             here
+ *   LONG      the handler of a pinned colour goes on until in no chain lies a mark that thieves may
+ *             have, where they were told of one there, or all other workers have left: it ends only if
+ *             somebody comes to help
+ *   PAIR      the handlers of the first two colours register an event on each other for ever, and that
+ *             of the second one on the third colour, once; the third colour is popped first, as
+ *             others come behind it
  *   ENDS      for the property `ends`: a colour that was stolen isn't stolen again before it ran, as
  *             two thieves could pass it to and fro for ever
  */
@@ -48,6 +50,12 @@ byte lies[C] = NONE;   /* the core in whose chain the mark lies */
 bool good[C];          /* whether the mark says there that it is worth a steal */
 bool hinted[K];        /* the chain's word: it may have a mark that is worth a steal */
 byte puts = EVENTS;    /* events that handlers may still register */
+#ifdef PAIR
+bool is_served;        /* the event of the third colour was run */
+#endif
+#ifdef LONG
+bool known[K];         /* thieves were told of a mark in this chain, and there still is one for them */
+#endif
 #ifdef UNMARKED
 bool unmarked[C];      /* the colour was made ready by a caller that pushes no mark */
 #define HAS_NO_MARK(c) unmarked[c]
@@ -71,19 +79,30 @@ byte idled[K + 1];
 #if C == 2
 #define OTHERS_IN(k) (lies[0] == (k) || lies[1] == (k))
 #define ALL_IDLE (stage[0] == Idle && stage[1] == Idle)
-#define IS_GOOD ((lies[0] != NONE && good[0]) || (lies[1] != NONE && good[1]))
+#define HAS_GOOD(k) ((lies[0] == (k) && good[0]) || (lies[1] == (k) && good[1]))
 #else
 #define OTHERS_IN(k) (lies[0] == (k) || lies[1] == (k) || lies[2] == (k))
 #define ALL_IDLE (stage[0] == Idle && stage[1] == Idle && stage[2] == Idle)
-#define IS_GOOD ((lies[0] != NONE && good[0]) || (lies[1] != NONE && good[1]) \
-    || (lies[2] != NONE && good[2]))
+#define HAS_GOOD(k) ((lies[0] == (k) && good[0]) || (lies[1] == (k) && good[1]) \
+    || (lies[2] == (k) && good[2]))
+#endif
+#if K == 2
+#define IS_GOOD (known[0] || known[1])
+#else
+#define IS_GOOD (known[0] || known[1] || known[2])
 #endif
 
-/* Whether thieves are told of a mark: an owner that pushes it alone takes it next. */
-#ifdef LONG
-#define FOR_THIEVES(is_worthy, is_crowded, by, to) (is_worthy)
-#else
+/* Whether thieves are told of a mark: an owner that pushes it alone takes it next, or once its batch is
+ * run. */
 #define FOR_THIEVES(is_worthy, is_crowded, by, to) (is_worthy && (is_crowded || by != to))
+
+/* For LONG alone: thieves are told of a chain, or a mark was taken from it. */
+#ifdef LONG
+#define IS_KNOWN(to) known[to] = HAS_GOOD(to)
+#define IS_LESS(from) known[from] = (known[from] && HAS_GOOD(from))
+#else
+#define IS_KNOWN(to) skip
+#define IS_LESS(from) skip
 #endif
 
 /* What a chain's word says is stored behind the lock, so in the same step as the change: that there
@@ -152,14 +171,21 @@ inline retell(d, to, is_worthy, is_found) {
 inline pop(c, from) {
     atomic {
         if
+#ifdef PAIR
+        :: lies[2] == from -> c = 2; lies[2] = NONE; good[2] = false
+        :: lies[0] == from && lies[2] != from -> c = 0; lies[0] = NONE; good[0] = false
+        :: lies[1] == from && lies[2] != from -> c = 1; lies[1] = NONE; good[1] = false
+#else
         :: lies[0] == from -> c = 0; lies[0] = NONE; good[0] = false
         :: lies[1] == from -> c = 1; lies[1] = NONE; good[1] = false
 #if C > 2
         :: lies[2] == from -> c = 2; lies[2] = NONE; good[2] = false
 #endif
+#endif
         :: else -> c = NONE
         fi;
-        hinted[from] = (hinted[from] && OTHERS_IN(from))
+        hinted[from] = (hinted[from] && OTHERS_IN(from));
+        IS_LESS(from)
     }
 }
 
@@ -174,7 +200,8 @@ inline pick(c, from) {
 #endif
         :: else -> c = NONE; hinted[from] = false
         fi;
-        hinted[from] = (hinted[from] && OTHERS_IN(from))
+        hinted[from] = (hinted[from] && OTHERS_IN(from));
+        IS_LESS(from)
     }
 }
 

@@ -16,3 +16,4 @@ mod BegunLemmas
 mod OwnLemmas
 mod WorkerAccountLemmas
 mod CrewAccountLemmas
+mod SettlingLemmas

@@ -15,3 +15,4 @@ pub mod Closed
 pub mod Seats
 pub mod ClosesHome
 pub mod Crew
+pub mod Settling

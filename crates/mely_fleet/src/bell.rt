@@ -16,13 +16,17 @@ const LOOKS: u32 = 100;
 /// once leaves the count alone, which all write.
 const LOOKS_UNCOUNTED: u32 = 20;
 
-/// How many looks at chains in a row find nothing before a worker gives up a fleet whose workers
-/// haven't all begun, and after how many of them it lets another thread have the processor: a tenth
-/// of a second in all on a machine at rest, whatever the number of cores, and some seconds on one
-/// where many threads wait for a processor.
+/// How many looks at chains a worker makes before it gives up a fleet whose workers haven't all
+/// begun, and after how many of them it lets another thread have the processor: a tenth of a second
+/// in all on a machine at rest, whatever the number of cores, and some seconds on one where many
+/// threads wait for a processor.
 const PATIENCE: u32 = 2_000_000;
 
 const LOOKS_A_YIELD: u32 = 2_000;
+
+/// As how many looks a step counts that found or did something. So a worker that has always
+/// something to do gives up too, after some hundred thousand events at the latest.
+const LOOKS_A_STEP: u32 = 4;
 
 /// A crew's word is how many workers began, times this, and how many of them are still at work.
 const BEGUN: u64 = 1 << 32;
@@ -60,14 +64,16 @@ struct Bed {
 #[derive(Drop)]
 pub(crate) struct Watch {
     /// How many looks at chains or at their words in a row found nothing, and whether the last step
-    /// was a look at the worker's own chain.
+    /// was a look at the worker's own chain that found nothing.
     misses: u32,
     is_home: bool,
 
     /// Where the next step looks: at the own chain, which is place 0, or at the victim of this
-    /// number, counted from 1. How many places there are, once a whole hunt has shown it.
-    place: u32,
-    places: u32,
+    /// number, counted from 1. A worker that begins goes on where its last hunt ended, which isn't
+    /// known here before its first look at its own chain. How many places there are, once a whole
+    /// hunt has shown it.
+    place: Option<u32>,
+    places: Option<u32>,
 
     /// Whether it is counted as one that searches.
     seeks: bool,
@@ -75,10 +81,12 @@ pub(crate) struct Watch {
     /// Where it said that it is about to sleep: how often it had been woken before.
     rings: Option<u64>,
 
-    /// How many looks found nothing since it would have slept, had all workers begun, and how many
-    /// since it last let another thread have the processor.
-    vain: u32,
-    unyielded: u32,
+    /// Whether all workers of its crew have begun, as far as it has seen. How many looks it has made
+    /// since it began, its other steps counted as some each, and how many it had made when it last
+    /// let another thread have the processor.
+    is_manned: bool,
+    looks: u32,
+    yielded: u32,
 }
 
 impl Watch {
@@ -87,12 +95,13 @@ impl Watch {
         Watch {
             misses: 0,
             is_home: false,
-            place: 0,
-            places: 0,
+            place: None,
+            places: None,
             seeks: false,
             rings: None,
-            vain: 0,
-            unyielded: 0,
+            is_manned: false,
+            looks: 0,
+            yielded: 0,
         }
     }
 
@@ -104,10 +113,10 @@ impl Watch {
 
     /// A look at the own chain found nothing: the first victim comes next.
     fn miss_home(&mut self) {
-        if self.place > 0 {
+        if self.place != Some(0) {
             self.places = self.place;
         }
-        self.place = 0;
+        self.place = Some(0);
         self.miss(true);
     }
 
@@ -115,11 +124,21 @@ impl Watch {
     fn miss(&mut self, is_home: bool) {
         self.misses = self.misses.wrapping_add(1);
         self.is_home = is_home;
-        self.place = self.place.wrapping_add(1);
-        if self.place == self.places {
-            self.place = 0;
+        self.looks = self.looks.saturating_add(1);
+        if let Some(place) = self.place {
+            let next = Some(place.wrapping_add(1));
+            self.place = if next == self.places { Some(0) } else { next };
         }
         hint::spin_loop();
+    }
+
+    /// A look found a mark, or a step did something with one: the next look is at the own chain, and
+    /// the next hunt begins with it.
+    fn find(&mut self) {
+        self.misses = 0;
+        self.is_home = false;
+        self.place = Some(0);
+        self.looks = self.looks.saturating_add(LOOKS_A_STEP);
     }
 }
 
@@ -262,10 +281,13 @@ impl Bell {
     }
 
     /// Whether so many workers began as there are cores: each of these has a bed, and the other
-    /// callers share one more.
-    fn is_manned(&self) -> bool {
-        let cores = self.beds.len().saturating_sub(1);
-        self.crew.load(Ordering::SeqCst) / BEGUN >= cores as u64
+    /// callers share one more. While this worker is at work that stays so.
+    fn is_manned(&self, watch: &mut Watch) -> bool {
+        if !watch.is_manned {
+            let cores = self.beds.len().saturating_sub(1);
+            watch.is_manned = self.crew.load(Ordering::SeqCst) / BEGUN >= cores as u64;
+        }
+        watch.is_manned
     }
 
     /// How many workers are at work.
@@ -273,17 +295,21 @@ impl Bell {
         self.crew.load(Ordering::SeqCst) % BEGUN
     }
 
-    /// A whole hunt found nothing where not all workers have begun. Whether its worker gives up.
-    fn hunts_in_vain(&self, watch: &mut Watch) -> bool {
-        let looks = watch.misses.saturating_sub(LOOKS);
-        watch.misses = LOOKS;
-        watch.vain = watch.vain.saturating_add(looks);
-        watch.unyielded = watch.unyielded.saturating_add(looks);
-        if watch.unyielded >= LOOKS_A_YIELD {
-            watch.unyielded = 0;
+    /// Whether a free worker is to leave, whatever lies in its chain: another gave up, or not all
+    /// have begun and this one has waited for long. What only who didn't begin may take would be
+    /// left for as long as the others find something else.
+    pub(crate) fn is_over(&self, watch: &mut Watch) -> bool {
+        if self.has_given_up.load(Ordering::SeqCst) {
+            return true;
+        }
+        if self.is_manned(watch) {
+            return false;
+        }
+        if watch.looks.saturating_sub(watch.yielded) >= LOOKS_A_YIELD {
+            watch.yielded = watch.looks;
             thread::yield_now();
         }
-        watch.vain >= PATIENCE
+        watch.looks >= PATIENCE
     }
 
     /// A caller that isn't counted as at work is about to register an event, or to wake others.
@@ -307,7 +333,7 @@ impl Bell {
         self.leave(rt, number, watch);
     }
 
-    /// A worker gives up and leaves, and the others do as soon as they find nothing.
+    /// A worker gives up and leaves, and so do the others as soon as they are free.
     pub(crate) fn give_up<R: Wait>(&self, rt: &R, number: u16, watch: &mut Watch) {
         self.has_given_up.store(true, Ordering::SeqCst);
         self.leave(rt, number, watch);
@@ -456,9 +482,7 @@ impl Bell {
             Made::NoneHere => watch.miss_home(),
             Made::NoneThere { victim: _ } => watch.miss(false),
             _ => {
-                watch.misses = 0;
-                watch.vain = 0;
-                watch.place = 0;
+                watch.find();
                 self.rise(number, watch);
                 self.search_no_more(rt, watch);
             }
@@ -469,7 +493,7 @@ impl Bell {
     /// the words of all chains say that it would find nothing. It is not so of one that is about to
     /// sleep, which hunts.
     pub(crate) fn await_news(&self, number: u16, watch: &mut Watch) {
-        if watch.place > 0 || watch.rings.is_some() {
+        if watch.place != Some(0) || watch.rings.is_some() {
             return;
         }
         let own = self.hint(number);
@@ -516,13 +540,14 @@ impl Bell {
     /// A worker found nothing for a while, and now nothing in its own chain, while something is ready
     /// or runs. It says that it is about to sleep, searches no more, and hunts once more: whatever
     /// comes into its chain from then on wakes it. Where it finds nothing again it sleeps; but where
-    /// not all workers have begun, one that never will can leave it asleep for good, so it hunts on.
-    /// Nor does it sleep where all others at work do: unless somebody tells news, none can come any
-    /// more. Whether it gives up.
+    /// not all workers have begun, one that never will can leave it asleep for good, so it hunts on
+    /// until its patience ends. Nor does it sleep where all others at work do: unless somebody tells
+    /// news, none can come any more. Whether it gives up.
     pub(crate) fn rest<R: Wait>(&self, rt: &R, number: u16, watch: &mut Watch) -> bool {
         let Some(bed) = self.bed(number) else {
             return false;
         };
+        let is_manned = self.is_manned(watch);
         match watch.rings {
             None => {
                 watch.rings = Some(*bed.rings.lock(rt));
@@ -532,8 +557,7 @@ impl Bell {
                 self.search_no_more(rt, watch);
                 watch.misses = LOOKS;
             }
-            Some(_) if self.has_given_up.load(Ordering::SeqCst) => return true,
-            Some(_) if !self.is_manned() => return self.hunts_in_vain(watch),
+            Some(_) if !is_manned => watch.misses = LOOKS,
             Some(seen) => {
                 let at_work = self.at_work();
                 let news = self.ended_news.load(Ordering::SeqCst);
@@ -546,7 +570,7 @@ impl Bell {
                 drop(rings);
                 self.rise(number, watch);
                 watch.misses = 0;
-                watch.vain = 0;
+                watch.is_home = false;
             }
         }
         false

@@ -20,12 +20,14 @@ use crate::kept_shard::KeptShard;
 use crate::passes::PassesOf;
 use crate::room::{Room, RoomOf};
 use crate::seat::{Seat, SeatOf};
+use crate::settling::settle;
 use mely_event::{Colour, Event, Fits, Kept, Memory, Trail, Unregistered};
 use mely_history::Setup;
 use mely_weave::{Drained, Weave};
 use mely_worker::{App, Gate, IdleWorker, Worker};
 use std::alloc::Global;
 use std::sync::Wait;
+use std::sync::atomic::{AtomicBool, Ordering};
 use std::thread;
 use std::thread::Threads;
 
@@ -104,7 +106,35 @@ fn make_crew<S: Fits<P> + Drop, P: Drop>(
     })
 }
 
-/// Lets all cores work, each in a thread of its own, until nothing is left to do.
+/// Lets the worker of a seat work, unless that of another seat is back already: then nothing is left
+/// to do, or what is left is run once the fleet is closed. So no worker begins alone whose thread was
+/// refused or came late.
+fn work_one<R: Wait, S: Fits<P> + Drop, P: Drop, A: App<State = S, Load = P>, G: Gate>(
+    rt: &R,
+    fleet: &Fleet<S, P>,
+    number: usize,
+    seat: &mut Seat<S, P>,
+    is_one_back: &AtomicBool,
+    app: &A,
+    gate: &G,
+)
+    requires seat { IsSeatOf S.frame_of S.fits_under fleet.now number
+        seat.old.passes seat.old.worker }
+    requires served { let frame = frame_in (shard_frame S.frame_of) fleet.now in
+        AppServes A.App fleet.now.setup frame app.now }
+    ensures seat { IsSeatOf S.frame_of S.fits_under fleet.now number
+        seat.new.passes seat.new.worker }
+    ensures made { HasMade S.Trail S.fits_under A.App app.now fleet.now
+        seat.old.passes seat.old.worker seat.new.passes seat.new.worker }
+{
+    if is_one_back.load(Ordering::SeqCst) {
+        return;
+    }
+    drop(fleet.work_at(rt, seat, app, gate));
+    is_one_back.store(true, Ordering::SeqCst);
+}
+
+/// Lets all cores work, each in a thread of its own, until nothing is left to do or they give up.
 fn work_all<
     R: Threads + Wait + Sync,
     S: Fits<P> + Drop + Send,
@@ -124,6 +154,7 @@ fn work_all<
     if threads == 0 {
         return;
     }
+    let is_one_back = AtomicBool::new(false);
     thread::for_each_mut(
         rt,
         seats,
@@ -138,15 +169,17 @@ fn work_all<
             ensures made { HasMade S.Trail S.fits_under A.App app.entry.now fleet.entry.now
                 seat.entry.now.passes seat.entry.now.worker
                 seat.exit.now.passes seat.exit.now.worker }
-        {
-            drop(fleet.work_at(rt, seat, app, gate));
-        },
+        { work_one(rt, fleet, number, seat, &is_one_back, app, gate) },
     );
 }
 
 /// Runs an app over a fleet of these states, from its first event on, with a thread for each core,
 /// until nothing is left: the fleet is closed then, and what is left of it drained. All room is
 /// made before the event is posted. It need not return: an app may register for ever.
+///
+/// Where the machine refuses a thread, or starts one a tenth of a second late or more, the others
+/// give up, and the thread of the caller runs what is left, whatever it is, with no gate: a turn of
+/// one core after another.
 ///
 /// # Errors
 ///
@@ -203,6 +236,7 @@ pub fn run_crew<
     work_all(rt, &fleet, &mut seats, app, gate);
     outsiders.push_reserved(outside);
     let mut weave = fleet.close_home(room, seats, outsiders, rested, workers);
+    settle(rt, &mut weave, setup.cores(), app);
     let drained = weave.drain(rt, app);
     Ok((weave, drained))
 }

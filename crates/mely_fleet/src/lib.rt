@@ -41,6 +41,7 @@ mod opening;
 mod passes;
 mod room;
 mod seat;
+mod settling;
 mod shard_calls;
 mod side;
 mod working;

@@ -27,10 +27,11 @@ pub enum Worked {
     Memory,
 
     /// The worker isn't halted, and left work all the same: another met want of memory, or all gave
-    /// up, as something was ready that no worker at work could take. So it is where the machine
-    /// refuses a thread, where an event is posted from outside for a core whose worker has just
-    /// left, and where a colour was made ready and its mark pushed by nobody. What is queued then
-    /// stays queued, until all work again or the fleet is closed.
+    /// up. They do where some worker didn't begin, as the machine refused its thread or started it
+    /// late; and where something was ready that no worker at work could take, as an event that was
+    /// posted from outside for a core whose worker had just left, or a colour that was made ready
+    /// and whose mark nobody pushed. What is queued then stays queued, until all work again or the
+    /// fleet is closed.
     Stopped,
 }
 
@@ -40,9 +41,10 @@ impl<S: Fits<P> + Drop, P: Drop> FleetOf<KeptShard<S, P>> {
     /// It makes one step after another, and waits while it finds nothing. Where a worker is halted
     /// all come to an end: each ends its turn and puts back the mark in its hand; the halted one
     /// answers `Memory`, and the others `Stopped`. Where all that are at work find nothing, and
-    /// something is ready all the same, they give up. So they do where one finds nothing to do for a
-    /// while, a tenth of a second or more, and another hasn't begun: let all begin at once. That it
-    /// returns isn't promised.
+    /// something is ready all the same, they give up. So they do, whatever is left to do, where
+    /// another hasn't begun after a tenth of a second or more: let all begin at once. A worker that
+    /// begins when the others have given up and left is alone, and gives up in turn. That it returns
+    /// isn't promised.
     pub fn work<R: Wait, A: App<State = S, Load = P>, G: Gate>(
         &self,
         rt: &R,
@@ -77,9 +79,9 @@ impl<S: Fits<P> + Drop, P: Drop> FleetOf<KeptShard<S, P>> {
     }
 
     /// What a worker does between two steps: nothing, unless it is free. Then it comes to an end
-    /// where some worker is halted; it waits for a while where it would find nothing; and where it
-    /// has looked for long, it looks whether everything is finished, or sleeps, or gives up. How its
-    /// work ended, if it did.
+    /// where some worker is halted, or all give up; it waits for a while where it would find
+    /// nothing; and where it has looked for long, it looks whether everything is finished, or
+    /// sleeps, or gives up. How its work ended, if it did.
     fn pause<R: Wait>(
         &self,
         rt: &R,
@@ -107,6 +109,10 @@ impl<S: Fits<P> + Drop, P: Drop> FleetOf<KeptShard<S, P>> {
         }
         if self.bell.is_stopped() {
             self.bell.stop(rt, passes.number, watch);
+            return Some(Worked::Stopped);
+        }
+        if self.bell.is_over(watch) {
+            self.bell.give_up(rt, passes.number, watch);
             return Some(Worked::Stopped);
         }
         self.bell.await_news(passes.number, watch);

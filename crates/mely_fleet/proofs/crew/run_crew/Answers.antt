@@ -12,12 +12,16 @@ use Rattle.mely_tally.specs.Account.{IsAccounted}
 use Rattle.mely_tally.proofs.AccountLemmas.{account_drain}
 use Rattle.mely_fleet.specs.Calls.{SeesAt, front_in}
 use Rattle.mely_fleet.specs.Rows.{fronts}
+use Rattle.mely_weave.specs.Runs.{KeepsSetup}
+use Rattle.mely_weave.proofs.Runs.CallRunsLemmas.{runs_on}
+use Rattle.mely_weave.proofs.Runs.RunLemmas.{serves_on}
 use Rattle.mely_weave.proofs.Runs.WeaveRunLemmas.{run_grows}
+use Rattle.mely_fleet.proofs.SettlingLemmas.{some_same, some_stand, some_run, some_account}
 use Rattle.mely_fleet.proofs.BegunLemmas.{registered_after, first_of}
 use Rattle.mely_fleet.proofs.CrewAccountLemmas.{Enters, closed_account}
 use Rattle.mely_fleet.proofs.CrewLemmas.{there_of, the_only, refilled, gathered_frame}
 use Rattle.mely_fleet.proofs.crew.run_crew.Goals as goal
-use Rattle.mely_fleet.proofs.crew.run_crew.Goals.{In-Ok, After-push_reserved, After-close_home-weave}
+use Rattle.mely_fleet.proofs.crew.run_crew.Goals.{In-Ok, After-push_reserved, After-close_home-weave, After-settle}
 
 -- what holds of the setup and the frame of each first state holds of the fleet's
 of_fleet : (g : _) (c : In-Ok g) (Has : Setup → _ → Type 0) → ((state : _) → slice_get c.args.states.items 0 ≡ Some state → Has c.args.setup.now (g.S.Trail.frame_of state)) → Has c.in-Ok.crew.fleet.setup (frame_in (shard_frame g.S.Trail.frame_of) c.in-Ok.crew.fleet)
@@ -89,17 +93,39 @@ weave_framed g c =
     let closed = c.close_home-weave.ensures.home.closed in
     gathered_frame g.S.Trail g.S.Fits.fits_under c.close_home-weave.result c.in-Ok.crew.fleet.setup (frame_in (shard_frame g.S.Trail.frame_of) c.in-Ok.crew.fleet) closed.stands closed.shards
 
+-- the app serves the weave
+weave_served : (g : _) (c : After-close_home-weave g) → AppServes g.A.App c.in-Ok.crew.fleet.setup (frame_in (shard_frame g.S.Trail.frame_of) c.in-Ok.crew.fleet) c.args.app.now
+    → AppServes g.A.App c.close_home-weave.result.setup (g.S.Trail.frame_of c.close_home-weave.result.given) c.args.app.now
+weave_served g c served =
+    subst (λ (k : Setup). AppServes g.A.App k (g.S.Trail.frame_of c.close_home-weave.result.given) c.args.app.now) (sym c.close_home-weave.ensures.home.closed.setup)
+    (subst (λ f. AppServes g.A.App c.in-Ok.crew.fleet.setup f c.args.app.now) (sym (weave_framed g c)) served)
+
+pub settle-requires-clause-cores : goal.settle-requires-clause-cores
+settle-requires-clause-cores g c =
+    let asked = c.cores.ensures.value in
+    let same = ap (λ (k : Setup). (shape_of k).cores) (c.close_home-weave.ensures.home.closed.setup ∙ c.in-Ok.ensures.of_setup) in
+    omega (arith, asked, same)
+
+pub settle-requires-clause-served : goal.settle-requires-clause-served
+settle-requires-clause-served g c =
+    let at = goal.at.settle-requires-clause-served g c in
+    weave_served g at.After-close_home-weave (of_fleet g at.In-Ok (λ k f. AppServes g.A.App k f c.args.app.now) c.requires.served)
+
+-- what was settled keeps the setup
+settled_same : (g : _) (c : After-settle g) → KeepsSetup c.close_home-weave.result c.settle.new.weave
+settled_same g c = some_same g.S.Trail g.S.Fits.fits_under g.A.App c.args.app.now c.close_home-weave.result c.settle.new.weave c.settle.ensures
+
 pub drain-drained-requires : goal.drain-drained-requires
 drain-drained-requires g c =
     let at = goal.at.drain-drained-requires g c in
-    let served = of_fleet g at.In-Ok (λ k f. AppServes g.A.App k f c.args.app.now) c.requires.served in
-    record {
-      served = subst (λ (k : Setup). AppServes g.A.App k (g.S.Trail.frame_of c.close_home-weave.result.given) c.args.app.now) (sym c.close_home-weave.ensures.home.closed.setup)
-          (subst (λ f. AppServes g.A.App c.in-Ok.crew.fleet.setup f c.args.app.now) (sym (weave_framed g at.After-close_home-weave)) served);
-    }
+    let served = weave_served g at.After-close_home-weave (of_fleet g at.In-Ok (λ k f. AppServes g.A.App k f c.args.app.now) c.requires.served) in
+    record { served = serves_on g.S.Trail.frame_of g.A.App c.args.app.now c.close_home-weave.result c.settle.new.weave (settled_same g at.After-settle) served }
+
+pub returns-clause-of_setup : goal.returns-clause-of_setup
+returns-clause-of_setup g c = c.drain-drained.ensures.same.setup ∙ (settled_same g (goal.at.returns-clause-of_setup g c).After-settle).setup ∙ c.close_home-weave.ensures.home.closed.setup ∙ c.in-Ok.ensures.of_setup
 
 pub returns-clause-framed : goal.returns-clause-framed
-returns-clause-framed g c = λ state at. ap g.S.Trail.frame_of c.drain-drained.ensures.same.given ∙ weave_framed g (goal.at.returns-clause-framed g c).After-close_home-weave ∙ sym (c.in-Ok.ensures.framed state at)
+returns-clause-framed g c = λ state at. ap g.S.Trail.frame_of (c.drain-drained.ensures.same.given ∙ (settled_same g (goal.at.returns-clause-framed g c).After-settle).given) ∙ weave_framed g (goal.at.returns-clause-framed g c).After-close_home-weave ∙ sym (c.in-Ok.ensures.framed state at)
 
 pub returns-clause-begun : goal.returns-clause-begun
 returns-clause-begun g c =
@@ -109,14 +135,15 @@ returns-clause-begun g c =
     let by = c.in-Ok.crew.outside.number in
     let weave = c.close_home-weave.result in
     let seen = fronts c.post.new.passes.shards.items in
+    let run = runs_on g.S.Trail g.S.Fits.fits_under g.A.App weave c.settle.new.weave c.drain-drained.new.self (some_run g.S.Trail g.S.Fits.fits_under g.A.App c.args.app.now weave c.settle.new.weave c.settle.ensures) c.drain-drained.ensures.calls in
     registered_after c.args.begin.0 c.args.begin.1 by weave c.drain-drained.new.self (front_in seen (shard_of c.in-Ok.crew.fleet.setup c.args.begin.0)) sees.seen.point
-    c.drain-drained.ensures.same.setup closed.stands.shards
+    (c.drain-drained.ensures.same.setup ∙ (settled_same g (goal.at.returns-clause-begun g c).After-settle).setup) closed.stands.shards
     (subst (λ (s : Setup). (shape_of s).cores ≤ by) (sym closed.setup) c.in-Ok.ensures.outside.outside)
     sees.seen.does.0
     (λ has at.
     let since = (closed.histories (shard_of weave.setup c.args.begin.0) has at).seen 0 c.post.new.passes (first_of _ _ _ one) in
     (since.0, subst (λ (s : Setup). has.history ≡ front_in seen (shard_of s c.args.begin.0) ++ since.0) closed.setup since.1))
-    (run_grows g.S.Trail g.S.Fits.fits_under g.A.App c.drain-drained.ensures.calls.0 weave c.drain-drained.new.self c.drain-drained.ensures.calls.1)
+    (run_grows g.S.Trail g.S.Fits.fits_under g.A.App run.0 weave c.drain-drained.new.self run.1)
 
 -- what runs before the closing put and ran is accounted for by the weave that it gives
 closed_accounted : (g : _) (c : After-close_home-weave g) → take c.in-Ok.crew.seats.len (c.work_all.new.seats ++ drop (length c.work_all.new.seats) c.in-Ok.crew.seats.items) ≡ c.work_all.new.seats → length (take c.in-Ok.crew.seats.len (c.work_all.new.seats ++ drop (length c.work_all.new.seats) c.in-Ok.crew.seats.items)) ≡ (shape_of c.args.setup.now).cores
@@ -167,5 +194,9 @@ pub returns-clause-accounted : goal.returns-clause-accounted
 returns-clause-accounted g c =
     let weave = c.close_home-weave.result in
     let at = goal.at.returns-clause-accounted g c in
-    account_drain g.S.Trail g.S.Fits.fits_under g.A.App c.args.app.now (c.args.begin ∷ []) weave c.drain-drained.new.self c.drain-drained.result
-    c.close_home-weave.ensures.home.closed.stands c.drain-drained.ensures.drains (closed_accounted g at.After-close_home-weave (seats_are g at.After-push_reserved) (seat_count g at.After-push_reserved))
+    let well = c.close_home-weave.ensures.home.closed.stands in
+    let settled = c.settle.ensures in
+    account_drain g.S.Trail g.S.Fits.fits_under g.A.App c.args.app.now (c.args.begin ∷ []) c.settle.new.weave c.drain-drained.new.self c.drain-drained.result
+    (some_stand g.S.Trail g.S.Fits.fits_under g.A.App c.args.app.now weave c.settle.new.weave settled well) c.drain-drained.ensures.drains
+    (some_account g.S.Trail g.S.Fits.fits_under g.A.App c.args.app.now (c.args.begin ∷ []) weave c.settle.new.weave settled well
+    (closed_accounted g at.After-close_home-weave (seats_are g at.After-push_reserved) (seat_count g at.After-push_reserved)))
