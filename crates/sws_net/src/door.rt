@@ -9,6 +9,9 @@ use std::time::Duration;
 /// For how many milliseconds a lane sleeps before the door at most, before it looks again.
 const LONGEST: u64 = 250;
 
+/// The turn of a lane that isn't inside.
+const OUTSIDE: u64 = 0;
+
 /// How often who leaves tries to take the lock of those that sleep, which nobody holds for long.
 const TRIES: u32 = 1000;
 
@@ -17,6 +20,10 @@ const TRIES: u32 = 1000;
 /// A lane enters before its generation begins, and leaves once it takes no further connection,
 /// however long the others then last. Once the door is closed nobody enters, and those inside are
 /// told to leave.
+///
+/// Where what is served changes, the door is renewed ([`renew`](Door::renew)): those inside are told
+/// to leave, and nobody enters before the last of them has left. So whoever is accepted after
+/// somebody who was served the new is served the new too.
 #[derive(Drop)]
 pub struct Door {
     /// How many may be inside, and how many are.
@@ -24,8 +31,11 @@ pub struct Door {
     inside: AtomicU64,
     is_closed: AtomicBool,
 
-    /// Of each lane, whether it is inside.
-    lanes: Vec<AtomicBool>,
+    /// How often it was renewed, from 1.
+    turn: AtomicU64,
+
+    /// Of each lane, in which turn it entered; 0 where it is outside.
+    lanes: Vec<AtomicU64>,
 
     /// What lanes that wait before the door sleep by, until one of those inside leaves.
     sleepers: Mutex<()>,
@@ -37,12 +47,13 @@ impl Door {
     pub fn new(alloc: Global, lanes: usize, most: usize) -> Result<Door, AllocError> {
         let mut insides = Vec::with_capacity(alloc, lanes)?;
         for _ in 0..lanes {
-            insides.push(AtomicBool::new(false))?;
+            insides.push(AtomicU64::new(OUTSIDE))?;
         }
         Ok(Door {
             most: most as u64,
             inside: AtomicU64::new(0),
             is_closed: AtomicBool::new(false),
+            turn: AtomicU64::new(1),
             lanes: insides,
             sleepers: Mutex::new(()),
             left: Condvar::new(),
@@ -63,17 +74,33 @@ impl Door {
         unreachable!()
     }
 
-    /// Enters, if there is room.
+    /// Enters, if there is room, and nobody is inside who entered before the door was renewed.
     pub fn try_enter(&self, lane: usize) -> bool {
         let Some(place) = self.lanes.get(lane) else {
             return false;
         };
         if self.inside.fetch_add(1, Ordering::SeqCst) < self.most {
-            place.store(true, Ordering::SeqCst);
-            return true;
+            let turn = self.turn.load(Ordering::SeqCst);
+            place.store(turn, Ordering::SeqCst);
+            // Whoever renews the door in between, or was inside before, is seen by this look.
+            if self.turn.load(Ordering::SeqCst) == turn && self.has_only(turn) {
+                return true;
+            }
+            place.store(OUTSIDE, Ordering::SeqCst);
         }
         self.inside.fetch_sub(1, Ordering::SeqCst);
         false
+    }
+
+    /// Whether each lane that is inside entered in this turn.
+    fn has_only(&self, turn: u64) -> bool {
+        for place in &self.lanes {
+            let entered = place.load(Ordering::SeqCst);
+            if entered != OUTSIDE && entered != turn {
+                return false;
+            }
+        }
+        true
     }
 
     /// Leaves. A lane that isn't inside stays so.
@@ -81,7 +108,7 @@ impl Door {
         let Some(place) = self.lanes.get(lane) else {
             return;
         };
-        if place.swap(false, Ordering::SeqCst) {
+        if place.swap(OUTSIDE, Ordering::SeqCst) != OUTSIDE {
             self.inside.fetch_sub(1, Ordering::SeqCst);
             self.wake();
         }
@@ -90,9 +117,26 @@ impl Door {
     /// Whether the lane is inside.
     pub fn is_inside(&self, lane: usize) -> bool {
         match self.lanes.get(lane) {
-            Some(place) => place.load(Ordering::SeqCst),
+            Some(place) => place.load(Ordering::SeqCst) != OUTSIDE,
             None => false,
         }
+    }
+
+    /// Tells all that are inside to leave, since what is served has changed. Whoever enters from
+    /// now on sees what was written before this call.
+    pub fn renew(&self) {
+        self.turn.fetch_add(1, Ordering::SeqCst);
+        self.wake();
+    }
+
+    /// Whether the lane is to leave: the door is closed, or was renewed since it entered.
+    pub fn is_to_leave(&self, lane: usize) -> bool {
+        let turn = self.turn.load(Ordering::SeqCst);
+        let is_stale = match self.lanes.get(lane) {
+            Some(place) => place.load(Ordering::SeqCst) != turn,
+            None => true,
+        };
+        is_stale || self.is_closed()
     }
 
     /// Closes the door for good.
@@ -108,11 +152,17 @@ impl Door {
     /// Sleeps until somebody leaves, or for a while.
     fn sleep<R: Wait + Clock>(&self, rt: &R) {
         let guard = self.sleepers.lock(rt);
-        if self.inside.load(Ordering::SeqCst) >= self.most && !self.is_closed() {
+        if !self.has_room() && !self.is_closed() {
             let _ = self
                 .left
                 .wait_timeout(rt, guard, Duration::from_millis(LONGEST));
         }
+    }
+
+    /// Whether a lane may enter.
+    fn has_room(&self) -> bool {
+        self.inside.load(Ordering::SeqCst) < self.most
+            && self.has_only(self.turn.load(Ordering::SeqCst))
     }
 
     /// Wakes all that sleep before the door. Where one of them is just about to sleep, it is waited

@@ -39,8 +39,8 @@ pub struct Entrance<'d> {
 /// they bring nothing is known.
 ///
 /// Whoever opens it has entered the door as its lane. The world leaves once it has given as many
-/// links as it was opened for, at the age of its [`Entrance`], and where the door is closed or the
-/// stop file is there. From then on it gives no further link: others take those connections. Where
+/// links as it was opened for, at the age of its [`Entrance`], and where the door is closed or
+/// renewed, or the stop file is there. From then on it gives no further link: others take those connections. Where
 /// it was opened for more, it waits until those that it gave are gone, and then says that it
 /// failed, so that a run over it ends. After the grace, it cuts those that are still there.
 ///
@@ -117,7 +117,8 @@ impl<'d> Stay<'d> {
         if let Some(stop) = self.entrance.stop {
             stop.look(self.rt, self.entrance.door, now);
         }
-        self.entrance.door.is_closed() || now.saturating_sub(self.opened) >= self.entrance.age
+        self.entrance.door.is_to_leave(self.lane)
+            || now.saturating_sub(self.opened) >= self.entrance.age
     }
 
     /// How long the machine may be waited for: not at all where nobody is left.
