@@ -37,17 +37,32 @@ pub struct Door {
     /// Of each lane, in which turn it entered; 0 where it is outside.
     lanes: Vec<AtomicU64>,
 
+    /// Of each lane whose connections go on beyond their grace, the number of its asking for that,
+    /// from 1; 0 of every other lane.
+    overtimes: Vec<AtomicU64>,
+
+    /// How many lanes have asked for it in all.
+    asked: AtomicU64,
+
+    /// How many lanes wait before the door.
+    waiting: AtomicU64,
+
     /// What lanes that wait before the door sleep by, until one of those inside leaves.
     sleepers: Mutex<()>,
     left: Condvar,
 }
 
+/// The number of a lane whose connections are within their grace.
+const IN_TIME: u64 = 0;
+
 impl Door {
     /// An open door for so many lanes, of which so many may be inside.
     pub fn new(alloc: Global, lanes: usize, most: usize) -> Result<Door, AllocError> {
         let mut insides = Vec::with_capacity(alloc, lanes)?;
+        let mut overtimes = Vec::with_capacity(alloc, lanes)?;
         for _ in 0..lanes {
             insides.push(AtomicU64::new(OUTSIDE))?;
+            overtimes.push(AtomicU64::new(IN_TIME))?;
         }
         Ok(Door {
             most: most as u64,
@@ -55,6 +70,9 @@ impl Door {
             is_closed: AtomicBool::new(false),
             turn: AtomicU64::new(1),
             lanes: insides,
+            overtimes,
+            asked: AtomicU64::new(0),
+            waiting: AtomicU64::new(0),
             sleepers: Mutex::new(()),
             left: Condvar::new(),
         })
@@ -62,6 +80,14 @@ impl Door {
 
     /// Waits until there is room inside, and enters. False where the door is closed.
     pub fn enter<R: Wait + Clock>(&self, rt: &R, lane: usize) -> bool {
+        self.waiting.fetch_add(1, Ordering::SeqCst);
+        let is_inside = self.wait_to_enter(rt, lane);
+        self.waiting.fetch_sub(1, Ordering::SeqCst);
+        is_inside
+    }
+
+    /// Waits until the lane has entered. False where the door is closed.
+    fn wait_to_enter<R: Wait + Clock>(&self, rt: &R, lane: usize) -> bool {
         for _ in rt.forever() {
             if self.is_closed() {
                 return false;
@@ -103,8 +129,11 @@ impl Door {
         true
     }
 
-    /// Leaves. A lane that isn't inside stays so.
+    /// Leaves, also where the lane's generation has ended. A lane that isn't inside stays so.
     pub fn leave(&self, lane: usize) {
+        if let Some(overtime) = self.overtimes.get(lane) {
+            overtime.store(IN_TIME, Ordering::SeqCst);
+        }
         let Some(place) = self.lanes.get(lane) else {
             return;
         };
@@ -139,7 +168,53 @@ impl Door {
         is_stale || self.is_closed()
     }
 
-    /// Closes the door for good.
+    /// Whether no lane is inside, nor waits to enter.
+    pub fn is_unmanned(&self) -> bool {
+        self.waiting.load(Ordering::SeqCst) == 0 && self.inside.load(Ordering::SeqCst) == 0
+    }
+
+    /// Whether the connections of the lane may go on beyond their grace. As many lanes may have such
+    /// connections as there are beyond those that may be inside at a time; where one more asks, the
+    /// one that asked first may no longer. Where the door is closed, none may.
+    pub fn may_last(&self, lane: usize) -> bool {
+        let Some(overtime) = self.overtimes.get(lane) else {
+            return false;
+        };
+        if overtime.load(Ordering::SeqCst) == IN_TIME {
+            let number = self.asked.fetch_add(1, Ordering::SeqCst).saturating_add(1);
+            overtime.store(number, Ordering::SeqCst);
+        }
+        let room = (self.lanes.len() as u64).saturating_sub(self.most);
+        !self.is_closed() && (self.count_overtimes() <= room || !self.asked_first(lane))
+    }
+
+    /// How many lanes have connections that go on beyond their grace.
+    fn count_overtimes(&self) -> u64 {
+        let mut count: u64 = 0;
+        for overtime in &self.overtimes {
+            if overtime.load(Ordering::SeqCst) != IN_TIME {
+                count = count.saturating_add(1);
+            }
+        }
+        count
+    }
+
+    /// Whether the lane is the first one of those whose connections go on beyond their grace.
+    pub fn asked_first(&self, lane: usize) -> bool {
+        let mut first = u64::MAX;
+        let mut place = lane;
+        for (number, overtime) in self.overtimes.iter().enumerate() {
+            let asked = overtime.load(Ordering::SeqCst);
+            if asked != IN_TIME && asked < first {
+                first = asked;
+                place = number;
+            }
+        }
+        place == lane
+    }
+
+    /// Closes the door for good. The worlds behind it end the listener that they share, so that
+    /// whoever comes from then on is refused.
     pub fn close(&self) {
         self.is_closed.store(true, Ordering::SeqCst);
         self.wake();
