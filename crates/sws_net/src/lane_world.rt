@@ -31,9 +31,12 @@ const UNMANNED: u64 = 1000;
 /// For how many milliseconds such a connection hasn't got on.
 const STANDSTILL: u64 = 5000;
 
-/// How many entries the history of a generation may have before its world leaves. Where it has
-/// twice as many, all its connections are cut.
+/// How many entries the history of a generation may have before its world leaves.
 const MOST_ENTRIES: u64 = 2_000_000;
+
+/// How many it may have before all its connections are cut: twice as many as those of 1,024
+/// connections with 64 requests each.
+const LAST_ENTRIES: u64 = 8_000_000;
 
 /// How many entries an event of a run costs: it is registered, taken and finished.
 const ENTRIES_OF_AN_EVENT: u64 = 3;
@@ -76,7 +79,7 @@ pub struct Entrance<'d> {
 /// have moved over the last time of the grace's length. These may go on as long as the door lets
 /// them ([`Door::may_last`]), and as long as a lane is there to take connections. Where for a second
 /// none is, it cuts within the grace already those in which no such number of bytes has moved for
-/// five seconds; and at four million entries it cuts all.
+/// five seconds; and at eight million entries it cuts all.
 ///
 /// It counts this, the errors of the machine, and how often it had nobody to name, though somebody
 /// waited, or nothing to give. It waits as [`TcpWorld`](crate::TcpWorld) does, but for a quarter of
@@ -226,7 +229,7 @@ impl<'d> Stay<'d> {
         let step = (grace / 1000).saturating_mul(LEAST_PACE).max(1);
         server.watch(step);
         let is_unmanned = self.is_unmanned(now);
-        if self.entries(server) >= MOST_ENTRIES.saturating_mul(2) {
+        if self.entries(server) >= LAST_ENTRIES {
             server.cut(0);
         } else if now.saturating_sub(left) < grace {
             if is_unmanned {
