@@ -4,7 +4,8 @@
     bench/hostile.py [--only WORD] [--quick] [--program PATH]
 
 It wants the program built (`./sws`). With `--quick`, as the gate calls it, only the cases of a second or two: what the machine refuses
-(descriptors, a reset before it is accepted, kinds of files that change), half-closed clients and names that climb. What a connection is owed is what `sws answer` writes for the same bytes, or a front of it where the
+(descriptors, a reset before it is accepted, kinds of files that change), half-closed clients and names that climb; and where `swsd` is built,
+the quick ones of `bench/edge.py` behind them. What a connection is owed is what `sws answer` writes for the same bytes, or a front of it where the
 client or the server ends it early. Each case has servers of its own, which end by themselves or are ended; the whole takes some minutes,
 most of them waiting for connections that are given up after half a minute. The status is 1 where a case went otherwise.
 """
@@ -23,6 +24,8 @@ import sys
 import tempfile
 import threading
 import time
+
+import edge
 
 TOP = os.path.dirname(os.path.dirname(os.path.abspath(__file__)))
 SWS = os.path.join(TOP, "crates", "sws_main", "out", "sws_main")
@@ -770,6 +773,8 @@ def main():
                     print(f"{'well' if is_right else 'WRONG'}: {case.__name__}: {seen}", flush=True)
     finally:
         shutil.rmtree(site)
+    if given.quick and not given.only and os.access(edge.staying.SWSD, os.X_OK):
+        all_well &= edge.run(is_quick=True)
     sys.exit(0 if all_well else 1)
 
 

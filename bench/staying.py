@@ -177,13 +177,15 @@ def stop_within_a_download(_):
             got = len(it.recv(1 << 16))
             server.stop()
             time.sleep(1)
-            with contextlib.suppress(OSError):
-                refused = socket.create_connection(("127.0.0.1", server.port), timeout=2)
-                refused.close()
+            is_refused = False
+            try:
+                socket.create_connection(("127.0.0.1", server.port), timeout=2).close()
+            except ConnectionRefusedError:
+                is_refused = True
             while piece := it.recv(1 << 16):
                 got += len(piece)
             status, told = server.end()
-    yield status == 0 and got > LARGE, f"told to stop within a download of 32 MB: the client got {got} bytes ({told})"
+    yield status == 0 and got > LARGE and is_refused, f"told to stop within a download of 32 MB: the client got {got} bytes, another was {'refused' if is_refused else 'not refused'} ({told})"
 
 
 def ports(_):

@@ -13,7 +13,7 @@ use std::sync::Wait;
 use std::thread::{self, Threads};
 use std::{fmt, io};
 use sws_lane::{Lane, Terms, Totals, keep_serving};
-use sws_net::{Door, Entrance, LaneWorld, StopFile};
+use sws_net::{Door, Entrance, LaneWorld, StopFile, listen};
 
 /// Why a folder can't be served.
 #[derive(Debug, Drop)]
@@ -131,7 +131,7 @@ pub fn serve_folder<T: AllocGlobal + Threads + Wait + Sync + Clock>(
     threads: &T,
     order: Order,
 ) -> Result<Served, ServeFault> {
-    let listener = TcpListener::bind(rt, order.listen)?;
+    let listener = listen(rt, order.listen)?;
     serve_at(rt, threads, order, &listener)
 }
 

@@ -80,7 +80,7 @@ impl LoadFault {
 
 /// Loads the files of a folder, those whose names begin with a dot only where these are asked for.
 fn load(rt: &HostRuntime, path: &str, hidden: bool) -> Result<Arc<Site>, LoadFault> {
-    let mut folder = FileFolder::with_hidden(rt, hidden);
+    let mut folder = FileFolder::lenient(rt, hidden);
     match folder.open(path) {
         Opened::Ready => {}
         Opened::Failed => return Err(LoadFault::Folder),

@@ -3,7 +3,9 @@ ghost use Rattle.std.specs.Prelude.{◌≤◌};
 ghost use Rattle.sws_net.specs.Invariant.{silence};
 
 use crate::leaving::{Leaving, Step};
+use mio::Registry;
 use std::alloc::Global;
+use std::mem;
 
 /// How many milliseconds a connection that shows nothing is kept.
 const SILENCE: u64 = 1000;
@@ -28,6 +30,7 @@ struct Departure {
 /// The connections that are still to be seen out, the first that came first.
 #[derive(Drop)]
 pub struct Departures {
+    alloc: Global,
     all: Vec<Departure>,
 }
 
@@ -52,6 +55,7 @@ impl Departure {
 impl Departures {
     pub fn new(alloc: Global) -> Departures {
         Departures {
+            alloc,
             all: Vec::new(alloc),
         }
     }
@@ -77,12 +81,24 @@ impl Departures {
         let _ = self.all.push(departure);
     }
 
-    /// The connection of this link showed something.
+    /// Takes over those of another world, which come before its own, by the numbers from this one
+    /// on. One that can't be seen out here is closed.
+    pub fn take_over(&mut self, others: &mut Departures, registry: &Registry, first: usize) {
+        let mut all = mem::replace(&mut others.all, Vec::new(self.alloc));
+        let mut number = first;
+        all.retain_mut(|departure| {
+            number = number.saturating_add(1);
+            departure.leaving.move_to(registry, number).is_ok()
+        });
+        self.all = all;
+    }
+
+    /// The connection of this number showed something.
     pub fn note(&mut self, number: usize, now: u64) {
         let Some(place) = self
             .all
             .iter()
-            .position(|departure| departure.leaving.number as usize == number)
+            .position(|departure| departure.leaving.number == number)
         else {
             return;
         };

@@ -1,5 +1,6 @@
 //! A walk over the regular files below a folder.
 
+use crate::unread::Cause;
 use std::fs::{self, DirEntry, File, Metadata, ReadDir};
 use std::io::{self, ErrorKind};
 use std::os::fd::AsRawFd;
@@ -37,24 +38,24 @@ impl Listed {
 
     /// Opens it. Where something else has taken its place since it was listed, as
     /// a link, that is an error.
-    fn open(&self, rt: &HostRuntime) -> io::Result<File> {
+    fn open(&self, rt: &HostRuntime) -> Result<File, Cause> {
         let file = fs::open(rt, self.entry.path())?;
         self.check(file)
     }
 
     /// Opens it as a folder.
-    fn open_folder(&self, rt: &HostRuntime) -> io::Result<File> {
+    fn open_folder(&self, rt: &HostRuntime) -> Result<File, Cause> {
         let file = open_folder(rt, self.entry.path().as_str())?;
         self.check(file)
     }
 
     /// The file, if it is the one that was listed.
-    fn check(&self, file: File) -> io::Result<File> {
+    fn check(&self, file: File) -> Result<File, Cause> {
         let opened = file.metadata()?;
         if opened.dev() == self.device && opened.ino() == self.inode {
             return Ok(file);
         }
-        Err(io::Error::from(ErrorKind::Other))
+        Err(Cause::Replaced)
     }
 }
 
@@ -89,18 +90,26 @@ impl Level {
     }
 }
 
+/// Why an entry isn't listed.
+fn cause_of(error: io::Error) -> Cause {
+    if error.kind() == ErrorKind::InvalidFilename {
+        return Cause::Name;
+    }
+    Cause::Machine(error)
+}
+
 /// Gives the regular files below a folder one after another, in the order in
 /// which the machine lists them.
 ///
 /// Links are not followed, but for the folder itself. A folder that lies more than 32 deep
 /// is an error, as is a name that is not UTF-8, and an entry in whose place another file
-/// stands when it is opened.
+/// stands when it is opened. Behind an error the walk goes on with the next entry.
 #[derive(Drop)]
 pub struct FileWalk<'r> {
     rt: &'r HostRuntime,
     /// The folders on the way to where the walk is, each as far as it was listed.
     levels: Vec<Level>,
-    /// The name of the file that was opened last.
+    /// The name of what was looked at last.
     name: String,
     /// Whether entries are given whose names begin with a dot.
     hidden: bool,
@@ -121,8 +130,9 @@ impl<'r> FileWalk<'r> {
         })
     }
 
-    /// Opens the next regular file, if there is one. [`FileWalk::name`] is then its name.
-    pub fn next_file(&mut self) -> io::Result<Option<File>> {
+    /// Opens the next regular file, if there is one. [`FileWalk::name`] is then its name; behind
+    /// an error it is the name of what can't be read.
+    pub fn next_file(&mut self) -> Result<Option<File>, Cause> {
         // No walk takes as many steps; the bound shows that the loop ends.
         for _ in 0..u64::MAX {
             let Some(level) = self.levels.last_mut() else {
@@ -132,42 +142,61 @@ impl<'r> FileWalk<'r> {
                 None => {
                     self.levels.pop();
                 }
-                Some(entry) => {
-                    let entry = entry?;
-                    let name = level.name_of(self.rt, &entry)?;
-                    if !self.hidden && entry.file_name().starts_with('.') {
-                        continue;
-                    }
-                    if let Some(file) = self.enter(entry, name)? {
+                Some(listed) => {
+                    if let Some(file) = self.take(listed)? {
                         return Ok(Some(file));
                     }
                 }
             }
         }
-        Err(io::Error::from(ErrorKind::Other))
+        Err(Cause::Machine(io::Error::from(ErrorKind::Other)))
     }
 
-    /// Opens the entry of this name, if it is a regular file; into a folder the walk goes on.
-    fn enter(&mut self, entry: DirEntry, name: String) -> io::Result<Option<File>> {
+    /// Opens what was listed, if it is a regular file that is to be given.
+    fn take(&mut self, listed: io::Result<DirEntry>) -> Result<Option<File>, Cause> {
+        let Some(level) = self.levels.last() else {
+            return Ok(None);
+        };
+        let entry = match listed {
+            Ok(entry) => entry,
+            Err(error) => {
+                self.name = String::from_str(self.rt.alloc(), level.name.as_str())?;
+                return Err(cause_of(error));
+            }
+        };
+        if !self.hidden && entry.file_name().starts_with('.') {
+            return Ok(None);
+        }
+        self.name = level.name_of(self.rt, &entry)?;
+        self.enter(entry)
+    }
+
+    /// Opens the entry that is looked at, if it is a regular file; into a folder the walk goes on.
+    fn enter(&mut self, entry: DirEntry) -> Result<Option<File>, Cause> {
         let kind = entry.metadata()?;
         if kind.is_file() {
-            let file = Listed::new(entry, &kind).open(self.rt)?;
-            self.name = name;
-            return Ok(Some(file));
+            return Ok(Some(Listed::new(entry, &kind).open(self.rt)?));
         }
         if kind.is_dir() {
+            self.name.push('/')?;
             if self.levels.len() > MAX_DEPTH {
-                return Err(io::Error::from(ErrorKind::Other));
+                return Err(Cause::Depth);
             }
             let folder = Listed::new(entry, &kind).open_folder(self.rt)?;
-            let mut name = name;
-            name.push('/')?;
-            self.levels.push(Level::new(self.rt, folder, name)?)?;
+            self.go_into(folder)?;
         }
         Ok(None)
     }
 
-    /// The name of the file that was opened last: its path from the folder of the walk on.
+    /// Goes on in the folder that is looked at.
+    fn go_into(&mut self, folder: File) -> io::Result<()> {
+        let name = String::from_str(self.rt.alloc(), self.name.as_str())?;
+        self.levels.push(Level::new(self.rt, folder, name)?)?;
+        Ok(())
+    }
+
+    /// The name of what was looked at last: its path from the folder of the walk on, of a folder
+    /// with a slash at its end.
     pub fn name(&self) -> &str {
         self.name.as_str()
     }

@@ -10,6 +10,15 @@ const MAX_DEPTH: usize = 32;
 /// How many entries are looked at at most.
 const MOST: u32 = 1_000_000;
 
+/// Lists a folder; nothing where the program has no right to it.
+fn list(rt: &HostRuntime, folder: &DirEntry) -> io::Result<Option<ReadDir>> {
+    match fs::read_dir(rt, folder.path()) {
+        Ok(listing) => Ok(Some(listing)),
+        Err(error) if error.kind() == ErrorKind::PermissionDenied => Ok(None),
+        Err(error) => Err(error),
+    }
+}
+
 /// What is below a folder, in numbers. Where a file is made, written, renamed or taken away, one of
 /// them is mostly another; nothing is opened and read for it.
 #[derive(Clone, Copy, Debug, PartialEq, Eq)]
@@ -30,11 +39,12 @@ pub struct FolderMark {
 
 impl FolderMark {
     /// What the folder of this path looks like. Entries whose names begin with a dot, and what is
-    /// below them, count only where these are asked for.
+    /// below them, count only where these are asked for. What a lenient
+    /// [`FileFolder`](crate::FileFolder) leaves out counts as far as it is seen.
     ///
     /// # Errors
     ///
-    /// The folder, or one below it, can't be listed, or has no end.
+    /// The folder can't be listed, or has no end; or one below it can't be listed just now.
     pub fn of(rt: &HostRuntime, path: &str, hidden: bool) -> io::Result<FolderMark> {
         let alloc = rt.alloc();
         let mut mark = FolderMark {
@@ -51,23 +61,27 @@ impl FolderMark {
                 return Ok(mark);
             };
             let below = match level.next() {
-                Some(entry) => mark.look(rt, &entry?, hidden)?,
+                Some(Ok(entry)) => mark.look(rt, &entry, hidden)?,
+                Some(Err(error)) if error.kind() == ErrorKind::InvalidFilename => {
+                    mark.entries = mark.entries.wrapping_add(1);
+                    continue;
+                }
+                Some(Err(error)) => return Err(error),
                 None => {
                     levels.pop();
                     continue;
                 }
             };
             if let Some(below) = below {
-                if levels.len() > MAX_DEPTH {
-                    return Err(io::Error::from(ErrorKind::Other));
+                if levels.len() <= MAX_DEPTH {
+                    levels.push(below)?;
                 }
-                levels.push(below)?;
             }
         }
         Err(io::Error::from(ErrorKind::Other))
     }
 
-    /// Looks at an entry, and lists it where it is a folder.
+    /// Looks at an entry, and lists it where it is a folder that can be listed.
     fn look(
         &mut self,
         rt: &HostRuntime,
@@ -85,7 +99,7 @@ impl FolderMark {
         }
         if found.is_dir() {
             self.count(entry, &found);
-            return Ok(Some(fs::read_dir(rt, entry.path())?));
+            return list(rt, entry);
         }
         Ok(None)
     }

@@ -5,6 +5,8 @@ ghost use Rattle.sws_net.specs.Initial.{IsInitialIfCame};
 
 use crate::counted::{Counted, Origin};
 use crate::door::Door;
+use crate::errors::has_no_room;
+use crate::listener::end_listening;
 use crate::server::{Came, Server, time_of};
 use crate::stop_file::StopFile;
 use crate::tcp_link::TcpLink;
@@ -14,15 +16,43 @@ use std::io;
 use std::net::TcpListener;
 use sws_link::{Accepted, Opened, Polled, World};
 
-/// In how many milliseconds it is looked again at the latest whether the world is to leave.
+/// In how many milliseconds it is looked again at the latest whether the world is to leave, and
+/// whether connections are to be cut.
 const TICK: u64 = 250;
+
+/// How many bytes a second a connection has to move on average, so that it isn't cut after the
+/// grace.
+const LEAST_PACE: u64 = 240;
+
+/// For how many milliseconds nobody may be there to take connections, before those that stand still
+/// are cut within their grace.
+const UNMANNED: u64 = 1000;
+
+/// For how many milliseconds such a connection hasn't got on.
+const STANDSTILL: u64 = 5000;
+
+/// How many entries the history of a generation may have before its world leaves.
+const MOST_ENTRIES: u64 = 2_000_000;
+
+/// How many it may have before all its connections are cut: twice as many as those of 1,024
+/// connections with 64 requests each.
+const LAST_ENTRIES: u64 = 8_000_000;
+
+/// How many entries an event of a run costs: it is registered, taken and finished.
+const ENTRIES_OF_AN_EVENT: u64 = 3;
+
+/// How many events a poll of the world stands for: itself.
+const OF_A_POLL: u64 = 1;
+
+/// How many an accept stands for: itself, and the opening of a connection.
+const OF_AN_ACCEPT: u64 = 2;
 
 /// What lanes share, and for how long one takes connections.
 #[derive(Clone, Copy, Drop)]
 pub struct Entrance<'d> {
     pub door: &'d Door,
 
-    /// What connections come from. It doesn't block.
+    /// What connections come from. It doesn't block. Once the door is closed, it is ended.
     pub listener: &'d TcpListener,
 
     /// The file that tells all to stop, where there is one.
@@ -31,7 +61,7 @@ pub struct Entrance<'d> {
     /// After how many milliseconds a world takes no further connection.
     pub age: u64,
 
-    /// How many milliseconds later those that are still there are cut.
+    /// How many milliseconds later those that are still there are cut, but for those that get on.
     pub grace: u64,
 }
 
@@ -39,10 +69,17 @@ pub struct Entrance<'d> {
 /// they bring nothing is known.
 ///
 /// Whoever opens it has entered the door as its lane. The world leaves once it has given as many
-/// links as it was opened for, at the age of its [`Entrance`], and where the door is closed or the
-/// stop file is there. From then on it gives no further link: others take those connections. Where
-/// it was opened for more, it waits until those that it gave are gone, and then says that it
-/// failed, so that a run over it ends. After the grace, it cuts those that are still there.
+/// links as it was opened for, at the age of its [`Entrance`], once the run over it may have two
+/// million entries, and where the door is closed or renewed, or the stop file is there. From then
+/// on it gives no further link: others take those connections. Where it was opened for more, it
+/// waits until those that it gave are gone, and then says that it failed, so that a run over it
+/// ends.
+///
+/// After the grace it cuts those that are still there, but for those in which 240 bytes a second
+/// have moved over the last time of the grace's length. These may go on as long as the door lets
+/// them ([`Door::may_last`]), and as long as a lane is there to take connections. Where for a second
+/// none is, it cuts within the grace already those in which no such number of bytes has moved for
+/// five seconds; and at eight million entries it cuts all.
 ///
 /// It counts this, the errors of the machine, and how often it had nobody to name, though somebody
 /// waited, or nothing to give. It waits as [`TcpWorld`](crate::TcpWorld) does, but for a quarter of
@@ -65,34 +102,39 @@ struct Stay<'d> {
     /// When the world was opened, and when it left, in milliseconds.
     opened: u64,
     left: Option<u64>,
+
+    /// How many events the polls and accepts of the world stand for.
+    events: u64,
+
+    /// When it was last looked which connections are to be cut, and since when nobody was seen to
+    /// take connections.
+    watched: u64,
+    unmanned: Option<u64>,
+
+    /// Whether the listener was ended.
+    has_ended: bool,
 }
 
 /// What is behind the door of a lane.
 struct Behind<'d> {
     stay: Stay<'d>,
     server: Option<Server>,
-
-    /// The server of the time before, while connections that it has ended are on their way.
-    before: Option<Server>,
 }
 
 impl<'d> Drop for Behind<'d> {
     fn drop(self) {
-        let Behind {
-            stay,
-            server,
-            before,
-        } = self;
-        see_out(stay.rt, before);
-        see_out(stay.rt, server);
+        let Behind { stay, server } = self;
+        // What follows may take its time, in which others are to take connections.
+        stay.entrance.door.leave(stay.lane);
+        if let Some(server) = server {
+            see_out(stay.rt, server);
+        }
     }
 }
 
-/// Sees out the connections of a server that are still on their way, if there is one.
-fn see_out(rt: &HostRuntime, server: Option<Server>) {
-    if let Some(mut server) = server {
-        server.see_out(rt);
-    }
+/// Sees out the connections of a server that are still on their way.
+fn see_out(rt: &HostRuntime, mut server: Server) {
+    server.see_out(rt);
 }
 
 /// A server over a listener, and the time.
@@ -103,21 +145,53 @@ fn begin(rt: &HostRuntime, listener: &TcpListener, total: u16) -> io::Result<(Se
 }
 
 impl<'d> Stay<'d> {
+    /// Begins a time behind the door.
+    fn begin(&mut self, now: u64) {
+        self.opened = now;
+        self.left = None;
+        self.events = 0;
+        self.unmanned = None;
+    }
+
     /// Takes no further connection.
     fn leave(&mut self, server: &mut Server) {
         if self.left.is_none() {
             server.stop_listening();
+            server.begin_to_watch();
             self.left = Some(server.now());
+            self.watched = server.now();
             self.entrance.door.leave(self.lane);
         }
     }
 
+    /// How many entries the history of the run may have.
+    fn entries(&self, server: &Server) -> u64 {
+        let events = self.events.saturating_add(server.events());
+        events.saturating_mul(ENTRIES_OF_AN_EVENT)
+    }
+
     /// Whether the world is to take no further connection.
-    fn is_over(&self, now: u64) -> bool {
+    fn is_over(&mut self, server: &Server) -> bool {
+        let now = server.now();
         if let Some(stop) = self.entrance.stop {
             stop.look(self.rt, self.entrance.door, now);
         }
-        self.entrance.door.is_closed() || now.saturating_sub(self.opened) >= self.entrance.age
+        self.end_listening();
+        self.entrance.door.is_to_leave(self.lane)
+            || now.saturating_sub(self.opened) >= self.entrance.age
+            || self.entries(server) >= MOST_ENTRIES
+    }
+
+    /// Ends the listener where the door is closed. Where the machine has no room for that, it is
+    /// tried again.
+    fn end_listening(&mut self) {
+        if self.has_ended || !self.entrance.door.is_closed() {
+            return;
+        }
+        self.has_ended = match end_listening(self.entrance.listener) {
+            Ok(()) => true,
+            Err(error) => !has_no_room(&error),
+        };
     }
 
     /// How long the machine may be waited for: not at all where nobody is left.
@@ -126,6 +200,50 @@ impl<'d> Stay<'d> {
             return 0;
         }
         TICK
+    }
+
+    /// Whether for a while nobody was there to take connections, though somebody should be.
+    fn is_unmanned(&mut self, now: u64) -> bool {
+        let door = self.entrance.door;
+        if door.is_closed() || !door.is_unmanned() {
+            self.unmanned = None;
+            return false;
+        }
+        match self.unmanned {
+            Some(since) => now.saturating_sub(since) >= UNMANNED,
+            None => {
+                self.unmanned = Some(now);
+                false
+            }
+        }
+    }
+
+    /// Cuts those connections of a world that left then which are to be cut now.
+    fn cut_some(&mut self, server: &mut Server, left: u64) {
+        let now = server.now();
+        if now.saturating_sub(self.watched) < TICK {
+            return;
+        }
+        self.watched = now;
+        let grace = self.entrance.grace;
+        let step = (grace / 1000).saturating_mul(LEAST_PACE).max(1);
+        server.watch(step);
+        let is_unmanned = self.is_unmanned(now);
+        if self.entries(server) >= LAST_ENTRIES {
+            server.cut(0);
+        } else if now.saturating_sub(left) < grace {
+            if is_unmanned {
+                server.cut(STANDSTILL);
+            }
+        } else if server.cut(grace) > 0 && !self.may_last(is_unmanned) {
+            server.cut(0);
+        }
+    }
+
+    /// Whether connections that get on may go on beyond the grace.
+    fn may_last(&self, is_unmanned: bool) -> bool {
+        let door = self.entrance.door;
+        door.may_last(self.lane) && !(is_unmanned && door.asked_first(self.lane))
     }
 
     /// Which of those that wait may be ready, as far as the world stays.
@@ -138,14 +256,12 @@ impl<'d> Stay<'d> {
     ) -> io::Result<Option<u16>>
         ensures { IfOk result (λ named. IfSome named (λ conn. Contains waiting.now conn)) }
     {
-        let now = server.now();
-        if is_last || self.is_over(now) {
+        self.events = self.events.saturating_add(OF_A_POLL);
+        if self.is_over(server) || is_last {
             self.leave(server);
         }
         if let Some(left) = self.left {
-            if now.saturating_sub(left) >= self.entrance.grace {
-                server.cut();
-            }
+            self.cut_some(server, left);
         }
         let most = self.patience(server, accepted);
         server.look(self.rt, waiting, accepted, self.left.is_some(), most)
@@ -155,7 +271,8 @@ impl<'d> Stay<'d> {
     fn next(&mut self, server: &mut Server, number: u16, total: u16) -> Came
         ensures { IsInitialIfCame result }
     {
-        if self.left.is_none() && self.is_over(server.now()) {
+        self.events = self.events.saturating_add(OF_AN_ACCEPT);
+        if self.left.is_none() && self.is_over(server) {
             self.leave(server);
         }
         if self.left.is_some() {
@@ -164,13 +281,17 @@ impl<'d> Stay<'d> {
             }
             return Came::NotYet;
         }
-        let came = server.next(number);
-        if number.saturating_add(1) >= total {
-            if let Came::Link(_) = &came {
-                self.leave(server);
+        match server.next(number) {
+            Came::Link(link) => {
+                if number.saturating_add(1) >= total {
+                    self.leave(server);
+                }
+                Came::Link(link)
             }
+            // The listener was ended just now.
+            Came::Failed if self.entrance.door.is_closed() => Came::NotYet,
+            came => came,
         }
-        came
     }
 }
 
@@ -188,9 +309,12 @@ impl<'d> LaneWorld<'d> {
                 lane,
                 opened: 0,
                 left: None,
+                events: 0,
+                watched: 0,
+                unmanned: None,
+                has_ended: false,
             },
             server: None,
-            before: None,
         };
         Ok(LaneWorld {
             state: Box::new(rt.alloc(), Counted::new(behind))?,
@@ -198,30 +322,18 @@ impl<'d> LaneWorld<'d> {
     }
 }
 
-/// Sees out the connections of a server, without waiting, until none is on its way.
-fn see_out_some(rt: &HostRuntime, before: &mut Option<Server>) {
-    let is_over = match before {
-        Some(server) => server.glance(rt),
-        None => false,
-    };
-    if is_over {
-        *before = None;
-    }
-}
-
 impl<'d> Origin for Behind<'d> {
     fn begin(&mut self, _port: u16, total: u16) -> io::Result<()> {
-        let (server, now) = begin(self.stay.rt, self.stay.entrance.listener, total)?;
-        see_out(self.stay.rt, self.before.take());
-        self.before = self.server.take();
+        let (mut server, now) = begin(self.stay.rt, self.stay.entrance.listener, total)?;
+        if let Some(before) = &mut self.server {
+            server.take_over(self.stay.rt, before);
+        }
         self.server = Some(server);
-        self.stay.opened = now;
-        self.stay.left = None;
+        self.stay.begin(now);
         Ok(())
     }
 
     fn look(&mut self, waiting: &[u16], accepted: u16, total: u16) -> io::Result<Option<u16>> {
-        see_out_some(self.stay.rt, &mut self.before);
         match &mut self.server {
             None => Ok(None),
             Some(server) => self.stay.look(server, waiting, accepted, accepted >= total),

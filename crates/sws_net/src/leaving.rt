@@ -3,6 +3,8 @@ ghost use Rattle.std.specs.Prelude.{◌≤◌, IfOk, length};
 
 use crate::errors::is_not_yet;
 use crate::kept::Kept;
+use crate::places::register;
+use mio::Registry;
 use mio::net::TcpStream;
 use std::io::{self, Read, Write};
 use std::net::Shutdown;
@@ -36,8 +38,9 @@ pub enum Step {
 pub struct Leaving {
     stream: TcpStream,
 
-    /// The number of its link.
-    pub number: u16,
+    /// The number by which the world knows it: that of its link, as long as the link's generation
+    /// lasts.
+    pub number: usize,
     last: Kept,
 
     /// Whether the peer was told that no more comes.
@@ -72,7 +75,7 @@ fn write_some(stream: &TcpStream, bytes: &[u8]) -> io::Result<usize>
 impl Leaving {
     /// The connection of the link of this number, with the bytes that are to go before its end.
     /// Nothing more comes where the input has ended.
-    pub fn new(stream: TcpStream, number: u16, last: Kept, has_ended: bool) -> Leaving {
+    pub fn new(stream: TcpStream, number: usize, last: Kept, has_ended: bool) -> Leaving {
         Leaving {
             stream,
             number,
@@ -81,6 +84,12 @@ impl Leaving {
             has_ended,
             left: MOST,
         }
+    }
+
+    /// Lets another world see it out, by this number.
+    pub fn move_to(&mut self, registry: &Registry, number: usize) -> io::Result<()> {
+        self.number = number;
+        register(registry, &mut self.stream, number)
     }
 
     /// Hands over the last bytes, says that no more comes, and takes what the peer sent, as far as

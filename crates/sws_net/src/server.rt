@@ -5,6 +5,8 @@ ghost use Rattle.sws_net.specs.Initial.{IsInitialTcpLink, IsInitialIfCame};
 use crate::departures::Departures;
 use crate::errors::{has_no_room, is_of_one_connection};
 use crate::lobby::{Lobby, Way};
+use crate::places::{LISTENER, register};
+use crate::progress::Progress;
 use crate::signs::Signs;
 use crate::tcp_link::TcpLink;
 use mio::net::{TcpListener, TcpStream};
@@ -23,9 +25,6 @@ const EVENTS: usize = 256;
 
 /// How often the machine is waited for at most once no link is there any more.
 const LAST_WAITS: u32 = 100_000;
-
-/// The place of the listener among the events; link `i` has place `i + 1`.
-const LISTENER: usize = 0;
 
 /// What became of a call that was to give a connection.
 pub enum Came {
@@ -52,7 +51,12 @@ pub struct Server {
     events: Events,
     lobby: Lobby,
     signs: Signs,
+    progress: Progress,
     departures: Departures,
+
+    /// For how many links there is room; the connections of an earlier server have the numbers
+    /// behind theirs.
+    total: u16,
 
     /// How many connections were taken from the lobby's exit.
     taken: u64,
@@ -69,8 +73,8 @@ pub struct Server {
     /// When it was last looked which links have shown nothing for long.
     swept: u64,
 
-    /// Whether all links were cut.
-    is_cut: bool,
+    /// Whether links were cut.
+    has_cut: bool,
 }
 
 /// The time in milliseconds.
@@ -95,6 +99,7 @@ impl Server {
         let events = Events::with_capacity(alloc, EVENTS)?;
         let lobby = Lobby::new(alloc, total)?;
         let signs = Signs::new(alloc, total, now)?;
+        let progress = Progress::new(alloc, total)?;
         let poll = Poll::new(rt)?;
         poll.registry()
             .register(&mut listener, Token(LISTENER), Interest::READABLE)?;
@@ -105,13 +110,15 @@ impl Server {
             events,
             lobby,
             signs,
+            progress,
             departures: Departures::new(alloc),
+            total,
             taken: 0,
             may_accept: true,
             is_to_retry: false,
             now,
             swept: now,
-            is_cut: false,
+            has_cut: false,
         })
     }
 
@@ -124,10 +131,34 @@ impl Server {
         self.is_to_retry = false;
     }
 
-    /// Cuts all links that are still there: their calls fail from now on.
-    pub fn cut(&mut self) {
-        self.is_cut = true;
-        self.lobby.cut();
+    /// Takes over the connections of an earlier server that are still on their way.
+    pub fn take_over(&mut self, rt: &HostRuntime, before: &mut Server) {
+        let _ = before.take_departures(rt);
+        let first = self.total as usize;
+        self.departures
+            .take_over(&mut before.departures, self.poll.registry(), first);
+    }
+
+    /// What the links have moved so far doesn't count as getting on.
+    pub fn begin_to_watch(&mut self) {
+        self.progress.begin(&self.lobby, self.now);
+    }
+
+    /// Notes which links have moved so many bytes since they were last seen to get on.
+    pub fn watch(&mut self, step: u64) {
+        self.progress.look(&self.lobby, self.now, step);
+    }
+
+    /// Cuts the links that weren't seen to get on for so many milliseconds, all of them for none:
+    /// their calls fail from now on. Answers how many others are there.
+    pub fn cut(&mut self, longest: u64) -> u32 {
+        self.has_cut = true;
+        self.progress.cut_idle(&self.lobby, self.now, longest)
+    }
+
+    /// How many events of a run the calls of the links may stand for.
+    pub fn events(&self) -> u64 {
+        self.lobby.events()
     }
 
     /// How many of so many links that were accepted are still there.
@@ -140,7 +171,7 @@ impl Server {
         self.now
     }
 
-    /// Which of those that wait may be ready; where all were cut, the first of them is. Where none
+    /// Which of those that wait may be ready, as one that was cut is. Where none
     /// showed it, the machine is asked; that waits for one to be due, at most for `most`
     /// milliseconds, where each link that is there waits and no connection may be waiting to be
     /// accepted, and else not at all.
@@ -154,8 +185,8 @@ impl Server {
     ) -> io::Result<Option<u16>>
         ensures { IfOk result (λ named. IfSome named (λ conn. Contains waiting.now conn)) }
     {
-        if self.is_cut && !waiting.is_empty() {
-            return Ok(Some(waiting[0]));
+        if let Some(conn) = self.first_cut(waiting) {
+            return Ok(Some(conn));
         }
         if let Some(conn) = self.signs.take_ready(&self.lobby, waiting, self.now) {
             return Ok(Some(conn));
@@ -166,6 +197,21 @@ impl Server {
         let all_wait = waiting.len() as u64 >= self.there(accepted);
         self.wait(rt, waiting, all_wait, most)?;
         Ok(self.signs.take_ready(&self.lobby, waiting, self.now))
+    }
+
+    /// The first of those that wait which was cut.
+    fn first_cut(&self, waiting: &[u16]) -> Option<u16>
+        ensures { IfSome result (λ conn. Contains waiting.now conn) }
+    {
+        if !self.has_cut {
+            return None;
+        }
+        for conn in waiting {
+            if self.lobby.is_cut(*conn as usize) {
+                return Some(*conn);
+            }
+        }
+        None
     }
 
     /// Asks the machine what has happened, and waits for it where all wait, for at most so long.
@@ -237,13 +283,6 @@ impl Server {
                 return;
             }
         }
-    }
-
-    /// Sees out the connections that links have ended, without waiting, and answers whether all
-    /// are.
-    pub fn glance(&mut self, rt: &HostRuntime) -> bool {
-        let has_failed = self.take_departures(rt).is_err() || self.poll(rt, 0).is_err();
-        has_failed || self.departures.is_empty()
     }
 
     /// Notes what the last wait brought, and answers whether that was nothing.
@@ -318,8 +357,7 @@ impl Server {
     {
         stream.set_nodelay(true)?;
         let presence = self.lobby.enter(number)?;
-        let place = Token(number as usize + 1);
-        self.poll.registry().register(&mut stream, place, Interest::READABLE | Interest::WRITABLE)?;
+        register(self.poll.registry(), &mut stream, number as usize)?;
         self.signs.begin(number as usize, self.now);
         TcpLink::new(self.alloc, stream, presence)
     }

@@ -63,6 +63,13 @@ impl TcpSocket {
             has_ended: false,
         }
     }
+
+    /// Notes a call of the link over this socket, which may stand for so many events of a run.
+    pub fn note_events(&self, count: u64) {
+        if let Some(open) = &self.open {
+            open.presence.note_events(count);
+        }
+    }
 }
 
 impl Socket for TcpSocket {
@@ -88,6 +95,7 @@ impl Socket for TcpSocket {
                 LinkRead::End
             }
             Ok(count) => {
+                open.presence.note_moved(count);
                 self.is_drained = count < into.len();
                 LinkRead::Took(count)
             }
@@ -112,6 +120,7 @@ impl Socket for TcpSocket {
                 LinkWrite::NotReady
             }
             Ok(count) => {
+                open.presence.note_moved(count);
                 if count < first.len() + second.len() {
                     // What is left waits for the same.
                     open.presence.wait_for(Way::Writing);

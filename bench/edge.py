@@ -1,0 +1,271 @@
+#!/usr/bin/env python3
+"""Uses `swsd` by many clients at once, some of whom behave badly, on this machine's loopback, and says a line a case: what the others saw, and
+whether it is what is owed.
+
+    bench/edge.py [--only WORD] [--quick] [--program PATH]
+
+It wants the program built (`./swsd --version`). With `--quick`, as `bench/hostile.py` calls it, only the cases of a few seconds; the whole
+takes some three minutes. The status is 1 where a case went otherwise.
+"""
+import argparse
+import contextlib
+import errno
+import os
+import resource
+import select
+import shutil
+import socket
+import sys
+import threading
+import time
+
+import staying
+from staying import HEAD, Server, put, site
+
+MEGABYTE = 1 << 20
+RATE = 1_000_000
+
+
+def slowest_of(server, seconds):
+    """Asks again and again for so long: how many answers came, and how long the slowest took."""
+    count, slowest, until = 0, 0.0, time.monotonic() + seconds
+    while (asked := time.monotonic()) < until:
+        if not server.ask().endswith(b"0123456789"):
+            return count, float("inf")
+        count, slowest = count + 1, max(slowest, time.monotonic() - asked)
+    return count, slowest
+
+
+def trickle(server, count, is_over):
+    """So many clients that are answered, and then send a byte each half second, each with another behind it once it is closed."""
+    clients = []
+    while not is_over.wait(0.5):
+        while len(clients) < count:
+            it = server.connect()
+            it.sendall(HEAD)
+            clients.append(it)
+        for it in list(clients):
+            try:
+                it.sendall(b"x")
+            except OSError:
+                it.close()
+                clients.remove(it)
+    for it in clients:
+        it.close()
+
+
+def tricklers(is_quick):
+    """Clients that go on sending behind their last answer, beside others whose generations are short."""
+    for accepting in (1,) if is_quick else (1, 4):
+        with site() as folder, Server(folder, "--connections", "50", "--lanes", "8", "--accepting", str(accepting)) as server:
+            is_over = threading.Event()
+            beside = threading.Thread(target=trickle, args=(server, 16, is_over))
+            beside.start()
+            count, slowest = slowest_of(server, 4 if is_quick else 20)
+            is_over.set()
+            beside.join()
+            status, told = server.end()
+        yield status == 0 and count > 100 and slowest < 1, f"16 tricklers, {accepting} lanes that accept: of {count} others the slowest waited {slowest:.2f} s ({told})"
+
+
+def download(server, name, size, rate, seen):
+    """Takes a file at this many bytes a second, and puts down how many came."""
+    it = socket.socket()
+    it.setsockopt(socket.SOL_SOCKET, socket.SO_RCVBUF, 1 << 16)
+    it.settimeout(60)
+    it.connect(("127.0.0.1", server.port))
+    it.sendall(HEAD.replace(b"a.txt", name))
+    began, got = time.monotonic(), 0
+    with contextlib.suppress(OSError):
+        while piece := it.recv(1 << 16):
+            got += len(piece)
+            time.sleep(max(0.0, began + got / rate - time.monotonic()))
+    it.close()
+    seen.append(got - size)
+
+
+def moving_downloads(is_quick):
+    """Downloads that move, for longer than age and grace together, while generations change beside them; one that stands still is cut."""
+    megabytes, connections = (8, 300) if is_quick else (64, 6_144)
+    words = ["--age", "1", "--grace", "2"] if is_quick else ["--grace", "10"]
+    with site() as folder:
+        put(folder, "large.bin", bytes(megabytes * MEGABYTE))
+        with Server(folder, "--lanes", "8", "--accepting", "2", "--connections", "100" if is_quick else "1024", *words) as server:
+            seen = []
+            mover = threading.Thread(target=download, args=(server, b"large.bin", megabytes * MEGABYTE, RATE, seen))
+            mover.start()
+            stuck = server.connect()
+            stuck.sendall(HEAD.replace(b"a.txt", b"large.bin"))
+            for _ in range(connections):
+                server.ask()
+            mover.join()
+            taken = 0
+            with contextlib.suppress(OSError):
+                while piece := stuck.recv(1 << 20):
+                    taken += len(piece)
+            status, told = server.end()
+    is_right = status == 0 and seen[0] > 0 and taken < megabytes * MEGABYTE
+    yield is_right, f"{megabytes} MB at 1 MB/s beside {connections} connections: {seen[0]} bytes more than the file came; one that took nothing got {taken} bytes ({told})"
+
+
+def held_lanes(_):
+    """Slow downloads for more lanes than there are: others are served all the same."""
+    with site() as folder:
+        put(folder, "large.bin", bytes(64 * MEGABYTE))
+        with Server(folder, "--lanes", "4", "--accepting", "2", "--connections", "8", "--age", "1", "--grace", "2") as server:
+            seen = []
+            movers = [threading.Thread(target=download, args=(server, b"large.bin", 64 * MEGABYTE, 4 * RATE, seen)) for _ in range(24)]
+            for mover in movers:
+                mover.start()
+                time.sleep(0.2)
+            count, slowest = slowest_of(server, 10)
+            for mover in movers:
+                mover.join()
+            status, told = server.end()
+    whole = sum(more > 0 for more in seen)
+    yield status == 0 and slowest < 6, f"24 downloads over 4 lanes: {whole} came whole, of {count} others the slowest waited {slowest:.2f} s ({told})"
+
+
+def burst(port, count):
+    """So many connections at once: how long the slowest took to stand."""
+    watch, begun, slowest = select.epoll(), {}, 0.0
+    for _ in range(count):
+        it = socket.socket()
+        it.setblocking(False)
+        begun[it.fileno()] = (it, time.monotonic())
+        if it.connect_ex(("127.0.0.1", port)) not in (0, errno.EINPROGRESS):
+            return float("inf")
+        watch.register(it, select.EPOLLOUT)
+    left, until = set(begun), time.monotonic() + 20
+    while left and time.monotonic() < until:
+        for place, _ in watch.poll(1):
+            if place in left:
+                left.remove(place)
+                watch.unregister(place)
+                slowest = max(slowest, time.monotonic() - begun[place][1])
+    for it, _ in begun.values():
+        it.close()
+    watch.close()
+    return float("inf") if left else slowest
+
+
+def bursts(_):
+    """A thousand clients at once, three times."""
+    with open("/proc/sys/net/core/somaxconn") as most:
+        if int(most.read()) < 1_000:
+            return
+    with site() as folder, Server(folder, "--lanes", "8") as server:
+        times = []
+        for _ in range(3):
+            times.append(burst(server.port, 1_000))
+            time.sleep(0.5)
+        status, told = server.end()
+    yield status == 0 and max(times) < 0.3, f"three bursts of 1,000 connections: the slowest stood after {', '.join(f'{it:.3f}' for it in times)} s ({told})"
+
+
+def after_the_stop(_):
+    """Who comes after the stop file is refused at once, while a download goes on to its end."""
+    with site() as folder:
+        put(folder, "large.bin", bytes(32 * MEGABYTE))
+        with Server(folder, "--grace", "20") as server, server.connect() as it:
+            it.sendall(HEAD.replace(b"a.txt", b"large.bin"))
+            got = len(it.recv(1 << 16))
+            server.stop()
+            time.sleep(0.7)
+            refused, slowest = 0, 0.0
+            for _ in range(10):
+                asked = time.monotonic()
+                try:
+                    socket.create_connection(("127.0.0.1", server.port), timeout=15).close()
+                except ConnectionRefusedError:
+                    refused += 1
+                slowest = max(slowest, time.monotonic() - asked)
+            while piece := it.recv(1 << 16):
+                got += len(piece)
+            status, told = server.end()
+    is_right = status == 0 and refused == 10 and slowest < 0.1 and got > 32 * MEGABYTE
+    yield is_right, f"0.7 s after the stop file {refused} of 10 were refused, the slowest after {slowest:.3f} s; a download went on to {got} bytes ({told})"
+
+
+def bytes_in_turn(_):
+    """Two thousand clients that send a byte each in turn: the memory of the server is bounded."""
+    with site() as folder, Server(folder, "--lanes", "4", "--accepting", "2") as server:
+        first, most, count, until = server.resident(), 0, 0, time.monotonic() + 60
+        clients, text = [], b"GET /a.txt HTTP/1.1\r\nHost: x\r\nX: " + b"y" * 4_000
+        while time.monotonic() < until:
+            while len(clients) < 2_000:
+                clients.append([server.connect(), 0])
+            for client in clients:
+                try:
+                    client[0].send(text[client[1] : client[1] + 1])
+                    client[1] = (client[1] + 1) % len(text)
+                    count += 1
+                except OSError:
+                    client[0].close()
+                    client[0] = None
+            clients = [client for client in clients if client[0]]
+            most = max(most, server.resident())
+        for it, _ in clients:
+            it.close()
+        status, told = server.end()
+    yield status == 0 and most - first < 300_000, f"2,000 clients of a byte each in turn, {count} bytes in a minute: resident {first} kB, {most} kB at most ({told})"
+
+
+def unread_files(_):
+    """A folder with a file and a folder to which the server has no right, and names that aren't UTF-8: the others are served."""
+    if os.geteuid() != 0:
+        return
+    with site() as folder:
+        put(folder, "secret.txt", b"secret")
+        os.chmod(os.path.join(folder, "secret.txt"), 0o600)
+        os.makedirs(os.path.join(folder, "closed", "below"), mode=0o700)
+        os.chmod(os.path.join(folder, "closed"), 0o700)
+        for name in (b"\xff.txt", b".\xfe"):
+            with open(os.path.join(os.fsencode(folder), name), "wb") as file:
+                file.write(b"x")
+        program = os.path.join(os.path.dirname(folder), "swsd")
+        shutil.copy(staying.SWSD, program)
+        for path in (os.path.dirname(folder), folder, program):
+            os.chmod(path, 0o755)
+        with Server(folder, program=program, preexec=lambda: os.setuid(65_534)) as server:
+            seen = server.ask() if server.port else b""
+            missing = server.ask(HEAD.replace(b"a.txt", b"secret.txt")) if server.port else b""
+            status, told = server.end()
+            said = server.lines()
+    is_right = seen.endswith(b"0123456789") and missing.startswith(b"HTTP/1.1 404") and status == 0
+    named = [name for name in ("secret.txt", "closed/", "UTF-8") if name in said]
+    yield is_right, f"beside what can't be read the others are served; said of it: {', '.join(named) or 'nothing'} (status {status}, {told})"
+
+
+CASES = [bursts, after_the_stop, tricklers, moving_downloads, held_lanes, unread_files, bytes_in_turn]
+
+QUICK = [bursts, after_the_stop, tricklers, unread_files]
+
+
+def run(only="", is_quick=False):
+    """Runs the cases, and answers whether all went well."""
+    hard = resource.getrlimit(resource.RLIMIT_NOFILE)[1]
+    resource.setrlimit(resource.RLIMIT_NOFILE, (min(hard, 16_384), hard))
+    all_well = True
+    for case in QUICK if is_quick else CASES:
+        if only in case.__name__:
+            for is_right, seen in case(is_quick):
+                all_well &= is_right
+                print(f"{'well' if is_right else 'WRONG'}: {case.__name__}: {seen}", flush=True)
+    return all_well
+
+
+def main():
+    words = argparse.ArgumentParser(description="Uses the server that stays up by many clients at once, some of them bad.")
+    words.add_argument("--only", default="")
+    words.add_argument("--quick", action="store_true")
+    words.add_argument("--program", default=staying.SWSD)
+    given = words.parse_args()
+    staying.SWSD = given.program
+    if not os.access(staying.SWSD, os.X_OK):
+        sys.exit("edge: the program isn't built")
+    sys.exit(0 if run(given.only, given.quick) else 1)
+
+
+if __name__ == "__main__":
+    main()
