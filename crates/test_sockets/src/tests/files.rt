@@ -16,7 +16,6 @@ fn what_is_no_folder_is_not_opened(rt: HostRuntime) -> Result<(), Fail> {
         "",
     ] {
         assert_eq!(rt; folder.open(path), Opened::Failed, "{path}");
-        assert!(rt; folder.unread().is_some(), "{path}");
     }
     let mut name = [0; 1024];
     assert_eq!(rt; folder.next(&mut name), NextFile::End);
