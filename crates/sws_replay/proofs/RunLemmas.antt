@@ -82,7 +82,7 @@ module _ {T G H : Type 0} (x : WorldWords MemWorldState MemLinkState) (l : LinkW
   served_alone : (i : ℕ) (conn : ScriptConn) (s : Served MemLinkState) (trail : List Event) → slice_get conns i ≡ Some conn → ConnLeft x l y hall first i trail s → ConnFollows l y hall i (script_of conn) trail s
       → is_out_of_memory s.end ≡ false → IsServedAlone (of_talk y hall) conn s
   served_alone i conn s trail at left follows enough =
-      let view : TalkView = y.view_of left.seat.talk in
+      let view : TalkView = left.view in
       let link : MemLinkState = follows.link in
       let serves = served_link i conn link view at (subst (λ (o : Option MemLinkState). LinkLeft x l y hall first i o view) follows.there left.link) in
       let end_is : s.end ≡ Some (alone (of_talk y hall) conn).end = follows.end in
