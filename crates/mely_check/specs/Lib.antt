@@ -8,3 +8,4 @@ pub mod Walks
 pub mod Watches
 pub mod Judges
 pub mod Readers
+pub mod FaultTexts

@@ -200,7 +200,7 @@ fn status_of(told: &Told) -> u8 {
 impl<'d, T: Wait + Clock> Keeper for LaneKeeper<'d, T> {
     ghost site_of = { λ keeper. arc_value keeper.site };
 
-    ghost begun = { λ _. None };
+    ghost calls_of = { λ _. None };
 
     fn begin(&mut self) -> bool {
         self.look_for_stop();

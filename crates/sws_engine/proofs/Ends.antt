@@ -11,3 +11,4 @@ pub mod ThreadLemmas
 pub mod AloneLemmas
 pub mod InitialServedLemmas
 pub mod HandedLemmas
+pub mod HandledLemmas

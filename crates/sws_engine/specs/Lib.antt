@@ -40,3 +40,4 @@ pub mod ConnFollows
 pub mod Begins
 pub mod LogTurns
 pub mod LogStream
+pub mod CrewLeaves

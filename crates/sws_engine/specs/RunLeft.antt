@@ -1,5 +1,5 @@
 -- What every run of the server leaves, over a weave or on threads.
-use Rattle.std.specs.Prelude.{◌≡◌, ◌≢◌, ◌+◌, ◌<◌, ◌⊎◌, ℕ, Bool, false, true, List, [], map, Some, IsSome, length, slice_get}
+use Rattle.std.specs.Prelude.{◌≡◌, ◌≢◌, ◌+◌, ◌<◌, ◌⊎◌, ℕ, Bool, false, true, List, [], map, Some, IsSome, is_some, length, slice_get}
 use Rattle.std.specs.List.{AllByRecursion}
 use Rattle.mely_event.specs.declared.colour.Colour.{Colour}
 use Rattle.mely_event.specs.declared.event.Event.{Event}
@@ -11,8 +11,6 @@ use Rattle.mely_history.specs.declared.setup.Setup.{Setup}
 use Rattle.mely_history.specs.declared.shape.Shape.{Shape}
 use Rattle.mely_machine.specs.Rules.{rules_of}
 use Rattle.mely_weave.specs.Side.{shard_of}
-use Rattle.mely_weave.specs.declared.draining.Drained.{Drained}
-use Rattle.mely_weave.specs.declared.parts.WeaveParts.{WeaveParts}
 use Rattle.sws_link.specs.declared.Link.{Ghosts as LinkWords}
 use Rattle.sws_link.specs.declared.world.World.{Ghosts as WorldWords}
 use Rattle.sws_link.specs.Scripts.{Script}
@@ -23,17 +21,13 @@ use Rattle.sws_steps.specs.declared.talk.Talk.{Ghosts as TalkWords}
 use Rattle.sws_engine.specs.declared.ended.Served.{Served}
 use Rattle.sws_engine.specs.declared.ended.Ended.{Ended}
 use Rattle.sws_engine.specs.declared.ended.Verdict.TheVariants as verdict
-use Rattle.sws_engine.specs.declared.load.Load.{Load}
 use Rattle.sws_engine.specs.ConnFollows.{ConnFollows}
 use Rattle.sws_engine.specs.ConnLeft.{ConnLeft}
 use Rattle.sws_engine.specs.Counting.{colours_over}
 use Rattle.sws_engine.specs.LogTurns.{lines_for}
 use Rattle.sws_engine.specs.Loads.{WorldStands, IsLineIn}
-use Rattle.sws_engine.specs.Place.{PlaceState}
-use Rattle.sws_engine.specs.RunLeaves.{AreWhole, lines_kept, links_owed, NoneOutOfMemory}
+use Rattle.sws_engine.specs.RunLeaves.{AreWhole, lines_kept, links_owed, NoneOutOfMemory, VerdictIs}
 use Rattle.sws_engine.specs.ServerRun.{server_rules}
-use Rattle.sws_engine.specs.RunFits.{RunFits}
-use Rattle.sws_engine.specs.Conclusion.{IsConcluded}
 
 module _ {W L T G H : Type 0} (x : WorldWords W L) (l : LinkWords L) (y : TalkWords T L G H)
     (hall : H) (first : W) (ended : Ended W L) where
@@ -58,13 +52,10 @@ module _ {W L T G H : Type 0} (x : WorldWords W L) (l : LinkWords L) (y : TalkWo
     -- of the shape, with the server's handlers, and its first colour pinned
     pub rules : rules_of setup ≡ server_rules shape
     pub colours : colours_of setup ≡ colours_over (x.tells first).total log
-    -- what the weave came to, and its parts
-    pub how : Drained
-    pub parts : WeaveParts (PlaceState H W T) (Load W L)
-    pub fits : RunFits x l first hall parts.states.items
-        (map (λ events. events.items) parts.queued.items) parts.lost.items
-    -- the verdict is exactly what these show
-    pub concluded : IsConcluded y (x.tells first).total log how parts ended
+    -- whether all was run, and the verdict, which is exactly what that and the rest show
+    pub whole : Bool
+    pub judged : VerdictIs (lines_kept log ended.log.items) ended.served.items whole
+        (x.tells first).total (is_some ended.world) ended.accepted ended.failed ended.verdict
     -- the histories, one for each shard, are legal, and drained unless memory was refused; each
     -- colour's trail is what was run of it
     pub legal : AreLegal setup histories_in

@@ -1,12 +1,11 @@
 -- What a run of the server over a weave leaves.
-use Rattle.std.specs.Prelude.{◌≡◌, ◌≢◌, ◌⊎◌, ℕ, Bool, false, [], map, Some}
+use Rattle.std.specs.Prelude.{◌≡◌, ◌≢◌, ◌⊎◌, ℕ, Bool, false, [], Some}
 use Rattle.mely_history.specs.declared.shape.Shape.{Shape}
 use Rattle.sws_link.specs.declared.Link.{Ghosts as LinkWords}
 use Rattle.sws_link.specs.declared.world.World.{Ghosts as WorldWords}
 use Rattle.sws_steps.specs.declared.talk.Talk.{Ghosts as TalkWords}
 use Rattle.sws_engine.specs.declared.ended.Ended.{Ended}
 use Rattle.sws_engine.specs.declared.ended.Verdict.TheVariants as verdict
-use Rattle.sws_engine.specs.RunParts.{RunParts}
 use Rattle.sws_engine.specs.RunLeft.{RunLeft, AllFollow}
 
 -- memory was refused before the first event: the world is handed back, and the lists are empty
@@ -26,9 +25,6 @@ module _ {W L T G H : Type 0} (x : WorldWords W L) (l : LinkWords L) (y : TalkWo
   pub record HasRun : Type 0 where
     pub left : RunLeft x l y shape hall first log ended
     pub open left use *
-    pub ran : RunParts x y setup first log how
-        (map (λ history. history.items) parts.histories.items) parts.states.items
-        (map (λ events. events.items) parts.queued.items) parts.lost.items
     -- at Ok each connection follows the script that its link is known to answer by
     pub follows : ended.verdict ≡ verdict.Ok → AllFollow x l y hall first ended
     -- no connection is ever lost

@@ -1,25 +1,20 @@
 -- What a run of the server on threads leaves.
-use Rattle.std.specs.Prelude.{◌≡◌, ◌⊎◌, Bool, map}
+use Rattle.std.specs.Prelude.{◌≡◌, ◌⊎◌, Bool}
 use Rattle.mely_history.specs.declared.shape.Shape.{Shape}
 use Rattle.sws_link.specs.declared.Link.{Ghosts as LinkWords}
 use Rattle.sws_link.specs.declared.world.World.{Ghosts as WorldWords}
 use Rattle.sws_steps.specs.declared.talk.Talk.{Ghosts as TalkWords}
 use Rattle.sws_engine.specs.declared.ended.Ended.{Ended}
 use Rattle.sws_engine.specs.declared.ended.Verdict.TheVariants as verdict
-use Rattle.sws_engine.specs.PartsKept.{PartsKept}
 use Rattle.sws_engine.specs.RunLeft.{RunLeft, AllFollow}
 use Rattle.sws_engine.specs.StepsLeave.{HasNotBegun}
 
 module _ {W L T G H : Type 0} (x : WorldWords W L) (l : LinkWords L) (y : TalkWords T L G H)
     (shape : Shape) (hall : H) (first : W) (log : Bool) (ended : Ended W L) where
-  -- a run by the shape, over the world that was handed in; the weave is the one that
-  -- the fleet was closed into
+  -- a run by the shape, over the world that was handed in
   pub record HasRunThreads : Type 0 where
     pub left : RunLeft x l y shape hall first log ended
     pub open left use *
-    pub kept : PartsKept x y setup first log how
-        (map (λ history. history.items) parts.histories.items) parts.states.items
-        (map (λ events. events.items) parts.queued.items)
     -- at Ok each connection follows the script that its link is known to answer by
     pub follows : ended.verdict ≡ verdict.Ok → AllFollow x l y hall first ended
 

@@ -1,13 +1,17 @@
 //! The server with a thread for each worker, from the world and the hall to what the run leaves.
 //! One worker needs no thread: it runs over a weave.
-ghost use Rattle.std.specs.Prelude.{◌≡◌, ◌≤◌, ◌+◌, [], Some, false, IfOk, IfErr, IsSome, map, slice_get};
+ghost use Rattle.std.specs.Prelude.{◌≡◌, ◌≢◌, ◌≤◌, ◌+◌, [], ◌∷◌, Some, false, IfOk, IfErr, IsSome, map, slice_get};
+ghost use Rattle.mely_fleet.specs.Crew.{IsRegistered};
+ghost use Rattle.mely_tally.specs.Account.{IsAccounted};
 ghost use Rattle.mely_weave.specs.Dealing.{AtEach};
+ghost use Rattle.mely_weave.specs.Drains.{SomeHalted};
 ghost use Rattle.mely_weave.specs.Making.{AreInitial};
 ghost use Rattle.mely_worker.specs.Access.{FitsSetup};
 ghost use Rattle.mely_worker.specs.Conditions.{AppServes};
 ghost use Rattle.sws_engine.specs.Begins.{AreInitialFor, IsAtRest, IsSetFor, IsShapedFor};
 ghost use Rattle.sws_engine.specs.Counting.{colours_over};
-ghost use Rattle.sws_engine.specs.Initial.{AreInitialPlacesOver};
+ghost use Rattle.sws_engine.specs.CrewLeaves.{CrewLeaves, HandlersRan, IsAccountedBy, first_put};
+ghost use Rattle.sws_engine.specs.Initial.{AreInitialPlacesOver, first_poll};
 ghost use Rattle.sws_engine.specs.Invariant.{IsConsistent};
 ghost use Rattle.sws_engine.specs.RunFits.{RunFits};
 ghost use Rattle.sws_engine.specs.PartsKept.{PartsKept};
@@ -88,6 +92,10 @@ fn run_lent<
     ensures framed { IfOk result (λ ran. (state : _) → slice_get states.old.items 0 ≡ Some state
         → S.frame_of ran.0.given ≡ S.frame_of state) }
     ensures rests { IfOk result (λ ran. IsAtRest setup.now ran.0 ran.1) }
+    ensures begun { IfOk result (λ ran. IsRegistered begin.0 begin.1 ran.0) }
+    ensures accounted { IfOk result (λ ran.
+        IsAccounted S.Trail S.fits_under A.App app.now (begin ∷ []) ran.0) }
+    ensures memory { IfOk result (λ ran. ran.1 ≡ Drained.Memory → SomeHalted ran.0) }
     ensures back { IfErr result (λ refused. refused ≡ record { event = begin.1; load = begin.2 }) }
 {
     let given = std::mem::replace(states, Vec::new(alloc));
@@ -124,6 +132,12 @@ where
         → AreInitialPlacesOver T.Talk world hall total (colours_over total log) states.old.items
         → IfOk result (λ ran. ran.0.given.hall ≡ hall) }
     ensures rests { IfOk result (λ ran. IsAtRest setup.now ran.0 ran.1) }
+    ensures begun { IfOk result (λ ran.
+        IsRegistered (record { 0 = 0 }) (first_poll total) ran.0) }
+    ensures accounted { IfOk result (λ ran. IsAccountedBy ⟦<Place<W, T> as Trail>⟧
+        ⟦<Place<W, T> as Fits<Load<W, W::Link>>>⟧.fits_under ⟦<Sws<W, T> as App>⟧
+        (λ app. app.total) (λ app. app.log) total log (first_put total world ∷ []) ran.0) }
+    ensures memory { IfOk result (λ ran. ran.1 ≡ Drained.Memory → SomeHalted ran.0) }
     ensures back { IfErr result (λ back. back ≡ world) }
 {
     let app = Sws::new(total, log);
@@ -173,6 +187,9 @@ where
         (map (λ queue. queue.items) ran.0.queued.items)) }
     ensures fits { IfOk result (λ ran. RunFits W.World W.Link.Link world (T.contents_of hall)
         ran.0.states.items (map (λ queue. queue.items) ran.0.queued.items) ran.0.lost.items) }
+    ensures handled { IfOk result (λ ran. HandlersRan W.World W.Link.Link T.Talk
+        (T.contents_of hall) world log setup.now
+        (map (λ history. history.items) ran.0.histories.items) ran.0.lost.items) }
     ensures back { IfErr result (λ back. back ≡ world) }
 {
     let total = world.total();
@@ -218,6 +235,8 @@ where
     requires { IsShapedFor W.World shape.now world log }
     ensures leaves { ThreadsLeave W.World W.Link.Link T.Talk shape.now (T.contents_of hall)
         world log result }
+    ensures crew { shape.now.cores ≢ 1 → CrewLeaves W.World W.Link.Link T.Talk shape.now
+        (T.contents_of hall) world log result }
     ensures alone { shape.now.cores ≡ 1 → StepsLeave W.World W.Link.Link T.Talk shape.now
         (T.contents_of hall) world log result }
     ensures model { shape.now.cores ≡ 1 → IsModelled W.World W.Link.Link T.Talk
@@ -247,6 +266,9 @@ where
 /// The verdict is exactly what the run shows: [`Verdict::Apart`](crate::Verdict::Apart) names the
 /// first connection that was lost, and where none was says that the world was.
 ///
+/// Several workers begin with the first poll of the world, and run the server's handlers alone, with
+/// the access log where it is asked for: what these put was registered, or was refused for memory.
+///
 /// One worker runs over a weave, on the thread of the caller and with no lock. It leaves what
 /// [`serve_steps`](crate::serve_steps) leaves of an empty schedule: the verdict is never `Apart`,
 /// and where the world's links answer by scripts, the histories at `Ok` are those of the
@@ -264,6 +286,9 @@ where
     W::Link: Send,
     requires { IsShapedFor W.World shape.now world log }
     ensures leaves { ThreadsLeave W.World W.Link.Link ⟦<Conn<'s, W::Link> as Talk<W::Link>>⟧
+        shape.now site.now world log result }
+    ensures crew { shape.now.cores ≢ 1
+        → CrewLeaves W.World W.Link.Link ⟦<Conn<'s, W::Link> as Talk<W::Link>>⟧
         shape.now site.now world log result }
     ensures alone { shape.now.cores ≡ 1
         → StepsLeave W.World W.Link.Link ⟦<Conn<'s, W::Link> as Talk<W::Link>>⟧

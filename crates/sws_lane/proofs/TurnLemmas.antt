@@ -112,7 +112,7 @@ module _ {W L T G : Type 0} (x : WorldWords W L) (l : LinkWords L) (y : TalkWord
         let few : i < (x.tells first).total = subst (λ (n : ℕ). i < n) run.many_served within in
         let trail = get_in trails (i + 2) (omega arith) in
         let left = run.conn i s trail.0 at trail.1 in
-        let view = y.view_of left.seat.talk in
+        let view = left.view in
         let of_link = subst (λ (o : Option L). LinkLeft x l y site first i o view) linked left.link in
         let stands = of_link.1 in
         let one = subst (λ (o : Option (List Coming)). IsComing o i (l.tells of_link.0)) told stands.coming in

@@ -1,5 +1,5 @@
 -- The generations of a lane: runs of the server, each over the world that the one before left.
-use Rattle.std.specs.Prelude.{◌≡◌, ℕ, ◌+◌, List, [], ◌∷◌, ◌++◌, flat_map, sum_by, count_by, Option, None, Some, is_some, slice_get}
+use Rattle.std.specs.Prelude.{◌≡◌, ℕ, ◌+◌, List, [], ◌∷◌, ◌++◌, flat_map, sum_by, count_by, Option, None, Some, is_some, option_map, slice_get}
 use Rattle.sws_link.specs.Contents.{IsPrefix}
 use Rattle.sws_link.specs.Links.{LinkContents, input_of}
 use Rattle.sws_link.specs.Worlds.{Coming, Listens}
@@ -7,6 +7,7 @@ use Rattle.sws_link.specs.declared.Link.{Ghosts as LinkWords}
 use Rattle.sws_link.specs.declared.Opened.{Opened}
 use Rattle.sws_link.specs.declared.Opened.TheVariants as opened
 use Rattle.sws_link.specs.declared.world.World.{Ghosts as WorldWords}
+use Rattle.sws_log.specs.declared.line.LogLine.{LogLine}
 use Rattle.sws_site.specs.Site.{SiteState}
 use Rattle.sws_steps.specs.declared.End.TheVariants as ending
 use Rattle.sws_steps.specs.declared.talk.Talk.{Ghosts as TalkWords}
@@ -15,17 +16,19 @@ use Rattle.sws_engine.specs.StepsLeave.{StepsLeave}
 use Rattle.sws_engine.specs.ThreadsLeave.{ThreadsLeave}
 use Rattle.sws_engine.specs.declared.ended.Ended.{Ended}
 use Rattle.sws_engine.specs.declared.ended.Served.{Served}
+use Rattle.sws_lane.specs.Keepers.{Report}
 use Rattle.sws_lane.specs.Totals.{capped, is_done, is_idle, is_fault, no_totals}
 use Rattle.sws_lane.specs.declared.lane.Terms.{Terms}
 use Rattle.sws_lane.specs.declared.totals.Totals.{Totals}
 
--- a generation: its site, how the world answered when it was opened and what it was then, and what
--- the run left, where there was one
+-- a generation: its site, how the world answered when it was opened and what it was then, what the
+-- run left, where there was one, and what the keeper was told of it
 pub record Generation (W L : Type 0) : Type 0 where
   pub site : SiteState
   pub answer : Opened
   pub first : W
   pub ended : Option (Ended W L)
+  pub told : Report
 
 -- ---- what it leaves
 
@@ -38,6 +41,11 @@ world_by first (Some ended) = ended.world
 abbrev pub served_by : {W L : Type 0} → Option (Ended W L) → List (Served L)
 served_by None = []
 served_by (Some ended) = ended.served.items
+
+-- the lines of its log
+abbrev pub lines_by : {W L : Type 0} → Option (Ended W L) → List LogLine
+lines_by None = []
+lines_by (Some ended) = ended.log.items
 
 -- how many links the world gave in it
 abbrev pub accepted_by : {W L : Type 0} → Option (Ended W L) → ℕ
@@ -70,6 +78,14 @@ pub record AreTotals {W L : Type 0} (before : Totals) (gs : List (Generation W L
   pub written : now.written
       ≡ capped (before.written + sum_by (λ s. s.written) (all_served gs))
 
+-- what the keeper was told of a generation is what has come of it: how its world answered, how its
+-- run was judged, its own totals, and the lines of its log
+pub record IsToldOf {W L : Type 0} (one : Generation W L) : Type 0 where
+  pub opened : one.told.opened ≡ one.answer
+  pub verdict : one.told.verdict ≡ option_map (λ run. run.verdict) one.ended
+  pub totals : AreTotals no_totals (one ∷ []) one.told.totals
+  pub lines : one.told.lines ≡ lines_by one.ended
+
 -- ---- one generation
 
 module _ {W L T G : Type 0} (x : WorldWords W L) (l : LinkWords L) (y : TalkWords T L G SiteState)
@@ -88,21 +104,22 @@ module _ {W L T G : Type 0} (x : WorldWords W L) (l : LinkWords L) (y : TalkWord
   RunsBy opened.Failed site first ended = ended ≡ None
   RunsBy opened.Memory site first ended = ended ≡ None
 
-  -- the world was opened, and served where it was ready
+  -- the world was opened, and served where it was ready, and the keeper was told so
   pub record IsGeneration (world : W) (one : Generation W L) : Type 0 where
     pub listens : Listens x.tells x.faults x.waits world terms.port terms.connections one.answer
         one.first
     pub runs : RunsBy one.answer one.site one.first one.ended
+    pub told : IsToldOf one
 
-  -- a generation over this world and out of this site, with what is left of the world, and its
-  -- totals
-  pub record LeavesBy (site : SiteState) (world : W) (last : Option W) (totals : Totals)
+  -- a generation over this world and out of this site, with what is left of the world, and what is
+  -- to be told of it
+  pub record LeavesBy (site : SiteState) (world : W) (last : Option W) (report : Report)
       : Type 0 where
     pub one : Generation W L
     pub of_site : one.site ≡ site
     pub is : IsGeneration world one
     pub left : last ≡ world_by one.first one.ended
-    pub counted : AreTotals no_totals (one ∷ []) totals
+    pub reported : one.told ≡ report
 
   -- one generation after another, each over the world that the one before left
   abbrev pub AreGenerations : Option W → List (Generation W L) → Option W → Type 0

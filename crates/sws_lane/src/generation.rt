@@ -1,6 +1,7 @@
 //! One generation of a lane.
-ghost use Rattle.std.specs.Prelude.{◌≡◌, Some};
+ghost use Rattle.std.specs.Prelude.{◌≡◌, [], None, Some};
 ghost use Rattle.sws_lane.specs.Generations.{LeavesBy};
+ghost use Rattle.sws_lane.specs.Keepers.{report_of};
 ghost use Rattle.sws_lane.specs.Terms.{AreTerms};
 ghost use Rattle.sws_lane.specs.Totals.{AddsUp, no_totals, one_generation};
 
@@ -19,7 +20,10 @@ use sws_site::Site;
 /// What has come of a generation's run, and what it leaves of its world.
 fn told_of<W: World + Drop>(ended: Ended<W>) -> (Option<W>, Told)
     ensures world { result.0 ≡ ended.world }
+    ensures opened { result.1.opened ≡ Opened.Ready }
+    ensures verdict { result.1.verdict ≡ Some ended.verdict }
     ensures counted { AddsUp one_generation ended.served.items result.1.totals }
+    ensures lines { result.1.lines.items ≡ ended.log.items }
 {
     let Ended {
         verdict,
@@ -45,7 +49,10 @@ fn told_of<W: World + Drop>(ended: Ended<W>) -> (Option<W>, Told)
 /// A generation that was not opened, since the world answered so.
 fn unopened<W: World + Drop>(alloc: Global, world: W, opened: Opened) -> (Option<W>, Told)
     ensures world { result.0 ≡ Some world }
+    ensures opened { result.1.opened ≡ opened }
+    ensures unjudged { result.1.verdict ≡ None }
     ensures nothing { result.1.totals ≡ no_totals }
+    ensures no_line { result.1.lines.items ≡ [] }
 {
     let told = Told {
         opened,
@@ -68,7 +75,7 @@ where
     W::Link: Send,
     requires { AreTerms terms.now }
     ensures { LeavesBy W.World W.Link.Link ⟦<Conn<'static, W::Link> as Talk<W::Link>>⟧ terms.now
-        site.now world result.0 result.1.totals }
+        site.now world result.0 (report_of result.1) }
 {
     let mut world = world;
     match world.open(terms.port, terms.connections) {

@@ -1,6 +1,6 @@
 //! Who keeps a lane going.
 ghost use Rattle.std.specs.Prelude.{◌≡◌, List, Option};
-ghost use Rattle.sws_lane.specs.Keepers.{Begins};
+ghost use Rattle.sws_lane.specs.Keepers.{Heard, IsCalled, KeeperCall, asked, report_of};
 ghost use Rattle.sws_site.specs.Site.{SiteState};
 
 use crate::totals::Totals;
@@ -27,18 +27,19 @@ pub struct Told {
 
 /// Says whether a further generation is to begin, and over which site, and hears how each ended.
 ///
-/// It tells contracts its site, and where it remembers them those over which a generation began.
+/// It tells contracts its site, and where it remembers them the calls that were made of it.
 pub trait Keeper {
     /// The site of the generation that began last.
     ghost site_of: { Self → SiteState };
 
-    /// The site of each generation that began, in order, where they are known.
-    ghost begun: { Self → Option (List SiteState) };
+    /// The calls of [`begin`](Keeper::begin) and [`end`](Keeper::end) so far, in order, where they
+    /// are known.
+    ghost calls_of: { Self → Option (List KeeperCall) };
 
     /// Whether a further generation is to begin; then its site is there. It may wait before it
     /// answers.
     fn begin(&mut self) -> bool
-        ensures { Begins site_of begun self.old result self.new };
+        ensures { IsCalled calls_of self.old (asked result (site_of self.new)) self.new };
 
     /// The site of the generation that began last.
     fn site(&self) -> &Site
@@ -46,5 +47,5 @@ pub trait Keeper {
 
     /// The generation that began last has ended so.
     fn end(&mut self, told: Told)
-        ensures { begun self.new ≡ begun self.old };
+        ensures { IsCalled calls_of self.old (Heard (report_of told)) self.new };
 }

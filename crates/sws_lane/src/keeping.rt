@@ -1,7 +1,8 @@
 //! One generation after another.
-ghost use Rattle.std.specs.Prelude.{ℕ, List};
+ghost use Rattle.std.specs.Prelude.{ℕ, List, []};
+ghost use Rattle.std.specs.Bool.{OnTrue, OnFalse};
 ghost use Rattle.sws_link.specs.Contents.{IsPrefix};
-ghost use Rattle.sws_lane.specs.Keeping.{Keeps, KeepsServing};
+ghost use Rattle.sws_lane.specs.Keeping.{Keeps, KeepsServing, ServesNext, ServesNone, last_call};
 ghost use Rattle.sws_lane.specs.Terms.{AreTerms};
 ghost use Rattle.sws_lane.specs.declared.lane.Terms.{Terms as TermsValue};
 
@@ -17,17 +18,24 @@ use sws_link::{Link, World};
 /// What has become of a lane, for contracts alone. It is a trait so that the loop over generations
 /// can be proved whatever that is: what a connection's talk promises has no name in a proof.
 trait Leads<S> {
-    /// By these terms it has become this.
+    /// By these terms it has become this, so far.
     ghost leads: { TermsValue → S → S → Type 0 };
+
+    /// By these terms it has come to this end.
+    ghost ends: { TermsValue → S → S → Type 0 };
 }
 
 impl<W: World, K: Keeper> Leads<Lane<W, K>> for Lane<W, K> {
     ghost leads = { λ terms lane lane_now. KeepsServing W.World W.Link.Link
-        ⟦<Conn<'static, W::Link> as Talk<W::Link>>⟧ K.Keeper terms lane lane_now };
+        ⟦<Conn<'static, W::Link> as Talk<W::Link>>⟧ K.Keeper terms lane lane_now [] };
+
+    ghost ends = { λ terms lane lane_now. KeepsServing W.World W.Link.Link
+        ⟦<Conn<'static, W::Link> as Talk<W::Link>>⟧ K.Keeper terms lane lane_now
+        (last_call lane_now.world) };
 }
 
-/// Serves a further generation, and answers whether it did: not where the world is gone, or the
-/// keeper wants none.
+/// Serves a further generation, and answers whether it did: not where the world is lost, or the
+/// keeper refuses it.
 fn serve_next<R: Threads + Wait + Sync, W: World + Drop + Send, K: Keeper>(
     rt: &R,
     alloc: Global,
@@ -37,8 +45,10 @@ fn serve_next<R: Threads + Wait + Sync, W: World + Drop + Send, K: Keeper>(
 where
     W::Link: Send,
     requires { AreTerms terms.now }
-    ensures { KeepsServing W.World W.Link.Link ⟦<Conn<'static, W::Link> as Talk<W::Link>>⟧
-        K.Keeper terms.now lane.old lane.new }
+    ensures next { OnTrue result (ServesNext W.World W.Link.Link
+        ⟦<Conn<'static, W::Link> as Talk<W::Link>>⟧ K.Keeper terms.now lane.old lane.new) }
+    ensures none { OnFalse result (ServesNone W.World W.Link.Link
+        ⟦<Conn<'static, W::Link> as Talk<W::Link>>⟧ K.Keeper terms.now lane.old lane.new) }
 {
     lane.totals.are_kept();
     let Some(world) = lane.world.take() else {
@@ -65,18 +75,19 @@ fn serve_all_generations<
 where
     W::Link: Send,
     requires range { AreTerms terms.now }
-    requires serves { (a b : _) → KeepsServing W.World W.Link.Link
-        ⟦<Conn<'static, W::Link> as Talk<W::Link>>⟧ K.Keeper terms.now a b → M.leads terms.now a b }
     requires begins { M.leads terms.now lane.old lane.old }
-    requires onward { (a b c : _) → M.leads terms.now a b → M.leads terms.now b c
-        → M.leads terms.now a c }
-    ensures { M.leads terms.now lane.old lane.new }
+    requires onward { (a b c : _) → M.leads terms.now a b → ServesNext W.World W.Link.Link
+        ⟦<Conn<'static, W::Link> as Talk<W::Link>>⟧ K.Keeper terms.now b c → M.leads terms.now a c }
+    requires stops { (a b c : _) → M.leads terms.now a b → ServesNone W.World W.Link.Link
+        ⟦<Conn<'static, W::Link> as Talk<W::Link>>⟧ K.Keeper terms.now b c → M.ends terms.now a c }
+    ensures { M.ends terms.now lane.old lane.new }
 {
     'generations: for _ in rt.forever() {
         if !serve_next(rt, alloc, terms, lane) {
-            break;
+            return;
         }
     }
+    unreachable!()
 }
 
 /// What is sent to a front of an input begins what is sent to all of it, for contracts alone. A
@@ -86,12 +97,13 @@ fn responses_begin<L: Link, T: Talk<L>>()
         → IsPrefix (T.responses hall front) (T.responses hall bytes) }
 {}
 
-/// Serves one generation after another, until the keeper wants no further one or the world is gone.
+/// Serves one generation after another, until the keeper refuses a further one or the world is lost.
 /// It need not return.
 ///
 /// There is a list of generations, and each opened the world that the one before left; what
 /// [`serve_all`](sws_engine::serve_all) promises holds of each that was opened, out of the keeper's
-/// site, and the totals are their sums. Over a world that tells its links, the k-th connection over
+/// site, and the totals are their sums. The keeper is asked before each, and told after it what has
+/// come of it; where the world is still there, it has refused the one after the last. Over a world that tells its links, the k-th connection over
 /// all generations is the k-th to come. What it was sent begins the responses to its input out of
 /// the site of its generation, and is all of them where it is done.
 pub fn keep_serving<R: Threads + Wait + Sync, W: World + Drop + Send, K: Keeper>(

@@ -1,19 +1,18 @@
 -- The journal of a replay is accepted: a setup that says the same allows the same.
-use Rattle.std.proofs.Common.{◌≡◌, ◌<◌, ◌≤◌, ◌+◌, ◌%◌, ℕ, zero, suc, Bool, true, List, [], ◌∷◌, ◌++◌, Some, length, min, refl, sym, ap, ◌∙◌, subst}
+use Rattle.std.proofs.Common.{◌≡◌, ◌<◌, ◌≤◌, ◌+◌, ◌%◌, ℕ, zero, suc, Bool, true, List, [], ◌∷◌, Some, length, min, refl, sym, ap, ◌∙◌, subst}
 use Rattle.std.specs.Prelude.{slice_get}
 use Rattle.std.specs.List.{AllByRecursion}
 use Rattle.mely_event.specs.declared.colour.Colour.{Colour}
 use Rattle.mely_history.specs.Entries.{colour_of}
 use Rattle.mely_history.specs.History.{owner_of, queued_of, worth_of}
-use Rattle.mely_history.specs.Legal.{IsAllowed, IsOfShard, AreLegal, IsDrained}
-use Rattle.mely_history.specs.Setup.{shape_of, colours_of}
+use Rattle.mely_history.specs.Legal.{IsAllowed, AreLegal, IsDrained}
+use Rattle.mely_history.specs.Setup.{colours_of}
 use Rattle.mely_history.specs.declared.entry.Entry.{Entry}
 use Rattle.mely_history.specs.declared.entry.Entry.TheVariants.{Reg, Take, Fin, Steal}
 use Rattle.mely_history.specs.declared.setup.Setup.{Setup}
 use Rattle.mely_history.specs.declared.shape.Shape.{Shape}
 use Rattle.mely_machine.specs.Rules.{Rules, rules_of, owner_by, worth_by}
 use Rattle.mely_check.specs.Journals.{AreFit, entries_in, line_limit}
-use Rattle.mely_check.specs.Verdicts.{IsDrainedRun}
 use Rattle.sws_engine.specs.ServerRun.{server_rules}
 use Rattle.sws_log.specs.declared.line.LogLine.{LogLine}
 use Rattle.mely_journal.specs.Journal.{journal}

@@ -1,13 +1,12 @@
 -- The lines of a log: by the order of their connections, and by those of each, they are one list.
-use Rattle.std.proofs.Common.{◌≡◌, ℕ, zero, suc, ◌≤◌, ◌<◌, ◌%◌, Bool, true, false, true≢false, List, [], ◌∷◌, Option, None, Some, length, map, if◌then◌else◌, refl, sym, ap, ap₂, ◌∙◌, subst, arith, eq-eqb}
+use Rattle.std.proofs.Common.{◌≡◌, ℕ, zero, suc, ◌≤◌, ◌<◌, ◌%◌, Bool, true, false, List, [], ◌∷◌, Option, None, Some, length, map, if◌then◌else◌, refl, sym, ap, ap₂, ◌∙◌, subst, arith, eq-eqb}
 use Rattle.std.specs.Prelude.{slice_get, ◌==◌}
 use Rattle.std.specs.List.{AllByRecursion}
 use Rattle.std.proofs.lemmas.Bool.{eqb-true}
 use Rattle.mely_history.specs.Setup.{shape_of}
-use Rattle.mely_history.specs.History.{ran_of}
 use Rattle.mely_history.specs.declared.entry.Entry.{Entry}
 use Rattle.mely_history.specs.declared.shape.Shape.{Shape}
-use Rattle.mely_machine.specs.Rules.{Rules, rules_of}
+use Rattle.mely_machine.specs.Rules.{Rules}
 use Rattle.mely_weave.proofs.Wholes.GatherLemmas.{get_there}
 use Rattle.mely_weave.specs.Side.{shard_of}
 use Rattle.sws_engine.specs.LogTurns.{lines_for}

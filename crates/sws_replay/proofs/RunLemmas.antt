@@ -1,6 +1,6 @@
 -- What a run of a scripted world has served.
-use Rattle.std.proofs.Common.{◌≡◌, ◌≢◌, ℕ, ◌+◌, ◌<◌, Bool, true, false, true≢false, List, [], ◌∷◌, Option, None, Some, length, map, refl, sym, ap, ◌∙◌, subst, arith, inl, inr}
-use Rattle.std.specs.Prelude.{slice_get, option_map, IsSome, IsTrue}
+use Rattle.std.proofs.Common.{◌≡◌, ◌≢◌, ℕ, ◌+◌, ◌<◌, Bool, true, false, true≢false, List, [], ◌∷◌, Option, None, Some, Result, Ok, Err, IfOk, length, map, refl, sym, ap, ◌∙◌, subst, arith, inl, inr}
+use Rattle.std.specs.Prelude.{slice_get, option_map, IsSome, IsTrue, IfErr, MatchResult}
 use Rattle.std.specs.List.{AllByRecursion}
 use Rattle.std.proofs.lemmas.Option.{same_Some, slice_get-map, slice_get_within}
 use Rattle.mely_event.specs.declared.colour.Colour.{Colour}
@@ -27,6 +27,7 @@ use Rattle.sws_engine.specs.StepsLeave.{StepsLeave}
 use Rattle.sws_engine.specs.ThreadsLeave.{ThreadsLeave}
 use Rattle.sws_engine.specs.declared.ended.Ended.{Ended}
 use Rattle.sws_engine.specs.declared.ended.Served.{Served}
+use Rattle.sws_engine.specs.declared.ended.Verdict.{Verdict}
 use Rattle.sws_engine.specs.declared.ended.Verdict.TheVariants as verdict
 use Rattle.sws_link.specs.Links.{LinkContents, input_of}
 use Rattle.sws_link.specs.MemLinks.{bytes_tell, mem_link_tells}
@@ -43,8 +44,10 @@ use Rattle.sws_script.specs.declared.input.ScriptConn.{ScriptConn}
 use Rattle.sws_replay.specs.Expected.{of_talk}
 use Rattle.sws_replay.specs.Histories.{colour_for}
 use Rattle.sws_replay.specs.Logs.{IsLog, log_alone}
-use Rattle.sws_replay.specs.Runs.{IsServedAlone, ServesAll, histories_of, RunsWell}
+use Rattle.sws_replay.specs.Runs.{HasLostNothing, IsServedAlone, ServesAll, histories_of, RunsWell}
 use Rattle.sws_replay.specs.Transcripts.{alone}
+use Rattle.sws_replay.specs.declared.fault.RunFault.{RunFault}
+use Rattle.sws_replay.specs.declared.fault.RunFault.TheVariants as run_fault
 
 -- what a map gives at a place
 map_at : {A B : Type 0} (f : A → B) (xs : List A) (k : ℕ) (a : A) → slice_get xs k ≡ Some a → slice_get (map f xs) k ≡ Some (f a)
@@ -82,7 +85,7 @@ module _ {T G H : Type 0} (x : WorldWords MemWorldState MemLinkState) (l : LinkW
   served_alone : (i : ℕ) (conn : ScriptConn) (s : Served MemLinkState) (trail : List Event) → slice_get conns i ≡ Some conn → ConnLeft x l y hall first i trail s → ConnFollows l y hall i (script_of conn) trail s
       → is_out_of_memory s.end ≡ false → IsServedAlone (of_talk y hall) conn s
   served_alone i conn s trail at left follows enough =
-      let view : TalkView = y.view_of left.seat.talk in
+      let view : TalkView = left.view in
       let link : MemLinkState = follows.link in
       let serves = served_link i conn link view at (subst (λ (o : Option MemLinkState). LinkLeft x l y hall first i o view) follows.there left.link) in
       let end_is : s.end ≡ Some (alone (of_talk y hall) conn).end = follows.end in
@@ -245,3 +248,25 @@ pub steps_miss_nothing : {T G H : Type 0} (x : WorldWords MemWorldState MemLinkS
     → StepsLeave x l y shape hall first log ended → (conn : ℕ) → ended.verdict ≡ verdict.Apart conn → ⊥
 steps_miss_nothing x l y hall shape first log ended (inl refused) conn apart = apart≢memory conn (sym apart ∙ refused.refused)
 steps_miss_nothing x l y hall shape first log ended (inr run) conn apart = run.never_apart conn apart
+
+loses_nothing : (v : Verdict) → (v ≡ verdict.World → ⊥) → ((conn : ℕ) → v ≡ verdict.Apart conn → ⊥) → HasLostNothing v
+loses_nothing verdict.Ok world apart = tt
+loses_nothing verdict.World world apart = world refl
+loses_nothing (verdict.Apart conn) world apart = apart conn refl
+loses_nothing verdict.Memory world apart = tt
+
+pub steps_lose_nothing : {T G H : Type 0} (x : WorldWords MemWorldState MemLinkState) (l : LinkWords MemLinkState) (y : TalkWords T MemLinkState G H) (hall : H) (shape : Shape) (first : MemWorldState) (conns : List ScriptConn) (log : Bool) (ended : Ended MemWorldState MemLinkState)
+    → StepsLeave x l y shape hall first log ended → x.tells first ≡ told_of conns → HasLostNothing ended.verdict
+steps_lose_nothing x l y hall shape first conns log ended leaves told =
+    loses_nothing ended.verdict (steps_keep_the_world x l y hall shape first conns log ended leaves told) (steps_miss_nothing x l y hall shape first log ended leaves)
+
+-- what is given is the run that went well, and want of memory comes where the run met it
+pub given_well : (P : Ended MemWorldState MemLinkState → Type 0) (ended : Ended MemWorldState MemLinkState) (result : Result (Ended MemWorldState MemLinkState) RunFault)
+    → MatchResult result (λ given. (given ≡ ended) × (ended.verdict ≡ verdict.Ok)) (λ fault. (fault ≡ run_fault.Memory) × (ended.verdict ≡ verdict.Memory)) → (ended.verdict ≡ verdict.Ok → P ended) → IfOk result P
+given_well P ended (Ok given) is well = subst P (sym is.0) (well is.1)
+given_well P ended (Err fault) is well = tt
+
+pub given_refused : (ended : Ended MemWorldState MemLinkState) (result : Result (Ended MemWorldState MemLinkState) RunFault)
+    → MatchResult result (λ given. (given ≡ ended) × (ended.verdict ≡ verdict.Ok)) (λ fault. (fault ≡ run_fault.Memory) × (ended.verdict ≡ verdict.Memory)) → IfErr result (λ fault. fault ≡ run_fault.Memory)
+given_refused ended (Ok given) is = tt
+given_refused ended (Err fault) is = is.0

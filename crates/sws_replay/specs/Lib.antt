@@ -7,3 +7,4 @@ pub mod Runs
 pub mod Showing
 pub mod Replays
 pub mod Accepted
+pub mod FaultTexts

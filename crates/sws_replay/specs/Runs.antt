@@ -5,6 +5,7 @@ use Rattle.mely_history.specs.declared.shape.Shape.{Shape}
 use Rattle.sws_steps.specs.declared.End.TheVariants.{Memory}
 use Rattle.sws_engine.specs.declared.ended.Ended.{Ended}
 use Rattle.sws_engine.specs.declared.ended.Served.{Served}
+use Rattle.sws_engine.specs.declared.ended.Verdict.{Verdict}
 use Rattle.sws_engine.specs.declared.ended.Verdict.TheVariants as verdict
 use Rattle.sws_link.specs.LinkItems.{all_bytes}
 use Rattle.sws_link.specs.MemLink.{MemLinkState}
@@ -46,6 +47,13 @@ pub record ServesAll (expected : Expected) (conns : List ScriptConn)
   pub many : length ended.served.items ≡ length conns
   pub each : (i : ℕ) (conn : ScriptConn) (s : Served MemLinkState) → slice_get conns i ≡ Some conn
       → slice_get ended.served.items i ≡ Some s → IsServedAlone expected conn s
+
+-- a run that came to this verdict has lost neither a connection nor its world
+abbrev pub HasLostNothing : Verdict → Type 0
+HasLostNothing verdict.Ok = Unit {0}
+HasLostNothing verdict.World = ⊥
+HasLostNothing (verdict.Apart conn) = ⊥
+HasLostNothing verdict.Memory = Unit {0}
 
 -- the entries of each shard
 abbrev pub histories_of : Ended MemWorldState MemLinkState → List (List Entry)

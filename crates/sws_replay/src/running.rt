@@ -1,5 +1,5 @@
 //! A script run by talks of a hall, by threads or by a schedule.
-ghost use Rattle.std.specs.Prelude.{◌≡◌, ◌≤◌, ◌<◌, ◌^◌, All, None, IfOk, IfErr, length, map, sum_by};
+ghost use Rattle.std.specs.Prelude.{◌≡◌, ◌≤◌, ◌<◌, ◌^◌, All, None, IfOk, IfErr, MatchResult, length, map, sum_by};
 ghost use Rattle.mely_history.specs.Setup.{first_out_of_range};
 ghost use Rattle.sws_engine.specs.Counting.{colours_over};
 ghost use Rattle.sws_engine.specs.ServerRun.{IsServerRun};
@@ -7,7 +7,7 @@ ghost use Rattle.sws_link.specs.MemWorlds.{mem_world_tells};
 ghost use Rattle.sws_script.specs.Scripted.{script_of, told_of};
 ghost use Rattle.sws_replay.specs.Expected.{by_http, of_talk};
 ghost use Rattle.sws_replay.specs.OfInput.{AreOfInput};
-ghost use Rattle.sws_replay.specs.Runs.{RunsWell, histories_of};
+ghost use Rattle.sws_replay.specs.Runs.{HasLostNothing, RunsWell, histories_of};
 ghost use Rattle.sws_link.specs.Limits.{conn_limit};
 
 use crate::fault::RunFault;
@@ -73,19 +73,65 @@ where
         RunsWell (of_talk T.Talk (T.contents_of hall)) shape.now conns.now log ended) }
     ensures refused { IfErr result (λ fault. fault ≡ RunFault.Memory) }
 {
-    let world = make_world(alloc, conns)?;
-    let ended = talk_all::<R, MemWorld, T, OpenGate>(rt, alloc, hall, shape, world, &OpenGate, log);
+    given(run_threads::<R, T>(rt, alloc, hall, shape, conns, log)?)
+}
+
+/// What a run gives that has lost nothing: all that it leaves, where it went well.
+///
+/// # Errors
+///
+/// `Memory` exactly where the run has ended for want of it.
+fn given(ended: Ended<MemWorld>) -> Result<Ended<MemWorld>, RunFault>
+    requires { HasLostNothing ended.verdict }
+    ensures { MatchResult result (λ given. (given ≡ ended) × (ended.verdict ≡ Verdict.Ok))
+        (λ fault. (fault ≡ RunFault.Memory) × (ended.verdict ≡ Verdict.Memory)) }
+{
     match ended.verdict {
         Verdict::Ok => Ok(ended),
         Verdict::Memory => Err(RunFault::Memory),
-        // That threads miss nothing isn't proved; of a run by steps, which takes their
-        // place where they did, it is.
+        Verdict::World | Verdict::Apart { .. } => unreachable!(),
+    }
+}
+
+/// Serves the connections of a script by talks of one hall, with a thread for each of several
+/// workers. That threads miss nothing isn't proved; of a run on one thread, which takes their place
+/// where they did, it is.
+///
+/// # Errors
+///
+/// `Memory` where there was none for the world of a run.
+fn run_threads<R: Threads + Wait + Sync, T: Talk<MemLink> + Drop + Send>(
+    rt: &R,
+    alloc: Global,
+    hall: T::Hall,
+    shape: &Shape,
+    conns: &[ScriptConn],
+    log: bool,
+) -> Result<Ended<MemWorld>, RunFault>
+where
+    T::Hall: Send,
+    requires shape { first_out_of_range shape.now (colours_over (length conns.now) log) 1 ≡ None }
+    requires few { length conns.now ≤ conn_limit }
+    requires conns { AreOfInput conns.now }
+    ensures ran { IfOk result (λ ended. ended.verdict ≡ Verdict.Ok
+        → RunsWell (of_talk T.Talk (T.contents_of hall)) shape.now conns.now log ended) }
+    ensures whole { IfOk result (λ ended. HasLostNothing ended.verdict) }
+    ensures refused { IfErr result (λ fault. fault ≡ RunFault.Memory) }
+{
+    let world = make_world(alloc, conns)?;
+    let ended = talk_all::<R, MemWorld, T, OpenGate>(rt, alloc, hall, shape, world, &OpenGate, log);
+    match ended.verdict {
+        Verdict::Ok | Verdict::Memory => Ok(ended),
         Verdict::Apart { .. } => run_again::<R, T>(rt, alloc, hall, shape, conns, log),
         Verdict::World => unreachable!(),
     }
 }
 
 /// Serves the connections of a script by talks of one hall, on one thread.
+///
+/// # Errors
+///
+/// `Memory` where there was none for the world of the run.
 fn run_again<R: Wait, T: Talk<MemLink> + Drop>(
     rt: &R,
     alloc: Global,
@@ -97,17 +143,14 @@ fn run_again<R: Wait, T: Talk<MemLink> + Drop>(
     requires shape { first_out_of_range shape.now (colours_over (length conns.now) log) 1 ≡ None }
     requires few { length conns.now ≤ conn_limit }
     requires conns { AreOfInput conns.now }
-    ensures ran { IfOk result (λ ended.
-        RunsWell (of_talk T.Talk (T.contents_of hall)) shape.now conns.now log ended) }
+    ensures ran { IfOk result (λ ended. ended.verdict ≡ Verdict.Ok
+        → RunsWell (of_talk T.Talk (T.contents_of hall)) shape.now conns.now log ended) }
+    ensures whole { IfOk result (λ ended. HasLostNothing ended.verdict) }
     ensures refused { IfErr result (λ fault. fault ≡ RunFault.Memory) }
 {
     let world = make_world(alloc, conns)?;
     let ended = talk_steps::<R, MemWorld, T>(rt, alloc, hall, shape, world, &[], log);
-    match ended.verdict {
-        Verdict::Ok => Ok(ended),
-        Verdict::Memory => Err(RunFault::Memory),
-        Verdict::World | Verdict::Apart { .. } => unreachable!(),
-    }
+    Ok(ended)
 }
 
 /// Serves the connections of a script out of a site on one thread: the schedule's steps of each
@@ -138,12 +181,7 @@ pub fn run_steps<R: Wait>(
     ensures refused { IfErr result (λ fault. fault ≡ RunFault.Memory) }
 {
     let world = make_world(alloc, conns)?;
-    let ended = serve_steps(rt, alloc, site, shape, world, schedule, log);
-    match ended.verdict {
-        Verdict::Ok => Ok(ended),
-        Verdict::Memory => Err(RunFault::Memory),
-        Verdict::World | Verdict::Apart { .. } => unreachable!(),
-    }
+    given(serve_steps(rt, alloc, site, shape, world, schedule, log))
 }
 
 /// The world of the connections.

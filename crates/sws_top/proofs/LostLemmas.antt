@@ -7,7 +7,6 @@ use Rattle.sws_link.specs.declared.Link.{Ghosts as LinkWords}
 use Rattle.sws_link.specs.declared.Sink.{Ghosts as SinkWords}
 use Rattle.sws_link.specs.declared.world.World.{Ghosts as WorldWords}
 use Rattle.sws_steps.specs.declared.talk.Talk.{Ghosts as TalkWords}
-use Rattle.sws_engine.specs.StepsLeave.{StepsLeave}
 use Rattle.sws_engine.specs.declared.ended.Ended.{Ended}
 use Rattle.sws_engine.specs.declared.ended.Verdict.TheVariants as verdict
 use Rattle.sws_site.specs.Site.{SiteState}
@@ -30,14 +29,10 @@ two_of (suc (suc n)) some other = omega arith
 -- a run on the world by one worker loses nothing
 module _ {W L O T G H : Type 0} (x : WorldWords W L) (l : LinkWords L) (o : SinkWords O) (y : TalkWords T L G H) (out out_now : O) (world : W) (outcome : Outcome W L)
     (conn : ℕ) (lost : HasLost outcome conn) where
-  none_by_steps : (shape : Shape) (hall : H) (first : W) (log : Bool) (ended : Ended W L) → StepsLeave x l y shape hall first log ended → ended.verdict ≡ verdict.Apart conn → ⊥
-  none_by_steps shape hall first log ended (inl begun) is = (let other : verdict.Apart conn ≡ verdict.Memory = sym is ∙ begun.refused in cc)
-  none_by_steps shape hall first log ended (inr run) is = run.never_apart conn is
-
   none_alone : (port connections : ℕ) (shape : Shape) (log : Bool) (hall : H) → HasServedPort x l o y out out_now world outcome port connections shape log hall → shape.cores ≡ 1 → ⊥
   none_alone port connections shape log hall served one =
       let same : served.ended ≡ lost.0 = (let e : Some served.ended ≡ Some lost.0 = sym served.there ∙ lost.1 in cc) in
-      none_by_steps shape hall served.first log served.ended (served.alone one) (ap (λ (e : Ended W L). e.verdict) same ∙ lost.2)
+      served.alone one conn (ap (λ (e : Ended W L). e.verdict) same ∙ lost.2)
 
 module _ {F R W L O T G T' G' : Type 0} (f : FolderWords F) (r : SourceWords R) (x : WorldWords W L) (l : LinkWords L) (o : SinkWords O) (y : TalkWords T L G SiteState) (z : TalkWords T' L G' Place)
     (before now : Hands F R O) (world : W) (outcome : Outcome W L) (conn : ℕ) (lost : HasLost outcome conn) where

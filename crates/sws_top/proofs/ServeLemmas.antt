@@ -127,7 +127,7 @@ module _ {W L T G H : Type 0} (x : WorldWords W L) (l : LinkWords L) (y : TalkWo
       there = there;
       gone = gone;
       leaves = leaves;
-      alone = alone;
+      alone = λ one conn. never_by conn (alone one);
       port_is = λ last is. port_by leaves last is;
       rose = λ last is failed. rose_by leaves last is failed;
       held = λ well. held_by leaves well;
@@ -135,6 +135,10 @@ module _ {W L T G H : Type 0} (x : WorldWords W L) (l : LinkWords L) (y : TalkWo
       ends = ends;
     }
       where
+        never_by : (conn : ℕ) → StepsLeave x l y shape hall first log ended → ended.verdict ≢ verdict.Apart conn
+        never_by conn (inl begun) is = (let other : verdict.Apart conn ≡ verdict.Memory = sym is ∙ begun.refused in cc)
+        never_by conn (inr run) is = run.never_apart conn is
+
         port_by : ThreadsLeave x l y shape hall first log ended → (last : W) → ended.world ≡ Some last → (x.tells last).port ≡ port
         port_by (inl begun) last is =
             let same : first ≡ last = (let e = begun.back in cc) in ap (λ w. (x.tells w).port) (sym same) ∙ opened_port x world port connections first listens

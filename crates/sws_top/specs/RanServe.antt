@@ -13,7 +13,6 @@ use Rattle.sws_link.specs.declared.world.World.{Ghosts as WorldWords}
 use Rattle.sws_steps.specs.declared.End.{End}
 use Rattle.sws_steps.specs.declared.End.TheVariants as ending
 use Rattle.sws_steps.specs.declared.talk.Talk.{Ghosts as TalkWords}
-use Rattle.sws_engine.specs.StepsLeave.{StepsLeave}
 use Rattle.sws_engine.specs.ThreadsLeave.{ThreadsLeave}
 use Rattle.sws_engine.specs.declared.ended.Ended.{Ended}
 use Rattle.sws_engine.specs.declared.ended.Served.{Served}
@@ -89,8 +88,8 @@ module _ {W L O T G H : Type 0} (x : WorldWords W L) (l : LinkWords L) (o : Sink
     pub there : outcome.ended ≡ Some ended
     pub gone : outcome.world ≡ None
     pub leaves : ThreadsLeave x l y shape hall first log ended
-    -- one worker leaves what steps leave: it loses no connection
-    pub alone : shape.cores ≡ 1 → StepsLeave x l y shape hall first log ended
+    -- one worker loses no connection
+    pub alone : shape.cores ≡ 1 → (conn : ℕ) → ended.verdict ≢ verdict.Apart conn
     -- the world that is handed out has the port, and where it failed its count of faults rose; at
     -- Ok and World it is handed out
     pub port_is : (last : W) → ended.world ≡ Some last → (x.tells last).port ≡ port

@@ -3,6 +3,7 @@
 mod counted;
 mod failing;
 mod logged;
+mod logged_threads;
 mod replaying;
 mod starving;
 mod threading;

@@ -13,6 +13,5 @@ pub steps_leave_threads : {W L T G H : Type 0} (x : WorldWords W L) (l : LinkWor
 steps_leave_threads x l y shape hall first log ended (inl none) = inl none
 steps_leave_threads x l y shape hall first log ended (inr run) = inr (record {
   left = run.left;
-  kept = run.ran.kept;
   follows = run.follows;
 })

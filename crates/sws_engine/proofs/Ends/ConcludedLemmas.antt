@@ -3,7 +3,7 @@
 use Rattle.std.proofs.Common.{◌≡◌, ◌≢◌, ℕ, zero, suc, ◌+◌, ◌-◌, ◌≤◌, ◌<◌, ◌⊎◌, Bool, true, false, true≢false, List, [], ◌∷◌, Option, None, Some, length, map, take, refl, sym, ◌∙◌, ap, subst, arith, inl, inr}
 use Rattle.std.proofs.lemmas.Option.{same_Some, slice_get_within}
 use Rattle.std.specs.List.{AllByRecursion}
-use Rattle.std.specs.Prelude.{slice_get, is_some, is_none, IsSome, IfSome, option_map, ◌||◌, not}
+use Rattle.std.specs.Prelude.{slice_get, is_some, is_none, IsSome, IfSome, option_map, ◌||◌, not, ◌↔◌, ◌^◌}
 use Rattle.mely_event.specs.declared.event.Event.{Event}
 use Rattle.mely_event.specs.HandlerTable.{rows_of}
 use Rattle.mely_history.specs.Setup.{shape_of, handlers_of, pinned_of}
@@ -19,7 +19,8 @@ use Rattle.sws_link.specs.declared.world.World.{Ghosts as WorldWords}
 use Rattle.sws_steps.specs.declared.Next.{Next}
 use Rattle.sws_steps.specs.declared.Next.TheVariants as next
 use Rattle.sws_steps.specs.declared.talk.Talk.{Ghosts as TalkWords}
-use Rattle.sws_conn.specs.Talks.{TalkView, unopened_view, HasServed, due}
+use Rattle.sws_conn.specs.Responses.{input_limit}
+use Rattle.sws_conn.specs.Talks.{TalkView, unopened_view, reported_end, HasServed, due, path_to_come}
 use Rattle.sws_conn.specs.Conn.{end_at}
 use Rattle.sws_engine.specs.declared.ended.Served.{Served}
 use Rattle.sws_engine.specs.declared.ended.Ended.{Ended}
@@ -35,9 +36,13 @@ use Rattle.sws_engine.specs.RunFits.{CarriesStanding, RunFits}
 use Rattle.sws_link.specs.Scripts.{Script}
 use Rattle.sws_link.specs.Worlds.{Coming, initial_contents}
 use Rattle.sws_engine.specs.ConnFollows.{ConnFollows}
-use Rattle.sws_engine.specs.ConnLeft.{LinkLeft, ConnLeft}
+use Rattle.sws_engine.specs.ConnLeft.{LinkLeft, ConnLeft, BeganPath}
 use Rattle.sws_engine.specs.Loads.{WorldStands, LinkStands}
-use Rattle.sws_engine.specs.Served.{SeatServes, ServedBy}
+use Rattle.sws_engine.specs.Served.{SeatServes, ServedBy, OnPath}
+use Rattle.sws_steps.specs.declared.Handler.{Handler}
+use Rattle.sws_conn.specs.Outcome.{UnlessMemory}
+use Rattle.sws_conn.specs.Path.{TakesOff}
+use Rattle.sws_engine.specs.Invariant.{event_for}
 use Rattle.sws_engine.specs.Counting.{colours_over}
 use Rattle.sws_log.specs.declared.line.LogLine.{LogLine}
 use Rattle.sws_engine.specs.Loads.{IsComing, IsLineIn}
@@ -136,17 +141,48 @@ link_left {W} {L} {T} {G} {H} x l y hall first i place seat conn_is of_hall of_f
   served.0,
   subst (λ (w : W). LinkStands x l w i served.0) of_first (subst (λ (n : ℕ). LinkStands x l place.first n served.0) conn_is served.1),
   subst (λ (h : H). HasServed l (y.responses h) (y.outcome h) served.0 now (y.view_of seat.talk)) of_hall served.2,
+  inr (subst (λ (h : H). LinesServed (y.log h i) (l.tells served.0) (y.view_of seat.talk)) of_hall
+      (subst (λ (n : ℕ). LinesServed (y.log place.hall n) (l.tells served.0) (y.view_of seat.talk)) conn_is served.3)),
+)
+
+-- what is left of a connection, by the state of its colour, with its talk, from which all of it is told
+pub record ConnKept {W L T G H : Type 0} (x : WorldWords W L) (l : LinkWords L) (y : TalkWords T L G H) (hall : H) (first : W) (i : ℕ) (trail : List Event) (s : Served L) : Type 0 where
+  pub place : PlaceState H W T
+  pub seat : Seat T
+  pub colour : place.colour.0 ≡ i + 2
+  pub over : (place.hall ≡ hall) × (place.first ≡ first) × (place.trail ≡ trail)
+  pub link : LinkLeft x l y hall first i s.link (y.view_of seat.talk)
+  pub end : s.end ≡ reported_end (y.view_of seat.talk)
+  pub closed : IsSome s.end ↔ ((y.view_of seat.talk).pending ≡ next.Nothing)
+  pub read : s.read ≡ (y.view_of seat.talk).read
+  pub few_read : s.read ≤ input_limit
+  pub written : s.written ≡ (y.view_of seat.talk).written
+  pub few_written : s.written < 2 ^ 40
+  pub answered : s.answered ≡ (y.view_of seat.talk).lines
+  pub stray : s.stray ≡ seat.stray
+  pub serves : SeatServes x l y place seat
+
+-- the steps that a seat ran come first on the path of its link
+began_of : {W L T G H : Type 0} (x : WorldWords W L) (l : LinkWords L) (y : TalkWords T L G H) (hall : H) (first : W) (i : ℕ) (place : PlaceState H W T) (seat : Seat T) → conn_of place.colour ≡ i → place.hall ≡ hall → place.first ≡ first
+    → (ran : List Handler) → OnPath x l y place seat ran → BeganPath x l y hall first i ran (y.view_of seat.talk)
+began_of x l y hall first i place seat conn_is of_hall of_first [] is = is
+began_of {W} {L} {T} {G} {H} x l y hall first i place seat conn_is of_hall of_first (step ∷ steps) (begun, stands, takes, is_due) = (
+  begun,
+  y.rest_of seat.talk,
+  subst (λ (w : W). LinkStands x l w i begun) of_first (subst (λ (n : ℕ). LinkStands x l place.first n begun) conn_is stands),
+  subst (λ (h : H). UnlessMemory (y.view_of seat.talk).end (TakesOff (step ∷ steps) (path_to_come (y.path h) (l.tells begun)) (y.rest_of seat.talk))) of_hall takes,
+  is_due,
 )
 
 -- what is left of a connection, of its state
 left_of : {W L T G H : Type 0} (x : WorldWords W L) (l : LinkWords L) (y : TalkWords T L G H) (hall : H) (first : W) (i : ℕ) (trail : List Event) (place : PlaceState H W T) (seat : Seat T) (before after : Served L) → ShowsSeat y seat before → place.colour.0 ≡ i + 2 → place.hall ≡ hall → place.first ≡ first → place.trail ≡ trail → SeatServes x l y place seat
-    → (after ≡ before) ⊎ GotLink x l first i before after → ConnLeft x l y hall first i trail after
+    → (after ≡ before) ⊎ GotLink x l first i before after → ConnKept x l y hall first i trail after
 left_of {W} {L} {T} {G} {H} x l y hall first i trail place seat before after shows colour of_hall of_first of_trail serves given =
     let conn_is : conn_of place.colour ≡ i = omega (arith, colour) in
     let view : TalkView = y.view_of seat.talk in
     let link_by : (o : Option L) → y.link_of seat.talk ≡ o → LinkLeft x l y hall first i o view = λ o is. link_left x l y hall first i place seat conn_is of_hall of_first o (subst (λ (k : Option L). ServedBy x l y place seat k) is serves.served) in
     elim given [
-      | inl same ↦ subst (λ (s : Served L). ConnLeft x l y hall first i trail s) (sym same) (record {
+      | inl same ↦ subst (λ (s : Served L). ConnKept x l y hall first i trail s) (sym same) (record {
         place = place;
         seat = seat;
         colour = colour;
@@ -162,12 +198,18 @@ left_of {W} {L} {T} {G} {H} x l y hall first i trail place seat before after sho
         stray = shows.stray;
         serves = serves;
       })
-      | inr got ↦ subst (λ (s : Served L). ConnLeft x l y hall first i trail s) (sym got.becomes) (record {
+      | inr got ↦ subst (λ (s : Served L). ConnKept x l y hall first i trail s) (sym got.becomes) (record {
         place = place;
         seat = seat;
         colour = colour;
         over = (of_hall, of_first, of_trail);
-        link = (got.link, got.initial, subst (λ (v : TalkView). HasServed l (y.responses hall) (y.outcome hall) got.link got.link v) (sym (link_by None (sym shows.link ∙ got.none))) (initial_served x l first i got.link (y.responses hall) (y.outcome hall) got.initial));
+        link =
+            let unopened = link_by None (sym shows.link ∙ got.none) in (
+              got.link,
+              got.initial,
+              subst (λ (v : TalkView). HasServed l (y.responses hall) (y.outcome hall) got.link got.link v) (sym unopened) (initial_served x l first i got.link (y.responses hall) (y.outcome hall) got.initial),
+              inl unopened,
+            );
         end = shows.end;
         closed = shows.closed;
         read = shows.read;
@@ -217,8 +259,8 @@ module _ {W L T G H : Type 0} (x : WorldWords W L) (l : LinkWords L) (y : TalkWo
   ways_all : AllByRecursion (λ (e : Event × Option (Load W L)). CarriesStanding x l first e.0.arg e.1) (ways_of y total log how parts ended)
   ways_all = ways_stand x l first hall parts.states.items (map (λ events. events.items) parts.queued.items) parts.lost.items fits
 
-  pub conn_left : (i : ℕ) (s : Served L) (trail : List Event) → slice_get ended.served.items i ≡ Some s → slice_get (map (λ t. t.items) ended.trails.items) (i + 2) ≡ Some trail → ConnLeft x l y hall first i trail s
-  conn_left i s trail at there =
+  conn_kept : (i : ℕ) (s : Served L) (trail : List Event) → slice_get ended.served.items i ≡ Some s → slice_get (map (λ t. t.items) ended.trails.items) (i + 2) ≡ Some trail → ConnKept x l y hall first i trail s
+  conn_kept i s trail at there =
       let handed = served_given x l first i (ways_of y total log how parts ended) is.found s ways_all (ap (λ (all : List (Served L)). slice_get all i) (sym is.served) ∙ at) in
       let within = slice_get_within is.found i handed.before handed.there in
       let shown = is.shows.many in
@@ -230,6 +272,30 @@ module _ {W L T G H : Type 0} (x : WorldWords W L) (l : LinkWords L) (y : TalkWo
       let trail_same : talker.0.place.trail ≡ trail = (let back = from_map (λ (p : PlaceState H W T). p.trail) parts.states.items (i + 2) trail (ap (λ (all : List (List Event)). slice_get all (i + 2)) (sym is.trails) ∙ there) in
       let same : back.0 ≡ talker.0.place = same_Some back.0 talker.0.place (sym back.1 ∙ from.there) in ap (λ (p : PlaceState H W T). p.trail) (sym same) ∙ back.2) in
       left_of x l y hall first i trail talker.0.place talker.0.seat handed.before s shows stands.colour (fits.of_hall (i + 2) talker.0.place from.there) (of_world (i + 2) talker.0.place from.there) trail_same serves handed.given
+
+  -- and of this what is left by its view alone
+  pub conn_left : (i : ℕ) (s : Served L) (trail : List Event) → slice_get ended.served.items i ≡ Some s → slice_get (map (λ t. t.items) ended.trails.items) (i + 2) ≡ Some trail → ConnLeft x l y hall first i trail s
+  conn_left i s trail at there =
+      let kept = conn_kept i s trail at there in
+      let colour = kept.colour in
+      let conn_is : conn_of kept.place.colour ≡ i = omega (arith, colour) in
+      record {
+        view = y.view_of kept.seat.talk;
+        link = kept.link;
+        end = kept.end;
+        closed = kept.closed;
+        read = kept.read;
+        few_read = kept.few_read;
+        written = kept.written;
+        few_written = kept.few_written;
+        answered = kept.answered;
+        trailed = λ none.
+            let ran = kept.serves.trailed (sym kept.stray ∙ none) in (
+              ran.0,
+              sym kept.over.2 ∙ ran.1 ∙ ap (λ (n : ℕ). map (event_for n) ran.0) conn_is,
+              began_of x l y hall first i kept.place kept.seat conn_is kept.over.0 kept.over.1 ran.0 ran.2,
+            );
+      }
 
   -- a connection over a script followed it, where nothing is due on it once it has its end
   pub conn_follows : ended.served.items ≡ is.found → (i : ℕ) → ((place : PlaceState H W T) (seat : Seat T) → slice_get parts.states.items (i + 2) ≡ Some place → place.role ≡ Talking seat → (y.view_of seat.talk).pending ≡ next.Nothing → IsSome (y.view_of seat.talk).end → due (y.view_of seat.talk) ≡ None)
@@ -312,7 +378,7 @@ module _ {W L T G H : Type 0} (x : WorldWords W L) (l : LinkWords L) (y : TalkWo
   )
 
   -- what a connection that was served to its end has given
-  ended_lines : (i : ℕ) (s : Served L) (trail : List Event) (left : ConnLeft x l y hall first i trail s) → IsSome s.end → (coming : List Coming) (one : Coming) → (x.tells first).coming ≡ Some coming → slice_get coming i ≡ Some one → (o : Option L) → y.link_of left.seat.talk ≡ o → LinesOf (y.log hall i (input_of (initial_contents one))) (y.view_of left.seat.talk)
+  ended_lines : (i : ℕ) (s : Served L) (trail : List Event) (left : ConnKept x l y hall first i trail s) → IsSome s.end → (coming : List Coming) (one : Coming) → (x.tells first).coming ≡ Some coming → slice_get coming i ≡ Some one → (o : Option L) → y.link_of left.seat.talk ≡ o → LinesOf (y.log hall i (input_of (initial_contents one))) (y.view_of left.seat.talk)
   ended_lines i s trail left end coming one known at None none =
       let initial : y.view_of left.seat.talk ≡ unopened_view = subst (λ (o : Option L). ServedBy x l y left.place left.seat o) none left.serves.served in
       let shut = left.closed.0 end in
@@ -335,7 +401,7 @@ module _ {W L T G H : Type 0} (x : WorldWords W L) (l : LinkWords L) (y : TalkWo
       let within = slice_get_within ended.served.items i s there in
       let count : length (map (λ t. t.items) ended.trails.items) ≡ colours_over total log = ap length is.trails ∙ length-map parts.states.items (λ (p : PlaceState H W T). p.trail) ∙ many in
       let trail = get_there (map (λ t. t.items) ended.trails.items) (i + 2) (omega (arith, within, served_many, count)) in
-      let left = conn_left i s trail.0 there trail.1 in
+      let left = conn_kept i s trail.0 there trail.1 in
       let end : IsSome s.end = has_end (is_none s.link) s.end (is_some s.stray) (no_lack (is_lacking s) (is_out_of_turn (lines_kept log ended.log.items) i s) whole) in
       let given = ended_lines i s trail.0 left end coming one known at (y.link_of left.seat.talk) refl in
       let turns = in_turn s.answered i s on (no_turn (is_lacking s) (is_out_of_turn (lines_kept log ended.log.items) i s) whole) in

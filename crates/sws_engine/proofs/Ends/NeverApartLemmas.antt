@@ -208,7 +208,6 @@ module _ {W L T G H : Type 0} (x : WorldWords W L) (l : LinkWords L) (y : TalkWo
   unfolding run_left
   has_run = record {
     left = run_left x l y shape setup hall first log how parts ended rules colours ran.kept fits is tell;
-    ran = ran;
     follows = λ same coming one script i s trail known at answers there run_of.
         let told = told_as verdict.Ok same in
         let run = whole_is how parts.lost.items told.0.ran in

@@ -60,10 +60,8 @@ module _ {W L T G H : Type 0} (x : WorldWords W L) (l : LinkWords L) (y : TalkWo
     setup = setup;
     rules = rules;
     colours = colours;
-    how = how;
-    parts = parts;
-    concluded = is;
-    fits = fits;
+    whole = is_whole how parts.lost.items;
+    judged = is.verdict;
     legal = subst (λ (l : List (List Entry)). AreLegal setup l) (sym histories_are) kept.legal;
     shards = ap length histories_are ∙ kept.shards ∙ ap (λ (r : Rules). r.shape.shards) rules;
     drained = λ isnt shard history at.

@@ -44,8 +44,9 @@ use Rattle.sws_engine.specs.Handing.{served_with_loads}
 use Rattle.sws_engine.specs.Conclusion.{is_whole, ways_of, IsConcluded}
 use Rattle.sws_engine.specs.PartsKept.{PartsKept}
 use Rattle.sws_engine.specs.ThreadsLeave.{HasRunThreads}
-use Rattle.sws_engine.proofs.Ends.RunLeftLemmas.{told_as, run_left}
-use Rattle.sws_engine.proofs.Ends.ConcludedLemmas.{whole_is, served_many, conn_follows}
+use Rattle.sws_engine.specs.CrewLeaves.{HandlersRan, HasRunCrew}
+use Rattle.sws_engine.proofs.Ends.RunLeftLemmas.{told_as, histories_are, run_left}
+use Rattle.sws_engine.proofs.Ends.ConcludedLemmas.{whole_is, judged, served_many, conn_follows}
 
 -- what a state keeps says which role it has
 module _ {W L T G H : Type 0} (x : WorldWords W L) (l : LinkWords L) (y : TalkWords T L G H) where
@@ -114,14 +115,13 @@ module _ {W L T G H : Type 0} (x : WorldWords W L) (l : LinkWords L) (y : TalkWo
   abbrev total : ℕ
   total = (x.tells first).total
 
-  told_well : ended.verdict ≡ verdict.Ok → VerdictIs (lines_kept log ended.log.items) ended.served.items (is_whole how parts.lost.items) total (is_some ended.world) ended.accepted ended.failed verdict.Ok
+  pub told_well : ended.verdict ≡ verdict.Ok → VerdictIs (lines_kept log ended.log.items) ended.served.items (is_whole how parts.lost.items) total (is_some ended.world) ended.accepted ended.failed verdict.Ok
   told_well same = told_as x l y shape setup hall first log how parts ended rules colours kept fits is tell verdict.Ok same
 
-  pub has_run_threads : HasRunThreads x l y shape hall first log ended
+  unfoldable pub has_run_threads : HasRunThreads x l y shape hall first log ended
   unfolding run_left
   has_run_threads = record {
     left = run_left x l y shape setup hall first log how parts ended rules colours kept fits is tell;
-    kept = kept;
     follows = λ same coming one script i s trail known at answers there run_of.
         let told = told_well same in
         let run = whole_is how parts.lost.items told.0.ran in
@@ -133,4 +133,16 @@ module _ {W L T G H : Type 0} (x : WorldWords W L) (l : LinkWords L) (y : TalkWo
         conn_follows x l y hall first log how parts ended kept.many kept.placed kept.of_world fits is tell served_are i
         (λ place seat at talks nothing some. ap (λ (w : Bool). due_after (reported_by w (y.view_of seat.talk).pending)) (unkept seat.talk some) ∙ ap (λ (n : Next). due_after (reported_by false n)) nothing)
         coming one script s trail known at answers there run_of (whole i s under there) (told.0.enough i s there);
+  }
+
+  -- and what its handlers have done
+  pub has_run_crew : HandlersRan x l y hall first log setup (map (λ history. history.items) parts.histories.items) parts.lost.items → HasRunCrew x l y shape hall first log ended
+  unfolding has_run_threads run_left
+  has_run_crew handled = record {
+    run = has_run_threads;
+    lost = parts.lost.items;
+    handled = subst (λ (all : List (List Entry)). HandlersRan x l y hall first log setup all parts.lost.items) (sym (histories_are x l y shape setup hall first log how parts ended rules colours kept fits is tell)) handled;
+    none_lost = λ isnt.
+        let whole = judged (lines_kept log ended.log.items) ended.served.items (is_whole how parts.lost.items) (is_some ended.world) ended.failed total ended.accepted ended.verdict isnt is.verdict in
+        (whole_is how parts.lost.items whole.ran).1;
   }

@@ -1,7 +1,10 @@
 use Rattle.sws_engine.specs.Counting.{bit}
-use Rattle.std.proofs.Common.{◌∙◌, sym, ap, refl, arith}
+use Rattle.std.proofs.Common.{◌∙◌, sym, ap, refl, subst, arith}
+use Rattle.mely_event.specs.declared.event.Event.{Event}
+use Rattle.mely_fleet.specs.Crew.{IsRegistered}
 use Rattle.mely_weave.proofs.Wholes.GatherLemmas.{get_there}
 use Rattle.sws_engine.specs.declared.place.Frame.{Frame}
+use Rattle.sws_engine.proofs.Ends.HandledLemmas.{accounted_by}
 use Rattle.sws_engine.proofs.Runs.BeginLemmas.{are_first, first_fits_in}
 use Rattle.sws_engine.proofs.threads.run_places.Goals as goal
 
@@ -39,3 +42,9 @@ returns-in-Ok-clause-of_hall g c = λ hall first.
     let state = get_there c.args.states.now.items 0 (omega (arith, many)) in
     let made = first.each 0 state.0 state.1 in
     ap (λ (f : Frame _ _). f.hall) (c.in-Ok.ensures.framed state.0 state.1) ∙ made.hall_is
+
+pub returns-in-Ok-clause-begun : goal.returns-in-Ok-clause-begun
+returns-in-Ok-clause-begun g c = subst (λ (event : Event). IsRegistered (record { 0 = 0 }) event c.in-Ok.ran.0) c.first_event.ensures c.in-Ok.ensures.begun
+
+pub returns-in-Ok-clause-accounted : goal.returns-in-Ok-clause-accounted
+returns-in-Ok-clause-accounted g c = accounted_by _ _ _ _ _ _ _ _ _ _ c.new-app.result _ _ c.in-Ok.ensures.accounted c.first_event.ensures c.new-app.ensures.total c.new-app.ensures.log

@@ -1,6 +1,7 @@
 use Rattle.std.proofs.Common.{subst, refl}
 use Rattle.mely_weave.specs.Dealing.{AtEach}
 use Rattle.sws_engine.specs.Invariant.{IsConsistent}
+use Rattle.sws_engine.proofs.Ends.HandledLemmas.{handlers_ran}
 use Rattle.sws_engine.proofs.Ends.ThreadLemmas.{parts_kept}
 use Rattle.sws_engine.proofs.Ends.PartedLemmas.{as_many_histories, run_fits}
 use Rattle.sws_engine.proofs.threads.run_threads.Goals as goal
@@ -22,3 +23,11 @@ returns-clause-fits g c =
     let apart = c.the_parts_are_what_the_weave_had.ensures c.in_ok-weave.weave _ _ _ _ stands.keeps stands.parts ran.rests.free parts.histories parts.states parts.queued parts.lost in
     let fit = c.what_is_left_in_the_parts_fits.ensures c.in_ok-weave.weave _ _ stands.parts parts.queued parts.lost in
     run_fits g.W.World g.W.Link.Link _ _ c.args.world _ c.in_ok-weave.weave _ _ _ _ apart fit ran.of_world (ran.of_hall _ c.in-Ok.ensures) (λ s. refl) (λ frame k event carried is. is.0)
+
+pub returns-clause-handled : goal.returns-clause-handled
+returns-clause-handled g c =
+    let parts = c.into_parts-parts.ensures in
+    let ran = c.in_ok-weave.ensures in
+    handlers_ran g.W.World g.W.Link.Link g.T.Talk _ _ _ _ _ c.args.setup.now _ c.args.world c.args.log c.total-total.result c.in_ok-weave.weave _ _ ran.accounted ran.begun c.total-total.ensures
+    ran.rests.of_setup c.requires.colours (ran.of_hall _ c.in-Ok.ensures) ran.of_world parts.histories ran.rests.free parts.lost
+    (λ s. refl) (λ s. refl) (λ s. refl) (λ frame k event carried is. is) (λ app s event carried after puts is. is)

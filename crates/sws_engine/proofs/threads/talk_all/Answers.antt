@@ -2,7 +2,7 @@ use Rattle.std.proofs.Common.{ap, ◌∙◌, subst, inr, arith}
 use Rattle.mely_event.specs.HandlerTable.{rows_of}
 use Rattle.sws_engine.specs.Conclusion.{IsConcluded}
 use Rattle.sws_engine.proofs.Ends.AloneLemmas.{steps_leave_threads}
-use Rattle.sws_engine.proofs.Ends.ThreadLemmas.{has_run_threads}
+use Rattle.sws_engine.proofs.Ends.ThreadLemmas.{has_run_crew, has_run_threads}
 use Rattle.sws_engine.proofs.Ends.ConcludedLemmas.{rules_are}
 use Rattle.sws_engine.proofs.Ends.SeatsOfRunLemmas.{seats_stand, below_bit}
 use Rattle.sws_engine.proofs.threads.talk_all.Goals as goal
@@ -32,3 +32,16 @@ returns-in-Ok-run_threads-clause-leaves g c =
     let count = setup.colours in
     inr (has_run_threads g.W.World g.W.Link.Link g.T.Talk c.args.shape.now c.in-Ok-new.setup _ c.args.world c.args.log c.in-Ok-run_threads.drained c.in-Ok-run_threads.parts c.conclude.result (rules_are c.in-Ok-new.setup c.args.shape.now setup.shape (ap (λ handlers. rows_of handlers) setup.handlers ∙ c.handler_table.ensures.rows) setup.pinned) (omega (arith, count, from, made, same)) c.in-Ok-run_threads.ensures.kept c.in-Ok-run_threads.ensures.fits
     (subst (λ n. IsConcluded g.T.Talk n c.args.log c.in-Ok-run_threads.drained c.in-Ok-run_threads.parts c.conclude.result) same c.conclude.ensures.concluded) c.conclude.ensures.tell c.ended_is_unkept.ensures)
+
+pub returns-then-shape-eq1-clause-crew : goal.returns-then-shape-eq1-clause-crew
+returns-then-shape-eq1-clause-crew g c = λ several. absurd (several c.if-shape-eq1.true)
+
+pub returns-in-Ok-run_threads-clause-crew : goal.returns-in-Ok-run_threads-clause-crew
+returns-in-Ok-run_threads-clause-crew g c = λ several.
+    let same = c.total-total.ensures in
+    let setup = c.in-Ok-new.ensures in
+    let from = c.from.ensures in
+    let made = c.colour_count-colours.ensures in
+    let count = setup.colours in
+    inr (has_run_crew g.W.World g.W.Link.Link g.T.Talk c.args.shape.now c.in-Ok-new.setup _ c.args.world c.args.log c.in-Ok-run_threads.drained c.in-Ok-run_threads.parts c.conclude.result (rules_are c.in-Ok-new.setup c.args.shape.now setup.shape (ap (λ handlers. rows_of handlers) setup.handlers ∙ c.handler_table.ensures.rows) setup.pinned) (omega (arith, count, from, made, same)) c.in-Ok-run_threads.ensures.kept c.in-Ok-run_threads.ensures.fits
+    (subst (λ n. IsConcluded g.T.Talk n c.args.log c.in-Ok-run_threads.drained c.in-Ok-run_threads.parts c.conclude.result) same c.conclude.ensures.concluded) c.conclude.ensures.tell c.ended_is_unkept.ensures c.in-Ok-run_threads.ensures.handled)
