@@ -1,24 +1,36 @@
 //! Who keeps a lane of `swsd` going.
 ghost use Rattle.std.specs.Arc.{arc_value};
-ghost use Rattle.std.specs.Prelude.{None};
+ghost use Rattle.std.specs.Prelude.{◌≤◌, None};
+ghost use Rattle.sws_daemon.specs.Causes.{status_by};
 
-use crate::saying::{GenerationLine, Voice, cause_of};
+use crate::cause::{Cause, cause_of};
+use crate::saying::{GenerationLine, Voice};
 use crate::shelf::Shelf;
 use std::alloc::AllocError;
 use std::rt::Clock;
-use std::sync::atomic::{AtomicU64, Ordering};
-use std::sync::{Arc, Mutex, Wait};
+use std::sync::atomic::{AtomicBool, AtomicU64, Ordering};
+use std::sync::{Arc, Wait};
 use std::thread;
 use std::time::{Duration, Instant};
 use sws_engine::Verdict;
 use sws_lane::{Keeper, Told};
 use sws_link::Opened;
-use sws_log::{LogLine, write_log};
-use sws_net::{Entrance, LaneWorld, Output, StdSink};
+use sws_net::{Entrance, LaneWorld};
 use sws_site::Site;
 
-/// After how many generations in a row that failed, with nothing served, a lane ends.
+/// After how many generations in a row that failed a lane is counted as one that can't serve.
 const MOST_FAILURES: u32 = 10;
+
+/// For how many milliseconds a lane rests after a failure, and after many in a row.
+const SHORTEST_REST: u64 = 100;
+
+const LONGEST_REST: u64 = 3200;
+
+/// In how many milliseconds a lane that rests looks again whether it is to stop.
+const TICK: u64 = 100;
+
+/// The status of a program that has no fault.
+const NO_FAULT: u64 = 0;
 
 /// What all lanes share beside the door and the site.
 #[derive(Drop)]
@@ -26,22 +38,81 @@ pub struct Common {
     /// How many generations there were.
     count: AtomicU64,
 
-    /// Held by whoever writes lines of a log, so that those of two lanes don't mix.
-    pen: Mutex<()>,
+    /// How many lanes wait before the door.
+    waiting: AtomicU64,
+
+    /// How many lanes there are, and how many of them may be behind the door.
+    lanes: u64,
+    accepting: u64,
+
+    /// How many lanes have failed too often in a row.
+    failing: AtomicU64,
+
+    /// Whether a generation has ever ended well.
+    has_served: AtomicBool,
+
+    /// The status of the program, once no lane was able to serve at all.
+    fault: AtomicU64,
 }
 
 impl Common {
-    /// Before the first generation.
-    pub fn new() -> Common {
+    /// Of so many lanes, of which so many may be behind the door, before the first generation.
+    pub fn new(lanes: u16, accepting: u16) -> Common {
         Common {
             count: AtomicU64::new(0),
-            pen: Mutex::new(()),
+            waiting: AtomicU64::new(0),
+            lanes: u64::from(lanes),
+            accepting: u64::from(accepting),
+            failing: AtomicU64::new(0),
+            has_served: AtomicBool::new(false),
+            fault: AtomicU64::new(NO_FAULT),
         }
+    }
+
+    /// Whether those behind the door may leave it for a new site: a lane waits to take their place,
+    /// or there is none that could.
+    pub fn can_renew(&self) -> bool {
+        self.waiting.load(Ordering::SeqCst) > 0 || self.lanes <= self.accepting
+    }
+
+    /// The status of the fault by which no lane was able to serve, where it was so.
+    pub fn fault(&self) -> Option<u8> {
+        match u8::try_from(self.fault.load(Ordering::SeqCst)) {
+            Ok(0) => None,
+            Ok(status) => Some(status),
+            Err(_) => None,
+        }
+    }
+
+    /// One more lane has failed too often. True where all have, and nothing was ever served.
+    fn note_failing(&self, cause: Cause) -> bool {
+        let failing = self
+            .failing
+            .fetch_add(1, Ordering::SeqCst)
+            .saturating_add(1);
+        if failing < self.lanes || self.has_served.load(Ordering::SeqCst) {
+            return false;
+        }
+        self.fault
+            .store(u64::from(cause.status()), Ordering::SeqCst);
+        true
     }
 }
 
-/// Keeps a lane going behind a door: it waits before the door until it may enter, looks whether the
-/// folder has changed, and says how each generation ended.
+/// For how many milliseconds a lane rests after so many failures in a row: a tenth of a second
+/// after the first, twice as long after each further one, and never longer than 3.2 seconds.
+fn rest_after(failures: u32) -> u64
+    ensures { result ≤ 3200 }
+{
+    let mut rest = 0;
+    'failures: for _ in 0..failures.min(MOST_FAILURES) {
+        rest = LONGEST_REST.min(SHORTEST_REST.max(rest * 2));
+    }
+    rest
+}
+
+/// Keeps a lane going behind a door: it waits before the door until it may enter, serves the newest
+/// site, and says how each generation ended. After a failure it rests, and tries again.
 #[derive(Drop)]
 pub struct LaneKeeper<'d, T: Wait + Clock> {
     rt: &'d HostRuntime,
@@ -50,8 +121,7 @@ pub struct LaneKeeper<'d, T: Wait + Clock> {
     lane: usize,
     shelf: &'d Shelf,
     site: Arc<Site>,
-    voice: Voice<'d>,
-
+    voice: Voice<'d, T>,
     common: &'d Common,
 
     /// The number of the generation of this lane, from 1, and when it began.
@@ -60,7 +130,6 @@ pub struct LaneKeeper<'d, T: Wait + Clock> {
 
     /// How many in a row have failed.
     failures: u32,
-    fault: Option<u8>,
 }
 
 impl<'d, T: Wait + Clock> LaneKeeper<'d, T> {
@@ -75,7 +144,7 @@ impl<'d, T: Wait + Clock> LaneKeeper<'d, T> {
         entrance: Entrance<'d>,
         lane: usize,
         shelf: &'d Shelf,
-        voice: Voice<'d>,
+        voice: Voice<'d, T>,
         common: &'d Common,
     ) -> Result<Self, AllocError> {
         Ok(LaneKeeper {
@@ -90,28 +159,22 @@ impl<'d, T: Wait + Clock> LaneKeeper<'d, T> {
             number: 0,
             began: None,
             failures: 0,
-            fault: None,
         })
     }
 
-    /// The status of the fault that has ended the lane, where one has.
-    pub fn fault(&self) -> Option<u8> {
-        self.fault
-    }
-
-    /// A world for the lane in place of one that was lost; nothing where the lane is at its end. A
-    /// lane that has no memory for it is.
+    /// A world for the lane in place of one that was lost; nothing where it is told to stop. Where
+    /// there is no memory for it, the lane rests and tries again.
     pub fn new_world(&mut self) -> Option<LaneWorld<'d>> {
-        if self.fault.is_some() || self.entrance.door.is_closed() {
-            return None;
-        }
-        match LaneWorld::new(self.rt, self.entrance, self.lane) {
-            Ok(world) => Some(world),
-            Err(_) => {
-                self.fault = Some(7);
-                None
+        for _ in self.threads.forever() {
+            if !self.rest() {
+                return None;
+            }
+            match LaneWorld::new(self.rt, self.entrance, self.lane) {
+                Ok(world) => return Some(world),
+                Err(_) => self.fail(Cause::Opening),
             }
         }
+        unreachable!()
     }
 
     /// Closes the door where the stop file is there.
@@ -123,19 +186,30 @@ impl<'d, T: Wait + Clock> LaneKeeper<'d, T> {
         }
     }
 
-    /// Takes the newest site; where the folder can't be loaded anew, that is said, and the old one
-    /// stays.
-    fn renew(&mut self) {
-        match self.shelf.look(self.rt, self.threads) {
-            Ok(true) => self
-                .voice
-                .tell("the folder has changed and was loaded anew"),
-            Ok(false) => {}
-            Err(fault) => self.voice.warn_of_site(fault),
+    /// Rests as long as it is to after the last failures. False where the lane is told to stop.
+    fn rest(&self) -> bool {
+        let mut left = rest_after(self.failures);
+        for _ in self.threads.forever() {
+            self.look_for_stop();
+            if self.entrance.door.is_closed() {
+                return false;
+            }
+            if left == 0 {
+                return true;
+            }
+            let pause = left.min(TICK);
+            thread::sleep(self.rt, Duration::from_millis(pause));
+            left -= pause;
         }
-        if let Ok(site) = self.shelf.site(self.threads) {
-            self.site = site;
-        }
+        unreachable!()
+    }
+
+    /// Waits before the door until it may enter. False where the door is closed.
+    fn enter(&self) -> bool {
+        self.common.waiting.fetch_add(1, Ordering::SeqCst);
+        let is_inside = self.entrance.door.enter(self.threads, self.lane);
+        self.common.waiting.fetch_sub(1, Ordering::SeqCst);
+        is_inside
     }
 
     /// How many seconds the generation has lasted.
@@ -149,51 +223,33 @@ impl<'d, T: Wait + Clock> LaneKeeper<'d, T> {
         }
     }
 
-    /// Writes the lines of an access log to standard output, whole lines at a time.
-    fn write_lines(&self, lines: &[LogLine]) {
-        if lines.is_empty() {
-            return;
-        }
-        let Ok(output) = Output::new(self.rt.alloc(), std::io::writer(self.rt)) else {
-            self.voice.warn("no memory for the lines of the log");
-            return;
-        };
-        let mut sink = StdSink::new(&output);
-        let _pen = self.common.pen.lock(self.threads);
-        let _ = write_log(self.rt.alloc(), &mut sink, lines);
-        if !sink.finish() {
-            self.voice.warn("the lines of the log can't be written");
-        }
-    }
-
-    /// Notes a generation that has failed, for this cause; nothing that was served before it counts
-    /// any more.
-    fn fail(&mut self, told: &Told, cause: &str) {
+    /// Notes a failure, for this cause. Where all lanes have failed too often in a row and nothing
+    /// was ever served, the door is closed: the program ends with the status of this cause.
+    fn fail(&mut self, cause: Cause) {
         self.voice.warn_of_lane(self.lane, cause);
-        self.failures = if told.totals.done > 0 {
-            1
-        } else {
-            self.failures.saturating_add(1)
-        };
-        if self.failures >= MOST_FAILURES {
-            self.fault = Some(status_of(told));
+        self.failures = self.failures.saturating_add(1);
+        if self.failures == MOST_FAILURES && self.common.note_failing(cause) {
+            self.entrance.door.close();
         }
     }
-}
 
-/// The status of a program that ends with this fault: as of `sws`.
-fn status_of(told: &Told) -> u8 {
-    match told.opened {
-        Opened::Ready => {}
-        Opened::Failed => return 6,
-        Opened::Memory => return 7,
+    /// Notes a generation that has served somebody or ended well: no failure before it counts any
+    /// more.
+    fn succeed(&mut self) {
+        if self.failures >= MOST_FAILURES {
+            self.common.failing.fetch_sub(1, Ordering::SeqCst);
+        }
+        self.failures = 0;
+        self.common.has_served.store(true, Ordering::SeqCst);
     }
-    match told.verdict {
-        Some(Verdict::Memory) => 7,
-        Some(Verdict::Apart { conn: _ }) => 13,
-        Some(Verdict::World) => 6,
-        Some(Verdict::Ok) => 0,
-        None => 0,
+
+    /// Writes the lines of a generation, unless its run went wrong.
+    fn print_lines(&self, told: &Told, cause: Option<Cause>) {
+        match cause {
+            Some(Cause::Memory) => self.voice.warn_of_lines(self.lane, told.lines.len()),
+            Some(Cause::Apart) => self.voice.warn_of_lines(self.lane, told.lines.len()),
+            _ => self.voice.print_lines(&told.lines),
+        }
     }
 }
 
@@ -203,17 +259,18 @@ impl<'d, T: Wait + Clock> Keeper for LaneKeeper<'d, T> {
     ghost calls_of = { λ _. None };
 
     fn begin(&mut self) -> bool {
-        self.look_for_stop();
-        if self.fault.is_some() {
-            return false;
+        for _ in self.threads.forever() {
+            if !self.rest() || !self.enter() {
+                return false;
+            }
+            // Behind the door, so that this is the site of all that are inside.
+            if let Ok(site) = self.shelf.site(self.threads) {
+                self.site = site;
+                break;
+            }
+            self.entrance.door.leave(self.lane);
+            self.fail(Cause::Opening);
         }
-        if self.failures > 0 && !self.entrance.door.is_closed() {
-            thread::sleep(self.rt, Duration::from_secs(1));
-        }
-        if !self.entrance.door.enter(self.threads, self.lane) {
-            return false;
-        }
-        self.renew();
         self.number = self
             .common
             .count
@@ -231,11 +288,13 @@ impl<'d, T: Wait + Clock> Keeper for LaneKeeper<'d, T> {
         let is_retired = told.verdict == Some(Verdict::World)
             && !self.entrance.door.is_inside(self.lane);
         self.entrance.door.leave(self.lane);
-        self.write_lines(&told.lines);
         let cause = if is_retired { None } else { cause_of(&told) };
-        match cause {
-            Some(cause) => self.fail(&told, cause),
-            None => self.failures = 0,
+        self.print_lines(&told, cause);
+        if cause.is_none() || told.totals.done > 0 {
+            self.succeed();
+        }
+        if let Some(cause) = cause {
+            self.fail(cause);
         }
         if told.opened == Opened::Ready {
             self.voice.tell(GenerationLine {

@@ -9,19 +9,29 @@
 //! | [`read_order`] | the words, by `clap` |
 //! | [`Shelf`] | the site that generations begin with, loaded anew where the folder has changed |
 //! | [`LaneKeeper`] | keeps one lane going, and says how its generations ended |
+//! | [`Outbox`] | what is said and not yet written, so that no lane ever waits for an output |
 //! | [`serve_folder`] | all lanes, from the listener to the totals |
 //! | [`command`] | the program |
 #![tactic(auto)]
 
+mod cause;
 mod keeper;
+mod notes;
 mod order;
+mod outbox;
 mod program;
 mod saying;
 mod serving;
 mod shelf;
+mod watching;
+mod writing;
 
+pub use cause::{Cause, cause_of};
 pub use keeper::LaneKeeper;
+pub use notes::Notes;
 pub use order::{Order, WordsFault, read_order};
+pub use outbox::{Outbox, Queue};
 pub use program::command;
 pub use serving::{ServeFault, Served, serve_at, serve_folder};
 pub use shelf::{LoadFault, Shelf};
+pub use writing::write_out;

@@ -1,6 +1,8 @@
 //! The program, from its words to its status.
-use crate::order::{WordsFault, read_order};
+use crate::order::{Order, WordsFault, read_order};
+use crate::outbox::Outbox;
 use crate::serving::{Served, serve_folder};
+use crate::writing::write_out;
 use std::env;
 use std::io::ErrorKind;
 use std::process::ExitCode;
@@ -45,10 +47,36 @@ fn run<T: AllocGlobal + Threads + Wait + Sync + Clock>(rt: &HostRuntime, threads
         Ok(order) => order,
         Err(fault) => return refuse(rt, &fault),
     };
-    match serve_folder(rt, threads, order) {
-        Ok(served) => end(rt, &served),
+    let outbox = Outbox::new(rt.alloc());
+    let ((), status) = thread::join(
+        threads,
+        || write_out(threads, &outbox),
+        || {
+            let status = serve(rt, threads, order, &outbox);
+            outbox.end(threads);
+            status
+        },
+    );
+    status
+}
+
+/// Serves the folder of the order, leaves what is to be said of that in the outbox, and answers the
+/// status.
+fn serve<T: AllocGlobal + Threads + Wait + Sync + Clock>(
+    rt: &HostRuntime,
+    threads: &T,
+    order: Order,
+    outbox: &Outbox,
+) -> u8 {
+    match serve_folder(rt, threads, order, outbox) {
+        Ok(served) => end(threads, &served, outbox),
         Err(fault) => {
-            let _ = eprintln!(rt; "swsd: {fault}");
+            match format!(in outbox.alloc(); "swsd: {fault}\n") {
+                Ok(line) => {
+                    outbox.tell(threads, line.as_bytes());
+                }
+                Err(_) => outbox.lose_message(threads),
+            }
             fault.status()
         }
     }
@@ -76,13 +104,24 @@ fn refuse(rt: &HostRuntime, fault: &WordsFault) -> u8 {
     }
 }
 
-/// Writes the totals, and answers the status.
-fn end(rt: &HostRuntime, served: &Served) -> u8 {
+/// Leaves the totals for standard output, and answers the status.
+fn end<T: Wait>(threads: &T, served: &Served, outbox: &Outbox) -> u8 {
     let totals = &served.totals;
-    let _ = println!(rt;
-        "generations {} connections {} done {} idle {} fault {}",
-        totals.generations, totals.connections, totals.done, totals.idle, totals.fault
+    let text = format!(in outbox.alloc();
+        "generations {} connections {} done {} idle {} fault {}\nread {} written {}\n",
+        totals.generations,
+        totals.connections,
+        totals.done,
+        totals.idle,
+        totals.fault,
+        totals.read,
+        totals.written
     );
-    let _ = println!(rt; "read {} written {}", totals.read, totals.written);
+    match text {
+        Ok(text) => {
+            outbox.print(threads, text.as_bytes(), 2);
+        }
+        Err(_) => outbox.lose_lines(threads, 2),
+    }
     served.fault.unwrap_or(0)
 }

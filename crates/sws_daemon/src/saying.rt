@@ -1,37 +1,89 @@
 //! What the program says.
+
+use crate::cause::Cause;
+use crate::notes::Notes;
+use crate::outbox::Outbox;
 use crate::shelf::LoadFault;
-use log::sink::Console;
-use log::{LevelFilter, Log, Logged, info, warn};
+use log::kv::Source;
+use log::span::Spans;
+use log::{LevelFilter, Line, Log, Logged, Metadata, Record, info, warn};
 use std::fmt;
 use std::net::SocketAddr;
-use sws_engine::Verdict;
-use sws_lane::{Told, Totals};
-use sws_link::Opened;
+use std::sync::Wait;
+use sws_lane::Totals;
+use sws_link::{Put, SureSink};
+use sws_log::{LogLine, write_log};
 
-/// Says lines on standard error.
-#[derive(Clone, Copy, Drop)]
-pub struct Voice<'d> {
-    rt: &'d HostRuntime,
+/// Says lines, which are left in the outbox.
+#[derive(Drop)]
+pub struct Voice<'d, T: Wait> {
+    threads: &'d T,
+    outbox: &'d Outbox,
     quiet: bool,
 }
 
-impl<'d> Voice<'d> {
+/// Where the lines of a logger go.
+#[derive(Drop)]
+struct Desk<'d, T: Wait> {
+    threads: &'d T,
+    outbox: &'d Outbox,
+}
+
+impl<'d, T: Wait> Log for Desk<'d, T> {
+    fn enabled(&self, _metadata: &Metadata<'_>) -> bool {
+        true
+    }
+
+    fn log<D: fmt::Display, K: Source, S: Spans>(&self, record: &Record<'_, D, K, S>) {
+        let line = Line::new(record);
+        match format!(in self.outbox.alloc(); "{line}\n") {
+            Ok(text) => {
+                self.outbox.tell(self.threads, text.as_bytes());
+            }
+            Err(_) => self.outbox.lose_message(self.threads),
+        }
+    }
+
+    fn flush(&self) {}
+
+    fn target(&self) -> &str {
+        ""
+    }
+}
+
+impl<'d, T: Wait> Voice<'d, T> {
     /// A voice that says faults alone where it is to be quiet.
-    pub fn new(rt: &'d HostRuntime, quiet: bool) -> Voice<'d> {
-        Voice { rt, quiet }
+    pub fn new(threads: &'d T, outbox: &'d Outbox, quiet: bool) -> Voice<'d, T> {
+        Voice {
+            threads,
+            outbox,
+            quiet,
+        }
+    }
+
+    /// The same voice for somebody else.
+    pub fn again(&self) -> Voice<'d, T> {
+        Voice::new(self.threads, self.outbox, self.quiet)
+    }
+
+    fn desk(&self) -> Desk<'d, T> {
+        Desk {
+            threads: self.threads,
+            outbox: self.outbox,
+        }
     }
 
     /// Says what has gone well.
     pub fn tell<D: fmt::Display + Drop>(&self, line: D) {
         if !self.quiet {
-            let log = Logged::new(self.rt, LevelFilter::Info, Console(self.rt));
+            let log = Logged::new(self.threads, LevelFilter::Info, self.desk());
             info!(log; target: "swsd", "{line}");
         }
     }
 
     /// Says what has not.
     pub fn warn<D: fmt::Display + Drop>(&self, line: D) {
-        let log = Logged::new(self.rt, LevelFilter::Warn, Console(self.rt));
+        let log = Logged::new(self.threads, LevelFilter::Warn, self.desk());
         warn!(log; target: "swsd", "{line}");
     }
 
@@ -47,9 +99,45 @@ impl<'d> Voice<'d> {
         self.warn(format_args!("the folder has changed, and the old files stay: {fault}"));
     }
 
+    /// Says what of a folder can't be read.
+    pub fn warn_of_notes(&self, notes: &Notes) {
+        for line in notes.lines() {
+            self.warn(line.as_str());
+        }
+        let more = notes.more();
+        if more > 0 {
+            self.warn(format_args!("left out: {more} more"));
+        }
+    }
+
     /// Says why a generation of this lane has failed.
-    pub fn warn_of_lane(&self, lane: usize, cause: &str) {
+    pub fn warn_of_lane(&self, lane: usize, cause: Cause) {
         self.warn(format_args!("lane {lane}: {cause}"));
+    }
+
+    /// Leaves the lines of an access log for standard output. Those that there is no memory for are
+    /// counted as dropped.
+    pub fn print_lines(&self, lines: &[LogLine]) {
+        if lines.is_empty() {
+            return;
+        }
+        let alloc = self.outbox.alloc();
+        let count = lines.len() as u64;
+        let mut text = SureSink::new(alloc);
+        match write_log(alloc, &mut text, lines) {
+            Put::Done => {
+                self.outbox.print(self.threads, text.written(), count);
+            }
+            Put::Failed => self.outbox.lose_lines(self.threads, count),
+            Put::Memory => self.outbox.lose_lines(self.threads, count),
+        }
+    }
+
+    /// Says that the lines of a run that went wrong are not written.
+    pub fn warn_of_lines(&self, lane: usize, lines: usize) {
+        if lines > 0 {
+            self.warn(format_args!("lane {lane}: {lines} lines of its log are not written"));
+        }
     }
 }
 
@@ -72,21 +160,5 @@ impl fmt::Display for GenerationLine<'_> {
             f,
             "generation {number} lane {lane} connections {connections} done {done} idle {idle} fault {fault} read {read} written {written} seconds {seconds}"
         )
-    }
-}
-
-/// Why a generation has ended that didn't end well.
-pub fn cause_of(told: &Told) -> Option<&'static str> {
-    match told.opened {
-        Opened::Ready => {}
-        Opened::Failed => return Some("the machine has no socket for a generation"),
-        Opened::Memory => return Some("no memory for a generation"),
-    }
-    match told.verdict {
-        Some(Verdict::World) => Some("the network failed"),
-        Some(Verdict::Memory) => Some("out of memory"),
-        Some(Verdict::Apart { conn: _ }) => Some("a connection was lost"),
-        Some(Verdict::Ok) => None,
-        None => None,
     }
 }

@@ -1,10 +1,16 @@
 //! All lanes of the program, from the listener to the totals.
+ghost use Rattle.std.specs.Prelude.{◌≡◌};
 ghost use Rattle.sws_lane.specs.Terms.{AreTerms};
+ghost use Rattle.sws_daemon.specs.Orders.{terms_by};
+ghost use Rattle.sws_daemon.specs.Sums.{sum_of};
 
 use crate::keeper::{Common, LaneKeeper};
+use crate::notes::Notes;
 use crate::order::Order;
+use crate::outbox::Outbox;
 use crate::saying::Voice;
 use crate::shelf::{LoadFault, Shelf};
+use crate::watching::{Curfew, Watch};
 use mely_history::Shape;
 use std::alloc::AllocError;
 use std::net::TcpListener;
@@ -72,7 +78,7 @@ impl ServeFault {
 pub struct Served {
     pub totals: Totals,
 
-    /// The status of the fault that has ended all lanes, where it wasn't the stop file that did.
+    /// The status of the fault by which no lane was able to serve at all, where it was so.
     pub fault: Option<u8>,
 }
 
@@ -87,7 +93,8 @@ struct Job<'d, T: Wait + Clock> {
 /// How generations are served: by at least one worker, and at most as many as a run has, in the
 /// shape that serves best by so many, and with at least one connection.
 fn terms_of(order: &Order) -> Terms
-    ensures { AreTerms result }
+    ensures range { AreTerms result }
+    ensures exactly { result ≡ terms_by order.now }
 {
     let cores = order.workers.max(1).min(64);
     let is_alone = cores == 1;
@@ -130,18 +137,21 @@ pub fn serve_folder<T: AllocGlobal + Threads + Wait + Sync + Clock>(
     rt: &HostRuntime,
     threads: &T,
     order: Order,
+    outbox: &Outbox,
 ) -> Result<Served, ServeFault> {
     let listener = listen(rt, order.listen)?;
-    serve_at(rt, threads, order, &listener)
+    serve_at(rt, threads, order, &listener, outbox)
 }
 
-/// What all lanes share: the site, the door, the file that tells them to stop, and what they count.
+/// What all lanes share: the site, the door, the file that tells them to stop, what they count, and
+/// what tells the watch that they have ended.
 #[derive(Drop)]
 struct House {
     shelf: Shelf,
     door: Door,
     stop: Option<StopFile>,
     common: Common,
+    curfew: Curfew,
 }
 
 impl House {
@@ -150,15 +160,23 @@ impl House {
     /// # Errors
     ///
     /// `Load` where the folder can't be loaded, and `Memory` where an allocation was refused.
-    fn new(rt: &HostRuntime, order: Order) -> Result<House, ServeFault> {
-        let shelf = Shelf::new(rt, order.folder, order.hidden)?;
+    fn new<T: Wait>(
+        rt: &HostRuntime,
+        order: Order,
+        voice: &Voice<'_, T>,
+    ) -> Result<House, ServeFault> {
+        let mut notes = Notes::new(rt.alloc());
+        let shelf = Shelf::new(rt, order.folder, order.hidden, &mut notes);
+        voice.warn_of_notes(&notes);
+        let shelf = shelf?;
         let lanes = usize::from(order.lanes);
         let door = Door::new(rt.alloc(), lanes, usize::from(order.accepting))?;
         Ok(House {
             shelf,
             door,
             stop: order.stop_file.map(StopFile::new),
-            common: Common::new(),
+            common: Common::new(order.lanes, order.accepting),
+            curfew: Curfew::new(),
         })
     }
 
@@ -187,7 +205,7 @@ fn jobs_of<'d, T: Wait + Clock>(
     threads: &'d T,
     house: &'d House,
     entrance: Entrance<'d>,
-    voice: Voice<'d>,
+    voice: &Voice<'d, T>,
     lanes: u16,
     terms: Terms,
 ) -> Result<Vec<Job<'d, T>>, ServeFault>
@@ -202,7 +220,7 @@ fn jobs_of<'d, T: Wait + Clock>(
             entrance,
             number,
             &house.shelf,
-            voice,
+            voice.again(),
             &house.common,
         )?;
         let lane = Lane::new(LaneWorld::new(rt, entrance, number)?, keeper);
@@ -213,13 +231,37 @@ fn jobs_of<'d, T: Wait + Clock>(
     Ok(jobs)
 }
 
-/// Runs all lanes, each in a thread of its own, until all have ended.
-fn run_jobs<T: AllocGlobal + Threads + Wait + Sync + Clock>(threads: &T, jobs: &mut [Job<'_, T>]) {
+/// Runs all lanes, each in a thread of its own, until all have ended, and tells the watch then.
+fn run_jobs<T: AllocGlobal + Threads + Wait + Sync + Clock>(
+    threads: &T,
+    curfew: &Curfew,
+    jobs: &mut [Job<'_, T>],
+) {
     let count = jobs.len().max(1);
     thread::for_each_mut(threads, jobs, count, &|_, job| serve_lane(threads, job));
+    curfew.ring(threads);
 }
 
-/// Serves the folder of the order at this listener.
+/// Runs all lanes, while a thread of its own looks whether the folder has changed.
+fn run_house<'d, T: AllocGlobal + Threads + Wait + Sync + Clock>(
+    rt: &'d HostRuntime,
+    threads: &'d T,
+    house: &'d House,
+    voice: &Voice<'d, T>,
+    jobs: &mut [Job<'d, T>],
+) {
+    let stop = house.stop.as_ref();
+    let (shelf, door, common) = (&house.shelf, &house.door, &house.common);
+    let watch = Watch::new(rt, threads, shelf, door, stop, common, voice.again());
+    let curfew = &house.curfew;
+    thread::join(
+        threads,
+        || watch.keep(curfew),
+        || run_jobs(threads, curfew, jobs),
+    );
+}
+
+/// Serves the folder of the order at this listener. What is said is left in the outbox.
 ///
 /// # Errors
 ///
@@ -229,32 +271,32 @@ pub fn serve_at<'x, T: AllocGlobal + Threads + Wait + Sync + Clock>(
     threads: &'x T,
     order: Order,
     listener: &'x TcpListener,
+    outbox: &'x Outbox,
 ) -> Result<Served, ServeFault> {
     listener.set_nonblocking(true)?;
     let address = listener.local_addr()?;
     let terms = terms_of(&order);
-    let voice = Voice::new(rt, order.quiet);
+    let voice = Voice::new(threads, outbox, order.quiet);
     let (lanes, accepting) = (order.lanes, order.accepting);
     let (age, grace) = (order.age, order.grace);
-    let house = House::new(rt, order)?;
+    let house = House::new(rt, order, &voice)?;
     let entrance = house.entrance(listener, age, grace);
-    let mut jobs = jobs_of(rt, threads, &house, entrance, voice, lanes, terms)?;
+    let mut jobs = jobs_of(rt, threads, &house, entrance, &voice, lanes, terms)?;
     voice.tell_of_start(address, lanes, accepting, terms.shape.cores);
-    run_jobs(threads, jobs.as_mut_slice());
-    Ok(sum_up(&jobs, house.door.is_closed()))
+    run_house(rt, threads, &house, &voice, jobs.as_mut_slice());
+    Ok(Served {
+        totals: sum_up(&jobs),
+        fault: house.common.fault(),
+    })
 }
 
-/// What has come of all lanes. A fault counts only where nobody has said stop.
-fn sum_up<T: Wait + Clock>(jobs: &[Job<'_, T>], is_stopped: bool) -> Served {
-    let mut served = Served {
-        totals: Totals::new(),
-        fault: None,
-    };
-    for job in jobs {
-        served.totals.add(&job.lane.totals);
-        if let (Some(fault), false) = (job.lane.keeper.fault(), is_stopped) {
-            served.fault = Some(fault);
-        }
+/// What has come of all lanes.
+fn sum_up<T: Wait + Clock>(jobs: &[Job<'_, T>]) -> Totals
+    ensures { result ≡ sum_of (λ job. job.lane.totals) jobs.now }
+{
+    let mut totals = Totals::new();
+    'lanes: for job in jobs {
+        totals.add(&job.lane.totals);
     }
-    served
+    totals
 }

@@ -1,4 +1,5 @@
 //! The site that generations begin with.
+use crate::notes::Notes;
 use std::alloc::AllocError;
 use std::fmt;
 use std::sync::{Arc, Mutex, Wait};
@@ -78,46 +79,112 @@ impl LoadFault {
     }
 }
 
-/// Loads the files of a folder, those whose names begin with a dot only where these are asked for.
-fn load(rt: &HostRuntime, path: &str, hidden: bool) -> Result<Arc<Site>, LoadFault> {
-    let mut folder = FileFolder::lenient(rt, hidden);
-    match folder.open(path) {
-        Opened::Ready => {}
-        Opened::Failed => return Err(LoadFault::Folder),
-        Opened::Memory => return Err(LoadFault::Memory),
+/// What the folder looks like.
+fn mark_of(rt: &HostRuntime, path: &str, hidden: bool) -> Result<FolderMark, LoadFault> {
+    match FolderMark::of(rt, path, hidden) {
+        Ok(mark) => Ok(mark),
+        Err(_) => Err(LoadFault::Folder),
     }
-    let site = Site::load(rt.alloc(), &mut folder, None)?;
-    match Arc::new(rt.alloc(), site) {
+}
+
+/// Loads the files of a folder, those whose names begin with a dot only where these are asked for.
+/// What can't be read is noted.
+fn load(
+    rt: &HostRuntime,
+    path: &str,
+    hidden: bool,
+    notes: &mut Notes,
+) -> Result<Arc<Site>, LoadFault> {
+    *notes = Notes::new(rt.alloc());
+    let mut folder = FileFolder::lenient(rt, hidden);
+    let site = load_from(rt, path, &mut folder);
+    notes.take(&folder);
+    match Arc::new(rt.alloc(), site?) {
         Ok(site) => Ok(site),
         Err(_) => Err(LoadFault::Memory),
     }
 }
 
+/// Opens the folder, and loads its files.
+fn load_from(rt: &HostRuntime, path: &str, folder: &mut FileFolder<'_>) -> Result<Site, LoadFault> {
+    match folder.open(path) {
+        Opened::Ready => Ok(Site::load(rt.alloc(), folder, None)?),
+        Opened::Failed => Err(LoadFault::Folder),
+        Opened::Memory => Err(LoadFault::Memory),
+    }
+}
+
+/// How often a folder may change while it is loaded, before it is taken as it is.
+const LOADS: u32 = 3;
+
+/// How many looks go by before a folder that was refused, and hasn't changed since, is tried again.
+const LOOKS: u32 = 10;
+
+/// A look of the folder that was refused, why, and how often it was seen since.
+#[derive(Clone, Copy, Drop)]
+struct Refused {
+    mark: FolderMark,
+    fault: LoadFault,
+    looks: u32,
+}
+
+/// What the folder looked like when the site was loaded, and when it was refused last.
+#[derive(Drop)]
+struct Marks {
+    loaded: FolderMark,
+    refused: Option<Refused>,
+}
+
+impl Marks {
+    /// Why a folder that looks like this isn't loaded now: it was refused, not long ago.
+    fn refusal(&mut self, now: FolderMark) -> Option<LoadFault> {
+        let Some(refused) = &mut self.refused else {
+            return None;
+        };
+        if refused.mark != now || refused.looks >= LOOKS {
+            return None;
+        }
+        refused.looks = refused.looks.saturating_add(1);
+        Some(refused.fault)
+    }
+}
+
 /// The site of a folder, as it was when it was last seen to have changed.
 ///
-/// All lanes share it. One at a time looks whether the folder has changed; the others go on with
-/// the site that is there.
+/// All lanes share it. One thread looks whether the folder has changed; the others go on with the
+/// site that is there.
 #[derive(Drop)]
 pub struct Shelf {
     path: String,
     hidden: bool,
 
-    /// What the folder looked like when the site was loaded; whoever holds the lock looks anew.
-    mark: Mutex<FolderMark>,
+    /// Whoever holds the lock looks at the folder.
+    marks: Mutex<Marks>,
     site: Mutex<Arc<Site>>,
 }
 
 impl Shelf {
-    /// The site of the folder of this path, loaded now.
-    pub fn new(rt: &HostRuntime, path: String, hidden: bool) -> Result<Shelf, LoadFault> {
-        let Ok(mark) = FolderMark::of(rt, path.as_str(), hidden) else {
-            return Err(LoadFault::Folder);
+    /// The site of the folder of this path, loaded now. What can't be read is noted.
+    ///
+    /// # Errors
+    ///
+    /// The folder can't be read, or has more than a site holds, or there is no memory for it.
+    pub fn new(
+        rt: &HostRuntime,
+        path: String,
+        hidden: bool,
+        notes: &mut Notes,
+    ) -> Result<Shelf, LoadFault> {
+        let loaded = mark_of(rt, path.as_str(), hidden)?;
+        let site = load(rt, path.as_str(), hidden, notes)?;
+        let marks = Marks {
+            loaded,
+            refused: None,
         };
-        let site = load(rt, path.as_str(), hidden)?;
         Ok(Shelf {
             path,
             hidden,
-            mark: Mutex::new(mark),
+            marks: Mutex::new(marks),
             site: Mutex::new(site),
         })
     }
@@ -127,26 +194,80 @@ impl Shelf {
         Arc::try_clone(&*self.site.lock(rt))
     }
 
-    /// Looks whether the folder has changed, and loads it anew then. True where that was done;
-    /// where nobody else does it just now.
+    /// Whether the folder looks as when its site was loaded.
+    pub fn is_as_loaded(&self, rt: &HostRuntime) -> bool {
+        let Some(marks) = self.marks.try_lock() else {
+            return true;
+        };
+        match mark_of(rt, self.path.as_str(), self.hidden) {
+            Ok(now) => now == marks.loaded,
+            Err(_) => false,
+        }
+    }
+
+    /// Looks whether the folder has changed, and loads it anew then; what can't be read is noted.
+    /// True where that was done; false too where somebody else does it just now.
     ///
     /// # Errors
     ///
-    /// The folder can't be read, or there is no memory for it. The old site stays, and the folder
-    /// is tried again at the next look.
-    pub fn look<R: Wait>(&self, rt: &HostRuntime, threads: &R) -> Result<bool, LoadFault> {
-        let Some(mut mark) = self.mark.try_lock() else {
+    /// The folder can't be read, or has more than a site holds, or there is no memory for it. The
+    /// old site stays. The folder is tried again once it looks otherwise, and at the tenth look.
+    pub fn look<R: Wait>(
+        &self,
+        rt: &HostRuntime,
+        threads: &R,
+        notes: &mut Notes,
+    ) -> Result<bool, LoadFault> {
+        let Some(mut marks) = self.marks.try_lock() else {
             return Ok(false);
         };
-        let Ok(now) = FolderMark::of(rt, self.path.as_str(), self.hidden) else {
-            return Err(LoadFault::Folder);
-        };
-        if now == *mark {
+        let marks = &mut *marks;
+        let now = mark_of(rt, self.path.as_str(), self.hidden)?;
+        if now == marks.loaded {
+            marks.refused = None;
             return Ok(false);
         }
-        let site = load(rt, self.path.as_str(), self.hidden)?;
-        *self.site.lock(threads) = site;
-        *mark = now;
-        Ok(true)
+        if let Some(fault) = marks.refusal(now) {
+            return Err(fault);
+        }
+        match self.load_anew(rt, notes) {
+            Ok((mark, site)) => {
+                *self.site.lock(threads) = site;
+                *marks = Marks {
+                    loaded: mark,
+                    refused: None,
+                };
+                Ok(true)
+            }
+            Err(fault) => {
+                marks.refused = Some(Refused {
+                    mark: now,
+                    fault,
+                    looks: 0,
+                });
+                Err(fault)
+            }
+        }
+    }
+
+    /// The site that the folder has now, and what the folder looked like before it was loaded. Where
+    /// it changes meanwhile, it is loaded again, a few times at most.
+    fn load_anew(
+        &self,
+        rt: &HostRuntime,
+        notes: &mut Notes,
+    ) -> Result<(FolderMark, Arc<Site>), LoadFault> {
+        let path = self.path.as_str();
+        let mut mark = mark_of(rt, path, self.hidden)?;
+        let mut site = load(rt, path, self.hidden, notes)?;
+        for _ in 1..LOADS {
+            let now = mark_of(rt, path, self.hidden)?;
+            if now == mark {
+                break;
+            }
+            mark = now;
+            site = load(rt, path, self.hidden, notes)?;
+        }
+        Ok((mark, site))
     }
 }

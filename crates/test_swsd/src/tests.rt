@@ -1,3 +1,4 @@
 mod lanes;
+mod lines;
 mod shelves;
 mod words;

@@ -4,7 +4,7 @@ use std::io::{self, Read, Write};
 use std::net::{SocketAddr, TcpListener, TcpStream};
 use std::test::Fail;
 use std::{fs, thread};
-use sws_daemon::{Order, serve_at};
+use sws_daemon::{Order, Outbox, serve_at};
 
 /// How many clients ask.
 const CLIENTS: u64 = 40;
@@ -100,9 +100,10 @@ fn forty_clients_are_answered_over_generations_of_two(rt: HostRuntime) -> Result
     let order = order_of(&rt, "swsd_rows_site", "swsd_rows_stop", 3, 20)?;
     let listener = TcpListener::bind(&rt, order.listen)?;
     let address = listener.local_addr()?;
+    let outbox = Outbox::new(rt.alloc());
     let (served, answered) = thread::join(
         &rt,
-        || serve_at(&rt, &rt, order, &listener),
+        || serve_at(&rt, &rt, order, &listener, &outbox),
         || ask_beside_a_silent_one(&rt, address, "swsd_rows_stop"),
     );
     let Ok(served) = served else {
@@ -122,9 +123,10 @@ fn a_silent_client_is_cut_once_its_generation_has_left(rt: HostRuntime) -> Resul
     let order = order_of(&rt, "swsd_rows_cut", "swsd_rows_cut_stop", 1, 2)?;
     let listener = TcpListener::bind(&rt, order.listen)?;
     let address = listener.local_addr()?;
+    let outbox = Outbox::new(rt.alloc());
     let (served, asked) = thread::join(
         &rt,
-        || serve_at(&rt, &rt, order, &listener),
+        || serve_at(&rt, &rt, order, &listener, &outbox),
         || ask_after_a_silent_one(&rt, address, "swsd_rows_cut_stop"),
     );
     let Ok(served) = served else {

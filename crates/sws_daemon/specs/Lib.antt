@@ -1,0 +1,4 @@
+pub mod Causes
+pub mod Orders
+pub mod Queues
+pub mod Sums
