@@ -63,39 +63,43 @@ const TOO_SHORT: &str =
 const PINNED: &str =
     "shard 0 22\nreg 0 0 0 2\ntake 0 0 1\nreg 1 2 0 0\nfin 0 0 1\ntake 1 1 1\nreg 0 0 1 1\nreg 2 3 0 1\nfin 1 1 1\nsteal 0 0 1\ntake 0 0 1\ntake 2 1 1\nfin 0 0 1\nreg 2 4 0 1\nfin 2 1 1\ntake 2 1 1\nreg 2 5 0 1\nfin 2 1 1\ntake 2 1 1\nreg 2 8 0 1\nfin 2 1 1\ntake 2 1 1\nfin 2 1 1\n";
 
+/// What each core ran and stole by it.
+const CORES: [CoreReport; 2] = [
+    CoreReport {
+        ran: 2,
+        stolen_in: 0,
+        stolen_out: 1,
+    },
+    CoreReport {
+        ran: 5,
+        stolen_in: 1,
+        stolen_out: 0,
+    },
+];
+
 /// A journal of a legal and drained run is accepted, with what each core ran and stole.
 #[test]
 fn the_row_is_accepted(rt: HostRuntime) -> Result<(), Fail> {
     let mut source = SureSource::new(Vec::from_slice(rt.alloc(), ROW.as_bytes())?);
     let report = check_journal(rt.alloc(), &setup(1)?, &mut source)?;
-    assert_eq!(rt; report.entries, 22);
-    let cores = [
-        CoreReport {
-            ran: 2,
-            stolen_in: 0,
-            stolen_out: 1,
-        },
-        CoreReport {
-            ran: 5,
-            stolen_in: 1,
-            stolen_out: 0,
-        },
-    ];
-    assert_eq!(rt; report.cores.as_slice(), cores.as_slice());
+    assert!(rt; report.entries == 22);
+    assert!(rt; report.cores.as_slice() == CORES.as_slice());
     Ok(())
 }
+
+/// The row changed, and what is found of it.
+const CHANGED: [(&str, CheckFault); 4] = [
+    (NO_TAKE, CheckFault::NotLegal { line: 8 }),
+    (NO_FINISH, CheckFault::NotDrained { colour: 2 }),
+    (TOO_SHORT, CheckFault::BadJournal { line: 23 }),
+    (PINNED, CheckFault::NotLegal { line: 10 }),
+];
 
 /// The row changed is refused where it goes wrong.
 #[test]
 fn the_row_changed_is_refused(rt: HostRuntime) -> Result<(), Fail> {
-    let refused = [
-        (NO_TAKE, CheckFault::NotLegal { line: 8 }),
-        (NO_FINISH, CheckFault::NotDrained { colour: 2 }),
-        (TOO_SHORT, CheckFault::BadJournal { line: 23 }),
-        (PINNED, CheckFault::NotLegal { line: 10 }),
-    ];
-    for (text, fault) in refused {
-        assert_eq!(rt; found(rt.alloc(), 1, text)?, Err(fault), "{text:?}");
+    for &(text, fault) in &CHANGED {
+        assert!(rt; found(rt.alloc(), 1, text)? == Err(fault), "{fault}");
     }
     Ok(())
 }
@@ -123,9 +127,9 @@ const BAD: [(&str, u32); 13] = [
 /// Each goes wrong at its line, also behind an entry that isn't allowed.
 #[test]
 fn a_bad_line_is_named(rt: HostRuntime) -> Result<(), Fail> {
-    for (text, line) in BAD {
+    for &(text, line) in &BAD {
         let bad = Err(CheckFault::BadJournal { line });
-        assert_eq!(rt; found(rt.alloc(), 2, text)?, bad, "{text:?}");
+        assert!(rt; found(rt.alloc(), 2, text)? == bad, "{text:?}");
     }
     Ok(())
 }
@@ -143,9 +147,9 @@ const ILLEGAL: [(&str, u32); 5] = [
 /// The first one is named.
 #[test]
 fn an_entry_that_is_not_allowed_is_named(rt: HostRuntime) -> Result<(), Fail> {
-    for (text, line) in ILLEGAL {
+    for &(text, line) in &ILLEGAL {
         let illegal = Err(CheckFault::NotLegal { line });
-        assert_eq!(rt; found(rt.alloc(), 2, text)?, illegal, "{text:?}");
+        assert!(rt; found(rt.alloc(), 2, text)? == illegal, "{text:?}");
     }
     Ok(())
 }

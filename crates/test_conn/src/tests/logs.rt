@@ -3,29 +3,39 @@ use std::test::*;
 use sws_link::{MemSink, Put, SureSink};
 use sws_log::{Brief, LogLine, write_log};
 
-fn line(conn: u16, turn: u16, code: u16, length: u64, target: &[u8]) -> LogLine {
+/// The connection, the number of the answer, its code, its bytes and its target.
+type Row = (u16, u16, u16, u64, &'static [u8]);
+
+const ROWS: [Row; 4] = [
+    (0, 1, 200, 79, b"/"),
+    (0, 2, 200, 78, b"/a/b.txt"),
+    (3, 64, 431, 162, b"-"),
+    (1023, 1, 404, 98, b"/a b\r\n~"),
+];
+
+const TEXT: &[u8] =
+    b"log 0 1 200 79 /\nlog 0 2 200 78 /a/b.txt\nlog 3 64 431 162 -\nlog 1023 1 404 98 /a b~\\~\n";
+
+fn line(row: Row) -> LogLine {
     LogLine {
-        conn,
-        turn,
-        code,
-        length,
-        target: Brief::of(target),
+        conn: row.0,
+        turn: row.1,
+        code: row.2,
+        length: row.3,
+        target: Brief::of(row.4),
     }
 }
 
 #[test]
-fn lines_are_written_one_after_another(rt: HostRuntime) {
-    let lines = [
-        line(0, 1, 200, 79, b"/"),
-        line(0, 2, 200, 78, b"/a/b.txt"),
-        line(3, 64, 431, 162, b"-"),
-        line(1023, 1, 404, 98, b"/a b\r\n~"),
-    ];
+fn lines_are_written_one_after_another(rt: HostRuntime) -> Result<(), Fail> {
+    let mut lines = Vec::new(rt.alloc());
+    for &row in &ROWS {
+        lines.push(line(row))?;
+    }
     let mut sink = SureSink::new(rt.alloc());
     assert!(rt; write_log(rt.alloc(), &mut sink, &lines) == Put::Done);
-    let text =
-        b"log 0 1 200 79 /\nlog 0 2 200 78 /a/b.txt\nlog 3 64 431 162 -\nlog 1023 1 404 98 /a b~\\~\n";
-    assert!(rt; sink.written() == text.as_slice());
+    assert!(rt; sink.written() == TEXT);
+    Ok(())
 }
 
 #[test]
@@ -35,12 +45,19 @@ fn a_log_of_no_lines_is_empty(rt: HostRuntime) {
     assert!(rt; sink.written().is_empty());
 }
 
+/// Targets, and what is kept of each.
+const TARGETS: [(&[u8], &[u8]); 4] = [
+    (&[b'a'; 70], &[b'a'; 64]),
+    (&[b'a'; 64], &[b'a'; 64]),
+    (b"/a", b"/a"),
+    (b"", b""),
+];
+
 #[test]
 fn a_target_is_cut_behind_its_64th_byte(rt: HostRuntime) {
-    assert!(rt; Brief::of(&[b'a'; 70]).bytes() == [b'a'; 64].as_slice());
-    assert!(rt; Brief::of(&[b'a'; 64]).bytes() == [b'a'; 64].as_slice());
-    assert!(rt; Brief::of(b"/a").bytes() == b"/a".as_slice());
-    assert!(rt; Brief::of(b"").bytes().is_empty());
+    for &(target, kept) in &TARGETS {
+        assert!(rt; Brief::of(target).bytes() == kept);
+    }
     assert!(rt; Brief::of(b"/a") == Brief::of(b"/a"));
     assert!(rt; Brief::of(b"/a") != Brief::of(b"/b"));
 }
@@ -48,7 +65,7 @@ fn a_target_is_cut_behind_its_64th_byte(rt: HostRuntime) {
 #[test]
 fn a_sink_that_fails_is_told_of_a_log(rt: HostRuntime) -> Result<(), Fail> {
     let mut sink = MemSink::new(rt.alloc(), vec![in rt.alloc(); 1]?);
-    let lines = [line(0, 1, 200, 79, b"/")];
+    let lines = [line((0, 1, 200, 79, b"/"))];
     assert!(rt; write_log(rt.alloc(), &mut sink, &lines) == Put::Failed);
     assert!(rt; sink.written().is_empty());
     Ok(())

@@ -1,6 +1,6 @@
 use mely_event::{Colour, Event};
 use mely_history::Entry;
-use std::test::*;
+use std::process::Abort;
 use sws_conn::End;
 use sws_link::{MemSink, Put, SureSink};
 use sws_report::{write_conn, write_journal, write_summary};
@@ -12,154 +12,182 @@ const HELLO: &[u8] =
 const EMPTY: &[u8] =
     b"HTTP/1.1 200 OK\r\nServer: sws\r\nContent-Type: text/css\r\nContent-Length: 0\r\n\r\n";
 
+/// Connections with how they end and what they were sent, and the text that shows them.
+const THREE: [(u16, End, &[u8]); 3] = [
+    (0, End::Done, HELLO),
+    (1, End::Done, EMPTY),
+    (2, End::Done, b""),
+];
+
+const THREE_SHOWN: &[u8] =
+    b"conn 0 done 79\n| HTTP/1.1 200 OK~\n| Server: sws~\n| Content-Type: text/html~\n| Content-Length: 3~\n| ~\n| hi\\n\nconn 1 done 75\n| HTTP/1.1 200 OK~\n| Server: sws~\n| Content-Type: text/css~\n| Content-Length: 0~\n| ~\nconn 2 done 0\n";
+
 #[test]
 fn three_connections_are_shown_line_by_line(rt: HostRuntime) {
     let mut sink = SureSink::new(rt.alloc());
-    let done = write_conn(rt.alloc(), &mut sink, 0, End::Done, HELLO);
-    assert_eq!(rt; done, Put::Done);
-    let done = write_conn(rt.alloc(), &mut sink, 1, End::Done, EMPTY);
-    assert_eq!(rt; done, Put::Done);
-    let done = write_conn(rt.alloc(), &mut sink, 2, End::Done, b"");
-    assert_eq!(rt; done, Put::Done);
-    let text =
-        b"conn 0 done 79\n| HTTP/1.1 200 OK~\n| Server: sws~\n| Content-Type: text/html~\n| Content-Length: 3~\n| ~\n| hi\\n\nconn 1 done 75\n| HTTP/1.1 200 OK~\n| Server: sws~\n| Content-Type: text/css~\n| Content-Length: 0~\n| ~\nconn 2 done 0\n";
-    assert_eq!(rt; sink.written(), text.as_slice());
+    for &(number, end, written) in &THREE {
+        assert!(rt; write_conn(rt.alloc(), &mut sink, number, end, written) == Put::Done);
+    }
+    assert!(rt; sink.written() == THREE_SHOWN);
 }
+
+const CUT: [(u16, End, &[u8]); 2] = [
+    (0, End::Fault, b"HTTP/1."),
+    (7, End::Idle, b"\r\n\r\x00\n~\\\t\xff"),
+];
+
+const CUT_SHOWN: &[u8] =
+    b"conn 0 fault 7\n| HTTP/1.\nconn 7 idle 9\n| ~\n| \\r\\x00\\n\n| \\~\\\\\\t\\xff\n";
 
 #[test]
 fn a_line_that_is_cut_is_shown(rt: HostRuntime) {
     let mut sink = SureSink::new(rt.alloc());
-    let done = write_conn(rt.alloc(), &mut sink, 0, End::Fault, b"HTTP/1.");
-    assert_eq!(rt; done, Put::Done);
-    let done = write_conn(
-        rt.alloc(),
-        &mut sink,
-        7,
-        End::Idle,
-        b"\r\n\r\x00\n~\\\t\xff",
-    );
-    assert_eq!(rt; done, Put::Done);
-    let text = b"conn 0 fault 7\n| HTTP/1.\nconn 7 idle 9\n| ~\n| \\r\\x00\\n\n| \\~\\\\\\t\\xff\n";
-    assert_eq!(rt; sink.written(), text.as_slice());
-}
-
-fn reg(colour: u16, handler: u8, arg: u16, by: u16) -> Entry {
-    Entry::Reg {
-        colour: Colour(colour),
-        event: Event { handler, arg },
-        by,
+    for &(number, end, written) in &CUT {
+        assert!(rt; write_conn(rt.alloc(), &mut sink, number, end, written) == Put::Done);
     }
-}
-
-fn take(colour: u16, core: u16) -> Entry {
-    Entry::Take {
-        colour: Colour(colour),
-        core,
-        count: 1,
-    }
-}
-
-fn fin(colour: u16, core: u16) -> Entry {
-    Entry::Fin {
-        colour: Colour(colour),
-        core,
-        count: 1,
-    }
-}
-
-fn steal(colour: u16, from: u16, to: u16) -> Entry {
-    Entry::Steal {
-        colour: Colour(colour),
-        from,
-        to,
-    }
+    assert!(rt; sink.written() == CUT_SHOWN);
 }
 
 /// The journal of a connection without input that two workers serve by a schedule.
 const JOURNAL: &[u8] =
     b"shard 0 22\nreg 0 0 0 2\ntake 0 0 1\nreg 1 2 0 0\nfin 0 0 1\ntake 1 1 1\nreg 0 0 1 1\nreg 2 3 0 1\nfin 1 1 1\nsteal 2 0 1\ntake 0 0 1\ntake 2 1 1\nfin 0 0 1\nreg 2 4 0 1\nfin 2 1 1\ntake 2 1 1\nreg 2 5 0 1\nfin 2 1 1\ntake 2 1 1\nreg 2 8 0 1\nfin 2 1 1\ntake 2 1 1\nfin 2 1 1\nshard 1 0\n";
 
+/// An entry with its colour, and what stands with it.
+#[derive(Clone, Copy)]
+enum Row {
+    /// A registration of an event of this handler and argument by a core.
+    Reg(u16, u8, u16, u16),
+
+    /// A take of one event by a core, and its finish.
+    Take(u16, u16),
+    Fin(u16, u16),
+
+    /// A steal, from a core by another.
+    Steal(u16, u16, u16),
+}
+
+/// The entries of the journal's first shard.
+const ENTRIES: [Row; 22] = [
+    Row::Reg(0, 0, 0, 2),
+    Row::Take(0, 0),
+    Row::Reg(1, 2, 0, 0),
+    Row::Fin(0, 0),
+    Row::Take(1, 1),
+    Row::Reg(0, 0, 1, 1),
+    Row::Reg(2, 3, 0, 1),
+    Row::Fin(1, 1),
+    Row::Steal(2, 0, 1),
+    Row::Take(0, 0),
+    Row::Take(2, 1),
+    Row::Fin(0, 0),
+    Row::Reg(2, 4, 0, 1),
+    Row::Fin(2, 1),
+    Row::Take(2, 1),
+    Row::Reg(2, 5, 0, 1),
+    Row::Fin(2, 1),
+    Row::Take(2, 1),
+    Row::Reg(2, 8, 0, 1),
+    Row::Fin(2, 1),
+    Row::Take(2, 1),
+    Row::Fin(2, 1),
+];
+
+fn entry_of(row: Row) -> Entry {
+    match row {
+        Row::Reg(colour, handler, arg, by) => Entry::Reg {
+            colour: Colour(colour),
+            event: Event { handler, arg },
+            by,
+        },
+        Row::Take(colour, core) => Entry::Take {
+            colour: Colour(colour),
+            core,
+            count: 1,
+        },
+        Row::Fin(colour, core) => Entry::Fin {
+            colour: Colour(colour),
+            core,
+            count: 1,
+        },
+        Row::Steal(colour, from, to) => Entry::Steal {
+            colour: Colour(colour),
+            from,
+            to,
+        },
+    }
+}
+
 #[test]
 fn a_journal_has_a_line_for_each_entry(rt: HostRuntime) {
-    let entries = [
-        reg(0, 0, 0, 2),
-        take(0, 0),
-        reg(1, 2, 0, 0),
-        fin(0, 0),
-        take(1, 1),
-        reg(0, 0, 1, 1),
-        reg(2, 3, 0, 1),
-        fin(1, 1),
-        steal(2, 0, 1),
-        take(0, 0),
-        take(2, 1),
-        fin(0, 0),
-        reg(2, 4, 0, 1),
-        fin(2, 1),
-        take(2, 1),
-        reg(2, 5, 0, 1),
-        fin(2, 1),
-        take(2, 1),
-        reg(2, 8, 0, 1),
-        fin(2, 1),
-        take(2, 1),
-        fin(2, 1),
-    ];
     let mut history = Vec::new(rt.alloc());
-    for entry in entries {
-        history.push(entry).ok().expect(&rt, "memory");
+    for &row in &ENTRIES {
+        history.push(entry_of(row)).ok().expect(&rt, "memory");
     }
     let histories = [history, Vec::new(rt.alloc())];
     let mut sink = SureSink::new(rt.alloc());
-    let done = write_journal(rt.alloc(), &mut sink, &histories);
-    assert_eq!(rt; done, Put::Done);
-    assert_eq!(rt; sink.written(), JOURNAL);
+    assert!(rt; write_journal(rt.alloc(), &mut sink, &histories) == Put::Done);
+    assert!(rt; sink.written() == JOURNAL);
+}
+
+/// So many bytes of a transcript.
+fn many(rt: &(impl AllocGlobal + Abort), count: usize) -> Vec<u8> {
+    let mut bytes = Vec::new(rt.alloc());
+    for _ in 0..count {
+        bytes.push(b'a').ok().expect(rt, "memory");
+    }
+    bytes
+}
+
+/// A sink whose write of this number is to fail.
+fn failing_sink(rt: &(impl AllocGlobal + Abort), failing: u32) -> MemSink {
+    let mut calls = Vec::new(rt.alloc());
+    calls.push(failing).ok().expect(rt, "memory");
+    MemSink::new(rt.alloc(), calls)
 }
 
 #[test]
 fn a_long_transcript_is_written_in_pieces(rt: HostRuntime) {
-    let mut bytes = Vec::new(rt.alloc());
-    for _ in 0..100_000 {
-        bytes.push(b'a').ok().expect(&rt, "memory");
-    }
-    let mut failing = Vec::new(rt.alloc());
-    failing.push(2).ok().expect(&rt, "memory");
-    let mut sink = MemSink::new(rt.alloc(), failing);
-    let put = write_conn(rt.alloc(), &mut sink, 0, End::Done, &bytes);
-    assert_eq!(rt; put, Put::Failed);
-    assert!(rt; sink.written().len() >= 65_536);
-    assert!(rt; sink.written().len() < 70_000);
+    let bytes = many(&rt, 100_000);
+    let mut failing = failing_sink(&rt, 2);
+    let put = write_conn(rt.alloc(), &mut failing, 0, End::Done, &bytes);
+    assert!(rt; put == Put::Failed);
+    assert!(rt; failing.written().len() >= 65_536);
+    assert!(rt; failing.written().len() < 70_000);
     let mut sink = SureSink::new(rt.alloc());
     let put = write_conn(rt.alloc(), &mut sink, 0, End::Done, &bytes);
-    assert_eq!(rt; put, Put::Done);
+    assert!(rt; put == Put::Done);
     let line = b"conn 0 done 100000\n| ".len();
-    assert_eq!(rt; sink.written().len(), line + 100_000 + 1);
+    assert!(rt; sink.written().len() == line + 100_000 + 1);
 }
 
-#[test]
-fn a_summary_counts_the_ends(rt: HostRuntime) {
-    let mut sink = SureSink::new(rt.alloc());
-    let done = write_summary(rt.alloc(), &mut sink, &[End::Done], 33, 142);
-    assert_eq!(rt; done, Put::Done);
-    let done = write_summary(
-        rt.alloc(),
-        &mut sink,
+/// Connections by how they end, how many bytes were read and written in all, and the text.
+const SUMMARIES: [(&[End], u64, u64, &[u8]); 2] = [
+    (
+        &[End::Done],
+        33,
+        142,
+        b"connections 1 done 1 idle 0 fault 0\nread 33 written 142\n",
+    ),
+    (
         &[End::Idle, End::Done, End::Fault, End::Done],
         0,
         7,
-    );
-    assert_eq!(rt; done, Put::Done);
-    let text =
-        b"connections 1 done 1 idle 0 fault 0\nread 33 written 142\nconnections 4 done 2 idle 1 fault 1\nread 0 written 7\n";
-    assert_eq!(rt; sink.written(), text.as_slice());
+        b"connections 4 done 2 idle 1 fault 1\nread 0 written 7\n",
+    ),
+];
+
+#[test]
+fn a_summary_counts_the_ends(rt: HostRuntime) {
+    for &(ends, read, written, text) in &SUMMARIES {
+        let mut sink = SureSink::new(rt.alloc());
+        assert!(rt; write_summary(rt.alloc(), &mut sink, ends, read, written) == Put::Done);
+        assert!(rt; sink.written() == text);
+    }
 }
 
 #[test]
 fn a_sink_that_fails_is_told(rt: HostRuntime) {
-    let mut failing = Vec::new(rt.alloc());
-    failing.push(1).ok().expect(&rt, "memory");
-    let mut sink = MemSink::new(rt.alloc(), failing);
-    let put = write_conn(rt.alloc(), &mut sink, 0, End::Done, HELLO);
-    assert_eq!(rt; put, Put::Failed);
-    assert_eq!(rt; sink.written().len(), 0);
+    let mut sink = failing_sink(&rt, 1);
+    assert!(rt; write_conn(rt.alloc(), &mut sink, 0, End::Done, HELLO) == Put::Failed);
+    assert!(rt; sink.written().is_empty());
 }

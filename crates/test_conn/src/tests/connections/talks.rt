@@ -33,15 +33,11 @@ fn talk_over<L: Link + Drop, T: Talk<L> + Drop>(
 fn a_connection_is_a_talk(rt: HostRuntime) {
     let site = three_files(&rt);
     let mut items = Vec::new(rt.alloc());
-    items
-        .push(LinkItem::Bytes(owned(&rt, GET_AND_CLOSE)))
-        .expect(&rt, "memory");
+    let sent = LinkItem::Bytes(owned(&rt, GET_AND_CLOSE));
+    items.push(sent).expect(&rt, "memory");
     let link = SureLink::new(rt.alloc(), items, None);
     let talked = talk_over::<SureLink, Conn<'_, SureLink>>(rt.alloc(), &site, link, 6);
-    assert_eq!(rt;
-        talked,
-        Ok((Some(End::Done), 46, CLOSING_ANSWER.len() as u64))
-    );
+    assert!(rt; talked == Ok((Some(End::Done), 46, CLOSING_ANSWER.len() as u64)));
 }
 
 /// A link that sends this, if anything, and fails where so many bytes were written.
@@ -80,12 +76,14 @@ fn world_of(
     MemWorld::new(links, calls)
 }
 
-/// Serves the next link of the world, if it comes: how it ended, and what it was written.
-fn serve_next(
+/// Serves the next link of the world, and says whether it comes, ends and is written so.
+fn serves_so(
     rt: &(impl AllocGlobal + Abort),
     site: &Site,
     world: &mut MemWorld,
-) -> Option<(End, Vec<u8>)>
+    end: Option<End>,
+    written: &[u8],
+) -> bool
     requires more { (mem_world_tells world.old).accepted < (mem_world_tells world.old).total }
     ensures total { (mem_world_tells world.new).total ≡ (mem_world_tells world.old).total }
     ensures counted { (mem_world_tells world.new).accepted
@@ -93,47 +91,34 @@ fn serve_next(
 {
     match world.accept() {
         Accepted::Link(link) => match serve_one(rt.alloc(), site, link) {
-            Ok((link, end)) => Some((end, owned(rt, link.written()))),
+            Ok((link, ended)) => Some(ended) == end && link.written() == written,
             Err(_) => panic!(rt; "no memory"),
         },
-        Accepted::NotYet | Accepted::Failed => None,
+        Accepted::NotYet | Accepted::Failed => end == None,
     }
 }
+
+const EMPTY_ANSWER: &[u8] =
+    b"HTTP/1.1 200 OK\r\nServer: sws\r\nContent-Type: text/css\r\nContent-Length: 0\r\n\r\n";
 
 #[test]
 fn the_links_of_a_world_are_served_in_order(rt: HostRuntime) {
     let site = three_files(&rt);
-    let empty = link_of(&rt, b"GET /empty.css HTTP/1.1\r\nHost: x\r\n\r\n", None);
-    let mut world = world_of(
-        &rt,
-        link_of(&rt, GET, None),
-        empty,
-        link_of(&rt, b"", None),
-        9,
-    );
-    let first = serve_next(&rt, &site, &mut world);
-    assert_eq!(rt; first, Some((End::Done, owned(&rt, ANSWER))));
-    let second = serve_next(&rt, &site, &mut world);
-    let no_bytes =
-        b"HTTP/1.1 200 OK\r\nServer: sws\r\nContent-Type: text/css\r\nContent-Length: 0\r\n\r\n";
-    assert_eq!(rt; second, Some((End::Done, owned(&rt, no_bytes))));
-    let third = serve_next(&rt, &site, &mut world);
-    assert_eq!(rt; third, Some((End::Done, owned(&rt, b""))));
+    let one = link_of(&rt, GET, None);
+    let two = link_of(&rt, b"GET /empty.css HTTP/1.1\r\nHost: x\r\n\r\n", None);
+    let mut world = world_of(&rt, one, two, link_of(&rt, b"", None), 9);
+    assert!(rt; serves_so(&rt, &site, &mut world, Some(End::Done), ANSWER));
+    assert!(rt; serves_so(&rt, &site, &mut world, Some(End::Done), EMPTY_ANSWER));
+    assert!(rt; serves_so(&rt, &site, &mut world, Some(End::Done), b""));
 }
 
 #[test]
 fn a_link_that_is_cut_leaves_the_next_one_whole(rt: HostRuntime) {
     let site = three_files(&rt);
-    let mut world = world_of(
-        &rt,
-        link_of(&rt, GET, Some(7)),
-        link_of(&rt, GET, None),
-        link_of(&rt, b"", None),
-        2,
-    );
-    let cut = serve_next(&rt, &site, &mut world);
-    assert_eq!(rt; cut, Some((End::Fault, owned(&rt, b"HTTP/1."))));
-    assert!(rt; serve_next(&rt, &site, &mut world).is_none());
-    let next = serve_next(&rt, &site, &mut world);
-    assert_eq!(rt; next, Some((End::Done, owned(&rt, ANSWER))));
+    let one = link_of(&rt, GET, Some(7));
+    let two = link_of(&rt, GET, None);
+    let mut world = world_of(&rt, one, two, link_of(&rt, b"", None), 2);
+    assert!(rt; serves_so(&rt, &site, &mut world, Some(End::Fault), b"HTTP/1."));
+    assert!(rt; serves_so(&rt, &site, &mut world, None, b""));
+    assert!(rt; serves_so(&rt, &site, &mut world, Some(End::Done), ANSWER));
 }
