@@ -1,11 +1,12 @@
 #!/usr/bin/env python3
-"""explore.py FOLDER [--seconds N] [--bound N] [WORD]: runs the crews of crews.txt by FOLDER/explore, which build.py makes.
+"""explore.py FOLDER [--seconds N] [--bound N] [--gate] [WORD]: runs the crews of crews.txt by FOLDER/explore, which build.py makes.
 explore.py --wrong FOLDER REAL [WORD]: looks whether the wrong bodies are found, by what build.py made with --wrong in
 FOLDER and with --wrong --real in REAL.
 
 Each crew gets so many seconds of a processor (10), or those whose name has the word. A crew is explored depth first with at
 most so many preemptions (2), or, where it says `--pct`, by drawn priorities, with 3, 4 and 5 of them in turn. A line is
-printed for each, and the schedule of what was found. The status is 0 where nothing was.
+printed for each, and the schedule of what was found. With `--gate` it is the crews that say so. The status is 0 where nothing
+was found.
 """
 import os
 import re
@@ -73,7 +74,7 @@ def wrong_bodies(folder, real, only, seconds):
         crew, bound = rest
         flags, words = known[crew]
         program = f"{real if crew == 'turns' else folder}/explore"
-        way = [it for it in flags if it != "--pct"] + [f"--wrong={number}"]
+        way = [it for it in flags if it not in ("--pct", "--gate")] + [f"--wrong={number}"]
         way += ["--pct=3" if bound == "pct" else f"--bound={bound}"]
         total, found, said, _ = explore(program, way, words, seconds)
         right = found.get(verdict)
@@ -89,11 +90,13 @@ def wrong_bodies(folder, real, only, seconds):
 
 def main():
     given = sys.argv[1:]
-    seconds, bound, wrong, left = 10, 2, False, []
+    seconds, gate, bound, wrong, left = 10, False, 2, False, []
     while given:
         word = given.pop(0)
         if word == "--seconds":
             seconds = float(given.pop(0))
+        elif word == "--gate":
+            gate = True
         elif word == "--bound":
             bound = int(given.pop(0))
         elif word == "--wrong":
@@ -107,8 +110,9 @@ def main():
     program, only = f"{left[0]}/explore", left[1] if len(left) > 1 else ""
     faults, all_runs = 0, 0
     for name, flags, words in crews():
-        if only not in name or name == "turns":
+        if only not in name or name == "turns" or gate and "--gate" not in flags:
             continue
+        flags = [it for it in flags if it != "--gate"]
         for way in ways(flags, bound):
             total, found, said, whole = explore(program, way, words, seconds / 3 if "--pct" in flags else seconds)
             wrong = {it: count for it, count in found.items() if it not in ("fine", "late", "cut")}
