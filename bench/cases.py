@@ -1,0 +1,203 @@
+#!/usr/bin/env python3
+"""Whether a test case is gone since a commit: what the tests of each crate check, then and now.
+
+    bench/cases.py COMMIT [CRATE..] [--fewer]
+
+Tests may be put into another form, as a table in place of a function a case; no case may be lost by it. So it reads the test code of
+each crate (these crates alone, where some are named) as it was at the commit and as it is, and prints by crate
+
+    tests     how many #[test] functions there are
+    rows      how many elements the lists in the code have, as the rows of a table or the calls of a script
+    asserts   how many assertions, each a case or made for each row of a table
+
+and then whatever stood in the code then and stands nowhere in it now:
+
+    text      a string, or a string of bytes
+    number    a number, whatever its form and its type (1_000 and 1000u16 are the same)
+    variant   a name of a type with a variant or a constant of it, as Got::End
+    constant  a name in capitals that is used
+    call      a function or a method that is called, but for those of the test code itself
+
+With --fewer also what still stands there, but less often. What it prints as gone has been dropped or is written otherwise, and whoever did
+so says which. The status is 1 where something is gone, or where rows and asserts together are fewer than they were.
+
+It wants git alone, and takes a second.
+"""
+import collections
+import os
+import re
+import subprocess
+import sys
+
+TOP = os.path.dirname(os.path.dirname(os.path.abspath(__file__)))
+KINDS = ("text", "number", "variant", "constant", "call")
+
+TOKEN = re.compile(
+    r"""(?P<comment>//[^\n]*|/\*.*?\*/)
+      | (?P<text>b?r(?P<hashes>\#*)".*?"(?P=hashes)|b?"(?:[^"\\]|\\.)*")
+      | (?P<char>b?'(?:[^'\\\n]|\\(?:x[0-9a-fA-F]{2}|u\{[^}]*\}|.))')
+      | (?P<lifetime>'\w+)
+      | (?P<number>[0-9][0-9a-zA-Z_]*(?:\.[0-9][0-9a-zA-Z_]*)?)
+      | (?P<name>\w+)
+      | (?P<sign>::|[^\s\w])""",
+    re.S | re.X,
+)
+OPENS, CLOSES = ("[", "(", "{"), ("]", ")", "}")
+LENGTH = re.compile(r":\s*&?(?:'static )?\[[^=]*?;\s*[0-9_]+\]\s*=")
+CLAUSE = re.compile(r"\b(?:requires|ensures|ghost(?: \w+)?(?: =)?|ghost use [^{};]*)\*?(?: [\w-]+)? \{(?:[^{}]|\{[^{}]*\})*\}")
+IMPORT = re.compile(r"^\s*(?:ghost |pub(?:\([a-z]+\))? )*use [^;]*;", re.M)
+ASSERT = re.compile(r"\b(?:assert|assert_eq|assert_ne|panic)!\(|\brt\.panic\(")
+NO_NAME = {"if", "match", "while", "for", "in", "return", "let", "fn", "mut", "ref", "else", "move", "Some", "Ok", "Err", "None"}
+
+
+def is_test_code(path):
+    parts = path.split("/")
+    return len(parts) > 3 and parts[2] == "src" and path.endswith(".rt") and (parts[1].startswith("test_") or "/tests" in path)
+
+
+def tokens_of(text):
+    """The tokens of the code without comments, imports, clauses and lengths of lists, each with its kind."""
+    bare = LENGTH.sub(" =", CLAUSE.sub(" ", IMPORT.sub(" ", text)))
+    return [(it.lastgroup if it.lastgroup != "hashes" else "text", it.group()) for it in TOKEN.finditer(bare) if it.lastgroup != "comment"]
+
+
+def plain_number(number):
+    bare = re.sub(r"(?:[iu](?:8|16|32|64|128|size))$", "", number.replace("_", ""))
+    try:
+        return str(int(bare, 0))
+    except ValueError:
+        return bare
+
+
+def plain_text(text):
+    return re.sub(r"\\\n\s*", "", text.removeprefix("b"))
+
+
+def elements_from(tokens, start):
+    """How many elements the list has whose bracket stands there; 0 for a type, and for a value so many times."""
+    depth, elements, filled = 0, 0, False
+    for kind, token in tokens[start:]:
+        sign = token if kind == "sign" else ""
+        depth += (sign in OPENS) - (sign in CLOSES)
+        if depth == 0:
+            break
+        if depth == 1 and sign == ";":
+            return 0
+        if depth == 1 and sign == ",":
+            elements, filled = elements + 1, False
+        elif not (depth == 1 and sign == "["):
+            filled = True
+    return elements + filled
+
+
+def rows_in(tokens):
+    """How many elements the lists have that have more than one, those within others too."""
+    rows = 0
+    for at, (kind, token) in enumerate(tokens):
+        before = tokens[at - 1] if at else ("sign", ";")
+        is_index = before[0] in ("name", "text") and before[1] not in NO_NAME or before[1] in (")", "]", "?")
+        if token == "[" and not is_index and before[1] not in ("#", "!"):
+            elements = elements_from(tokens, at)
+            rows += elements if elements > 1 else 0
+    return rows
+
+
+def found_in(text):
+    found = {kind: collections.Counter() for kind in KINDS}
+    tokens = tokens_of(text)
+    for at, (kind, token) in enumerate(tokens):
+        after = tokens[at + 1][1] if at + 1 < len(tokens) else ""
+        before = tokens[at - 1][1] if at else ""
+        if kind == "text":
+            found["text"][plain_text(token)] += 1
+        elif kind == "char":
+            found["text"][token] += 1
+        elif kind == "number":
+            found["number"][plain_number(token)] += 1
+        elif kind == "name" and after == "::" and token[:1].isupper() and at + 2 < len(tokens) and tokens[at + 2][1][:1].isupper():
+            found["variant"][f"{token}::{tokens[at + 2][1]}"] += 1
+        elif kind == "name" and re.fullmatch(r"[A-Z][A-Z0-9_]+", token) and before not in ("const", "static"):
+            found["constant"][token] += 1
+        elif kind == "name" and after == "(" and before != "fn" and token[:1].islower() and token not in NO_NAME:
+            found["call"][token] += 1
+    own = {tokens[at + 1][1] for at, it in enumerate(tokens[:-1]) if it[1] in ("fn", "const", "static", "mod")}
+    return found, rows_in(tokens), own, (text.count("#[test]"), len(ASSERT.findall(text)))
+
+
+class Tests:
+    """What the test code of a crate has."""
+
+    def __init__(self):
+        self.found = {kind: collections.Counter() for kind in KINDS}
+        self.tests = self.rows = self.asserts = 0
+        self.own = set()
+
+    def read(self, text):
+        found, rows, own, (tests, asserts) = found_in(text)
+        for kind in KINDS:
+            self.found[kind].update(found[kind])
+        self.rows, self.tests, self.asserts = self.rows + rows, self.tests + tests, self.asserts + asserts
+        self.own |= own
+
+
+def then(commit):
+    crates = collections.defaultdict(Tests)
+    listed = subprocess.run(["git", "ls-tree", "-r", "--name-only", commit, "crates"], cwd=TOP, capture_output=True, text=True, check=True)
+    for path in filter(is_test_code, listed.stdout.splitlines()):
+        shown = subprocess.run(["git", "show", f"{commit}:{path}"], cwd=TOP, capture_output=True, check=True)
+        crates[path.split("/")[1]].read(shown.stdout.decode())
+    return crates
+
+
+def now():
+    crates = collections.defaultdict(Tests)
+    for at, folders, names in os.walk(f"{TOP}/crates"):
+        folders[:] = [it for it in folders if it != "out"]
+        for name in names:
+            path = os.path.relpath(f"{at}/{name}", TOP)
+            if is_test_code(path):
+                with open(f"{TOP}/{path}", encoding="utf-8") as it:
+                    crates[path.split("/")[1]].read(it.read())
+    return crates
+
+
+def compared(crate, old, new, elsewhere, fewer):
+    """Prints what has become of the tests of a crate, and returns how many things are gone."""
+    gone = 0
+    print(f"{crate}: tests {old.tests} then, {new.tests} now; rows {old.rows}, {new.rows}; asserts {old.asserts}, {new.asserts}")
+    for kind in KINDS:
+        for it, count in sorted(old.found[kind].items()):
+            if kind in ("call", "constant") and it in old.own:
+                continue
+            left = new.found[kind][it]
+            if left == 0:
+                there = " (it stands in another crate)" if elsewhere[kind][it] else ""
+                print(f"    gone: {kind} {it}{there}")
+                gone += not there
+            elif fewer and left < count:
+                print(f"    fewer: {kind} {it}: {count} then, {left} now")
+    if new.rows + new.asserts < old.rows + old.asserts:
+        print("    fewer rows and asserts than there were")
+        gone += 1
+    return gone
+
+
+def main():
+    words = [it for it in sys.argv[1:] if it != "--fewer"]
+    if not words or words[0].startswith("-"):
+        print(__doc__)
+        return 2
+    before, after, gone = then(words[0]), now(), 0
+    everywhere = {kind: collections.Counter() for kind in KINDS}
+    for it in after.values():
+        for kind in KINDS:
+            everywhere[kind].update(it.found[kind])
+    for crate in sorted(set(before) | set(after)):
+        if not words[1:] or crate in words[1:]:
+            gone += compared(crate, before[crate], after[crate], everywhere, "--fewer" in sys.argv)
+    print(f"{gone} gone")
+    return 1 if gone else 0
+
+
+if __name__ == "__main__":
+    sys.exit(main())
