@@ -8,7 +8,8 @@ each crate (these crates alone, where some are named) as it was at the commit an
 
     tests     how many #[test] functions there are
     rows      how many elements the lists in the code have, as the rows of a table or the calls of a script
-    asserts   how many assertions, each a case or made for each row of a table
+    asserts   how many assertions, each of which is a case or made for each row of a table
+    values    how many strings, numbers and variants the code writes: what is given and what is to come, whatever the form
 
 and then whatever stood in the code then and stands nowhere in it now:
 
@@ -18,8 +19,9 @@ and then whatever stood in the code then and stands nowhere in it now:
     constant  a name in capitals that is used
     call      a function or a method that is called, but for those of the test code itself
 
-With --fewer also what still stands there, but less often. What it prints as gone has been dropped or is written otherwise, and whoever did
-so says which. The status is 1 where something is gone, or where rows and asserts together are fewer than they were.
+With --fewer also what still stands there, but less often. A text that now stands in pieces or within a longer one is printed as that, and
+isn't gone. What it prints as gone has been dropped or is written otherwise, and whoever did so says which. The status is 1 where something
+is gone, or where the values are fewer than they were.
 
 It wants git alone, and takes a second.
 """
@@ -43,7 +45,7 @@ TOKEN = re.compile(
     re.S | re.X,
 )
 OPENS, CLOSES = ("[", "(", "{"), ("]", ")", "}")
-LENGTH = re.compile(r":\s*&?(?:'static )?\[[^=\n]*?;\s*[0-9_]+\]\s*=")
+LENGTH = re.compile(r":\s*&?(?:'static )?\[[^={}\n]*?;\s*[0-9_]+\]\s*=")
 CLAUSE = re.compile(r"\b(?:requires|ensures|ghost(?: \w+)?(?: =)?|ghost use [^{};]*)\*?(?: [\w-]+)? \{(?:[^{}]|\{[^{}]*\})*\}")
 IMPORT = re.compile(r"^\s*(?:ghost |pub(?:\([a-z]+\))? )*use [^;]*;", re.M)
 ASSERT = re.compile(r"\b(?:assert|assert_eq|assert_ne|panic)!\(|\brt\.panic\(")
@@ -139,6 +141,9 @@ class Tests:
         self.rows, self.tests, self.asserts = self.rows + rows, self.tests + tests, self.asserts + asserts
         self.own |= own
 
+    def values(self):
+        return sum(sum(self.found[kind].values()) for kind in ("text", "number", "variant"))
+
 
 def then(commit):
     crates = collections.defaultdict(Tests)
@@ -161,23 +166,44 @@ def now():
     return crates
 
 
+def content_of(text):
+    return text[1:-1] if text.startswith('"') else ""
+
+
+def is_in_pieces(text, texts):
+    """Whether the text is some of these texts one after another, or a part of one of them."""
+    whole = content_of(text)
+    if len(whole) > 7 and any(whole in it for it in texts):
+        return True
+    pieces = [it for it in map(content_of, texts) if len(it) > 1]
+    ends = {0}
+    for at in range(len(whole)):
+        if at in ends:
+            ends |= {at + len(it) for it in pieces if whole.startswith(it, at)}
+    return len(whole) > 1 and len(whole) in ends
+
+
 def compared(crate, old, new, elsewhere, fewer):
     """Prints what has become of the tests of a crate, and returns how many things are gone."""
     gone = 0
-    print(f"{crate}: tests {old.tests} then, {new.tests} now; rows {old.rows}, {new.rows}; asserts {old.asserts}, {new.asserts}")
+    values_then, values_now = old.values(), new.values()
+    print(f"{crate}: tests {old.tests} then, {new.tests} now; rows {old.rows}, {new.rows}; ", end="")
+    print(f"asserts {old.asserts}, {new.asserts}; values {values_then}, {values_now}")
     for kind in KINDS:
         for it, count in sorted(old.found[kind].items()):
             if kind in ("call", "constant") and it in old.own:
                 continue
             left = new.found[kind][it]
-            if left == 0:
+            if left == 0 and kind == "text" and is_in_pieces(it, new.found[kind]):
+                print(f"    in pieces: {it}")
+            elif left == 0:
                 there = " (it stands in another crate)" if elsewhere[kind][it] else ""
                 print(f"    gone: {kind} {it}{there}")
                 gone += not there
             elif fewer and left < count:
                 print(f"    fewer: {kind} {it}: {count} then, {left} now")
-    if new.rows + new.asserts < old.rows + old.asserts:
-        print("    fewer rows and asserts than there were")
+    if values_now < values_then:
+        print("    fewer values than there were")
         gone += 1
     return gone
 
