@@ -45,7 +45,7 @@ TOKEN = re.compile(
     re.S | re.X,
 )
 OPENS, CLOSES = ("[", "(", "{"), ("]", ")", "}")
-LENGTH = re.compile(r":\s*&?(?:'static )?\[[^={}]*?;\s*[0-9_]+\]\s*=")
+LENGTH = re.compile(r":\s*&?(?:'static )?\[[^={}\n]*?;\s*[0-9_]+\]\s*=")
 CLAUSE = re.compile(r"\b(?:requires|ensures|ghost(?: \w+)?(?: =)?|ghost use [^{};]*)\*?(?: [\w-]+)? \{(?:[^{}]|\{[^{}]*\})*\}")
 IMPORT = re.compile(r"^\s*(?:ghost |pub(?:\([a-z]+\))? )*use [^;]*;", re.M)
 ASSERT = re.compile(r"\b(?:assert|assert_eq|assert_ne|panic)!\(|\brt\.panic\(")

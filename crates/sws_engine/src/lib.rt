@@ -31,8 +31,6 @@ mod serving;
 mod starting;
 mod steps;
 mod task;
-#[cfg(test)]
-mod tests;
 mod threads;
 mod waiting;
 mod whole;

@@ -1,6 +1,7 @@
 //! What these crates give for worked rows, a module for each.
 
 mod answers;
+mod files;
 mod links;
 mod parts;
 mod requests;

@@ -1,8 +1,9 @@
 //! What the forms in memory give with ample memory.
-ghost use Rattle.std.specs.Prelude.{◌≡◌, false};
+ghost use Rattle.std.specs.Prelude.{◌≡◌, ◌<◌, ◌≤◌, false, IfOk};
 
 mod worlds;
 
+use super::files::files_of;
 use std::alloc::{AllocError, Global};
 use std::test::Fail;
 use sws_link::{
@@ -10,131 +11,132 @@ use sws_link::{
     NextFile, Opened, Put, Sink, Source, SureFolder, SureLink, SureSink, SureSource,
 };
 
-fn files_of_a_site(alloc: Global) -> Result<Vec<(Vec<u8>, Vec<u8>)>, AllocError> {
-    let mut files = Vec::new(alloc);
-    files.push((b"index.html".to_vec(alloc)?, b"hi\n".to_vec(alloc)?))?;
-    files.push((b"empty.css".to_vec(alloc)?, Vec::new(alloc)))?;
-    Ok(files)
-}
-
-/// Three reads of two bytes each, through the bound.
-fn three_reads<R: Source>(source: &mut R) -> [Got; 3] {
-    let mut room = [0; 2];
-    [
-        source.read(&mut room),
-        source.read(&mut room),
-        source.read(&mut room),
-    ]
+/// Whether reads of two bytes each answer so, through the bound.
+fn reads_so<R: Source>(source: &mut R, answers: &[Got]) -> bool {
+    for answer in answers {
+        if source.read(&mut [0; 2]) != *answer {
+            return false;
+        }
+    }
+    true
 }
 
 #[test]
 fn a_source_gives_its_bytes_and_fails_where_it_is_told_to(rt: HostRuntime) -> Result<(), Fail> {
     let mut sure = SureSource::new(b"abc".to_vec(rt.alloc())?);
-    assert_eq!(rt;
-        three_reads(&mut sure),
-        [Got::Took(2), Got::Took(1), Got::End]
-    );
-
+    assert!(rt; reads_so(&mut sure, &[Got::Took(2), Got::Took(1), Got::End]));
     let mut failing = MemSource::new(b"abc".to_vec(rt.alloc())?, vec![in rt.alloc(); 2]?);
-    assert_eq!(rt;
-        three_reads(&mut failing),
-        [Got::Took(2), Got::Failed, Got::Took(1)]
-    );
+    assert!(rt; reads_so(&mut failing, &[Got::Took(2), Got::Failed, Got::Took(1)]));
     Ok(())
 }
 
-/// Two writes through the bound.
-fn two_writes<O: Sink>(sink: &mut O) -> [Put; 2] {
-    [sink.write_all(b"ab"), sink.write_all(b"c")]
+/// Whether writes of `ab` and of `c` answer so, through the bound.
+fn writes_so<O: Sink>(sink: &mut O, first: Put, second: Put) -> bool {
+    sink.write_all(b"ab") == first && sink.write_all(b"c") == second
+}
+
+fn sure_sink_keeps(alloc: Global, written: &[u8]) -> bool {
+    let mut sink = SureSink::new(alloc);
+    writes_so(&mut sink, Put::Done, Put::Done) && sink.written() == written
+}
+
+/// Whether a sink whose first call fails has kept this.
+fn failing_sink_keeps(alloc: Global, written: &[u8]) -> Result<bool, AllocError> {
+    let mut sink = MemSink::new(alloc, vec![in alloc; 1]?);
+    Ok(writes_so(&mut sink, Put::Failed, Put::Done) && sink.written() == written)
 }
 
 #[test]
 fn a_sink_keeps_what_is_written_and_nothing_of_a_failing_call(rt: HostRuntime) -> Result<(), Fail> {
-    let mut sure = SureSink::new(rt.alloc());
-    assert_eq!(rt; two_writes(&mut sure), [Put::Done, Put::Done]);
-    assert_eq!(rt; sure.written(), b"abc".as_slice());
-
-    let mut failing = MemSink::new(rt.alloc(), vec![in rt.alloc(); 1]?);
-    assert_eq!(rt; two_writes(&mut failing), [Put::Failed, Put::Done]);
-    assert_eq!(rt; failing.written(), b"c".as_slice());
+    assert!(rt; sure_sink_keeps(rt.alloc(), b"abc"));
+    assert!(rt; failing_sink_keeps(rt.alloc(), b"c")?);
     Ok(())
 }
 
-/// Opens a folder and goes over its files, through the bound: what the calls answer.
-fn opened_and_listed<F: Folder>(folder: &mut F) -> (Opened, [NextFile; 3]) {
-    let mut name = [0; 1024];
-    (
-        folder.open("site"),
-        [
-            folder.next(&mut name),
-            folder.next(&mut name),
-            folder.next(&mut name),
-        ],
-    )
+/// A file with contents, and one without.
+const TWO_FILES: [(&[u8], &[u8]); 2] = [(b"index.html", b"hi\n"), (b"empty.css", b"")];
+
+/// Whether a folder is opened with this answer and then gives these files, through the bound.
+fn lists_so<F: Folder>(folder: &mut F, opened: Opened, answers: &[NextFile]) -> bool {
+    if folder.open("site") != opened {
+        return false;
+    }
+    for answer in answers {
+        if folder.next(&mut [0; 1024]) != *answer {
+            return false;
+        }
+    }
+    true
 }
+
+/// What the two files are.
+const ALL: [NextFile; 3] = [
+    NextFile::File { len: 10 },
+    NextFile::File { len: 9 },
+    NextFile::End,
+];
+
+/// What they are where the second step fails.
+const WITH_A_FAILURE: [NextFile; 3] = [
+    NextFile::File { len: 10 },
+    NextFile::Failed,
+    NextFile::File { len: 9 },
+];
 
 #[test]
 fn a_folder_gives_its_files_in_their_order(rt: HostRuntime) -> Result<(), Fail> {
-    let mut sure = SureFolder::new(rt.alloc(), files_of_a_site(rt.alloc())?);
-    let all = [
-        NextFile::File { len: 10 },
-        NextFile::File { len: 9 },
-        NextFile::End,
-    ];
-    assert_eq!(rt; opened_and_listed(&mut sure), (Opened::Ready, all));
-    assert_eq!(rt;
-        opened_and_listed(&mut sure),
-        (Opened::Ready, all),
-        "opened again"
-    );
-
-    let mut failing = MemFolder::new(
-        rt.alloc(),
-        files_of_a_site(rt.alloc())?,
-        vec![in rt.alloc(); 1, 3]?,
-    );
-    let some = [
-        NextFile::File { len: 10 },
-        NextFile::Failed,
-        NextFile::File { len: 9 },
-    ];
-    assert_eq!(rt; opened_and_listed(&mut failing), (Opened::Failed, some));
+    let mut sure = SureFolder::new(rt.alloc(), files_of(rt.alloc(), &TWO_FILES)?);
+    assert!(rt; lists_so(&mut sure, Opened::Ready, &ALL));
+    assert!(rt; lists_so(&mut sure, Opened::Ready, &ALL), "opened again");
+    let fails = vec![in rt.alloc(); 1, 3]?;
+    let mut failing = MemFolder::new(rt.alloc(), files_of(rt.alloc(), &TWO_FILES)?, fails);
+    assert!(rt; lists_so(&mut failing, Opened::Failed, &WITH_A_FAILURE));
     Ok(())
+}
+
+/// Whether the next file has this name, and three bytes that are read as two and one.
+fn gives_file(folder: &mut MemFolder, name: &[u8], two: &[u8], one: &[u8]) -> bool {
+    let mut given = [0; 1024];
+    let mut room = [0; 2];
+    if folder.next(&mut given) != (NextFile::File { len: name.len() }) || !given.starts_with(name) {
+        return false;
+    }
+    let is_two = folder.read(&mut room) == Got::Took(2) && room.as_slice() == two;
+    let is_one = folder.read(&mut room) == Got::Took(1) && room.starts_with(one);
+    is_two && is_one && folder.read(&mut room) == Got::End
 }
 
 #[test]
 fn a_folder_copies_names_and_lends_bytes(rt: HostRuntime) -> Result<(), Fail> {
-    let mut folder = MemFolder::new(
-        rt.alloc(),
-        files_of_a_site(rt.alloc())?,
-        Vec::new(rt.alloc()),
-    );
-    let mut name = [0; 1024];
-    let mut room = [0; 2];
-    assert_eq!(rt; folder.open("site"), Opened::Ready);
-    assert_eq!(rt; folder.next(&mut name), NextFile::File { len: 10 });
-    assert_eq!(rt; &name[..10], b"index.html".as_slice());
-    assert_eq!(rt; folder.read(&mut room), Got::Took(2));
-    assert_eq!(rt; room, *b"hi");
-    assert_eq!(rt; folder.read(&mut room), Got::Took(1));
-    assert_eq!(rt; room[0], b'\n');
-    assert_eq!(rt; folder.read(&mut room), Got::End);
+    let files = files_of(rt.alloc(), &TWO_FILES)?;
+    let mut folder = MemFolder::new(rt.alloc(), files, Vec::new(rt.alloc()));
+    assert!(rt; folder.open("site") == Opened::Ready);
+    assert!(rt; gives_file(&mut folder, b"index.html", b"hi", b"\n"));
     Ok(())
 }
 
-/// Five reads of two bytes each, through the bound.
-fn five_reads<L: Link>(link: &mut L) -> [LinkRead; 5]
-    requires { L.is_shut link.old ≡ false }
+/// Whether reads of so many bytes each answer so, through the bound, and copy these bytes.
+fn gives_so<L: Link>(link: &mut L, size: usize, answers: &[(LinkRead, &[u8])]) -> bool
+    requires not_shut { L.is_shut link.old ≡ false }
+    requires some { 0 < size }
+    requires room { size ≤ 4 }
 {
-    let mut room = [0; 2];
-    [
-        link.read(&mut room),
-        link.read(&mut room),
-        link.read(&mut room),
-        link.read(&mut room),
-        link.read(&mut room),
-    ]
+    let mut room = [0; 4];
+    'reads: for (answer, bytes) in answers {
+        if link.read(&mut room[..size]) != *answer || !room.starts_with(bytes) {
+            return false;
+        }
+    }
+    true
 }
+
+const IN_ORDER: [(LinkRead, &[u8]); 5] = [
+    (LinkRead::Took(2), b"ab"),
+    (LinkRead::Took(1), b"c"),
+    (LinkRead::NotReady, b""),
+    (LinkRead::Took(1), b"a"),
+    (LinkRead::End, b""),
+];
 
 #[test]
 fn a_link_gives_its_items_in_order(rt: HostRuntime) -> Result<(), Fail> {
@@ -142,35 +144,35 @@ fn a_link_gives_its_items_in_order(rt: HostRuntime) -> Result<(), Fail> {
     items.push(LinkItem::Bytes(b"abc".to_vec(rt.alloc())?))?;
     items.push(LinkItem::Wait(1))?;
     items.push(LinkItem::Fill(1))?;
-    let mut sure = SureLink::new(rt.alloc(), items, None);
-    assert_eq!(rt;
-        five_reads(&mut sure),
-        [
-            LinkRead::Took(2),
-            LinkRead::Took(1),
-            LinkRead::NotReady,
-            LinkRead::Took(1),
-            LinkRead::End
-        ]
-    );
+    let mut link = SureLink::new(rt.alloc(), items, None);
+    assert!(rt; gives_so(&mut link, 2, &IN_ORDER));
+    Ok(())
+}
 
+const WITH_FAULTS: [(LinkRead, &[u8]); 5] = [
+    (LinkRead::Took(2), b"ab"),
+    (LinkRead::Failed, b""),
+    (LinkRead::Took(1), b"c"),
+    (LinkRead::Failed, b""),
+    (LinkRead::Failed, b""),
+];
+
+#[test]
+fn a_link_fails_where_it_is_told_to(rt: HostRuntime) -> Result<(), Fail> {
     let mut items = Vec::new(rt.alloc());
     items.push(LinkItem::Bytes(b"abc".to_vec(rt.alloc())?))?;
     items.push(LinkItem::Fail)?;
     items.push(LinkItem::Bytes(b"d".to_vec(rt.alloc())?))?;
-    let mut failing = MemLink::new(rt.alloc(), items, None, None, vec![in rt.alloc(); 2]?);
-    assert_eq!(rt;
-        five_reads(&mut failing),
-        [
-            LinkRead::Took(2),
-            LinkRead::Failed,
-            LinkRead::Took(1),
-            LinkRead::Failed,
-            LinkRead::Failed
-        ]
-    );
+    let mut link = MemLink::new(rt.alloc(), items, None, None, vec![in rt.alloc(); 2]?);
+    assert!(rt; gives_so(&mut link, 2, &WITH_FAULTS));
     Ok(())
 }
+
+const COPIED: [(LinkRead, &[u8]); 3] = [
+    (LinkRead::Took(2), b"xy"),
+    (LinkRead::Took(3), b"aaa"),
+    (LinkRead::End, b""),
+];
 
 #[test]
 fn a_link_copies_the_bytes_of_its_items(rt: HostRuntime) -> Result<(), Fail> {
@@ -178,12 +180,7 @@ fn a_link_copies_the_bytes_of_its_items(rt: HostRuntime) -> Result<(), Fail> {
     items.push(LinkItem::Bytes(b"xy".to_vec(rt.alloc())?))?;
     items.push(LinkItem::Fill(3))?;
     let mut link = SureLink::new(rt.alloc(), items, None);
-    let mut room = [0; 4];
-    assert_eq!(rt; link.read(&mut room), LinkRead::Took(2));
-    assert_eq!(rt; &room[..2], b"xy".as_slice());
-    assert_eq!(rt; link.read(&mut room), LinkRead::Took(3));
-    assert_eq!(rt; &room[..3], b"aaa".as_slice());
-    assert_eq!(rt; link.read(&mut room), LinkRead::End);
+    assert!(rt; gives_so(&mut link, 4, &COPIED));
     Ok(())
 }
 
@@ -194,82 +191,93 @@ fn shut_once<L: Link>(link: &mut L)
     link.shut();
 }
 
+/// Whether a link without faults tells that it was shut.
+fn sure_link_tells(alloc: Global) -> bool {
+    let mut link = SureLink::new(alloc, Vec::new(alloc), None);
+    let was_shut = link.is_shut();
+    shut_once(&mut link);
+    !was_shut && link.is_shut()
+}
+
+/// Whether a link whose first call is to fail tells so: to shut it is none.
+fn failing_link_tells(alloc: Global) -> Result<bool, AllocError> {
+    let mut link = link_of(alloc, None, None, &[1])?;
+    let was_shut = link.is_shut();
+    shut_once(&mut link);
+    Ok(!was_shut && link.is_shut())
+}
+
 #[test]
 fn a_link_tells_whether_it_was_shut(rt: HostRuntime) -> Result<(), Fail> {
-    let mut sure = SureLink::new(rt.alloc(), Vec::new(rt.alloc()), None);
-    assert!(rt; !sure.is_shut());
-    shut_once(&mut sure);
-    assert!(rt; sure.is_shut());
-
-    let mut failing = MemLink::new(
-        rt.alloc(),
-        Vec::new(rt.alloc()),
-        None,
-        None,
-        vec![in rt.alloc(); 1]?,
-    );
-    assert!(rt; !failing.is_shut());
-    shut_once(&mut failing);
-    assert!(rt; failing.is_shut(), "no call of it is to fail");
+    assert!(rt; sure_link_tells(rt.alloc()));
+    assert!(rt; failing_link_tells(rt.alloc())?);
     Ok(())
 }
 
-/// Three writes of a piece of five bytes, through the bound.
-fn three_writes<L: Link>(link: &mut L) -> [LinkWrite; 3]
+/// A link without items, whose calls of these numbers are to fail.
+fn link_of(
+    alloc: Global,
+    step: Option<u32>,
+    cut: Option<u64>,
+    failing: &[u32],
+) -> Result<MemLink, AllocError>
+    ensures { IfOk result (λ link. link.shut ≡ false) }
+{
+    let failing = failing.to_vec(alloc)?;
+    Ok(MemLink::new(alloc, Vec::new(alloc), step, cut, failing))
+}
+
+/// Whether writes of a piece of five bytes answer so, through the bound.
+fn takes_so<L: Link>(link: &mut L, answers: &[LinkWrite]) -> bool
     requires { L.is_shut link.old ≡ false }
 {
-    [
-        link.write(b"abcde"),
-        link.write(b"abcde"),
-        link.write(b"abcde"),
-    ]
+    'writes: for answer in answers {
+        if link.write(b"abcde") != *answer {
+            return false;
+        }
+    }
+    true
+}
+
+/// Whether a link takes as much of the pieces as the step says, and so has these bytes.
+fn takes_in_steps(alloc: Global, step: Option<u32>, answer: LinkWrite, written: &[u8]) -> bool {
+    let mut link = SureLink::new(alloc, Vec::new(alloc), step);
+    takes_so(&mut link, &[answer; 3]) && link.written() == written
 }
 
 #[test]
-fn a_link_takes_as_much_as_its_bounds_allow(rt: HostRuntime) -> Result<(), Fail> {
-    let mut whole = SureLink::new(rt.alloc(), Vec::new(rt.alloc()), None);
-    assert_eq!(rt; three_writes(&mut whole), [LinkWrite::Wrote(5); 3]);
-    assert_eq!(rt; whole.written(), b"abcdeabcdeabcde".as_slice());
-
-    let mut stepped = SureLink::new(rt.alloc(), Vec::new(rt.alloc()), Some(2));
-    assert_eq!(rt; three_writes(&mut stepped), [LinkWrite::Wrote(2); 3]);
-
-    let mut nothing = SureLink::new(rt.alloc(), Vec::new(rt.alloc()), Some(0));
-    assert_eq!(rt; three_writes(&mut nothing), [LinkWrite::NotReady; 3]);
-
-    Ok(())
+fn a_link_takes_as_much_as_its_bounds_allow(rt: HostRuntime) {
+    let alloc = rt.alloc();
+    assert!(rt; takes_in_steps(alloc, None, LinkWrite::Wrote(5), b"abcdeabcdeabcde"));
+    assert!(rt; takes_in_steps(alloc, Some(2), LinkWrite::Wrote(2), b"ababab"));
+    assert!(rt; takes_in_steps(alloc, Some(0), LinkWrite::NotReady, b""));
 }
 
-#[test]
-fn a_link_fails_at_its_cut(rt: HostRuntime) -> Result<(), Fail> {
-    let mut cut = MemLink::new(
-        rt.alloc(),
-        Vec::new(rt.alloc()),
+/// The steps, the cuts and the failing calls of links, what three writes answer, and what is written.
+const FAULTS: [(Option<u32>, Option<u64>, &[u32], &[LinkWrite], &[u8]); 2] = [
+    (
         None,
         Some(7),
-        Vec::new(rt.alloc()),
-    );
-    assert_eq!(rt;
-        three_writes(&mut cut),
-        [LinkWrite::Wrote(5), LinkWrite::Wrote(2), LinkWrite::Failed]
-    );
-    assert_eq!(rt; cut.written(), b"abcdeab".as_slice());
-    Ok(())
-}
-
-#[test]
-fn a_link_writes_nothing_in_a_failing_call(rt: HostRuntime) -> Result<(), Fail> {
-    let mut failing = MemLink::new(
-        rt.alloc(),
-        Vec::new(rt.alloc()),
+        &[],
+        &[LinkWrite::Wrote(5), LinkWrite::Wrote(2), LinkWrite::Failed],
+        b"abcdeab",
+    ),
+    (
         Some(3),
         None,
-        vec![in rt.alloc(); 2]?,
-    );
-    assert_eq!(rt;
-        three_writes(&mut failing),
-        [LinkWrite::Wrote(3), LinkWrite::Failed, LinkWrite::Wrote(3)]
-    );
-    assert_eq!(rt; failing.written(), b"abcabc".as_slice());
+        &[2],
+        &[LinkWrite::Wrote(3), LinkWrite::Failed, LinkWrite::Wrote(3)],
+        b"abcabc",
+    ),
+];
+
+#[test]
+fn a_link_fails_at_its_cut_and_writes_nothing_in_a_failing_call(
+    rt: HostRuntime,
+) -> Result<(), Fail> {
+    for &(step, cut, failing, answers, written) in &FAULTS {
+        let mut link = link_of(rt.alloc(), step, cut, failing)?;
+        assert!(rt; takes_so(&mut link, answers) && link.written() == written);
+    }
     Ok(())
 }

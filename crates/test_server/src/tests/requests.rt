@@ -1,6 +1,6 @@
 use std::process::Abort;
 use sws_request::{
-    Cut, NotARequest, Scan, cut, cut_is_stable, empty_lines_change_nothing, scan, view,
+    Cut, NotARequest, RequestView, Scan, cut, cut_is_stable, empty_lines_change_nothing, scan, view,
 };
 
 /// A text, and then a byte so many times.
@@ -13,114 +13,143 @@ fn padded(rt: &(impl AllocGlobal + Abort), front: &[u8], byte: u8, count: usize)
     text
 }
 
+/// Bytes, and where their first head ends.
+const CUTS: [(&[u8], Cut); 10] = [
+    (b"", Cut::NotYet),
+    (b"GET / HTTP/1.1\r\nHost: x\r\n\r\n", Cut::Head { len: 27 }),
+    (
+        b"GET / HTTP/1.1\r\nHost: x\r\n\r\nGET",
+        Cut::Head { len: 27 },
+    ),
+    (b"GET / HTTP/1.1\r\nHost: x\r\n\r", Cut::NotYet),
+    (b"GET / HTTP/1.0\n\n", Cut::Head { len: 16 }),
+    (b"a\n\r\n", Cut::Head { len: 4 }),
+    (b"\n\r\n\na\n\n\n", Cut::Head { len: 7 }),
+    (b"\r\n\n\r\n", Cut::NotYet),
+    (b"\r\r\n\n", Cut::Head { len: 4 }),
+    (b"a\n\r\r\n", Cut::NotYet),
+];
+
 #[test]
 fn a_head_ends_with_the_first_empty_line_behind_another(rt: HostRuntime) {
-    let table: [(&[u8], Cut); 10] = [
-        (b"", Cut::NotYet),
-        (b"GET / HTTP/1.1\r\nHost: x\r\n\r\n", Cut::Head { len: 27 }),
-        (
-            b"GET / HTTP/1.1\r\nHost: x\r\n\r\nGET",
-            Cut::Head { len: 27 },
-        ),
-        (b"GET / HTTP/1.1\r\nHost: x\r\n\r", Cut::NotYet),
-        (b"GET / HTTP/1.0\n\n", Cut::Head { len: 16 }),
-        (b"a\n\r\n", Cut::Head { len: 4 }),
-        (b"\n\r\n\na\n\n\n", Cut::Head { len: 7 }),
-        (b"\r\n\n\r\n", Cut::NotYet),
-        (b"\r\r\n\n", Cut::Head { len: 4 }),
-        (b"a\n\r\r\n", Cut::NotYet),
-    ];
-    for (bytes, want) in table {
-        assert_eq!(rt; cut(bytes), want);
+    for &(bytes, want) in &CUTS {
+        assert!(rt; cut(bytes) == want);
     }
     cut_is_stable();
 }
 
+/// Where a search begins.
+const START: Scan = Scan {
+    at: 0,
+    begun: false,
+};
+
+/// A search in a line, and one behind empty lines.
+const IN_LINE: Scan = Scan {
+    at: 16,
+    begun: true,
+};
+
+const BLANK: Scan = Scan {
+    at: 3,
+    begun: false,
+};
+
+/// Bytes with the search that goes on in them, what it finds, and where it stops.
+const SEARCHES: [(&[u8], Scan, Cut, Scan); 3] = [
+    (b"GET / HTTP/1.1\r\nHo", START, Cut::NotYet, IN_LINE),
+    (b"Host: x\r\n\r\n", IN_LINE, Cut::Head { len: 27 }, START),
+    (b"\r\n\n\r", START, Cut::NotYet, BLANK),
+];
+
+/// Whether a search goes on so in these bytes.
+fn scans_so(bytes: &[u8], from: Scan, want: Cut, stop: Scan) -> bool {
+    if from.at >= 8192 {
+        return false;
+    }
+    let (found, next) = scan(bytes, from);
+    found == want && next == stop
+}
+
 #[test]
 fn a_search_goes_on_where_it_stopped(rt: HostRuntime) {
-    let (first, line) = scan(b"GET / HTTP/1.1\r\nHo", Scan::start());
-    assert_eq!(rt; first, Cut::NotYet);
-    assert_eq!(rt;
-        line,
-        Scan {
-            at: 16,
-            begun: true
-        }
-    );
-    let (whole, next) = scan(b"Host: x\r\n\r\n", line);
-    assert_eq!(rt; whole, Cut::Head { len: 27 });
-    assert_eq!(rt; next, Scan::start());
-
-    let (empty, blank) = scan(b"\r\n\n\r", Scan::start());
-    assert_eq!(rt; empty, Cut::NotYet);
-    assert_eq!(rt;
-        blank,
-        Scan {
-            at: 3,
-            begun: false
-        }
-    );
+    assert!(rt; Scan::start() == START);
+    for &(bytes, from, want, stop) in &SEARCHES {
+        assert!(rt; scans_so(bytes, from, want, stop));
+    }
     let rest = padded(&rt, b"", b'x', 8189);
-    assert_eq!(rt; scan(&rest, blank), (Cut::TooLong, Scan::start()));
+    assert!(rt; scans_so(&rest, BLANK, Cut::TooLong, START));
 }
 
 #[test]
 fn a_head_has_at_most_8192_bytes(rt: HostRuntime) {
     let mut longest = padded(&rt, b"GET / HTTP/1.1\r\nHost: x\r\nX:", b'x', 8161);
     longest.extend_from_slice(b"\r\n\r\n").expect(&rt, "memory");
-    assert_eq!(rt; cut(&longest), Cut::Head { len: 8192 });
+    assert!(rt; cut(&longest) == (Cut::Head { len: 8192 }));
     assert!(rt; view(&longest).is_ok());
     let mut longer = padded(&rt, b"GET / HTTP/1.1\r\nHost: x\r\nX:", b'x', 8162);
     longer.extend_from_slice(b"\r\n\r\n").expect(&rt, "memory");
-    assert_eq!(rt; cut(&longer), Cut::TooLong);
-    assert_eq!(rt; cut(&padded(&rt, b"", b'x', 8191)), Cut::NotYet);
-    assert_eq!(rt; cut(&padded(&rt, b"", b'x', 8192)), Cut::TooLong);
+    assert!(rt; cut(&longer) == Cut::TooLong);
+    assert!(rt; cut(&padded(&rt, b"", b'x', 8191)) == Cut::NotYet);
+    assert!(rt; cut(&padded(&rt, b"", b'x', 8192)) == Cut::TooLong);
 }
+
+/// Whether a request has this field at a place.
+fn has_field(request: &RequestView<'_>, at: usize, name: &[u8], value: &[u8]) -> bool {
+    if at >= request.fields() {
+        return false;
+    }
+    request.name(at) == name && request.value(at) == value && request.field(at) == (name, value)
+}
+
+/// A request of two fields.
+const REQUEST: &[u8] = b"\r\n\nGET /a?b HTTP/1.0\r\nHost: x \r\nAccept:\t*/*\r\n\r\n";
 
 #[test]
 fn a_view_shows_the_parts_of_a_request(rt: HostRuntime) {
-    let head = b"\r\n\nGET /a?b HTTP/1.0\r\nHost: x \r\nAccept:\t*/*\r\n\r\n";
-    match view(head) {
+    match view(REQUEST) {
         Ok(request) => {
-            assert_eq!(rt; request.method(), b"GET".as_slice());
-            assert_eq!(rt; request.target(), b"/a?b".as_slice());
-            assert_eq!(rt; request.minor(), 0);
-            assert_eq!(rt; request.fields(), 2);
-            assert_eq!(rt; request.name(0), b"Host".as_slice());
-            assert_eq!(rt; request.value(0), b"x".as_slice());
-            assert_eq!(rt; request.field(1).0, b"Accept".as_slice());
-            assert_eq!(rt; request.field(1).1, b"*/*".as_slice());
+            assert!(rt; request.method() == b"GET".as_slice());
+            assert!(rt; request.target() == b"/a?b".as_slice());
+            assert!(rt; request.minor() == 0 && request.fields() == 2);
+            assert!(rt; has_field(&request, 0, b"Host", b"x"));
+            assert!(rt; has_field(&request, 1, b"Accept", b"*/*"));
         }
         Err(NotARequest) => assert!(rt; false, "the head is a request"),
     }
     empty_lines_change_nothing();
 }
 
+/// What is no request.
+const REFUSED: [&[u8]; 7] = [
+    b"",
+    b"GET / HTTP/1.1\r\nHost: x\r\n",
+    b"GET / HTTP/1.1\r\nHost: x\r\n\r\nG",
+    b"GET / HTTP/2.0\r\n\r\n",
+    b"GET /\r\n\r\n",
+    b"GET / HTTP/1.1\r\nHost : x\r\n\r\n",
+    b"GET / HTTP/1.1\r\n folded\r\n\r\n",
+];
+
 #[test]
 fn what_the_grammar_refuses_is_no_request(rt: HostRuntime) {
-    let table: [&[u8]; 7] = [
-        b"",
-        b"GET / HTTP/1.1\r\nHost: x\r\n",
-        b"GET / HTTP/1.1\r\nHost: x\r\n\r\nG",
-        b"GET / HTTP/2.0\r\n\r\n",
-        b"GET /\r\n\r\n",
-        b"GET / HTTP/1.1\r\nHost : x\r\n\r\n",
-        b"GET / HTTP/1.1\r\n folded\r\n\r\n",
-    ];
-    for head in table {
+    for &head in &REFUSED {
         assert!(rt; view(head).is_err());
     }
 }
 
+/// A head with so many fields.
+fn with_fields(rt: &(impl AllocGlobal + Abort), count: usize) -> Vec<u8> {
+    let mut head = padded(rt, b"GET / HTTP/1.1\r\n", b'x', 0);
+    for _ in 0..count {
+        head.extend_from_slice(b"a:\r\n").expect(rt, "memory");
+    }
+    head.extend_from_slice(b"\r\n").expect(rt, "memory");
+    head
+}
+
 #[test]
 fn a_request_has_at_most_64_fields(rt: HostRuntime) {
-    let mut head = padded(&rt, b"GET / HTTP/1.1\r\n", b'x', 0);
-    for _ in 0..64 {
-        head.extend_from_slice(b"a:\r\n").expect(&rt, "memory");
-    }
-    let mut full = head.clone().expect(&rt, "memory");
-    full.extend_from_slice(b"\r\n").expect(&rt, "memory");
-    assert!(rt; view(&full).is_ok());
-    head.extend_from_slice(b"a:\r\n\r\n").expect(&rt, "memory");
-    assert!(rt; view(&head).is_err());
+    assert!(rt; view(&with_fields(&rt, 64)).is_ok());
+    assert!(rt; view(&with_fields(&rt, 65)).is_err());
 }

@@ -38,43 +38,45 @@ const REFUSED: [&[u8]; 8] = [
 fn reads(rt: &(impl AllocGlobal + Abort), text: &[u8], bytes: &[u8]) {
     let read = read_text(rt.alloc(), text).ok().expect(rt, "memory");
     let read = read.expect(rt, "a text");
-    assert_eq!(rt; read.as_slice(), bytes);
+    assert!(rt; read.as_slice() == bytes);
 }
 
 #[test]
 fn what_is_written_is_read(rt: HostRuntime) {
-    for (bytes, text) in WRITTEN {
+    for &(bytes, text) in &WRITTEN {
         let mut written = Vec::new(rt.alloc());
         push_text(&mut written, bytes).ok().expect(&rt, "memory");
-        assert_eq!(rt; written.as_slice(), text);
+        assert!(rt; written.as_slice() == text);
         reads(&rt, text, bytes);
     }
 }
 
 #[test]
 fn other_spellings_are_read(rt: HostRuntime) {
-    for (text, bytes) in READ {
+    for &(text, bytes) in &READ {
         reads(&rt, text, bytes);
     }
 }
 
 #[test]
 fn what_is_no_text_is_refused(rt: HostRuntime) {
-    for text in REFUSED {
+    for &text in &REFUSED {
         let read = read_text(rt.alloc(), text).ok().expect(&rt, "memory");
         assert!(rt; read.is_none());
     }
 }
 
+/// A response, and the lines that show it.
+const RESPONSE: &[u8] = b"HTTP/1.1 200 OK\r\n\r\nhi\nlast";
+
+const SHOWN: &[u8] = b"| HTTP/1.1 200 OK~\n| ~\n| hi\\n\n| last\n";
+
 #[test]
 fn lines_are_shown_a_few_bytes_at_a_time(rt: HostRuntime) {
     let mut text = Vec::new(rt.alloc());
-    let mut lines = ShownLines::new(b"HTTP/1.1 200 OK\r\n\r\nhi\nlast");
+    let mut lines = ShownLines::new(RESPONSE);
     for _ in 0..100 {
         lines.push_next(&mut text).ok().expect(&rt, "memory");
     }
-    assert_eq!(rt;
-        text.as_slice(),
-        b"| HTTP/1.1 200 OK~\n| ~\n| hi\\n\n| last\n".as_slice()
-    );
+    assert!(rt; text.as_slice() == SHOWN);
 }

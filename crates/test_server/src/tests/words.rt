@@ -227,7 +227,7 @@ fn a_name_of_a_host_has_255_bytes_at_most(rt: HostRuntime) -> Result<(), Fail> {
     for (count, is_read) in [(1, true), (255, true), (256, false)] {
         let words = host_of(rt.alloc(), count)?;
         let read = read_words(rt.alloc(), words.as_slice());
-        assert_eq!(rt; read.is_ok(), is_read, "{count} bytes");
+        assert!(rt; read.is_ok() == is_read, "{count} bytes");
     }
     Ok(())
 }

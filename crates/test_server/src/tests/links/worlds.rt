@@ -9,8 +9,8 @@ use sws_link::{
     World,
 };
 
-/// A world of a link with one byte to read, and one with two.
-fn two_links(alloc: Global, failing: Vec<u32>) -> Result<MemWorld, AllocError>
+/// A world of a link with one byte to read, and one with two, whose calls of these numbers fail.
+fn two_links(alloc: Global, failing: &[u32]) -> Result<MemWorld, AllocError>
     ensures total { IfOk result (λ world. (mem_world_tells world).total ≡ 2) }
     ensures accepted { IfOk result (λ world. (mem_world_tells world).accepted ≡ 0) }
 {
@@ -21,7 +21,7 @@ fn two_links(alloc: Global, failing: Vec<u32>) -> Result<MemWorld, AllocError>
     let mut links = Vec::new(alloc);
     links.push(MemLink::new(alloc, one, None, None, Vec::new(alloc)))?;
     links.push(MemLink::new(alloc, two, None, None, Vec::new(alloc)))?;
-    Ok(MemWorld::new(links, failing))
+    Ok(MemWorld::new(links, failing.to_vec(alloc)?))
 }
 
 /// A world without faults, of the first of these.
@@ -36,101 +36,163 @@ fn one_link(alloc: Global) -> Result<SureWorld, AllocError>
     Ok(SureWorld::new(links))
 }
 
-/// Three polls, through the bound.
-fn three_polls<W: World>(world: &mut W) -> [Polled; 3]
-    ensures { W.tells world.new ≡ W.tells world.old }
-{
-    [world.poll(&[]), world.poll(&[7, 3]), world.poll(&[3])]
+/// A call of a world, with what it answers.
+#[derive(Clone, Copy)]
+enum Call {
+    /// A poll of these that wait.
+    Poll(&'static [u16], Polled),
+
+    /// A first read of the next link, if that comes.
+    Read(Option<LinkRead>),
+
+    /// An opening for so many links.
+    Open(u16, Opened),
+
+    /// How many links it gives in all.
+    Total(u16),
 }
 
-/// What a first read of the next link gives, through the bound.
-fn first_read<W: World>(world: &mut W) -> Option<LinkRead>
+/// Whether a first read of the next link gives this, through the bound.
+fn reads_first<W: World>(world: &mut W, read: Option<LinkRead>) -> bool
     requires more { (W.tells world.old).accepted < (W.tells world.old).total }
-    ensures total { (W.tells world.new).total ≡ (W.tells world.old).total }
     ensures counted { (W.tells world.new).accepted ≤ (W.tells world.old).accepted + 1 }
 {
     match world.accept() {
-        Accepted::Link(mut link) => Some(link.read(&mut [0; 4])),
-        Accepted::NotYet | Accepted::Failed => None,
+        Accepted::Link(mut link) => read == Some(link.read(&mut [0; 4])),
+        Accepted::NotYet | Accepted::Failed => read == None,
     }
 }
 
+/// Whether an opening for so many links answers this, through the bound.
+fn opens_so<W: World>(world: &mut W, total: u16, answer: Opened) -> bool
+    ensures { (W.tells world.new).accepted ≤ (W.tells world.old).accepted }
+{
+    match world.open(80, total) {
+        Opened::Ready => answer == Opened::Ready,
+        Opened::Failed => answer == Opened::Failed,
+        Opened::Memory => answer == Opened::Memory,
+    }
+}
+
+/// Makes a call of a world that has given no more links than were read, and says whether it answers
+/// so.
+fn answers<W: World>(world: &mut W, reads: &mut u16, call: Call) -> bool
+    requires { (W.tells world.old).accepted ≤ reads.old }
+    ensures { (W.tells world.new).accepted ≤ reads.new }
+{
+    match call {
+        Call::Poll(waiting, answer) => world.poll(waiting) == answer,
+        Call::Read(read) if *reads < world.total() => {
+            *reads += 1;
+            reads_first(world, read)
+        }
+        Call::Open(total, answer) => opens_so(world, total, answer),
+        Call::Total(total) => world.total() == total,
+        Call::Read(_) => false,
+    }
+}
+
+/// Whether a world of which no link was accepted answers all these calls so.
+fn plays<W: World>(world: &mut W, calls: &[Call]) -> bool
+    requires { (W.tells world.old).accepted ≡ 0 }
+{
+    let mut reads = 0;
+    'calls: for call in calls {
+        if !answers(world, &mut reads, *call) {
+            return false;
+        }
+    }
+    true
+}
+
+const ONE: Option<LinkRead> = Some(LinkRead::Took(1));
+
+/// What a world of two links answers, by the numbers of its calls that fail. The number of links is
+/// asked without a counted call.
+const ROWS: [(&str, &[u32], &[Call]); 6] = [
+    (
+        "its links come in order",
+        &[],
+        &[
+            Call::Total(2),
+            Call::Read(ONE),
+            Call::Poll(&[], Polled::Quiet),
+            Call::Poll(&[7, 3], Polled::Ready(7)),
+            Call::Poll(&[3], Polled::Ready(3)),
+            Call::Read(Some(LinkRead::Took(2))),
+        ],
+    ),
+    (
+        "opened, it gives no more than are to come",
+        &[],
+        &[
+            Call::Read(ONE),
+            Call::Open(9, Opened::Ready),
+            Call::Total(1),
+            Call::Open(0, Opened::Ready),
+            Call::Total(0),
+        ],
+    ),
+    (
+        "a poll fails",
+        &[2],
+        &[
+            Call::Poll(&[], Polled::Quiet),
+            Call::Poll(&[7, 3], Polled::Failed),
+            Call::Poll(&[3], Polled::Ready(3)),
+            Call::Read(ONE),
+        ],
+    ),
+    (
+        "an accept fails",
+        &[1],
+        &[Call::Read(None), Call::Read(ONE)],
+    ),
+    (
+        "an opening fails",
+        &[1],
+        &[Call::Open(1, Opened::Failed), Call::Total(2)],
+    ),
+    (
+        "the number of links isn't counted",
+        &[2],
+        &[
+            Call::Total(2),
+            Call::Total(2),
+            Call::Read(ONE),
+            Call::Read(None),
+        ],
+    ),
+];
+
 #[test]
-fn a_world_gives_its_links_in_order(rt: HostRuntime) -> Result<(), Fail> {
-    let mut world = two_links(rt.alloc(), Vec::new(rt.alloc()))?;
-    assert_eq!(rt; world.total(), 2);
-    assert_eq!(rt; first_read(&mut world), Some(LinkRead::Took(1)));
-    assert_eq!(rt;
-        three_polls(&mut world),
-        [Polled::Quiet, Polled::Ready(7), Polled::Ready(3)]
-    );
-    assert_eq!(rt; first_read(&mut world), Some(LinkRead::Took(2)));
+fn a_world_answers_in_order_and_fails_where_it_is_told_to(rt: HostRuntime) -> Result<(), Fail> {
+    for &(what, failing, calls) in &ROWS {
+        let mut world = two_links(rt.alloc(), failing)?;
+        assert!(rt; plays(&mut world, calls), "{what}");
+    }
     Ok(())
 }
 
-#[test]
-fn a_world_that_is_opened_gives_no_more_than_are_to_come(rt: HostRuntime) -> Result<(), Fail> {
-    let mut world = two_links(rt.alloc(), Vec::new(rt.alloc()))?;
-    assert_eq!(rt; first_read(&mut world), Some(LinkRead::Took(1)));
-    assert_eq!(rt; world.open(80, 9), Opened::Ready);
-    assert_eq!(rt; world.total(), 1);
-    assert_eq!(rt; world.open(80, 0), Opened::Ready);
-    assert_eq!(rt; world.total(), 0);
-    Ok(())
-}
-
-#[test]
-fn a_poll_fails_where_it_is_told_to(rt: HostRuntime) -> Result<(), Fail> {
-    let mut world = two_links(rt.alloc(), vec![in rt.alloc(); 2]?)?;
-    assert_eq!(rt;
-        three_polls(&mut world),
-        [Polled::Quiet, Polled::Failed, Polled::Ready(3)]
-    );
-    assert_eq!(rt; first_read(&mut world), Some(LinkRead::Took(1)));
-    Ok(())
-}
-
-#[test]
-fn an_accept_fails_where_it_is_told_to(rt: HostRuntime) -> Result<(), Fail> {
-    let mut closed = two_links(rt.alloc(), vec![in rt.alloc(); 1]?)?;
-    assert_eq!(rt; first_read(&mut closed), None);
-    assert_eq!(rt; first_read(&mut closed), Some(LinkRead::Took(1)));
-    Ok(())
-}
-
-#[test]
-fn an_opening_fails_where_it_is_told_to(rt: HostRuntime) -> Result<(), Fail> {
-    let mut unopened = two_links(rt.alloc(), vec![in rt.alloc(); 1]?)?;
-    assert_eq!(rt; unopened.open(80, 1), Opened::Failed);
-    assert_eq!(rt; unopened.total(), 2);
-    Ok(())
-}
+const SURE: [Call; 6] = [
+    Call::Total(1),
+    Call::Poll(&[], Polled::Quiet),
+    Call::Poll(&[7, 3], Polled::Ready(7)),
+    Call::Poll(&[3], Polled::Ready(3)),
+    Call::Read(ONE),
+    Call::Open(1, Opened::Ready),
+];
 
 #[test]
 fn a_sure_world_never_fails(rt: HostRuntime) -> Result<(), Fail> {
     let mut world = one_link(rt.alloc())?;
-    assert_eq!(rt; world.total(), 1);
-    assert_eq!(rt;
-        three_polls(&mut world),
-        [Polled::Quiet, Polled::Ready(7), Polled::Ready(3)]
-    );
-    assert_eq!(rt; first_read(&mut world), Some(LinkRead::Took(1)));
-    assert_eq!(rt; world.open(80, 1), Opened::Ready);
-    Ok(())
-}
-
-#[test]
-fn the_number_of_links_is_asked_without_a_counted_call(rt: HostRuntime) -> Result<(), Fail> {
-    let mut world = two_links(rt.alloc(), vec![in rt.alloc(); 2]?)?;
-    assert_eq!(rt; [world.total(), world.total()], [2, 2]);
-    assert_eq!(rt; first_read(&mut world), Some(LinkRead::Took(1)));
-    assert_eq!(rt; first_read(&mut world), None);
+    assert!(rt; plays(&mut world, &SURE));
     Ok(())
 }
 
 #[test]
 fn a_link_that_comes_is_not_shut(rt: HostRuntime) -> Result<(), Fail> {
-    let mut world = two_links(rt.alloc(), Vec::new(rt.alloc()))?;
+    let mut world = two_links(rt.alloc(), &[])?;
     match world.accept() {
         Accepted::Link(link) => assert!(rt; !link.is_shut()),
         Accepted::NotYet | Accepted::Failed => assert!(rt; false, "it comes at once"),

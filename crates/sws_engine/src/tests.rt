@@ -1,5 +1,0 @@
-//! Single handlers by hand.
-
-mod polling;
-mod seats;
-mod waits;
