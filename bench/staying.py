@@ -29,6 +29,7 @@ class Server:
 
     def __init__(self, folder, *words, address="127.0.0.1", preexec=None, program=None):
         self.room = tempfile.mkdtemp(prefix="swsd-")
+        os.chmod(self.room, 0o755)  # a server that runs as somebody else looks for the stop file there too
         self.stop_file = os.path.join(self.room, "stop")
         words = [program or SWSD, folder, "--listen", f"{address}:0", "--stop-file", self.stop_file, *words]
         self.said = open(os.path.join(self.room, "said"), "w+")
