@@ -104,11 +104,11 @@ impl Outlet {
     }
 
     /// Writes a piece, and answers whether the output is to be asked again at once. What can't be
-    /// written, since the machine failed, is dropped.
+    /// written, since the machine failed or nobody reads any more, is dropped.
     fn write(&mut self) -> bool {
         let rest = self.rest();
         let piece = &rest[..rest.len().min(PIECE)];
-        let count = os::write_no_sigpipe(self.descriptor, piece);
+        let count = libc::write(self.descriptor, piece);
         if count > 0 {
             let left = self.bytes.len() - self.written;
             self.written += (count as usize).min(left);
