@@ -40,6 +40,9 @@ struct Outlet {
 
     /// Whether the last line that was written is not whole.
     is_torn: bool,
+
+    /// Whether the machine refused what was written last, as where nobody reads any more.
+    is_broken: bool,
     ghost within: { written ≤ vec_len bytes },
 }
 
@@ -64,6 +67,7 @@ impl Outlet {
             lost: 0,
             idle: 0,
             is_torn: false,
+            is_broken: false,
         }
     }
 
@@ -90,6 +94,7 @@ impl Outlet {
             lost: self.lost.saturating_add(dropped),
             idle: self.idle,
             is_torn: self.is_torn,
+            is_broken: self.is_broken,
         };
     }
 
@@ -114,10 +119,12 @@ impl Outlet {
             self.written += (count as usize).min(left);
             self.idle = 0;
             self.is_torn = false;
+            self.is_broken = false;
             return true;
         }
         if count < 0 && !matches!(os::errno(), EAGAIN | EINTR) {
             self.give_up();
+            self.is_broken = true;
             return true;
         }
         false
@@ -186,9 +193,10 @@ impl Writer {
         }
     }
 
-    /// Whether all is written, and all that was lost is told of.
+    /// Whether all is written, and all that was lost is told of, where it can be told.
     fn is_done(&self) -> bool {
-        self.output.is_done() && self.messages.is_done() && self.messages.lost == 0
+        let is_told = self.messages.lost == 0 || self.messages.is_broken;
+        self.output.is_done() && self.messages.is_done() && is_told
     }
 
     /// Writes a piece to each output that takes something. Where none does, it is waited for a
