@@ -204,7 +204,25 @@ def unread_outputs(_):
         yield is_right, f"{name} a full pipe: {answered} of 60 answered, {logged} lines of the log, status {status} {took:.1f} s after the stop file, what was dropped is {'told' if is_told else 'not told'}"
 
 
-CASES = [deploy_under_load, few_descriptors, unread_outputs]
+def closed_pipe():
+    """The end to write of a pipe that nobody reads any more."""
+    read, write = os.pipe()
+    os.close(read)
+    return write
+
+
+def closed_outputs(_):
+    """Outputs whose readers have gone: who serves goes on, takes no processor for them, and ends when it is told to."""
+    for name, is_output, is_messages in (("standard error", False, True), ("standard output", True, False), ("both", True, True)):
+        with tempfile.TemporaryFile() as output, tempfile.TemporaryFile() as messages:
+            ends = [closed_pipe(), closed_pipe()]
+            answered, status, took = unread(ends[0] if is_output else output, ends[1] if is_messages else messages)
+            for end in ends:
+                os.close(end)
+        yield answered == 60 and status == 0 and took < 12, f"{name} a pipe whose reader has gone: {answered} of 60 answered, status {status} {took:.1f} s after the stop file"
+
+
+CASES = [deploy_under_load, few_descriptors, unread_outputs, closed_outputs]
 
 
 def main():
