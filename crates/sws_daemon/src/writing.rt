@@ -182,12 +182,15 @@ impl Writer {
             tell_of_loss(alloc, waiting, &mut self.output.lost, "lines of the log");
         }
         if self.messages.is_done() {
-            tell_of_loss(
-                alloc,
-                waiting,
-                &mut self.messages.lost,
-                "lines like this one",
-            );
+            // Where nobody reads any more there is nobody to tell.
+            if !self.messages.is_broken {
+                tell_of_loss(
+                    alloc,
+                    waiting,
+                    &mut self.messages.lost,
+                    "lines like this one",
+                );
+            }
             let (bytes, dropped) = waiting.messages.take(alloc);
             self.messages.begin(bytes, dropped);
         }
