@@ -17,10 +17,10 @@ module _ {W L : Type 0} {l : LinkWords L} (clients : ℕ) where
   pub no_seats : AreSeats {W = W} {L = L} {l = l} clients 0 []
   no_seats = record { many = refl; logs = λ i seat at. cc; clients_are = λ i seat at. cc }
 
-  pub more_seats : (count : ℕ) (seats : List (Seat W L l)) (seat : Seat W L l) → AreSeats clients count seats → seat.log ≡ record { colour = record { 0 = count }; events = []; spare = 0 } → seat.clients ≡ clients → AreSeats clients (count + 1) (seats ++ seat ∷ [])
+  pub more_seats : (count : ℕ) (seats : List (Seat W L l)) (seat : Seat W L l) → AreSeats clients count seats → seat.log ≡ record { colour = record { 0 = count }; events = [] } → seat.clients ≡ clients → AreSeats clients (count + 1) (seats ++ seat ∷ [])
   more_seats count seats seat are log of_clients = record {
     many = one_more seats seat count are.many;
-    logs = each_push (λ i (s : Seat W L l). s.log ≡ record { colour = record { 0 = i }; events = []; spare = 0 }) seats seat count are.many are.logs log;
+    logs = each_push (λ i (s : Seat W L l). s.log ≡ record { colour = record { 0 = i }; events = [] }) seats seat count are.many are.logs log;
     clients_are = each_push (λ i (s : Seat W L l). s.clients ≡ clients) seats seat count are.many are.clients_are of_clients;
   }
 

@@ -44,7 +44,6 @@ impl<W: World + Drop> App for Chat<W> {
         outs: &mut Outs<Load<W, W::Link>>,
     )
         requires serves { (state.old.clients ≡ self.now.clients) × (self.now.clients ≤ 1024) }
-        requires room { 1 ≤ state.old.log.spare }
         requires empty { outs.old ≡ [] }
         requires fits { FitsChat W.tells W.Link.is_shut state.old.clients state.old.log.colour
             event load }
@@ -53,14 +52,13 @@ impl<W: World + Drop> App for Chat<W> {
         ensures colour { state.new.log.colour ≡ state.old.log.colour }
         ensures frame { state.new.clients ≡ state.old.clients }
         ensures trail { state.new.log.events ≡ state.old.log.events ++ event ∷ [] }
-        ensures spare { state.old.log.spare ≡ state.new.log.spare + 1 }
         ensures puts { AllByRecursion (FitsIn (self.now.clients + 2) 8
             (FitsChat W.tells W.Link.is_shut state.old.clients)) outs.new }
         ensures few { length outs.new ≤ 2 }
     {
-        let place = state.log.trail().len() as u64;
+        let place = state.events();
         let (clients, colour) = (self.clients, state.log.colour());
-        state.log.push(event);
+        state.record(event);
         let part = &mut state.part;
         match load {
             Some(Load::Poll(held)) => poll::<W>(part, clients, held, outs),

@@ -6,7 +6,7 @@
 //! | Colour | Its state | Its events |
 //! |---|---|---|
 //! | 0 | the [`Desk`]: who waits for its link, and the world where it rests | the world is asked who may go on, and for the next link; a client waits |
-//! | 1 | the room: nothing but its trail, whose length is a line's place | a line is said |
+//! | 1 | the room: nothing but how many lines it got, which is the next one's place | a line is said |
 //! | `2 + i` | the [`Client`] `i`: its link, and what is on its way from it and to it | it comes, goes on, is to leave, or hears a line |
 //!
 //! A client whose link may be ready reads what has come. It says the first line to the room, or

@@ -31,7 +31,7 @@ pub const MOST_WORKERS: u16 = 64;
 /// There was no memory.
 fn make_seat<W: World>(alloc: Global, number: u16, clients: u16) -> Result<Seat<W, W::Link>, Memory>
     ensures log { IfOk result (λ seat. seat.log
-        ≡ record { colour = record { 0 = number }; events = []; spare = 0 }) }
+        ≡ record { colour = record { 0 = number }; events = [] }) }
     ensures clients { IfOk result (λ seat. seat.clients ≡ clients) }
 {
     let part = match number {
@@ -40,7 +40,8 @@ fn make_seat<W: World>(alloc: Global, number: u16, clients: u16) -> Result<Seat<
         _ => Part::Client(Client::new(alloc)),
     };
     Ok(Seat {
-        log: TrailLog::new(alloc, Colour(number)),
+        log: TrailLog::new(Colour(number)),
+        events: 0,
         clients,
         part,
     })

@@ -1,11 +1,11 @@
 //! The state of a colour.
-ghost use Rattle.std.specs.Prelude.{◌≡◌, length};
+ghost use Rattle.std.specs.Prelude.{◌≡◌, ◌%◌, ◌^◌, ◌++◌, ◌∷◌, [], length};
 ghost use Rattle.example_chat_room.specs.Loads.{FitsChat};
 
 use crate::client::Client;
 use crate::desk::Desk;
 use crate::load::Load;
-use mely_event::{Colour, Event, Fits, Memory, Trail, TrailLog};
+use mely_event::{Colour, Event, Fits, Trail, TrailLog};
 use sws_link::{Link, World};
 
 /// What a colour is for.
@@ -21,20 +21,36 @@ pub enum Part<W, L: Link> {
     Client(Client<L>),
 }
 
-/// The state of a colour: its trail, how many clients there are in all, and what it is for.
+/// The state of a colour: its trail, how many events that has, how many clients there are in all,
+/// and what it is for.
 #[derive(Drop)]
 pub struct Seat<W, L: Link> {
     pub(crate) log: TrailLog,
+    pub(crate) events: u64,
     pub(crate) clients: u16,
     pub(crate) part: Part<W, L>,
+
+    ghost counted: { events ≡ length log.events % 2 ^ 64 },
 }
 
 impl<W, L: Link> Seat<W, L> {
-    /// How many events were run on the colour: on the room's one for each line that it got.
-    pub fn events(&self) -> usize
-        ensures { result ≡ length self.now.log.events }
+    /// An event is run: it joins the trail, and is counted.
+    pub(crate) fn record(&mut self, event: Event)
+        ensures log { self.new.log ≡ record self.old.log {
+          events = self.old.log.events ++ event ∷ [];
+        } }
+        ensures clients { self.new.clients ≡ self.old.clients }
     {
-        self.log.trail().len()
+        self.log.push(event);
+        self.events = self.events.wrapping_add(1);
+    }
+
+    /// How many events were run on the colour, modulo 2^64: on the room's one for each line that it
+    /// got.
+    pub fn events(&self) -> u64
+        ensures { result ≡ length self.now.log.events % 2 ^ 64 }
+    {
+        self.events
     }
 
     /// What the colour is for, and has come to.
@@ -46,10 +62,6 @@ impl<W, L: Link> Seat<W, L> {
 }
 
 impl<W, L: Link> Trail for Seat<W, L> {
-    ghost use Rattle.mely_event.specs.TrailLog.{AreAlike, alike_itself, alike_onward};
-    ghost use Rattle.std.proofs.Common.{ap};
-    ghost use Rattle.example_chat_room.specs.Seats.{rest_of};
-
     type Frame = u16;
 
     ghost trail_of = { λ s. s.log.events };
@@ -57,28 +69,6 @@ impl<W, L: Link> Trail for Seat<W, L> {
     ghost colour_of = { λ s. s.log.colour };
 
     ghost frame_of = { λ s. s.clients };
-
-    ghost spare_of = { λ s. s.log.spare };
-
-    ghost alike = { AreAlike (λ s. s.log) rest_of };
-
-    fn trail(&self) -> &[Event] {
-        self.log.trail()
-    }
-
-    fn reserve(&mut self, n: usize) -> Result<(), Memory> {
-        self.log.reserve(n)
-    }
-
-    ghost alike_itself = { λ s. alike_itself s };
-
-    ghost alike_onward = { λ r s t one other. alike_onward one other };
-
-    ghost alike_trail = { λ s t same. same.events };
-
-    ghost alike_colour = { λ s t same. same.colour };
-
-    ghost alike_frame = { λ s t same. ap (λ rest. rest.0) same.rest };
 }
 
 impl<W: World> Fits<Load<W, W::Link>> for Seat<W, W::Link> {

@@ -39,7 +39,6 @@ impl App for Passing {
     ghost runs = { λ app before event load after puts. Unit {0} };
 
     fn run(&self, state: &mut Tally, event: Event, _load: Option<u8>, outs: &mut Outs<u8>)
-        requires room { 1 ≤ state.old.log.spare }
         requires empty { outs.old ≡ [] }
         ensures ran { Unit {0} }
         ensures joins { Joins event state.old.log state.new.log }
@@ -62,7 +61,6 @@ impl App for Passing {
 /// Passes an event on to one of so many colours, which the state draws by so many rounds, until its
 /// argument has come down to 0. It is counted nowhere.
 pub fn pass_on(state: &mut Tally, event: Event, colours: u16, rounds: u32, outs: &mut Outs<u8>)
-    requires room { 1 ≤ state.old.log.spare }
     requires empty { outs.old ≡ [] }
     ensures joins { Joins event state.old.log state.new.log }
     ensures puts { AllByRecursion (FitsIn colours 1 (λ colour event load. Unit {0})) outs.new }

@@ -1,5 +1,5 @@
 //! The state of one colour.
-ghost use Rattle.std.specs.Prelude.{◌≡◌, ◌≤◌, ◌-◌, ◌++◌, ◌∷◌, [], IfOk};
+ghost use Rattle.std.specs.Prelude.{◌≡◌, ◌++◌, ◌∷◌, [], IfOk};
 ghost use Rattle.mely_weave.specs.Making.{AreInitialBelow};
 
 use mely_event::{Colour, Event, Logged, Memory, TrailLog};
@@ -9,11 +9,11 @@ use std::alloc::Global;
 pub type Tally = Logged<u32>;
 
 /// A state on which nothing was run.
-pub fn initial_tally(alloc: Global, colour: u16) -> Tally
-    ensures { result.log ≡ record { colour = record { 0 = colour }; events = []; spare = 0 } }
+pub fn initial_tally(colour: u16) -> Tally
+    ensures { result.log ≡ record { colour = record { 0 = colour }; events = [] } }
 {
     Logged {
-        log: TrailLog::new(alloc, Colour(colour)),
+        log: TrailLog::new(Colour(colour)),
         value: u32::from(colour),
     }
 }
@@ -30,7 +30,7 @@ pub fn initial_states(alloc: Global, colours: u16) -> Result<Vec<Tally>, Memory>
 {
     let mut states = Vec::new(alloc);
     'colours: for colour in 0..colours {
-        states.push(initial_tally(alloc, colour))?;
+        states.push(initial_tally(colour))?;
     }
     Ok(states)
 }
@@ -38,11 +38,7 @@ pub fn initial_states(alloc: Global, colours: u16) -> Result<Vec<Tally>, Memory>
 /// The event joins the trail, and a number is drawn by so many rounds of a linear congruential
 /// generator, and one more.
 pub fn draw(state: &mut Tally, event: Event, rounds: u32) -> u16
-    requires { 1 ≤ state.old.log.spare }
-    ensures { state.new.log ≡ record state.old.log {
-      events = state.old.log.events ++ event ∷ [];
-      spare = state.old.log.spare - 1;
-    } }
+    ensures { state.new.log ≡ record state.old.log { events = state.old.log.events ++ event ∷ [] } }
 {
     state.log.push(event);
     state.value = drawn_after(state.value, rounds);

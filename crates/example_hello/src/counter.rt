@@ -1,8 +1,8 @@
 //! The state of a colour.
-ghost use Rattle.std.specs.Prelude.{◌≡◌, ◌≤◌, ◌-◌, ◌^◌, ◌++◌, ◌∷◌, [], length, min};
+ghost use Rattle.std.specs.Prelude.{◌≡◌, ◌-◌, ◌^◌, ◌++◌, ◌∷◌, [], length, min};
 
 use mely_app::Initial;
-use mely_event::{Colour, Event, Fits, Memory, Trail, TrailLog};
+use mely_event::{Colour, Event, Fits, Trail, TrailLog};
 use std::alloc::Global;
 
 /// A state that counts the events that were run on it. No other colour can see it, so it needs no
@@ -19,10 +19,8 @@ pub struct Counter {
 impl Counter {
     /// An event is run: it joins the trail, and is counted.
     pub fn run(&mut self, event: Event)
-        requires { 1 ≤ self.old.log.spare }
         ensures { self.new.log ≡ record self.old.log {
           events = self.old.log.events ++ event ∷ [];
-          spare = self.old.log.spare - 1;
         } }
     {
         self.log.push(event);
@@ -37,12 +35,9 @@ impl Counter {
     }
 }
 
-/// What a runtime asks of a state: its colour, its trail, and room for more of it. The log has all
-/// three.
+/// What contracts know of a state: its trail and its colour, which the log has. Nothing stays the
+/// same of all states but what their type says.
 impl Trail for Counter {
-    ghost use Rattle.mely_event.specs.TrailLog.{AreAlike, alike_itself, alike_onward};
-    ghost use Rattle.std.proofs.Common.{refl};
-
     type Frame = ();
 
     ghost trail_of = { λ s. s.log.events };
@@ -50,28 +45,6 @@ impl Trail for Counter {
     ghost colour_of = { λ s. s.log.colour };
 
     ghost frame_of = { λ s. tt };
-
-    ghost spare_of = { λ s. s.log.spare };
-
-    ghost alike = { AreAlike (λ s. s.log) (λ s. s.count) };
-
-    fn trail(&self) -> &[Event] {
-        self.log.trail()
-    }
-
-    fn reserve(&mut self, n: usize) -> Result<(), Memory> {
-        self.log.reserve(n)
-    }
-
-    ghost alike_itself = { λ s. alike_itself s };
-
-    ghost alike_onward = { λ r s t one other. alike_onward one other };
-
-    ghost alike_trail = { λ s t same. same.events };
-
-    ghost alike_colour = { λ s t same. same.colour };
-
-    ghost alike_frame = { λ s t same. refl };
 }
 
 /// No event carries a load.
@@ -82,9 +55,9 @@ impl Fits<()> for Counter {
 impl Initial<()> for Counter {
     ghost initial_frame = { tt };
 
-    fn initial_state(alloc: Global, colour: Colour) -> Counter {
+    fn initial_state(_alloc: Global, colour: Colour) -> Counter {
         Counter {
-            log: TrailLog::new(alloc, colour),
+            log: TrailLog::new(colour),
             count: 0,
         }
     }

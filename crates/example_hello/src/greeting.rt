@@ -43,13 +43,11 @@ impl App for Greeting {
     ghost runs = { λ app before event load after puts. puts ≡ greetings_of event };
 
     fn run(&self, state: &mut Counter, event: Event, _load: Option<()>, outs: &mut Outs<()>)
-        requires room { 1 ≤ state.old.log.spare }
         requires empty { outs.old ≡ [] }
         ensures ran { outs.new ≡ greetings_of event }
         ensures colour { state.new.log.colour ≡ state.old.log.colour }
         ensures frame { Unit {0} }
         ensures trail { state.new.log.events ≡ state.old.log.events ++ event ∷ [] }
-        ensures spare { state.old.log.spare ≡ state.new.log.spare + 1 }
         ensures puts { AllByRecursion (FitsIn COLOURS HANDLERS (λ colour event load. Unit {0}))
             outs.new }
         ensures few { length outs.new ≤ 2 }

@@ -34,14 +34,14 @@ serves_quietly before after event load puts trail told none =
 -- the states at first
 abbrev pub first_two : List (Logged ℕ)
 first_two =
-    (record { log = record { colour = record { 0 = 0 }; events = []; spare = 0 }; value = 0 })
-    ∷ (record { log = record { colour = record { 0 = 1 }; events = []; spare = 0 }; value = 0 }) ∷ []
+    (record { log = record { colour = record { 0 = 0 }; events = [] }; value = 0 })
+    ∷ (record { log = record { colour = record { 0 = 1 }; events = [] }; value = 0 }) ∷ []
 
 pub begins : (states : List (Logged ℕ)) → states ≡ first_two → BeginsInOrder telling states
 begins states are = subst (λ (l : List (Logged ℕ)). BeginsInOrder telling l) (sym are) (record {
-  receiver = record { log = record { colour = record { 0 = 0 }; events = []; spare = 0 }; value = 0 };
+  receiver = record { log = record { colour = record { 0 = 0 }; events = [] }; value = 0 };
   receiver_is = refl;
-  sender = record { log = record { colour = record { 0 = 1 }; events = []; spare = 0 }; value = 0 };
+  sender = record { log = record { colour = record { 0 = 1 }; events = [] }; value = 0 };
   sender_is = refl;
   rises = omega arith;
   counted = λ gapless. refl;

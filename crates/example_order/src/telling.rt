@@ -35,14 +35,12 @@ impl App for Telling {
         HandlerServes telling before.log.colour before (event, load) after puts };
 
     fn run(&self, state: &mut Teller, event: Event, _load: Option<()>, outs: &mut Outs<()>)
-        requires room { 1 ≤ state.old.log.spare }
         requires empty { outs.old ≡ [] }
         ensures ran { HandlerServes telling state.old.log.colour state.old (event, _load) state.new
             outs.new }
         ensures colour { state.new.log.colour ≡ state.old.log.colour }
         ensures frame { Unit {0} }
         ensures trail { state.new.log.events ≡ state.old.log.events ++ event ∷ [] }
-        ensures spare { state.old.log.spare ≡ state.new.log.spare + 1 }
         ensures puts { AllByRecursion (FitsIn 2 2 (λ colour event load. Unit {0})) outs.new }
         ensures few { length outs.new ≤ 2 }
     {

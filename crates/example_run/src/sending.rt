@@ -1,5 +1,5 @@
 //! The app, and what tells it.
-ghost use Rattle.std.specs.Prelude.{◌≡◌, ◌≤◌, ◌+◌, ◌++◌, ◌∷◌, [], false, length};
+ghost use Rattle.std.specs.Prelude.{◌≡◌, ◌≤◌, ◌++◌, ◌∷◌, [], false, length};
 ghost use Rattle.std.specs.List.{AllByRecursion};
 ghost use Rattle.mely_worker.specs.Access.{FitsIn};
 ghost use Rattle.mely_run.specs.Corresponds.{without_loads};
@@ -28,13 +28,11 @@ impl App for Sending {
         ≡ registrations_of event };
 
     fn run(&self, state: &mut TrailLog, event: Event, load: Option<u8>, outs: &mut Outs<u8>)
-        requires room { 1 ≤ state.old.spare }
         requires empty { outs.old ≡ [] }
         ensures ran { without_loads outs.new ≡ registrations_of event }
         ensures colour { state.new.colour ≡ state.old.colour }
         ensures frame { Unit {0} }
         ensures trail { state.new.events ≡ state.old.events ++ event ∷ [] }
-        ensures spare { state.old.spare ≡ state.new.spare + 1 }
         ensures puts { AllByRecursion (FitsIn 2 2 (λ colour event load. Unit {0})) outs.new }
         ensures few { length outs.new ≤ 2 }
     {
@@ -58,9 +56,7 @@ impl Told for Sending {
 
     ghost is_told = { λ app frame. record {
       moved = λ x some others same agrees. tt;
-      roomier = λ x c state roomy rest alike agrees. tt;
       runs = λ x c event load state after puts rest colour of_frame fit agrees ran fine. (ran, tt);
-      spoilt_roomier = λ state roomy alike is. is;
       spoilt_after = λ state after event load puts ran is. is;
     } };
 }

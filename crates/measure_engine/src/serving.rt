@@ -103,8 +103,8 @@ pub fn run<R: Threads + Wait + Sync>(rt: &R, alloc: Global, order: &Order) -> Op
         return None;
     };
     let ended = match order.kind {
-        Kind::Steps => serve_steps(rt, alloc, &site, &shape, world, &[], false),
-        Kind::Threads => serve_all(rt, alloc, &site, &shape, world, &OpenGate, false),
+        Kind::Steps => serve_steps(rt, alloc, &site, &shape, world, &[], false, false),
+        Kind::Threads => serve_all(rt, alloc, &site, &shape, world, &OpenGate, false, false),
     };
     if ended.verdict != Verdict::Ok {
         return None;

@@ -1,5 +1,5 @@
 //! The loop: register, take, run, finish.
-ghost use Rattle.std.specs.Prelude.{◌≡◌, ◌<◌, ◌≤◌, ℕ, length, All, IfOk, IfSome};
+ghost use Rattle.std.specs.Prelude.{◌≡◌, ◌<◌, ℕ, All, IfOk, IfSome};
 ghost use Rattle.mely_shard.specs.Shard.{IsOwn, KeepsFrame, TurnStands};
 ghost use Rattle.measure_shard.specs.Loops.{IsLoop, AreInitial};
 ghost use Rattle.measure_shard.specs.declared.event_loop.TheConstants.{COLOURS};
@@ -20,7 +20,7 @@ fn initial_states(alloc: Global) -> Result<Vec<TrailLog>, Memory>
 {
     let mut states = Vec::new(alloc);
     for colour in 0..COLOURS {
-        states.push(TrailLog::new(alloc, Colour(colour)))?;
+        states.push(TrailLog::new(Colour(colour)))?;
     }
     Ok(states)
 }
@@ -95,7 +95,6 @@ fn run_and_finish(shard: &mut Shard<TrailLog, u32>, mut turn: Turn<TrailLog, u32
     requires own { IsOwn shard.old turn.colour }
     requires stands { TurnStands ⟦<TrailLog as Trail>⟧
         ⟦<TrailLog as Fits<u32>>⟧.fits_under shard.old turn }
-    requires room { length turn.events ≤ turn.state.spare }
     ensures { KeepsFrame shard.old shard.new }
 {
     while let Some((event, _load)) = turn.next() {

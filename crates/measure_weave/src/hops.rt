@@ -1,5 +1,5 @@
 //! An app that passes events on.
-ghost use Rattle.std.specs.Prelude.{◌≡◌, ◌≤◌, ◌+◌, ◌++◌, ◌∷◌, [], length};
+ghost use Rattle.std.specs.Prelude.{◌≡◌, ◌≤◌, ◌++◌, ◌∷◌, [], length};
 ghost use Rattle.std.specs.List.{AllByRecursion};
 ghost use Rattle.mely_worker.specs.Access.{FitsIn};
 
@@ -28,13 +28,11 @@ impl App for Hops {
     ghost runs = { λ app before event load after puts. Unit {0} };
 
     fn run(&self, state: &mut Tally, event: Event, _load: Option<u8>, outs: &mut Outs<u8>)
-        requires room { 1 ≤ state.old.log.spare }
         requires empty { outs.old ≡ [] }
         ensures ran { Unit {0} }
         ensures colour { state.new.log.colour ≡ state.old.log.colour }
         ensures frame { Unit {0} }
         ensures trail { state.new.log.events ≡ state.old.log.events ++ event ∷ [] }
-        ensures spare { state.old.log.spare ≡ state.new.log.spare + 1 }
         ensures puts { AllByRecursion
             (FitsIn self.now.colours 1 (λ colour event load. Unit {0})) outs.new }
         ensures few { length outs.new ≤ 2 }

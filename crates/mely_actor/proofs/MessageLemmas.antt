@@ -1,5 +1,5 @@
 -- The messages among events, where one event is more, and what a value keeps over them then.
-use Rattle.std.proofs.Common.{◌≡◌, ◌≤◌, ◌<◌, ◌+◌, ℕ, Bool, true, false, List, [], ◌∷◌, ◌++◌, nat_lt, if◌then◌else◌, length, min, refl, ◌∙◌, ap, arith}
+use Rattle.std.proofs.Common.{◌≡◌, ◌<◌, ◌+◌, ℕ, Bool, true, false, List, [], ◌∷◌, ◌++◌, nat_lt, if◌then◌else◌, length, refl, ◌∙◌, ap, arith}
 use Rattle.std.proofs.lemmas.Bool.{lt-ltb}
 use Rattle.std.proofs.lemmas.List.{append-nil, length-append}
 use Rattle.std.proofs.lemmas.List.Elements.{filter-append}
@@ -29,20 +29,9 @@ behind_message before event own =
     let single : length (event ∷ []) ≡ 1 = refl in
     omega (arith, both, all, single)
 
-few_messages : (events : List Event) → length (messages_in events) ≤ length events
-few_messages [] = omega arith
-few_messages (event ∷ events) = let rest = few_messages events in with_one (is_message event) rest
-  where
-    with_one : (b : Bool) → length (messages_in events) ≤ length events → length (if b then event ∷ messages_in events else messages_in events) ≤ length (event ∷ events)
-    with_one true rest = omega (arith, rest)
-    with_one false rest = omega (arith, rest)
-
--- the number of messages, which is no more than that of all events
-pub counted_more : (count long : ℕ) (events : List Event) (event : Event) → count ≡ length (messages_in events) → long ≡ length events → 0 < event.handler → min long count + 1 ≡ length (messages_in (events ++ event ∷ []))
-counted_more count long events event counted all own =
-    let more = behind_message events event own in
-    let few = few_messages events in
-    omega (arith, counted, all, more, few)
+-- the number of messages, where one more can be counted
+pub counted_more : (count : ℕ) (events : List Event) (event : Event) → count ≡ length (messages_in events) → 0 < event.handler → count + 1 ≡ length (messages_in (events ++ event ∷ []))
+counted_more count events event counted own = let more = behind_message events event own in omega (arith, counted, more)
 
 pub all_more : {M : Type 0} (P : M → Type 0) (xs : List M) (x : M) → AllByRecursion P xs → P x → AllByRecursion P (xs ++ x ∷ [])
 all_more P [] x all one = (one, tt)

@@ -15,10 +15,10 @@ module _ {A M V : Type 0} (plan : Plan A M) where
   pub none_made : AreMade {V = V} plan 0 []
   none_made = record { many = refl; logs = λ i state at. cc; plans = λ i state at. cc }
 
-  pub more_made : (count : ℕ) (states : List (KeptState A M V)) (state : KeptState A M V) → AreMade plan count states → state.log ≡ record { colour = record { 0 = count }; events = []; spare = 0 } → state.plan ≡ plan → AreMade plan (count + 1) (states ++ state ∷ [])
+  pub more_made : (count : ℕ) (states : List (KeptState A M V)) (state : KeptState A M V) → AreMade plan count states → state.log ≡ record { colour = record { 0 = count }; events = [] } → state.plan ≡ plan → AreMade plan (count + 1) (states ++ state ∷ [])
   more_made count states state made log of_plan = record {
     many = one_more states state count made.many;
-    logs = each_push (λ i (s : KeptState A M V). s.log ≡ record { colour = record { 0 = i }; events = []; spare = 0 }) states state count made.many made.logs log;
+    logs = each_push (λ i (s : KeptState A M V). s.log ≡ record { colour = record { 0 = i }; events = [] }) states state count made.many made.logs log;
     plans = each_push (λ i (s : KeptState A M V). s.plan ≡ plan) states state count made.many made.plans of_plan;
   }
 

@@ -31,8 +31,8 @@ module _ {A V M : Type 0} (a : ActorWords A V M) where
     pub may : AllByRecursion (MaySend (a.colours_of plan.actor) (a.rows_of plan.actor) a.event_of
         (a.sound plan.actor)) waiting
 
-  -- the messages of a trail are counted
+  -- where the value hasn't failed, the messages of its trail are counted
   pub record IsKept (plan : Plan A M) (colour : Colour) (events : List Event) (count : ℕ)
       (failed : Bool) (waiting : List (Colour × M)) (value : V) : Type 0 where
-    pub counted : count ≡ length (messages_in events)
+    pub counted : failed ≡ false → count ≡ length (messages_in events)
     pub stands : failed ≡ false → Stands plan colour events waiting value

@@ -5,7 +5,7 @@ use Rattle.mely_event.specs.declared.colour.Colour.{Colour}
 use Rattle.mely_actor.specs.declared.load.Plan.{Plan}
 
 -- the trail, what stays the same over the run, how many messages the trail has, what is still to be
--- sent, the value, and whether memory was wanted for it
+-- sent, the value, and whether it has failed
 pub record KeptState (A M V : Type 0) : Type 0 where
   pub log : TrailLogState
   pub plan : Plan A M
@@ -13,8 +13,3 @@ pub record KeptState (A M V : Type 0) : Type 0 where
   pub waiting : List (Colour × M)
   pub value : V
   pub failed : Bool
-
--- all of a state but its trail
-abbrev pub rest_of : {A M V : Type 0} → KeptState A M V
-    → Plan A M × ℕ × List (Colour × M) × V × Bool
-rest_of state = (state.plan, state.count, state.waiting, state.value, state.failed)

@@ -25,7 +25,7 @@ pub record AreMade {A M V : Type 0} (plan : Plan A M) (count : ℕ)
     (states : List (KeptState A M V)) : Type 0 where
   pub many : length states ≡ count
   pub logs : (i : ℕ) (state : KeptState A M V) → slice_get states i ≡ Some state
-      → state.log ≡ record { colour = record { 0 = i }; events = []; spare = 0 }
+      → state.log ≡ record { colour = record { 0 = i }; events = [] }
   pub plans : (i : ℕ) (state : KeptState A M V) → slice_get states i ≡ Some state
       → state.plan ≡ plan
 

@@ -45,7 +45,6 @@ impl<A: Actor + Drop> App for Acting<A> {
     )
         requires serves { Serves (A.colours_of self.now.actor) (A.rows_of self.now.actor)
             A.event_of (A.sound self.now.actor) self.now.actor state.old.plan }
-        requires room { 1 ≤ state.old.log.spare }
         requires empty { outs.old ≡ [] }
         requires fits { FitsLoad (A.colours_of state.old.plan.actor) A.event_of
             (A.sound state.old.plan.actor) state.old.plan.posts.items state.old.log.colour event
@@ -55,7 +54,6 @@ impl<A: Actor + Drop> App for Acting<A> {
         ensures colour { state.new.log.colour ≡ state.old.log.colour }
         ensures frame { state.new.plan ≡ state.old.plan }
         ensures trail { state.new.log.events ≡ state.old.log.events ++ event ∷ [] }
-        ensures spare { state.old.log.spare ≡ state.new.log.spare + 1 }
         ensures puts { AllByRecursion (FitsIn (A.colours_of self.now.actor)
             (A.rows_of self.now.actor) (FitsLoad (A.colours_of state.old.plan.actor) A.event_of
             (A.sound state.old.plan.actor) state.old.plan.posts.items)) outs.new }

@@ -8,7 +8,7 @@ use crate::actor::{Actor, Place};
 use crate::load::{Load, Plan, TURN, WANT};
 use crate::sends::Sends;
 use crate::waiting::{send_all, send_some};
-use mely_event::{Colour, Event, Fits, Memory, Trail, TrailLog};
+use mely_event::{Colour, Event, Fits, Trail, TrailLog};
 use mely_worker::Outs;
 use std::alloc::Global;
 use std::collections::VecDeque;
@@ -16,8 +16,9 @@ use std::marker::Model;
 use std::snapshot::Snapshot;
 
 /// The state of a colour: its trail, with the number of messages in it, what is still to be sent,
-/// and the value that the author's fact is about. Where memory was wanted the value has failed: it
-/// keeps nothing and sends nothing from then on, and events say so.
+/// and the value that the author's fact is about. Where memory was wanted, or there were more
+/// messages than can be counted, the value has failed: it keeps nothing and sends nothing from then
+/// on, and events say so.
 #[derive(Drop)]
 pub struct Kept<A: Actor> {
     log: TrailLog,
@@ -59,7 +60,7 @@ impl<A: Actor> Kept<A> {
     ) -> Kept<A>
         requires { A.kept plan.now.actor colour [] [] value }
         ensures { result ≡ record {
-          log = record { colour = colour; events = []; spare = 0 };
+          log = record { colour = colour; events = [] };
           plan = plan.now;
           count = 0;
           waiting = [];
@@ -68,7 +69,7 @@ impl<A: Actor> Kept<A> {
         } }
     {
         Kept {
-            log: TrailLog::new(alloc, colour),
+            log: TrailLog::new(colour),
             plan: Snapshot::of(plan),
             count: 0,
             waiting: VecDeque::new(alloc),
@@ -86,7 +87,6 @@ impl<A: Actor> Kept<A> {
         message: A::Message,
         outs: &mut Outs<Load<A::Message>>,
     )
-        requires room { 1 ≤ self.old.log.spare }
         requires actor { self.old.plan.actor ≡ actor.now }
         requires serves { Serves (A.colours_of self.old.plan.actor) (A.rows_of self.old.plan.actor)
             A.event_of (A.sound self.old.plan.actor) self.old.plan.actor self.old.plan }
@@ -95,7 +95,6 @@ impl<A: Actor> Kept<A> {
         requires empty { outs.old ≡ [] }
         ensures log { self.new.log ≡ record self.old.log {
           events = self.old.log.events ++ event ∷ [];
-          spare = self.old.log.spare - 1;
         } }
         ensures plan { self.new.plan ≡ self.old.plan }
         ensures ran { PutsAsTold A.event_of (A.sends_of self.old.plan.actor)
@@ -107,10 +106,10 @@ impl<A: Actor> Kept<A> {
             colour: self.log.colour(),
             number: self.count,
         };
-        // no more than the trail has, which fits into memory
-        self.count = self.log.trail().len().min(place.number) + 1;
         self.log.push(event);
-        if !self.failed {
+        // a colour fails where it receives more messages than can be counted
+        self.count = self.count.saturating_add(1);
+        if !self.failed && self.count < usize::MAX {
             let mut sends = Sends::new(alloc);
             if actor
                 .on(place, &mut self.value, message, &mut sends)
@@ -119,8 +118,8 @@ impl<A: Actor> Kept<A> {
             {
                 return;
             }
-            self.failed = true;
         }
+        self.failed = true;
         outs.put(place.colour, WANT, None);
     }
 
@@ -131,7 +130,6 @@ impl<A: Actor> Kept<A> {
         posts: VecDeque<(Colour, A::Message)>,
         outs: &mut Outs<Load<A::Message>>,
     )
-        requires room { 1 ≤ self.old.log.spare }
         requires serves { Serves (A.colours_of self.old.plan.actor) (A.rows_of self.old.plan.actor)
             A.event_of (A.sound self.old.plan.actor) self.old.plan.actor self.old.plan }
         requires fits { FitsPosts (A.colours_of self.old.plan.actor) self.old.plan.posts.items
@@ -139,7 +137,6 @@ impl<A: Actor> Kept<A> {
         requires empty { outs.old ≡ [] }
         ensures log { self.new.log ≡ record self.old.log {
           events = self.old.log.events ++ event ∷ [];
-          spare = self.old.log.spare - 1;
         } }
         ensures plan { self.new.plan ≡ self.old.plan }
         ensures ran { PutsAsTold A.event_of (A.sends_of self.old.plan.actor)
@@ -160,14 +157,12 @@ impl<A: Actor> Kept<A> {
 
     /// A later event of the library's own is run: a turn, or one that says that memory was wanted.
     pub(crate) fn turn(&mut self, event: Event, outs: &mut Outs<Load<A::Message>>)
-        requires room { 1 ≤ self.old.log.spare }
         requires serves { Serves (A.colours_of self.old.plan.actor) (A.rows_of self.old.plan.actor)
             A.event_of (A.sound self.old.plan.actor) self.old.plan.actor self.old.plan }
         requires fits { FitsNothing (A.colours_of self.old.plan.actor) self.old.log.colour event }
         requires empty { outs.old ≡ [] }
         ensures log { self.new.log ≡ record self.old.log {
           events = self.old.log.events ++ event ∷ [];
-          spare = self.old.log.spare - 1;
         } }
         ensures plan { self.new.plan ≡ self.old.plan }
         ensures ran { PutsAsTold A.event_of (A.sends_of self.old.plan.actor)
@@ -206,10 +201,6 @@ impl<A: Actor> Kept<A> {
 }
 
 impl<A: Actor> Trail for Kept<A> {
-    ghost use Rattle.mely_event.specs.TrailLog.{AreAlike, alike_itself, alike_onward};
-    ghost use Rattle.mely_actor.specs.KeptState.{rest_of};
-    ghost use Rattle.std.proofs.Common.{ap};
-
     type Frame = Plan<A, A::Message>;
 
     ghost trail_of = { λ s. s.log.events };
@@ -217,28 +208,6 @@ impl<A: Actor> Trail for Kept<A> {
     ghost colour_of = { λ s. s.log.colour };
 
     ghost frame_of = { λ s. s.plan };
-
-    ghost spare_of = { λ s. s.log.spare };
-
-    ghost alike = { AreAlike (λ s. s.log) rest_of };
-
-    fn trail(&self) -> &[Event] {
-        self.log.trail()
-    }
-
-    fn reserve(&mut self, n: usize) -> Result<(), Memory> {
-        self.log.reserve(n)
-    }
-
-    ghost alike_itself = { λ s. alike_itself s };
-
-    ghost alike_onward = { λ r s t one other. alike_onward one other };
-
-    ghost alike_trail = { λ s t same. same.events };
-
-    ghost alike_colour = { λ s t same. same.colour };
-
-    ghost alike_frame = { λ s t same. ap (λ rest. rest.0) same.rest };
 }
 
 impl<A: Actor> Fits<Load<A::Message>> for Kept<A> {

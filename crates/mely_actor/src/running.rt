@@ -2,7 +2,7 @@
 ghost use Rattle.std.specs.Prelude.{◌≡◌, ◌<◌, ◌≤◌, IfOk, length, map};
 ghost use Rattle.std.specs.List.{AllByRecursion};
 ghost use Rattle.mely_event.specs.HandlerTable.{rows_of};
-ghost use Rattle.mely_history.specs.Setup.{colours_of, handlers_of};
+ghost use Rattle.mely_history.specs.Setup.{colours_of, handlers_of, is_listed};
 ghost use Rattle.mely_actor.specs.Received.{AreKept, AreMade, AreValues};
 ghost use Rattle.mely_actor.specs.Sending.{MaySend};
 
@@ -12,7 +12,7 @@ use crate::kept::Kept;
 use crate::load::{FIRST, Load, Plan};
 use mely_app::run_states;
 use mely_event::{Colour, Memory};
-use mely_history::{Entry, Setup};
+use mely_history::{History, Setup};
 use std::alloc::Global;
 use std::collections::VecDeque;
 use std::sync::Wait;
@@ -24,9 +24,9 @@ pub struct Ended<V> {
     /// The value of each colour.
     pub values: Vec<V>,
 
-    /// The history of each shard; the entries of a colour stand in that of its number modulo the
-    /// number of shards.
-    pub histories: Vec<Vec<Entry>>,
+    /// The history of each shard, whose entries can be read where the setup lists them; those of a
+    /// colour stand in that of its number modulo the number of shards.
+    pub histories: Vec<History>,
 }
 
 /// The states of all colours, in ascending order.
@@ -80,7 +80,8 @@ fn take_values<A: Actor + Drop>(
 ///
 /// # Errors
 ///
-/// There was no memory, to begin, for an event or for a value on the way: what was done is dropped.
+/// There was no memory, to begin, for an event or for a value on the way, or a colour was sent more
+/// messages than can be counted, 2^64 - 2: what was done is dropped.
 pub fn run_actors<R: Threads + Wait + Sync, A: Actor + Drop + Sync>(
     rt: &R,
     alloc: Global,
@@ -96,8 +97,10 @@ where
     requires own { 0 < A.rows_of actor }
     requires posts { AllByRecursion (MaySend (A.colours_of actor) (A.rows_of actor) A.event_of
         (A.sound actor)) posts.items }
-    ensures { IfOk result (λ ended. AreKept A.Actor actor setup.now posts.items
+    ensures kept { IfOk result (λ ended. AreKept A.Actor actor setup.now posts.items
         (map (λ history. history.items) ended.histories.items) ended.values.items) }
+    ensures listed { IfOk result (λ ended. AllByRecursion (λ history. history.listed
+        ≡ is_listed setup.now) ended.histories.items) }
 {
     let plan = Plan { actor, posts };
     let states = make_states(alloc, setup, &plan)?;

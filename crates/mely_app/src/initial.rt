@@ -21,8 +21,8 @@ pub trait Initial<P>: Fits<P> {
 impl<P> Initial<P> for TrailLog {
     ghost initial_frame = { tt };
 
-    fn initial_state(alloc: Global, colour: Colour) -> TrailLog {
-        TrailLog::new(alloc, colour)
+    fn initial_state(_alloc: Global, colour: Colour) -> TrailLog {
+        TrailLog::new(colour)
     }
 }
 

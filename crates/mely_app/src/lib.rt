@@ -3,9 +3,11 @@
 //! An app is its handlers ([`App`](mely_worker::App), of `mely_worker`) over states, one for each
 //! colour. Here a state says how it begins ([`Initial`]), and [`run_app`] does all the rest: it
 //! makes the states and the fleet, posts the first event, lets a thread for each core work until
-//! nothing is left, closes the fleet, and hands out the states with the histories ([`Ended`]).
-//! [`run_states`] takes states that its caller has made. `docs/FIRST_APP.md` walks a whole program,
-//! the crate `example_hello`, which ends so:
+//! nothing is left, closes the fleet, and hands out the states with the histories ([`Ended`]). Their
+//! entries are for contracts alone, and take no memory, unless the setup asks for lists that code
+//! can read ([`Setup::listed`](mely_history::Setup::listed)). [`run_states`] takes states that its
+//! caller has made. `docs/FIRST_APP.md` walks a whole program, the crate `example_hello`, which ends
+//! so:
 //!
 //! ```text
 //! let Ok(setup) = Setup::new(&shape, COLOURS, handlers, 0) else {

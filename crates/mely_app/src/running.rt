@@ -1,5 +1,7 @@
 //! An app on threads, from its initial states to its end.
 ghost use Rattle.std.specs.Prelude.{◌≡◌, IfOk, Some, map, slice_get};
+ghost use Rattle.std.specs.List.{AllByRecursion};
+ghost use Rattle.mely_history.specs.Setup.{is_listed};
 ghost use Rattle.mely_weave.specs.Making.{AreInitial};
 ghost use Rattle.mely_worker.specs.Access.{FitsSetup};
 ghost use Rattle.mely_worker.specs.Conditions.{AppServes};
@@ -9,7 +11,7 @@ ghost use Rattle.mely_app.specs.RanAll.{AllFramed, RanAll};
 use crate::initial::{Initial, initial_states};
 use mely_event::{Colour, Event, Fits, Memory, Trail};
 use mely_fleet::run_crew;
-use mely_history::{Entry, Setup};
+use mely_history::{History, Setup};
 use mely_tally::the_parts_are_what_the_weave_had;
 use mely_weave::{Drained, WeaveParts};
 use mely_worker::{App, OpenGate};
@@ -23,9 +25,9 @@ pub struct Ended<S> {
     /// The state of each colour.
     pub states: Vec<S>,
 
-    /// The history of each shard; the entries of a colour stand in that of its number modulo the
-    /// number of shards.
-    pub histories: Vec<Vec<Entry>>,
+    /// The history of each shard, whose entries can be read where the setup lists them; those of a
+    /// colour stand in that of its number modulo the number of shards.
+    pub histories: Vec<History>,
 }
 
 /// Runs an app on initial states, from its first event on, with a thread for each core, until
@@ -52,6 +54,8 @@ pub fn run_app<
     requires fits { FitsSetup S.fits_under setup.now S.initial_frame (colour, event, load) }
     ensures ran { IfOk result (λ ended. RanAll S.Trail setup.now colour event
         (map (λ history. history.items) ended.histories.items) ended.states.items) }
+    ensures listed { IfOk result (λ ended. AllByRecursion (λ history. history.listed
+        ≡ is_listed setup.now) ended.histories.items) }
     ensures framed { IfOk result (λ ended.
         AllFramed S.Trail S.initial_frame ended.states.items) }
     ensures puts { IfOk result (λ ended. HasPutAll S.Trail S.fits_under A.App app.now
@@ -90,6 +94,8 @@ pub fn run_states<
         → FitsSetup S.fits_under setup.now (S.frame_of state) (colour, event, load) }
     ensures ran { IfOk result (λ ended. RanAll S.Trail setup.now colour event
         (map (λ history. history.items) ended.histories.items) ended.states.items) }
+    ensures listed { IfOk result (λ ended. AllByRecursion (λ history. history.listed
+        ≡ is_listed setup.now) ended.histories.items) }
     ensures framed { IfOk result (λ ended. (first : _) → slice_get states.items 0 ≡ Some first
         → AllFramed S.Trail (S.frame_of first) ended.states.items) }
     ensures puts { IfOk result (λ ended. (first : _) → slice_get states.items 0 ≡ Some first

@@ -11,10 +11,11 @@
 //! for Multicore Event-Driven Systems*, ICDCS 2010); an idle core steals only a colour whose queued
 //! events weigh enough. A [`Mark`] is a promise that a colour is ready.
 //!
-//! A program brings the state of each colour, which implements [`Trail`] (it keeps the list of the
-//! events that were run on it) and [`Fits`] (which loads its events may carry). [`TrailLog`] is
+//! A program brings the state of each colour, which implements [`Trail`] (contracts know the list of
+//! the events that were run on it) and [`Fits`] (which loads its events may carry). [`TrailLog`] is
 //! such a state, ready to use or to be held in another, and [`Logged`] one with a value beside it.
-//! A value that a lock keeps implements [`Kept`]. The crate itself runs nothing, and nothing in it but a `TrailLog` takes memory.
+//! A value that a lock keeps implements [`Kept`]. The crate itself runs nothing, and nothing in it
+//! takes memory.
 //!
 //! ```text
 //! // handler 0 weighs 60 / 2 = 30, handler 1 weighs 7 / 2 = 3

@@ -1,7 +1,6 @@
 //! A log with a value beside it.
 use crate::event::Event;
 use crate::fits::Fits;
-use crate::memory::Memory;
 use crate::trail::Trail;
 use crate::trail_log::TrailLog;
 
@@ -13,7 +12,7 @@ use crate::trail_log::TrailLog;
 ///
 /// ```text
 /// state.log.push(event);
-/// state.value = state.value.wrapping_add(u64::from(load.unwrap_or(0)));
+/// state.value = drawn_after(state.value, rounds);
 /// ```
 #[derive(Debug, Drop)]
 pub struct Logged<T> {
@@ -24,9 +23,6 @@ pub struct Logged<T> {
 }
 
 impl<T> Trail for Logged<T> {
-    ghost use Rattle.mely_event.specs.TrailLog.{AreAlike, alike_itself, alike_onward};
-    ghost use Rattle.std.proofs.Common.{refl};
-
     type Frame = ();
 
     ghost trail_of = { λ s. s.log.events };
@@ -34,28 +30,6 @@ impl<T> Trail for Logged<T> {
     ghost colour_of = { λ s. s.log.colour };
 
     ghost frame_of = { λ s. tt };
-
-    ghost spare_of = { λ s. s.log.spare };
-
-    ghost alike = { AreAlike (λ s. s.log) (λ s. s.value) };
-
-    fn trail(&self) -> &[Event] {
-        self.log.trail()
-    }
-
-    fn reserve(&mut self, n: usize) -> Result<(), Memory> {
-        self.log.reserve(n)
-    }
-
-    ghost alike_itself = { λ s. alike_itself s };
-
-    ghost alike_onward = { λ r s t one other. alike_onward one other };
-
-    ghost alike_trail = { λ s t same. same.events };
-
-    ghost alike_colour = { λ s t same. same.colour };
-
-    ghost alike_frame = { λ s t same. refl };
 }
 
 /// Every event fits, with any load or none.

@@ -20,7 +20,7 @@ use Rattle.mely_history.specs.Legal.{IsLegal}
 use Rattle.mely_history.specs.Owing.{IsOwed}
 use Rattle.mely_history.proofs.OwingLemmas.{running_on, owed_at_point}
 use Rattle.mely_queue.specs.Turn.{TurnState, EachFits}
-use Rattle.mely_shard.specs.Shard.{ShardState, ColourState, lane_at, givens, IsOwn, KeepsFrame, Registers, RegisteredAs, KeepsAllButSpare, Takes, KeepsStates, TurnStands, NoTakeAs, Steals, NoStealAs, IsConsistent, HomeStands}
+use Rattle.mely_shard.specs.Shard.{ShardState, ColourState, lane_at, givens, IsOwn, KeepsFrame, Registers, RegisteredAs, KeepsAllButSpare, Takes, TurnStands, NoTakeAs, Steals, NoStealAs, IsConsistent, HomeStands}
 use Rattle.mely_lock.specs.Seen.{OthersSince}
 use Rattle.mely_fleet.specs.Frames.{HaveFrame, shard_frame}
 use Rattle.mely_fleet.specs.Calls.{RegistersAt, TakesAt, StealsAt}
@@ -56,17 +56,16 @@ module _ {S P F : Type 0} (t : TrailWords S F) (fits : F → Colour → Event �
   each_take Q (suc n) (x ∷ xs) all = (all.0, each_take Q n xs all.1)
 
   -- what a take does
-  pub takes_at : (old new : ShardState S P) (c : Colour) (core : ℕ) (f : F) (answer : Result (TurnState S P) NoTake) → ((a b : S) → t.alike a b → t.trail_of a ≡ t.trail_of b) → ((a b : S) → t.alike a b → t.frame_of a ≡ t.frame_of b)
-      → IsOwn old c → IsConsistent t fits old → HaveFrame t.frame_of f (givens old)
-      → IfOk answer (λ turn. Takes t old new c core turn) → IfOk answer (λ turn. TurnStands t fits new turn)
-      → OnErr answer (KeepsStates t old new) → IfErr answer (λ why. NoTakeAs old.setup old.history c core why)
+  pub takes_at : (old new : ShardState S P) (c : Colour) (core : ℕ) (f : F) (answer : Result (TurnState S P) NoTake) → IsOwn old c → IsConsistent t fits old → HaveFrame t.frame_of f (givens old)
+      → IfOk answer (λ turn. Takes old new c core turn) → IfOk answer (λ turn. TurnStands t fits new turn)
+      → OnErr answer (KeepsAllButSpare old new) → IfErr answer (λ why. NoTakeAs old.setup old.history c core why)
       → TakesAt t fits old.setup f core c answer old.history new.history
-  takes_at old new c core f (Err why) same_trail same_frame own kept have ok stands err is = (err.history, is)
-  takes_at old new c core f (Ok turn) same_trail same_frame own kept have ok stands err is =
+  takes_at old new c core f (Err why) own kept have ok stands err is = (err.history, is)
+  takes_at old new c core f (Ok turn) own kept have ok stands err is =
       let lane = kept.each c ok.before own ok.was in
       let home = home_stands old.history c ok.before.given ok.home ok.before.state ok.at_home lane.state in
       let given_frame : t.frame_of ok.before.given ≡ f = frame_of_lane t.frame_of f old c ok.before have ok.was in
-      let framed : t.frame_of turn.state ≡ f = sym (same_frame _ _ ok.alike.0) ∙ home.1 ∙ given_frame in
+      let state : turn.state ≡ ok.home = ap (λ (x : TurnState S P). x.state) ok.made in
       let of_colour : turn.colour ≡ c = ap (λ (x : TurnState S P). x.colour) ok.made in
       let events : turn.events ≡ take turn.count ok.before.events = ap (λ (x : TurnState S P). x.events) ok.made in (
         ok.after.history,
@@ -74,12 +73,11 @@ module _ {S P F : Type 0} (t : TrailWords S F) (fits : F → Colour → Event �
           allowed = ok.allowed;
           of_colour = of_colour;
           of_core = ap (λ (x : TurnState S P). x.core) ok.made;
-          trailed = sym (same_trail _ _ ok.alike.0) ∙ home.0;
+          trailed = ap t.trail_of state ∙ home.0;
           events = ap (λ es. map (λ e. e.0) es) events ∙ sym (take-map (λ (e : Event × Option P). e.0) turn.count ok.before.events) ∙ ap (take turn.count) lane.events;
           coloured = stands.coloured ∙ of_colour;
-          framed = framed;
+          framed = ap t.frame_of state ∙ home.1 ∙ given_frame;
           fit = subst (λ es. EachFits (fits f c) es) (sym events) (each_take (λ e. fits f c e.0 e.1) turn.count ok.before.events (subst (λ k. EachFits (fits k c) ok.before.events) given_frame lane.fit));
-          room = ok.room;
         },
       )
 

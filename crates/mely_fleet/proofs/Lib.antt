@@ -12,6 +12,7 @@ mod GatherClosedLemmas
 pub mod SeatLemmas
 mod CallLemmas
 mod CrewLemmas
+pub mod CrossingLemmas
 mod BegunLemmas
 mod OwnLemmas
 mod WorkerAccountLemmas

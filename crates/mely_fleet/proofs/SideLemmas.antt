@@ -101,6 +101,5 @@ is_taken t fits setup_of core_of frame_of owes a b c front after (Ok turn) seen 
       of_colour = given.coloured;
       of_frame = given.framed;
       events_fit = given.fit;
-      room = omega (arith, count_is, given.room);
       owed = owed turn.core turn.count _ (owed_given t fits (setup_of a) (frame_of a) (core_of a) c turn seen.point after seen.does.0 given);
     }

@@ -175,11 +175,12 @@ impl<S: Fits<P> + Drop, P: Drop> FleetOf<KeptShard<S, P>> {
         steal_at(rt, &self.shards[place], &mut passes.shards[place], colour)
     }
 
-    /// Makes room for this many entries in the history of a shard. Others may use it.
+    /// Makes room for this many entries in the history of a shard. Others may use it. One that isn't
+    /// listed has it already.
     ///
     /// # Errors
     ///
-    /// There was no memory.
+    /// There was no memory, or so many are over the limit of a history.
     pub fn reserve<R: Wait>(
         &self,
         rt: &R,

@@ -57,7 +57,7 @@ impl<S: Fits<P>, P> Kept for KeptShard<S, P> {
     ghost frame_of = { shard_frame S.frame_of };
 
     fn notes(&self) -> u64 {
-        self.shard.history().len() as u64
+        self.shard.history().len()
     }
 }
 

@@ -10,6 +10,10 @@
 //! stand in each shard's one legal history, each once, in the order in which it made them,
 //! whatever other threads do.
 //!
+//! A shard's history is there for contracts, and takes no memory, however many calls are made. Where
+//! the setup asks for it ([`Setup::listed`](mely_history::Setup::listed)) its entries are also kept
+//! as a list, which can be read once the fleet is closed.
+//!
 //! [`Fleet::new`](FleetOf::new) deals out the passes of each core and of other callers, one of whom
 //! posts the first event. A thread for each core then works until nothing is left to do, and once
 //! all are back the fleet is closed. [`run_crew`] is the whole of that:

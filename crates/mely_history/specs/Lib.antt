@@ -2,6 +2,8 @@ pub mod Ranges
 pub mod Setup
 pub mod Schedules
 pub mod Entries
+pub mod Kept
+pub mod Keeping
 pub mod History
 pub mod Legal
 pub mod Judging

@@ -1,5 +1,5 @@
 -- What contracts read off a setup.
-use Rattle.std.specs.Prelude.{◌/◌, ◌%◌, ℕ, Bool, ◌&&◌, Option, None, Some, nat_le, if◌then◌else◌}
+use Rattle.std.specs.Prelude.{◌/◌, ◌%◌, ℕ, Bool, true, ◌&&◌, Option, None, Some, nat_le, if◌then◌else◌}
 use Rattle.mely_event.specs.declared.colour.Colour.{Colour}
 use Rattle.mely_event.specs.declared.handlers.Handlers.{Handlers}
 use Rattle.mely_history.specs.declared.shape.Shape.{Shape}
@@ -23,6 +23,14 @@ handlers_of s = s.handlers
 -- how many colours, from colour 0 on, are never stolen
 abbrev pub pinned_of : Setup → ℕ
 pinned_of s = s.pinned
+
+-- whether the histories are kept as lists that can be read
+abbrev pub is_listed : Setup → Bool
+is_listed s = s.listed
+
+-- the same setup, with histories that are listed
+abbrev pub with_lists : Setup → Setup
+with_lists s = record s { listed = true }
 
 -- the shard of a colour
 abbrev pub shard_of : Setup → Colour → ℕ

@@ -26,6 +26,7 @@
 mod after;
 mod colour_counts;
 mod entry;
+mod history;
 mod judged;
 mod judging;
 mod laws;
@@ -39,6 +40,7 @@ mod stolen;
 
 pub use after::After;
 pub use entry::Entry;
+pub use history::{History, MAX_ENTRIES, MAX_NOTES};
 pub use judged::Judged;
 pub use judging::judge;
 pub use laws::batches_follow_one_another;

@@ -25,14 +25,15 @@ pub const MAX_GROUP: u16 = 64;
 /// the greatest number of shards, so that no quotient is rounded up.
 const WHOLE: u64 = 4_194_304;
 
-/// What a run is made with: its shape, how many colours there are, the table of its handlers, and
-/// how many of the colours are pinned, from colour 0 on.
+/// What a run is made with: its shape, how many colours there are, the table of its handlers, how
+/// many of the colours are pinned, from colour 0 on, and whether its histories are listed.
 #[derive(Clone, Copy, Debug)]
 pub struct Setup {
     shape: Shape,
     colours: u32,
     handlers: Handlers,
     pinned: u32,
+    listed: bool,
 
     /// By it a colour is multiplied rather than divided by the number of shards, which
     /// takes several times as long.
@@ -47,11 +48,11 @@ pub struct Setup {
 }
 
 impl Setup {
-    ghost use Rattle.std.specs.Prelude.{None, Some};
-    ghost use Rattle.mely_history.specs.Setup.{first_out_of_range, shape_of, colours_of, handlers_of, pinned_of, shard_of, place};
+    ghost use Rattle.std.specs.Prelude.{None, Some, false};
+    ghost use Rattle.mely_history.specs.Setup.{first_out_of_range, shape_of, colours_of, handlers_of, pinned_of, shard_of, place, is_listed, with_lists};
 
     /// A setup of these numbers. The colours below `pinned` stay on the core that they begin on:
-    /// they are never stolen. It takes no memory.
+    /// they are never stolen. No history is listed. It takes no memory.
     ///
     /// # Errors
     ///
@@ -69,6 +70,7 @@ impl Setup {
         ensures colours { IfOk result (λ setup. colours_of setup ≡ colours) }
         ensures handlers { IfOk result (λ setup. handlers_of setup ≡ handlers) }
         ensures pinned { IfOk result (λ setup. pinned_of setup ≡ pinned) }
+        ensures listed { IfOk result (λ setup. is_listed setup ≡ false) }
         ensures refused { IfErr result (λ fault. first_out_of_range shape.now colours pinned
             ≡ Some fault) }
     {
@@ -95,8 +97,26 @@ impl Setup {
             colours,
             handlers,
             pinned,
+            listed: false,
             reciprocal: WHOLE / u64::from(shape.shards) + 1,
         })
+    }
+
+    /// The same, but that each shard's history is kept as a list that can be read: 12 bytes an
+    /// entry. Else a history is for contracts alone, and takes no memory.
+    pub fn listed(self) -> Setup
+        ensures { result ≡ with_lists self }
+    {
+        let mut setup = self;
+        setup.listed = true;
+        setup
+    }
+
+    /// Whether the histories are listed.
+    pub fn is_listed(&self) -> bool
+        ensures { result ≡ is_listed self.now }
+    {
+        self.listed
     }
 
     /// How many cores there are.

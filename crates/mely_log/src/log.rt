@@ -2,6 +2,7 @@
 ghost use Rattle.std.specs.Borrow.{ftrue};
 ghost use Rattle.std.specs.Prelude.{◌++◌, ◌∷◌, ◌≡◌, List, []};
 
+use std::fmt;
 use std::marker::{Model, PhantomData};
 use std::mem::size_of;
 
@@ -28,6 +29,13 @@ unsafe impl<T> Sync for Log<T> {}
 impl<T> Drop for Log<T> {
     fn drop(self) {
         let Self { of: _ } = self;
+    }
+}
+
+/// It has nothing that could be shown.
+impl<T> fmt::Debug for Log<T> {
+    fn fmt<W: fmt::Write>(&self, f: &mut fmt::Formatter<W>) -> Result<(), fmt::Error> {
+        f.write_str("Log")
     }
 }
 

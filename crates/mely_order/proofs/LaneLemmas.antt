@@ -1,24 +1,21 @@
 -- The lanes of the colours, where one shard changes.
-use Rattle.std.proofs.Common.{◌≡◌, ◌≢◌, ℕ, ◌*◌, ◌/◌, List, [], ◌∷◌, ◌++◌, Option, None, Some, Result, Ok, Err, length, refl, sym, ◌∙◌, ap, subst, arith, inl, inr, get_or}
-use Rattle.std.proofs.lemmas.Bool.{cases_eq, cases_lt}
+use Rattle.std.proofs.Common.{◌≡◌, ◌≢◌, ℕ, ◌*◌, ◌/◌, List, [], ◌∷◌, ◌++◌, Option, Some, Result, Ok, Err, refl, sym, ◌∙◌, ap, subst, arith, inl, inr}
+use Rattle.std.proofs.lemmas.Bool.{cases_eq}
 use Rattle.std.proofs.lemmas.List.{append_assoc}
-use Rattle.std.proofs.lemmas.Option.{slice_get-get_or, slice_get_past}
 use Rattle.std.specs.Prelude.{slice_get, slice_set}
 use Rattle.mely_event.specs.declared.colour.Colour.{Colour}
 use Rattle.mely_event.specs.declared.event.Event.{Event}
-use Rattle.mely_event.specs.declared.trail.Trail.{Ghosts as TrailWords}
 use Rattle.mely_event.specs.declared.unregistered.Unregistered.{Unregistered}
 use Rattle.mely_history.specs.declared.registered.Registered.{Registered}
 use Rattle.mely_history.specs.declared.setup.Setup.{Setup}
 use Rattle.mely_history.specs.Setup.{shape_of}
-use Rattle.mely_shard.specs.Shard.{ShardState, ColourState, IsRoomier, AreAlike, IsLaneAlike, KeepsStates, lane_at, place}
+use Rattle.mely_shard.specs.Shard.{ShardState, ColourState, lane_at, place}
 use Rattle.mely_weave.specs.Calls.{AtShard, RegisterAs}
 use Rattle.mely_weave.specs.Lanes.{lane_in, lane_for}
 use Rattle.mely_weave.specs.Side.{SideState, shard_of}
 use Rattle.mely_weave.proofs.Entries.SideLemmas.{get_set_same, get_set_other}
-use Rattle.mely_weave.proofs.Wholes.GatherLemmas.{get_there}
 use Rattle.mely_tally.specs.Tallies.{Carried}
-use Rattle.mely_order.specs.Seen.{Put, IsSameState, lane_state, lane_events}
+use Rattle.mely_order.specs.Seen.{Put, lane_state, lane_events}
 use Rattle.mely_order.specs.Steps.{Enters}
 
 -- colours of one number are one
@@ -89,50 +86,6 @@ module _ {S P : Type 0} (a b : SideState S P) (z : Colour) (Does : ShardState S 
           ∙ sym (in_old c same)
       | inr other ↦ elsewhere c other
     ]
-
--- ---- where only the spare of states at home changes
-
-roomier_same : {S F : Type 0} (t : TrailWords S F) (a b : Option S) → AreAlike (IsRoomier t) a b → AreAlike t.alike a b
-roomier_same t None None is = tt
-roomier_same t None (Some b) is = is
-roomier_same t (Some a) None is = is
-roomier_same t (Some a) (Some b) is = is.0
-
--- a lane is the same but for the spare of its state
-pub record LanesSame {S P F : Type 0} (t : TrailWords S F) (before after : Option (ColourState S P)) : Type 0 where
-  pub state : IsSameState t (lane_state before) (lane_state after)
-  pub events : lane_events after ≡ lane_events before
-
-lane_same : {S P F : Type 0} (t : TrailWords S F) (x y : ColourState S P) → IsLaneAlike (IsRoomier t) x y → LanesSame t (Some x) (Some y)
-lane_same t x y alike = record { state = inr (roomier_same t x.state y.state alike.state); events = alike.events }
-
-lanes_same_at : {S P F : Type 0} (t : TrailWords S F) (old new : ShardState S P) → KeepsStates t old new → (i : ℕ) → LanesSame t (slice_get old.lanes i) (slice_get new.lanes i)
-lanes_same_at {S} {P} t old new keeps i = elim (cases_lt i (length old.lanes)) [
-  | inl under ↦
-      let many = keeps.many in
-      let there = get_there old.lanes i under in
-      let was : slice_get old.lanes i ≡ Some (get_or old.lanes i there.0) = slice_get-get_or old.lanes i there.0 under in
-      let is : slice_get new.lanes i ≡ Some (get_or new.lanes i there.0) = slice_get-get_or new.lanes i there.0 (omega (arith, under, many)) in
-      let same = lane_same t (get_or old.lanes i there.0) (get_or new.lanes i there.0) (keeps.lanes i there.0 under) in
-      subst (λ (o : Option (ColourState S P)). LanesSame t o (slice_get new.lanes i)) (sym was) (subst (λ (o : Option (ColourState S P)). LanesSame t (Some (get_or old.lanes i there.0)) o) (sym is) same)
-  | inr over ↦
-      let many = keeps.many in
-      let was : slice_get old.lanes i ≡ None = slice_get_past old.lanes i over in
-      let is : slice_get new.lanes i ≡ None = slice_get_past new.lanes i (omega (arith, over, many)) in
-      subst (λ (o : Option (ColourState S P)). LanesSame t o (slice_get new.lanes i)) (sym was) (subst (λ (o : Option (ColourState S P)). LanesSame t None o) (sym is) (record { state = inl refl; events = refl }))
-]
-
--- so are those of all colours after a take that was refused
-pub lanes_same : {S P F : Type 0} (t : TrailWords S F) (a b : SideState S P) (z : Colour) (Does : ShardState S P → ShardState S P → Type 0) (at : AtShard a b z Does) → at.old.setup ≡ a.setup → KeepsStates t at.old at.new → (c : Colour) → LanesSame t (lane_for a.setup a.shards c) (lane_for b.setup b.shards c)
-lanes_same {S} {P} t a b z Does at old_setup keeps c = elim (cases_eq (shard_of a.setup c) (shard_of a.setup z)) [
-  | inl same ↦
-      let was = in_old a b z Does at old_setup keeps.same_setup c same in
-      let is = in_new a b z Does at old_setup keeps.same_setup c same in
-      subst (λ (o : Option (ColourState S P)). LanesSame t o (lane_for b.setup b.shards c)) (sym was) (subst (λ (o : Option (ColourState S P)). LanesSame t (slice_get at.old.lanes (place a.setup c)) o) (sym is) (lanes_same_at t at.old at.new keeps (place a.setup c)))
-  | inr apart ↦
-      let stays = elsewhere a b z Does at old_setup keeps.same_setup c apart in
-      record { state = inl (ap (λ (o : Option (ColourState S P)). lane_state o) stays); events = ap (λ (o : Option (ColourState S P)). lane_events o) stays }
-]
 
 -- ---- where a registration enters a line
 

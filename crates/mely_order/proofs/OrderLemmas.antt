@@ -11,15 +11,14 @@ use Rattle.mely_event.specs.declared.event.Event.{Event}
 use Rattle.mely_event.specs.declared.trail.Trail.{Ghosts as TrailWords}
 use Rattle.mely_event.specs.declared.unregistered.Unregistered.{Unregistered}
 use Rattle.mely_history.specs.declared.registered.Registered.{Registered}
-use Rattle.mely_shard.specs.Shard.{AreAlike}
 use Rattle.mely_worker.specs.declared.app.App.{Ghosts as AppWords}
 use Rattle.mely_worker.specs.declared.made.Made.{Made}
 use Rattle.mely_weave.specs.Weave.{WeaveState}
 use Rattle.mely_tally.specs.Tallies.{Carried}
 use Rattle.mely_order.specs.Rising.{Rises}
-use Rattle.mely_order.specs.Seen.{Put, IsSameState, seen, lost_in}
+use Rattle.mely_order.specs.Seen.{Put, ColourSeen, seen, lost_in}
 use Rattle.mely_order.specs.Steps.{Enters, IsKept, NothingSeen, RegistersFirst, RunsFirst, StepSeen}
-use Rattle.mely_order.specs.Stream.{Stream, HandlerServes, StreamIgnoresSpare, ServesStream, numbers_of, number_put, numbers_put}
+use Rattle.mely_order.specs.Stream.{Stream, HandlerServes, ServesStream, numbers_of, number_put, numbers_put}
 use Rattle.mely_order.specs.InOrder.{InOrder}
 use Rattle.mely_order.proofs.RisingLemmas.{rises_append, rises_without}
 use Rattle.mely_order.proofs.LaneLemmas.{colour_same}
@@ -50,71 +49,31 @@ module _ {S P : Type 0} (stream : Stream S P) where
   puts_append : (xs ys : List (Put P)) → numbers_put stream (xs ++ ys) ≡ numbers_put stream xs ++ numbers_put stream ys
   puts_append xs ys = filter_map-append (λ (p : Put P). number_put stream p) xs ys
 
-  -- ---- what was received and sent doesn't go by the spare
+  -- ---- nothing is seen of a step
 
-  module _ {F : Type 0} (t : TrailWords S F) (blind : StreamIgnoresSpare t stream) where
-    -- the state of a colour afterwards
-    record Keeps (s : S) (later : Option S) : Type 0 where
-      pub state : S
-      pub is : later ≡ Some state
-      pub received : stream.received state ≡ stream.received s
-      pub sent : stream.sent state ≡ stream.sent s
-
-    keeps_alike : (s : S) (later : Option S) → AreAlike t.alike (Some s) later → Keeps s later
-    keeps_alike s None alike = absurd alike
-    keeps_alike s (Some u) alike = record { state = u; is = refl; received = sym (blind.received s u alike); sent = sym (blind.sent s u alike) }
-
-    keeps : (s : S) (before later : Option S) → before ≡ Some s → IsSameState t before later → Keeps s later
-    keeps s before later was same = elim same [
-      | inl is ↦ record { state = s; is = is ∙ was; received = refl; sent = refl }
-      | inr alike ↦ keeps_alike s later (subst (λ (o : Option S). AreAlike t.alike o later) was alike)
-    ]
-
-    -- a state that was sound still is
-    sound_alike : (before later : Option S) → AreAlike t.alike before later → ((s : S) → before ≡ Some s → stream.is_sound s ≡ true) → (s : S) → later ≡ Some s → stream.is_sound s ≡ true
-    sound_alike None None alike was s at = cc
-    sound_alike None (Some u) alike was s at = absurd alike
-    sound_alike (Some x) None alike was s at = cc
-    sound_alike (Some x) (Some u) alike was s at = ap stream.is_sound (sym (same_Some u s at)) ∙ sym (blind.sound x u alike) ∙ was x refl
-
-    still_sound : (before later : Option S) → IsSameState t before later → ((s : S) → before ≡ Some s → stream.is_sound s ≡ true) → (s : S) → later ≡ Some s → stream.is_sound s ≡ true
-    still_sound before later same was s at = elim same [
-      | inl is ↦ was s (sym is ∙ at)
-      | inr alike ↦ sound_alike before later alike was s at
-    ]
-
-    -- ---- nothing is seen of a step
-
-    pub order_moved : (a b : WeaveState S P) → NothingSeen t a b → InOrder stream a → InOrder stream b
-    order_moved a b nothing was =
-        let same = nothing.each in
-        let c = stream.receiver in
-        let d = stream.sender in
-        let s = keeps was.receiver (seen c a).state (seen c b).state was.receiver_is (same c).state in
-        let u = keeps was.sender (seen d a).state (seen d b).state was.sender_is (same d).state in
-        let line = (same c).line in
-        let puts = (same d).puts in
-        let lists : stream.received s.state ++ numbers_of stream (seen c b).line ++ numbers_put stream (seen d b).puts ≡ stream.received was.receiver ++ numbers_of stream (seen c a).line ++ numbers_put stream (seen d a).puts =
-        ap (λ (l : List ℕ). l ++ numbers_of stream (seen c b).line ++ numbers_put stream (seen d b).puts) s.received
-        ∙ ap (λ (l : List (Carried P)). stream.received was.receiver ++ numbers_of stream l ++ numbers_put stream (seen d b).puts) line
-        ∙ ap (λ (l : List (Put P)). stream.received was.receiver ++ numbers_of stream (seen c a).line ++ numbers_put stream l) puts in
-        record {
-          receiver = s.state;
-          receiver_is = s.is;
-          sender = u.state;
-          sender_is = u.is;
-          rises = rises_as (stream.received was.receiver ++ numbers_of stream (seen c a).line ++ numbers_put stream (seen d a).puts) (stream.received s.state ++ numbers_of stream (seen c b).line ++ numbers_put stream (seen d b).puts) (stream.sent was.sender) (stream.sent u.state) lists u.sent was.rises;
-          counted = λ gapless.
-              let had = ap length s.received in
-              let there = ap (λ (l : List (Carried P)). length (numbers_of stream l)) line in
-              let held = ap (λ (l : List (Put P)). length (numbers_put stream l)) puts in
-              let lost = ap (λ (l : List (Put P)). length (numbers_put stream l)) nothing.lost in
-              let before = was.counted gapless in
-              let top = u.sent in
-              omega (arith, had, there, held, lost, before, top);
-          quiet = λ e apart. ap (λ (l : List (Put P)). numbers_put stream l) (same e).puts ∙ was.quiet e apart;
-          sound = λ e state at. still_sound (seen e a).state (seen e b).state (same e).state (was.sound e) state at;
-        }
+  pub order_moved : (a b : WeaveState S P) → NothingSeen a b → InOrder stream a → InOrder stream b
+  order_moved a b nothing was =
+      let same = nothing.each in
+      let c = stream.receiver in
+      let d = stream.sender in
+      let lists : stream.received was.receiver ++ numbers_of stream (seen c b).line ++ numbers_put stream (seen d b).puts ≡ stream.received was.receiver ++ numbers_of stream (seen c a).line ++ numbers_put stream (seen d a).puts =
+      ap (λ (s : ColourSeen S P). stream.received was.receiver ++ numbers_of stream s.line ++ numbers_put stream (seen d b).puts) (same c)
+      ∙ ap (λ (s : ColourSeen S P). stream.received was.receiver ++ numbers_of stream (seen c a).line ++ numbers_put stream s.puts) (same d) in
+      record {
+        receiver = was.receiver;
+        receiver_is = ap (λ (s : ColourSeen S P). s.state) (same c) ∙ was.receiver_is;
+        sender = was.sender;
+        sender_is = ap (λ (s : ColourSeen S P). s.state) (same d) ∙ was.sender_is;
+        rises = subst (λ (l : List ℕ). Rises 0 l (stream.sent was.sender)) (sym lists) was.rises;
+        counted = λ gapless.
+            let there = ap (λ (s : ColourSeen S P). length (numbers_of stream s.line)) (same c) in
+            let held = ap (λ (s : ColourSeen S P). length (numbers_put stream s.puts)) (same d) in
+            let lost = ap (λ (l : List (Put P)). length (numbers_put stream l)) nothing.lost in
+            let before = was.counted gapless in
+            omega (arith, there, held, lost, before);
+        quiet = λ e apart. ap (λ (s : ColourSeen S P). numbers_put stream s.puts) (same e) ∙ was.quiet e apart;
+        sound = λ e state at. was.sound e state (sym (ap (λ (s : ColourSeen S P). s.state) (same e)) ∙ at);
+      }
 
   -- ---- a registration
 
@@ -235,7 +194,7 @@ module _ {S P : Type 0} (stream : Stream S P) where
 
 -- ---- a handler
 
-module _ {R S P F : Type 0} (t : TrailWords S F) (fits : F → Colour → Event → Option P → Type 0) (y : AppWords R P S F) (app : R) (stream : Stream S P) (blind : StreamIgnoresSpare t stream) (made : Made) (a b : WeaveState S P) (run : RunsFirst t fits y app made a b) (does : HandlerServes stream run.of run.state run.event run.becomes run.puts) (was : InOrder stream a) where
+module _ {R S P F : Type 0} (t : TrailWords S F) (fits : F → Colour → Event → Option P → Type 0) (y : AppWords R P S F) (app : R) (stream : Stream S P) (made : Made) (a b : WeaveState S P) (run : RunsFirst t fits y app made a b) (does : HandlerServes stream run.of run.state run.event run.becomes run.puts) (was : InOrder stream a) where
   abbrev to : Colour
   to = stream.receiver
 
@@ -266,11 +225,10 @@ module _ {R S P F : Type 0} (t : TrailWords S F) (fits : F → Colour → Event 
         }
     | inr apart ↦
         let looks = run.others to (λ e. apart (sym e)) in
-        let s = keeps stream t blind was.receiver (seen to a).state (seen to b).state was.receiver_is looks.state in
         record {
-          state = s.state;
-          is = s.is;
-          same = ap (λ (l : List ℕ). l ++ numbers_of stream (seen to b).line) s.received ∙ ap (λ (l : List (Carried P)). stream.received was.receiver ++ numbers_of stream l) looks.line;
+          state = was.receiver;
+          is = ap (λ (s : ColourSeen S P). s.state) looks ∙ was.receiver_is;
+          same = ap (λ (s : ColourSeen S P). stream.received was.receiver ++ numbers_of stream s.line) looks;
         }
   ]
 
@@ -306,15 +264,13 @@ module _ {R S P F : Type 0} (t : TrailWords S F) (fits : F → Colour → Event 
         }
     | inr apart ↦
         let looks = run.others from (λ e. apart (sym e)) in
-        let u = keeps stream t blind was.sender (seen from a).state (seen from b).state was.sender_is looks.state in
         record {
-          state = u.state;
-          is = u.is;
-          rises = λ front rise. rises_as (front ++ numbers_put stream (seen from a).puts) (front ++ numbers_put stream (seen from b).puts) (stream.sent was.sender) (stream.sent u.state) (ap (λ (l : List (Put P)). front ++ numbers_put stream l) looks.puts) u.sent rise;
+          state = was.sender;
+          is = ap (λ (s : ColourSeen S P). s.state) looks ∙ was.sender_is;
+          rises = λ front rise. subst (λ (s : ColourSeen S P). Rises 0 (front ++ numbers_put stream s.puts) (stream.sent was.sender)) (sym looks) rise;
           counted = λ gapless.
-              let same = ap (λ (l : List (Put P)). length (numbers_put stream l)) looks.puts in
-              let top = u.sent in
-              omega (arith, same, top);
+              let same = ap (λ (s : ColourSeen S P). length (numbers_put stream s.puts)) looks in
+              omega (arith, same);
         }
   ]
 
@@ -337,30 +293,30 @@ module _ {R S P F : Type 0} (t : TrailWords S F) (fits : F → Colour → Event 
           let it = colour_same c run.of own in
           let unlike : run.of.0 ≢ from.0 = λ e. apart (own ∙ e) in
           ap (λ (l : List (Put P)). numbers_put stream l) (ap (λ (x : Colour). (seen x b).puts) it ∙ run.put) ∙ does.silent unlike
-      | inr other ↦ ap (λ (l : List (Put P)). numbers_put stream l) (run.others c other).puts ∙ was.quiet c apart
+      | inr other ↦ ap (λ (s : ColourSeen S P). numbers_put stream s.puts) (run.others c other) ∙ was.quiet c apart
     ];
     sound = λ c state at. elim (cases_eq c.0 run.of.0) [
       | inl own ↦
           let there : Some run.becomes ≡ Some state = sym run.is ∙ sym (ap (λ (x : Colour). (seen x b).state) (colour_same c run.of own)) ∙ at in
           ap stream.is_sound (sym (same_Some run.becomes state there)) ∙ does.sound
-      | inr other ↦ still_sound stream t blind (seen c a).state (seen c b).state (run.others c other).state (was.sound c) state at
+      | inr other ↦ was.sound c state (sym (ap (λ (s : ColourSeen S P). s.state) (run.others c other)) ∙ at)
     ];
   }
 
 module _ {R S P F : Type 0} (t : TrailWords S F) (fits : F → Colour → Event → Option P → Type 0) (y : AppWords R P S F) (app : R) (stream : Stream S P) (made : Made) (a b : WeaveState S P) where
   -- a step keeps a stream in order, where the handler that it runs serves the stream
-  pub step_in_order : StreamIgnoresSpare t stream → ((run : RunsFirst t fits y app made a b) → HandlerServes stream run.of run.state run.event run.becomes run.puts) → StepSeen t fits y app made a b → InOrder stream a → InOrder stream b
-  step_in_order blind each step was = elim step [
-    | inl same ↦ order_moved stream t blind a b same was
+  pub step_in_order : ((run : RunsFirst t fits y app made a b) → HandlerServes stream run.of run.state run.event run.becomes run.puts) → StepSeen t fits y app made a b → InOrder stream a → InOrder stream b
+  step_in_order each step was = elim step [
+    | inl same ↦ order_moved stream a b same was
     | inr does ↦ elim does [
       | inl reg ↦ order_registered stream made a b reg was
-      | inr run ↦ order_ran t fits y app stream blind made a b run (each run) was
+      | inr run ↦ order_ran t fits y app stream made a b run (each run) was
     ]
   ]
 
   -- as it does where each handler does
   pub served_in_order : ServesStream t fits y app (t.frame_of a.given) stream → StepSeen t fits y app made a b → InOrder stream a → InOrder stream b
-  served_in_order serves step was = step_in_order serves.alike
+  served_in_order serves step was = step_in_order
       (λ run.
       let fit = subst (λ (c : Colour). fits (t.frame_of a.given) c run.event.0 run.event.1) (sym run.colour) run.fit in
       subst (λ (c : Colour). HandlerServes stream c run.state run.event run.becomes run.puts) run.colour

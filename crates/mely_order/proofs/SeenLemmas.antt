@@ -1,19 +1,17 @@
 -- The turns of a colour, where one worker changes.
-use Rattle.std.proofs.Common.{◌≡◌, ◌≢◌, ℕ, zero, suc, Bool, List, [], ◌∷◌, ◌++◌, Option, Some, refl, sym, ◌∙◌, ap, arith, inl, eq-eqb}
+use Rattle.std.proofs.Common.{◌≡◌, ◌≢◌, ℕ, zero, suc, Bool, List, [], ◌∷◌, ◌++◌, Option, Some, refl, sym, ◌∙◌, ap, arith, eq-eqb}
 use Rattle.std.proofs.lemmas.Bool.{ne_eqb}
 use Rattle.std.proofs.lemmas.List.{append-nil}
 use Rattle.std.proofs.lemmas.Option.{same_Some}
 use Rattle.std.specs.Prelude.{slice_get, slice_set, flat_map, if◌then◌else◌}
 use Rattle.mely_event.specs.declared.colour.Colour.{Colour}
-use Rattle.mely_event.specs.declared.trail.Trail.{Ghosts as TrailWords}
 use Rattle.mely_queue.specs.Turn.{TurnState}
-use Rattle.mely_shard.specs.Shard.{ColourState}
 use Rattle.mely_worker.specs.declared.phase.Phase.TheVariants.{Turning}
 use Rattle.mely_worker.specs.declared.delivery.Delivery.{Delivery}
 use Rattle.mely_worker.specs.Worker.{WorkerState}
 use Rattle.mely_weave.proofs.Entries.SideLemmas.{get_set_same, get_set_other}
-use Rattle.mely_order.specs.Seen.{Put, TurnOut, ColourSeen, LooksSame, turn_in, turns_of, seen_in}
-use Rattle.mely_order.proofs.LaneLemmas.{LanesSame}
+use Rattle.mely_tally.specs.Tallies.{Carried}
+use Rattle.mely_order.specs.Seen.{Put, TurnOut, ColourSeen, turn_in, turns_of}
 
 -- ---- lists of lists
 
@@ -65,14 +63,9 @@ module _ {S P : Type 0} (c : Colour) (workers : List (WorkerState S P)) (k : ℕ
 
 -- ---- a colour as it is seen
 
-pub looks_equal : {S P F : Type 0} (t : TrailWords S F) (x y : ColourSeen S P) → y ≡ x → LooksSame t x y
-looks_equal {S} {P} t x y same = record {
-  state = inl (ap (λ (s : ColourSeen S P). s.state) same);
-  line = ap (λ (s : ColourSeen S P). s.line) same;
-  puts = ap (λ (s : ColourSeen S P). s.puts) same;
-}
-
--- the same turns, and a lane that is the same but for the spare of its state
-pub looks_same : {S P F : Type 0} (t : TrailWords S F) (turns : List (TurnOut S P)) (before after : Option (ColourState S P)) → LanesSame t before after → LooksSame t (seen_in turns before) (seen_in turns after)
-looks_same t [] before after same = record { state = same.state; line = same.events; puts = refl }
-looks_same t (out ∷ more) before after same = record { state = inl refl; line = ap (λ l. out.turn.events ++ l) same.events; puts = refl }
+-- it is the same where it has the same state, line and registrations
+pub seen_equal : {S P : Type 0} (x y : ColourSeen S P) → y.state ≡ x.state → y.line ≡ x.line → y.puts ≡ x.puts → y ≡ x
+seen_equal {S} {P} x y state line puts =
+    ap (λ (s : Option S). let made : ColourSeen S P = record { state = s; line = y.line; puts = y.puts } in made) state
+    ∙ ap (λ (l : List (Carried P)). let made : ColourSeen S P = record { state = x.state; line = l; puts = y.puts } in made) line
+    ∙ ap (λ (l : List (Put P)). let made : ColourSeen S P = record { state = x.state; line = x.line; puts = l } in made) puts

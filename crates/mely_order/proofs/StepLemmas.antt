@@ -20,7 +20,7 @@ use Rattle.mely_history.specs.declared.after.After.{After}
 use Rattle.mely_history.specs.declared.after.After.TheVariants.{More, Idle}
 use Rattle.mely_history.specs.History.{IsRunning, last_take}
 use Rattle.mely_queue.specs.Turn.{TurnState, EachFits}
-use Rattle.mely_shard.specs.Shard.{ShardState, ColourState, AreAlike}
+use Rattle.mely_shard.specs.Shard.{ShardState, ColourState}
 use Rattle.mely_core.specs.CoreQueue.{CoreQueueState}
 use Rattle.mely_worker.specs.declared.phase.Phase.{Phase}
 use Rattle.mely_worker.specs.declared.phase.Phase.TheVariants.{Free, Popped, Picked, Landing, Pushing, Turning}
@@ -40,10 +40,10 @@ use Rattle.mely_weave.specs.Weave.{WeaveState}
 use Rattle.mely_weave.specs.Steps.{StepsAt}
 use Rattle.mely_weave.proofs.Runs.SidedStepLemmas.{step_on_side}
 use Rattle.mely_tally.proofs.SumsLemmas.{around}
-use Rattle.mely_order.specs.Seen.{Put, TurnOut, ColourSeen, LooksSame, turn_in, turns_of, lane_state, lane_events, state_in, left_in, puts_in, seen_in, seen, lost_in}
+use Rattle.mely_order.specs.Seen.{Put, TurnOut, ColourSeen, turn_in, turns_of, lane_state, lane_events, state_in, left_in, puts_in, seen_in, seen, lost_in}
 use Rattle.mely_order.specs.Steps.{Enters, IsKept, NothingSeen, RegistersFirst, RunsFirst, StepSeen}
-use Rattle.mely_order.proofs.LaneLemmas.{colour_same, lanes_stay, lane_before, lane_after, lanes_beside, lanes_same, lanes_entered, enters_behind}
-use Rattle.mely_order.proofs.SeenLemmas.{flat_same, IsAlone, turn_own, turn_other, turns_before, turns_after, turns_stay, looks_equal, looks_same}
+use Rattle.mely_order.proofs.LaneLemmas.{colour_same, lanes_stay, lane_before, lane_after, lanes_beside, lanes_entered, enters_behind}
+use Rattle.mely_order.proofs.SeenLemmas.{flat_same, IsAlone, turn_own, turn_other, turns_before, turns_after, turns_stay, seen_equal}
 
 module _ {R S P F : Type 0} (t : TrailWords S F) (fits : F → Colour → Event → Option P → Type 0) (y : AppWords R P S F) (app : R) (weave : WeaveState S P) (well : StandsWell t fits weave) (k : ℕ) (w : WorkerState S P) (here : slice_get weave.workers k ≡ Some w) (b : SideState S P) (v : WorkerState S P) (made : Made) where
   abbrev a : SideState S P
@@ -54,13 +54,13 @@ module _ {R S P F : Type 0} (t : TrailWords S F) (fits : F → Colour → Event 
   after = record { setup = b.setup; given = b.given; shards = b.shards; chains = b.chains; workers = slice_set weave.workers k v }
 
   abbrev Same : Type 0
-  Same = (c : Colour) → LooksSame t (seen c weave) (seen c after)
+  Same = (c : Colour) → seen c after ≡ seen c weave
 
   -- nothing more is refused
   lost_stays : v.lost ≡ w.lost → lost_in after ≡ lost_in weave
   lost_stays same = flat_same (λ (x : WorkerState S P). x.lost) weave.workers k w v here same
 
-  unseen : Same → v.lost ≡ w.lost → NothingSeen t weave after
+  unseen : Same → v.lost ≡ w.lost → NothingSeen weave after
   unseen same lost = record { each = same; lost = lost_stays lost }
 
   lost_of : (u : WorkerState S P) → v ≡ u → u.lost ≡ w.lost → v.lost ≡ w.lost
@@ -122,15 +122,13 @@ module _ {R S P F : Type 0} (t : TrailWords S F) (fits : F → Colour → Event 
       ∙ ap (λ (o : Option (ColourState S P)). seen_in (turns_of c weave.workers) o) lane
 
   -- a line on a chain
-  chain_same : (core : ℕ) (Does : CoreQueueState → CoreQueueState → Type 0) (u : WorkerState S P) → v ≡ u → u.lost ≡ w.lost → AtChain a b core Does → ((c : Colour) → turn_in c u.phase ≡ turn_in c w.phase) → NothingSeen t weave after
+  chain_same : (core : ℕ) (Does : CoreQueueState → CoreQueueState → Type 0) (u : WorkerState S P) → v ≡ u → u.lost ≡ w.lost → AtChain a b core Does → ((c : Colour) → turn_in c u.phase ≡ turn_in c w.phase) → NothingSeen weave after
   chain_same core Does u is lost at turns = unseen (λ c.
-      looks_equal t (seen c weave) (seen c after)
       (seen_stays c (ap (λ (x : WorkerState S P). turn_in c x.phase) is ∙ turns c) (ap (λ (s : SideState S P). lane_for s.setup s.shards c) at.becomes))) (lost_of u is lost)
 
   -- no shard changes, nor what the worker turns on
-  worker_same : (u : WorkerState S P) → v ≡ u → u.lost ≡ w.lost → b ≡ a → ((c : Colour) → turn_in c u.phase ≡ turn_in c w.phase) → NothingSeen t weave after
+  worker_same : (u : WorkerState S P) → v ≡ u → u.lost ≡ w.lost → b ≡ a → ((c : Colour) → turn_in c u.phase ≡ turn_in c w.phase) → NothingSeen weave after
   worker_same u is lost untouched turns = unseen (λ c.
-      looks_equal t (seen c weave) (seen c after)
       (seen_stays c (ap (λ (x : WorkerState S P). turn_in c x.phase) is ∙ turns c) (ap (λ (s : SideState S P). lane_for s.setup s.shards c) untouched))) (lost_of u is lost)
 
   -- the shard of a colour is of the setup
@@ -161,7 +159,7 @@ module _ {R S P F : Type 0} (t : TrailWords S F) (fits : F → Colour → Event 
     finish_none : NoTurn v.phase
     finish_none c = ap (λ (x : WorkerState S P). turn_in c x.phase) is ∙ finish_phase turn answer c
 
-    finish_own : LooksSame t (seen turn.colour weave) (seen turn.colour after)
+    finish_own : seen turn.colour after ≡ seen turn.colour weave
     finish_own =
         let does = at.does.0 in
         let z = turn.colour in
@@ -175,25 +173,20 @@ module _ {R S P F : Type 0} (t : TrailWords S F) (fits : F → Colour → Event 
         let was : seen z weave ≡ seen_in (out ∷ []) (Some does.before) = ap (λ (l : List (TurnOut S P)). seen_in l (lane_for weave.setup weave.shards z)) was_turns ∙ ap (λ (o : Option (ColourState S P)). seen_in (out ∷ []) o) was_lane in
         let now : seen z after ≡ seen_in [] (Some home) = ap (λ (l : List (TurnOut S P)). seen_in l (lane_for b.setup b.shards z)) is_turns ∙ ap (λ (o : Option (ColourState S P)). seen_in [] o) is_lane in
         let line : does.before.events ≡ turn.events ++ does.before.events = sym (ap (λ l. l ++ does.before.events) none) in
-        record {
-          state = inl (ap (λ (s : ColourSeen S P). s.state) now ∙ sym (ap (λ (s : ColourSeen S P). s.state) was));
-          line = ap (λ (s : ColourSeen S P). s.line) now ∙ line ∙ sym (ap (λ (s : ColourSeen S P). s.line) was);
-          puts = ap (λ (s : ColourSeen S P). s.puts) now ∙ sym (ap (λ (s : ColourSeen S P). s.puts) was);
-        }
+        now ∙ seen_equal (seen_in (out ∷ []) (Some does.before)) (seen_in [] (Some home)) refl line refl ∙ sym was
 
     finish_same : Same
     finish_same c = elim (cases_eq c.0 turn.colour.0) [
-      | inl same ↦ subst (λ (d : Colour). LooksSame t (seen d weave) (seen d after)) (sym (colour_same c turn.colour same)) finish_own
+      | inl same ↦ subst (λ (d : Colour). seen d after ≡ seen d weave) (sym (colour_same c turn.colour same)) finish_own
       | inr apart ↦
           let does = at.does.0 in
           let was : turn_in c w.phase ≡ [] = ap (turn_in c) phase ∙ turn_other c turn hand [] (λ e. apart (sym e)) in
-          looks_equal t (seen c weave) (seen c after)
           (seen_stays c (finish_none c ∙ sym was) (lanes_beside a b turn.colour (FinishAs turn answer) at finish_setup does.after.same_setup does.before (record does.before { state = Some turn.state }) does.was does.after.lanes c apart))
     ]
 
   -- ---- a take: the state and the first events go out
 
-  module _ (mark : Mark) (turn : TurnState S P) (phase : w.phase ≡ Popped mark) (is : v ≡ after_take w mark (Ok turn)) (at : AtShard a b mark.colour (TakeAs t mark.colour k (Ok turn))) where
+  module _ (mark : Mark) (turn : TurnState S P) (phase : w.phase ≡ Popped mark) (is : v ≡ after_take w mark (Ok turn)) (at : AtShard a b mark.colour (TakeAs mark.colour k (Ok turn))) where
     taken_colour : turn.colour ≡ mark.colour
     taken_colour = ap (λ (x : TurnState S P). x.colour) at.does.made
 
@@ -206,7 +199,7 @@ module _ {R S P F : Type 0} (t : TrailWords S F) (fits : F → Colour → Event 
         let now : IsRunning at.old.history mark.colour = subst (λ (h : List Entry). IsRunning h mark.colour) (ap history_in at.was) runs in
         omega (arith, rest, now))
 
-    taken_own : LooksSame t (seen mark.colour weave) (seen mark.colour after)
+    taken_own : seen mark.colour after ≡ seen mark.colour weave
     taken_own =
         let does = at.does in
         let z = mark.colour in
@@ -214,46 +207,36 @@ module _ {R S P F : Type 0} (t : TrailWords S F) (fits : F → Colour → Event 
         let away : ColourState S P = record does.before { state = None; events = drop turn.count does.before.events } in
         let was_turns : turns_of z weave.workers ≡ [] = turns_before z weave.workers k w v here taken_alone ∙ ap (turn_in z) phase in
         let is_turns : turns_of z (slice_set weave.workers k v) ≡ out ∷ [] = turns_after z weave.workers k w v here taken_alone ∙ ap (λ (x : WorkerState S P). turn_in z x.phase) is ∙ turn_own z turn Nothing [] (ap (λ (c : Colour). c.0) taken_colour) in
-        let was_lane = lane_before a b z (TakeAs t mark.colour k (Ok turn)) at taken_setup does.after.same_setup does.before away does.was does.after.lanes in
-        let is_lane = lane_after a b z (TakeAs t mark.colour k (Ok turn)) at taken_setup does.after.same_setup does.before away does.was does.after.lanes in
+        let was_lane = lane_before a b z (TakeAs mark.colour k (Ok turn)) at taken_setup does.after.same_setup does.before away does.was does.after.lanes in
+        let is_lane = lane_after a b z (TakeAs mark.colour k (Ok turn)) at taken_setup does.after.same_setup does.before away does.was does.after.lanes in
         let was : seen z weave ≡ seen_in [] (Some does.before) = ap (λ (l : List (TurnOut S P)). seen_in l (lane_for weave.setup weave.shards z)) was_turns ∙ ap (λ (o : Option (ColourState S P)). seen_in [] o) was_lane in
         let now : seen z after ≡ seen_in (out ∷ []) (Some away) = ap (λ (l : List (TurnOut S P)). seen_in l (lane_for b.setup b.shards z)) is_turns ∙ ap (λ (o : Option (ColourState S P)). seen_in (out ∷ []) o) is_lane in
         let first : turn.events ≡ take turn.count does.before.events = ap (λ (x : TurnState S P). x.events) does.made in
         let line : turn.events ++ drop turn.count does.before.events ≡ does.before.events = ap (λ l. l ++ drop turn.count does.before.events) first ∙ take-append-drop turn.count does.before.events in
-        let state_was : (seen z weave).state ≡ Some does.home = ap (λ (s : ColourSeen S P). s.state) was ∙ does.at_home in
-        let state_is : (seen z after).state ≡ Some turn.state = ap (λ (s : ColourSeen S P). s.state) now in
-        let alike : AreAlike t.alike (Some does.home) (Some turn.state) = does.alike.0 in
-        record {
-          state = inr (subst (λ (o : Option S). AreAlike t.alike o (seen z after).state) (sym state_was) (subst (λ (o : Option S). AreAlike t.alike (Some does.home) o) (sym state_is) alike));
-          line = ap (λ (s : ColourSeen S P). s.line) now ∙ line ∙ sym (ap (λ (s : ColourSeen S P). s.line) was);
-          puts = ap (λ (s : ColourSeen S P). s.puts) now ∙ sym (ap (λ (s : ColourSeen S P). s.puts) was);
-        }
+        let home : Some turn.state ≡ does.before.state = ap (λ (x : TurnState S P). let one : Option S = Some x.state in one) does.made ∙ sym does.at_home in
+        now ∙ seen_equal (seen_in [] (Some does.before)) (seen_in (out ∷ []) (Some away)) home line refl ∙ sym was
 
     taken_same : Same
     taken_same c = elim (cases_eq c.0 mark.colour.0) [
-      | inl same ↦ subst (λ (d : Colour). LooksSame t (seen d weave) (seen d after)) (sym (colour_same c mark.colour same)) taken_own
+      | inl same ↦ subst (λ (d : Colour). seen d after ≡ seen d weave) (sym (colour_same c mark.colour same)) taken_own
       | inr apart ↦
           let does = at.does in
           let unlike : turn.colour.0 ≢ c.0 = λ e. apart (sym e ∙ ap (λ (d : Colour). d.0) taken_colour) in
           let now : turn_in c v.phase ≡ [] = ap (λ (x : WorkerState S P). turn_in c x.phase) is ∙ turn_other c turn Nothing [] unlike in
-          looks_equal t (seen c weave) (seen c after)
-          (seen_stays c (now ∙ sym (ap (turn_in c) phase)) (lanes_beside a b mark.colour (TakeAs t mark.colour k (Ok turn)) at taken_setup does.after.same_setup does.before (record does.before { state = None; events = drop turn.count does.before.events }) does.was does.after.lanes c apart))
+          (seen_stays c (now ∙ sym (ap (turn_in c) phase)) (lanes_beside a b mark.colour (TakeAs mark.colour k (Ok turn)) at taken_setup does.after.same_setup does.before (record does.before { state = None; events = drop turn.count does.before.events }) does.was does.after.lanes c apart))
     ]
 
-  -- a take that is refused may make room in a state at home
+  -- a take that is refused: no lane changes
   untaken_phase : (mark : Mark) (why : NoTake) → NoTurn (after_take w mark (Err why)).phase
   untaken_phase mark (no_take.Elsewhere owner) c = refl
   untaken_phase mark (no_take.Busy core) c = refl
   untaken_phase mark (no_take.Empty registered) c = refl
   untaken_phase mark no_take.Memory c = refl
 
-  untaken_same : (mark : Mark) (why : NoTake) → w.phase ≡ Popped mark → v ≡ after_take w mark (Err why) → AtShard a b mark.colour (TakeAs t mark.colour k (Err why)) → Same
+  untaken_same : (mark : Mark) (why : NoTake) → w.phase ≡ Popped mark → v ≡ after_take w mark (Err why) → AtShard a b mark.colour (TakeAs mark.colour k (Err why)) → Same
   untaken_same mark why phase is at c =
-      let now : turn_in c v.phase ≡ turn_in c w.phase = ap (λ (x : WorkerState S P). turn_in c x.phase) is ∙ untaken_phase mark why c ∙ sym (ap (turn_in c) phase) in
-      let lanes = lanes_same t a b mark.colour (TakeAs t mark.colour k (Err why)) at (of_setup mark.colour at.old at.was) at.does.0 c in
-      let turns : turns_of c (slice_set weave.workers k v) ≡ turns_of c weave.workers = turns_stay c weave.workers k w v here now in
-      subst (λ (l : List (TurnOut S P)). LooksSame t (seen c weave) (seen_in l (lane_for b.setup b.shards c))) (sym turns)
-      (looks_same t (turns_of c weave.workers) (lane_for weave.setup weave.shards c) (lane_for b.setup b.shards c) lanes)
+      seen_stays c (ap (λ (x : WorkerState S P). turn_in c x.phase) is ∙ untaken_phase mark why c ∙ sym (ap (turn_in c) phase))
+      (lanes_stay a b mark.colour (TakeAs mark.colour k (Err why)) at (of_setup mark.colour at.old at.was) at.does.0.same_setup at.does.0.lanes c)
 
   untaken_lost : (mark : Mark) (why : NoTake) → (after_take w mark (Err why)).lost ≡ w.lost
   untaken_lost mark (no_take.Elsewhere owner) = refl
@@ -261,7 +244,7 @@ module _ {R S P F : Type 0} (t : TrailWords S F) (fits : F → Colour → Event 
   untaken_lost mark (no_take.Empty registered) = refl
   untaken_lost mark no_take.Memory = refl
 
-  take_same : (mark : Mark) (answer : Result (TurnState S P) NoTake) → w.phase ≡ Popped mark → v ≡ after_take w mark answer → AtShard a b mark.colour (TakeAs t mark.colour k answer) → NothingSeen t weave after
+  take_same : (mark : Mark) (answer : Result (TurnState S P) NoTake) → w.phase ≡ Popped mark → v ≡ after_take w mark answer → AtShard a b mark.colour (TakeAs mark.colour k answer) → NothingSeen weave after
   take_same mark (Ok turn) phase is at = unseen (taken_same mark turn phase is at) (lost_of (after_take w mark (Ok turn)) is refl)
   take_same mark (Err why) phase is at = unseen (untaken_same mark why phase is at) (lost_of (after_take w mark (Err why)) is (untaken_lost mark why))
 
@@ -293,9 +276,8 @@ module _ {R S P F : Type 0} (t : TrailWords S F) (fits : F → Colour → Event 
   steal_lanes c to (Ok stolen) old new does = does.lanes
   steal_lanes c to (Err why) old new does = does.0.lanes
 
-  steal_same : (mark : Mark) (victim : ℕ) (answer : Result Stolen NoSteal) → w.phase ≡ Picked mark victim → v ≡ after_steal w mark victim answer → AtShard a b mark.colour (StealAs mark.colour k answer) → NothingSeen t weave after
+  steal_same : (mark : Mark) (victim : ℕ) (answer : Result Stolen NoSteal) → w.phase ≡ Picked mark victim → v ≡ after_steal w mark victim answer → AtShard a b mark.colour (StealAs mark.colour k answer) → NothingSeen weave after
   steal_same mark victim answer phase is at = unseen (λ c.
-      looks_equal t (seen c weave) (seen c after)
       (seen_stays c (ap (λ (x : WorkerState S P). turn_in c x.phase) is ∙ steal_phase mark victim answer c ∙ sym (ap (turn_in c) phase))
       (lanes_stay a b mark.colour (StealAs mark.colour k answer) at (of_setup mark.colour at.old at.was) (steal_setup mark.colour k answer at.old at.new at.does) (steal_lanes mark.colour k answer at.old at.new at.does) c))) (lost_of (after_steal w mark victim answer) is (steal_lost mark victim answer))
 
@@ -423,7 +405,6 @@ module _ {R S P F : Type 0} (t : TrailWords S F) (fits : F → Colour → Event 
           put = ap (λ (s : ColourSeen S P). s.puts) is;
           others = λ c apart.
               let unlike : turn.colour.0 ≢ c.0 = λ e. apart (sym e) in
-              looks_equal t (seen c weave) (seen c after)
               (seen_stays c (ap (turn_in c) now ∙ turn_other c ran_turn Nothing runs.puts unlike ∙ sym (ap (turn_in c) phase ∙ turn_other c turn Nothing [] unlike)) (lanes c));
           lost = lost_stays (ap (λ (x : WorkerState S P). x.lost) runs.becomes);
         }

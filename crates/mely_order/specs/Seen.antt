@@ -1,10 +1,9 @@
 -- One colour of a weave, wherever its state and its events are.
-use Rattle.std.specs.Prelude.{◌≡◌, ◌==◌, if◌then◌else◌, List, [], ◌∷◌, ◌++◌, Option, None, Some, flat_map, ◌⊎◌}
+use Rattle.std.specs.Prelude.{◌==◌, if◌then◌else◌, List, [], ◌∷◌, ◌++◌, Option, None, Some, flat_map}
 use Rattle.mely_event.specs.declared.colour.Colour.{Colour}
 use Rattle.mely_event.specs.declared.event.Event.{Event}
-use Rattle.mely_event.specs.declared.trail.Trail.{Ghosts as TrailWords}
 use Rattle.mely_queue.specs.Turn.{TurnState}
-use Rattle.mely_shard.specs.Shard.{ColourState, AreAlike}
+use Rattle.mely_shard.specs.Shard.{ColourState}
 use Rattle.mely_worker.specs.declared.phase.Phase.{Phase}
 use Rattle.mely_worker.specs.declared.phase.Phase.TheVariants.{Free, Popped, Picked, Landing, Pushing, Turning}
 use Rattle.mely_worker.specs.Worker.{WorkerState}
@@ -84,14 +83,3 @@ seen c weave = seen_in (turns_of c weave.workers) (lane_for weave.setup weave.sh
 -- registered
 abbrev pub lost_in : {S P : Type 0} → WeaveState S P → List (Put P)
 lost_in weave = flat_map (λ w. w.lost) weave.workers
-
--- two states are one, or the same but for the spare
-abbrev pub IsSameState : {S F : Type 0} → TrailWords S F → Option S → Option S → Type 0
-IsSameState t before after = (after ≡ before) ⊎ AreAlike t.alike before after
-
--- nothing of the colour changes, but that its state may have more room
-pub record LooksSame {S P F : Type 0} (t : TrailWords S F)
-    (before after : ColourSeen S P) : Type 0 where
-  pub state : IsSameState t before.state after.state
-  pub line : after.line ≡ before.line
-  pub puts : after.puts ≡ before.puts

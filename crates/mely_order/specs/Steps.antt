@@ -11,7 +11,7 @@ use Rattle.mely_worker.specs.declared.made.Made.TheVariants as made
 use Rattle.mely_worker.specs.Step.{register_name}
 use Rattle.mely_weave.specs.Weave.{WeaveState}
 use Rattle.mely_tally.specs.Tallies.{Carried}
-use Rattle.mely_order.specs.Seen.{Put, seen, lost_in, LooksSame}
+use Rattle.mely_order.specs.Seen.{Put, seen, lost_in}
 
 -- the event enters a line behind all others; where it was refused for memory the line stays
 abbrev pub Enters : {P : Type 0} → Result Registered (Unregistered P) → Carried P
@@ -26,10 +26,9 @@ IsKept (Ok reply) put before after = after ≡ before
 IsKept {P = P} (Err back) put before after = (front : List (Put P)) × (behind : List (Put P))
     × (before ≡ front ++ behind) × (after ≡ front ++ (put ∷ []) ++ behind)
 
--- nothing is seen of any colour but that its state may have more room, and nothing was refused
-pub record NothingSeen {S P F : Type 0} (t : TrailWords S F)
-    (before after : WeaveState S P) : Type 0 where
-  pub each : (c : Colour) → LooksSame t (seen c before) (seen c after)
+-- nothing is seen of any colour, and nothing was refused
+pub record NothingSeen {S P : Type 0} (before after : WeaveState S P) : Type 0 where
+  pub each : (c : Colour) → seen c after ≡ seen c before
   pub lost : lost_in after ≡ lost_in before
 
 -- a registration: the first one that is left to a colour's turn, in whatever colour's line it is
@@ -69,12 +68,12 @@ module _ {R S P F : Type 0} (t : TrailWords S F) (fits : F → Colour → Event 
     pub first : (seen of before).line ≡ event ∷ (seen of after).line
     pub none_left : (seen of before).puts ≡ []
     pub put : (seen of after).puts ≡ puts
-    pub others : (c : Colour) → c.0 ≢ of.0 → LooksSame t (seen c before) (seen c after)
+    pub others : (c : Colour) → c.0 ≢ of.0 → seen c after ≡ seen c before
     pub lost : lost_in after ≡ lost_in before
 
   -- a step makes one registration, runs one event, or nothing is seen of it
   abbrev pub StepSeen : Type 0
-  StepSeen = NothingSeen t before after
+  StepSeen = NothingSeen before after
       ⊎ (RegistersFirst step before after ⊎ RunsFirst)
 
 -- a post: the event enters the line of its colour, unless it was refused

@@ -52,19 +52,11 @@ module _ {S P : Type 0} (stream : Stream S P) where
         → stream.sent becomes ≡ stream.sent state + length (numbers_put puts)
     pub silent : colour.0 ≢ stream.sender.0 → numbers_put puts ≡ []
 
--- states that are the same but for the spare have received and sent the same, and are sound alike
-pub record StreamIgnoresSpare {S P F : Type 0} (t : TrailWords S F)
-    (stream : Stream S P) : Type 0 where
-  pub received : (a b : S) → t.alike a b → stream.received a ≡ stream.received b
-  pub sent : (a b : S) → t.alike a b → stream.sent a ≡ stream.sent b
-  pub sound : (a b : S) → t.alike a b → stream.is_sound a ≡ stream.is_sound b
-
 -- the app serves the stream: each handler does its part, on every sound state of the frame and
 -- every event that fits
 pub record ServesStream {R S P F : Type 0} (t : TrailWords S F)
     (fits : F → Colour → Event → Option P → Type 0) (y : AppWords R P S F) (app : R) (frame : F)
     (stream : Stream S P) : Type 0 where
-  pub alike : StreamIgnoresSpare t stream
   pub each : (state : S) (event : Event) (load : Option P) (becomes : S) (puts : List (Put P))
       → t.frame_of state ≡ frame → stream.is_sound state ≡ true
       → fits frame (t.colour_of state) event load → y.runs app state event load becomes puts

@@ -38,7 +38,7 @@ pub fn what_rises_is_in_order()
 
 /// Each colour's events are run in the order of its line, and enter it in the order in which they
 /// are registered. A step runs the first event of a line, or registers the first of what a turn has
-/// left, or nothing is seen of it but that a state may have more room.
+/// left, or nothing is seen of it.
 pub fn a_step_goes_by_the_lines<S: Fits<P>, P, R: App<State = S, Load = P>>()
     ensures { (app : R) (core : ℕ) (step : Made) (before after : WeaveState S P)
         → StandsWell S.Trail S.fits_under before

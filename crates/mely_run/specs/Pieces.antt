@@ -78,16 +78,13 @@ kept_from n (state ∷ states) = state_piece (record { 0 = n }) state ∷ kept_f
 
 -- An app is told by a function: where what it has agrees with what it is by the function, a handler
 -- registers what the function says, and what the app has then agrees again, unless the handler left
--- its state spoilt, as by want of memory. Nothing of it depends on where a piece is, or on the room
--- of a state, and a spoilt state stays so.
+-- its state spoilt, as by want of memory. Nothing of it depends on where a piece is, and a spoilt
+-- state stays so.
 pub record IsTold {S P F R X : Type 0} (t : TrailWords S F)
     (fits : F → Colour → Event → Option P → Type 0) (y : AppWords R P S F) (app : R) (frame : F)
     (act : Acts X) (Agrees : X → List (Piece S P) → Type 0) (spoilt : S → Bool) : Type 0 where
   pub moved : (x : X) (some others : List (Piece S P)) → IsPermutation some others
       → Agrees x some → Agrees x others
-  pub roomier : (x : X) (c : Colour) (state roomy : S) (rest : List (Piece S P))
-      → t.alike state roomy → Agrees x (state_piece c state ∷ rest)
-      → Agrees x (state_piece c roomy ∷ rest)
   pub runs : (x : X) (c : Colour) (event : Event) (load : Option P) (state after : S)
       (puts : List (Colour × Event × Option P)) (rest : List (Piece S P)) → t.colour_of state ≡ c
       → t.frame_of state ≡ frame → fits frame c event load
@@ -95,8 +92,6 @@ pub record IsTold {S P F R X : Type 0} (t : TrailWords S F)
       → y.runs app state event load after puts → spoilt after ≡ false
       → (without_loads puts ≡ (act x c event).puts)
       × Agrees (act x c event).becomes (state_piece c after ∷ (map of_put puts ++ rest))
-  pub spoilt_roomier : (state roomy : S) → t.alike state roomy
-      → spoilt state ≡ true → spoilt roomy ≡ true
   pub spoilt_after : (state after : S) (event : Event) (load : Option P) (puts : List (Colour
       × Event × Option P)) → y.runs app state event load after puts
       → spoilt state ≡ true → spoilt after ≡ true

@@ -18,7 +18,8 @@
 #![tactic(auto)]
 
 ghost use Rattle.std.specs.Prelude.{◌≡◌, ◌<◌, ◌^◌, ℕ, All, IfSome, Some, List, map, sum_by, length, slice_get};
-ghost use Rattle.mely_history.specs.Setup.{shape_of};
+ghost use Rattle.std.specs.List.{AllByRecursion};
+ghost use Rattle.mely_history.specs.Setup.{shape_of, is_listed};
 ghost use Rattle.mely_worker.specs.Access.{FitsSetup};
 ghost use Rattle.mely_worker.specs.Conditions.{AppServes};
 ghost use Rattle.mely_weave.specs.Making.{AreInitial};
@@ -37,8 +38,8 @@ pub use told::{Told, a_run_is_the_machines};
 
 /// A run of an app on a weave: the weave is made of the states, an event is posted, the steps of a
 /// schedule are made, and the weave is drained. It answers the parts of the weave, with the
-/// histories by shard and the states that are left, or nothing for want of memory. It need not
-/// return, since a drain need not.
+/// histories by shard, which can be read where the setup lists them, and the states that are left,
+/// or nothing for want of memory. It need not return, since a drain need not.
 pub fn run_whole<W: Wait, S: Fits<P> + Drop, P: Drop, R: App<State = S, Load = P>>(
     rt: &W,
     alloc: Global,
@@ -61,6 +62,8 @@ pub fn run_whole<W: Wait, S: Fits<P> + Drop, P: Drop, R: App<State = S, Load = P
     ensures runs { IfSome result (λ parts. IsWholeRun S.Trail S.fits_under R.App app.now setup.now
         states.items colour event load schedule.now
         (map (λ history. history.items) parts.histories.items) parts.states.items) }
+    ensures listed { IfSome result (λ parts. AllByRecursion (λ history.
+        history.listed ≡ is_listed setup.now) parts.histories.items) }
 {
     let Ok(mut weave) = Weave::new(alloc, setup, states) else {
         return None;

@@ -7,13 +7,13 @@ use Rattle.std.proofs.lemmas.Option.{slice_get_within, slice_get_cases, slice_ge
 use Rattle.mely_event.specs.declared.colour.Colour.{Colour}
 use Rattle.mely_event.specs.declared.event.Event.{Event}
 use Rattle.mely_event.specs.declared.trail.Trail.{Ghosts as TrailWords}
-use Rattle.mely_history.specs.Setup.{shape_of, colours_of}
+use Rattle.mely_history.specs.Setup.{shape_of, colours_of, is_listed}
 use Rattle.mely_history.specs.declared.setup.Setup.{Setup}
 use Rattle.mely_history.specs.ColourAccount.{account_of}
 use Rattle.mely_queue.specs.Turn.{EachFits}
 use Rattle.mely_shard.specs.declared.colour_slot.ColourSlot.{ColourSlot}
 use Rattle.mely_shard.specs.Shard.{ColourState, colour_at, initial_lane, AreInitialStates}
-use Rattle.mely_shard.specs.declared.room.TheConstants.{MAX_ENTRIES}
+use Rattle.mely_history.specs.Kept.{limit_of}
 use Rattle.mely_shard.specs.Invariant.{IsInitialSlot, AreInitialSlots, IsConsistentShard, SlotStands, StateStands, is_away, lane_of}
 use Rattle.mely_shard.proofs.RegisterLemmas.{colour_at-place}
 
@@ -88,7 +88,7 @@ module _ {S P F : Type 0} (t : TrailWords S F) (fits : F → Colour → Event �
       }
 
   -- the fields keep what they are to keep
-  pub kept_initial : (capacity : ℕ) → capacity ≤ MAX_ENTRIES → IsConsistentShard t fits setup shard [] slots 0 capacity
+  pub kept_initial : (capacity : ℕ) → capacity ≤ limit_of (is_listed setup) → IsConsistentShard t fits setup shard [] slots 0 capacity
   kept_initial capacity limited = record {
     legal = λ at entry is. cc;
     numbered = numbered;

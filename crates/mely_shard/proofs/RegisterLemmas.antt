@@ -11,7 +11,7 @@ use Rattle.std.specs.Option.{option_map}
 use Rattle.mely_event.specs.declared.colour.Colour.{Colour}
 use Rattle.mely_event.specs.declared.event.Event.{Event}
 use Rattle.mely_event.specs.declared.trail.Trail.{Ghosts as TrailWords}
-use Rattle.mely_history.specs.Setup.{shape_of, colours_of}
+use Rattle.mely_history.specs.Setup.{shape_of, colours_of, is_listed}
 use Rattle.mely_history.specs.declared.setup.Setup.{Setup}
 use Rattle.mely_history.specs.declared.entry.Entry.{Entry}
 use Rattle.mely_history.specs.declared.entry.Entry.TheVariants.{Reg}
@@ -26,7 +26,7 @@ use Rattle.mely_shard.specs.Shard.{RegisteredAs}
 use Rattle.mely_history.specs.ColourAccount.{ColourAccount, account_of, next_account}
 use Rattle.mely_shard.specs.Invariant.{IsConsistentShard, SlotStands, StateStands, is_away, lane_of}
 use Rattle.mely_shard.specs.Shard.{colour_at}
-use Rattle.mely_shard.specs.declared.room.TheConstants.{MAX_ENTRIES}
+use Rattle.mely_history.specs.Kept.{HistoryState, limit_of}
 use Rattle.mely_shard.specs.Replies.{reply_of}
 use Rattle.mely_history.proofs.ColourAccountLemmas.{account-own}
 use Rattle.mely_shard.proofs.SlotLemmas.{kept_after, stands_registered}
@@ -34,6 +34,15 @@ use Rattle.mely_shard.proofs.SlotLemmas.{kept_after, stands_registered}
 -- the colour of the place of a colour
 pub colour_at-place : (setup : Setup) (shard : ℕ) (c : Colour) → c.0 % (shape_of setup).shards ≡ shard → colour_at setup shard (c.0 / (shape_of setup).shards) ≡ c
 colour_at-place setup shard c is = let same : (c.0 / (shape_of setup).shards) * (shape_of setup).shards + shard ≡ c.0 = sym (ap (λ n. (c.0 / (shape_of setup).shards) * (shape_of setup).shards + n) is) ∙ div-add-mod' c.0 (shape_of setup).shards in ap (λ n. record { 0 = n }) same
+
+-- the limit of a history, listed or not, fits in 64 bits
+limit_fits : (listed : Bool) → limit_of listed ≤ 9223372036854775808
+limit_fits true = omega arith
+limit_fits false = omega arith
+
+-- the room of a history that was grown is within the limit of its setup
+pub grown_within : (setup : Setup) (old new : HistoryState) → old.listed ≡ is_listed setup → new ≡ record old { most = new.most } → new.most ≤ limit_of new.listed → new.most ≤ limit_of (is_listed setup)
+grown_within setup old new listed same within = subst (λ b. new.most ≤ limit_of b) (ap (λ h. h.listed) same ∙ listed) within
 
 length-filter_map-le : {X Y : Type 0} (f : X → Option Y) (xs : List X) → length (filter_map f xs) ≤ length xs
 length-filter_map-le f [] = omega arith
@@ -45,8 +54,12 @@ length-filter_map-le f (x ∷ xs) = let h = length-filter_map-le f xs in longest
 
 module _ {S P F : Type 0} {t : TrailWords S F} {fits : F → Colour → Event → Option P → Type 0} {setup : Setup} {shard : ℕ} {history : List Entry} {slots : List (ColourSlot S P)} {running capacity : ℕ} (kept : IsConsistentShard t fits setup shard history slots running capacity) where
   -- more room
-  pub kept_with_room : (capacity' : ℕ) → capacity ≤ capacity' → capacity' ≤ MAX_ENTRIES → IsConsistentShard t fits setup shard history slots running capacity'
+  pub kept_with_room : (capacity' : ℕ) → capacity ≤ capacity' → capacity' ≤ limit_of (is_listed setup) → IsConsistentShard t fits setup shard history slots running capacity'
   kept_with_room capacity' le limited = record { legal = kept.legal; numbered = kept.numbered; whole = kept.whole; only = kept.only; each = kept.each; own = kept.own; frames = kept.frames; counted = kept.counted; room = omega (arith, kept.room); limited = limited }
+
+  -- the entries and the finishes to come are few
+  pub entries_fit : length history + running ≤ 9223372036854775808
+  entries_fit = omega (arith, kept.room, kept.limited, limit_fits (is_listed setup))
 
   -- the slot of a colour
   slot_stands : (c : Colour) (d : ColourSlot S P) → c.0 < colours_of setup → c.0 % (shape_of setup).shards ≡ shard → SlotStands t fits setup c (account_of setup history c) (get_or slots (c.0 / (shape_of setup).shards) d)
@@ -70,7 +83,7 @@ module _ {S P F : Type 0} {t : TrailWords S F} {fits : F → Colour → Event �
 
   -- a registration keeps what the fields keep
   pub kept_registered : (c : Colour) (event : Event) (load : Option P) (by capacity' : ℕ) (slot : ColourSlot S P) → c.0 < colours_of setup → c.0 % (shape_of setup).shards ≡ shard
-      → slot ≡ get_or slots (c.0 / (shape_of setup).shards) slot → MayRegister setup c event → fits (t.frame_of slot.given.value) c event load → length history + 1 + running ≤ capacity' → capacity' ≤ MAX_ENTRIES
+      → slot ≡ get_or slots (c.0 / (shape_of setup).shards) slot → MayRegister setup c event → fits (t.frame_of slot.given.value) c event load → length history + 1 + running ≤ capacity' → capacity' ≤ limit_of (is_listed setup)
       → IsConsistentShard t fits setup shard (history ++ Reg c event by ∷ []) (set slots (c.0 / (shape_of setup).shards) (record slot { queue = after_push slot.queue event load (weight setup event) })) running capacity'
   kept_registered c event load by capacity' slot there here is may fit room limited =
       let i = c.0 / (shape_of setup).shards in

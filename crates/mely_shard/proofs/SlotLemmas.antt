@@ -8,7 +8,7 @@ use Rattle.std.proofs.Math.Nat.{mul-div_cancel, mul-add-mod_self_right, mod-eq_o
 use Rattle.mely_event.specs.declared.colour.Colour.{Colour}
 use Rattle.mely_event.specs.declared.event.Event.{Event}
 use Rattle.mely_event.specs.declared.trail.Trail.{Ghosts as TrailWords}
-use Rattle.mely_history.specs.Setup.{shape_of}
+use Rattle.mely_history.specs.Setup.{shape_of, is_listed}
 use Rattle.mely_history.specs.declared.setup.Setup.{Setup}
 use Rattle.mely_history.specs.declared.entry.Entry.{Entry}
 use Rattle.mely_history.specs.declared.entry.Entry.TheVariants.{Reg}
@@ -21,7 +21,7 @@ use Rattle.mely_history.specs.ColourAccount.{ColourAccount, account_of, next_acc
 use Rattle.mely_history.specs.Entries.{colour_of}
 use Rattle.mely_shard.specs.Invariant.{HasRoom, IsConsistentShard, SlotStands, StateStands, is_away}
 use Rattle.mely_shard.specs.Shard.{colour_at}
-use Rattle.mely_shard.specs.declared.room.TheConstants.{MAX_ENTRIES}
+use Rattle.mely_history.specs.Kept.{limit_of}
 use Rattle.mely_history.proofs.ColourAccountLemmas.{account-own, account-other}
 
 -- a place is the other, or not
@@ -70,7 +70,7 @@ module _ {S P F : Type 0} {t : TrailWords S F} {fits : F → Colour → Event �
       → SlotStands t fits setup (colour_at setup shard i) (next_account (account_of setup history (colour_at setup shard i)) entry) slot
       → t.frame_of slot.given.value ≡ t.frame_of (get_or slots i slot).given.value
       → running' ≡ count_by is_away (set slots i slot)
-      → length history + 1 + running' ≤ capacity' → capacity' ≤ MAX_ENTRIES
+      → length history + 1 + running' ≤ capacity' → capacity' ≤ limit_of (is_listed setup)
       → IsConsistentShard t fits setup shard (history ++ entry ∷ []) (set slots i slot) running' capacity'
   kept_after {shard} {history} {slots} entry i slot running' capacity' kept there is may stands same_frame counted room limited = record {
     legal = legal-append setup history entry kept.legal may;

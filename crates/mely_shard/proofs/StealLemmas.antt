@@ -8,7 +8,7 @@ use Rattle.std.proofs.lemmas.List.{length-map, length-drop, get_or_default}
 use Rattle.mely_event.specs.declared.colour.Colour.{Colour}
 use Rattle.mely_event.specs.declared.event.Event.{Event}
 use Rattle.mely_event.specs.declared.trail.Trail.{Ghosts as TrailWords}
-use Rattle.mely_history.specs.Setup.{shape_of, colours_of, pinned_of}
+use Rattle.mely_history.specs.Setup.{shape_of, colours_of, pinned_of, is_listed}
 use Rattle.mely_history.specs.declared.setup.Setup.{Setup}
 use Rattle.mely_history.specs.declared.entry.Entry.{Entry}
 use Rattle.mely_history.specs.declared.entry.Entry.TheVariants.{Steal}
@@ -26,7 +26,7 @@ use Rattle.mely_shard.specs.Shard.{NoStealAs}
 use Rattle.mely_history.specs.ColourAccount.{account_of, next_account}
 use Rattle.mely_shard.specs.Invariant.{IsConsistentShard, SlotStands, StateStands}
 use Rattle.mely_shard.specs.Shard.{colour_at}
-use Rattle.mely_shard.specs.declared.room.TheConstants.{MAX_ENTRIES}
+use Rattle.mely_history.specs.Kept.{limit_of}
 use Rattle.mely_shard.specs.Replies.{no_steal_of}
 use Rattle.mely_shard.proofs.SlotLemmas.{kept_after}
 use Rattle.mely_shard.proofs.RegisterLemmas.{colour_at-place, slot_there, same_count}
@@ -55,7 +55,7 @@ module _ {S P F : Type 0} {t : TrailWords S F} {fits : F → Colour → Event �
 
   -- a steal keeps what the fields keep
   pub kept_stolen : (c : Colour) → pinned_of setup ≤ c.0 → (to capacity' : ℕ) (slot : ColourSlot S P) → c.0 < colours_of setup → c.0 % (shape_of setup).shards ≡ shard → slot ≡ get_or slots (c.0 / (shape_of setup).shards) slot
-      → to < (shape_of setup).cores → Refuses c to None → length history + 1 + running ≤ capacity' → capacity' ≤ MAX_ENTRIES
+      → to < (shape_of setup).cores → Refuses c to None → length history + 1 + running ≤ capacity' → capacity' ≤ limit_of (is_listed setup)
       → MaySteal setup history c slot.owner to × IsConsistentShard t fits setup shard (history ++ Steal c slot.owner to ∷ []) (set slots (c.0 / (shape_of setup).shards) (record slot { owner = to })) running capacity'
   kept_stolen c free to capacity' slot there here is core ready room limited =
       let i = c.0 / (shape_of setup).shards in

@@ -1,20 +1,19 @@
 -- What a take keeps, and why it is refused.
-use Rattle.std.proofs.Common.{◌≡◌, ℕ, ◌+◌, ◌-◌, ◌/◌, ◌%◌, ◌<◌, ◌≤◌, List, [], ◌∷◌, ◌++◌, Option, Some, None, Bool, true, false, cond, suc, zero, length, map, take, drop, get_or, refl, sym, ◌∙◌, ap, subst, arith, ⊎_elim, nat_lt, eq-eqb}
+use Rattle.std.proofs.Common.{◌≡◌, ℕ, ◌+◌, ◌-◌, ◌/◌, ◌%◌, ◌<◌, ◌≤◌, List, [], ◌∷◌, ◌++◌, Option, Some, None, Bool, true, false, cond, suc, zero, length, map, take, drop, get_or, refl, sym, ◌∙◌, ap, subst, arith, nat_lt, eq-eqb}
 use Rattle.std.proofs.lemmas.Bool.{eqb-true}
 use Rattle.std.proofs.lemmas.List.{drop-map, drop-drop}
 use Rattle.std.proofs.Math.Seq.{take-add}
 use Rattle.std.proofs.lemmas.List.{take-map}
 use Rattle.std.specs.List.{AllByRecursion}
-use Rattle.std.proofs.Math.ListN.{get_or-map}
 use Rattle.std.proofs.lemmas.Bool.Decides.{nat_tests}
 use Rattle.std.proofs.lemmas.List.Sums.{sum_by-set}
-use Rattle.std.proofs.Math.ListN.{set, length-set}
+use Rattle.std.proofs.Math.ListN.{set}
 use Rattle.std.specs.List.{count_by}
-use Rattle.std.proofs.lemmas.List.{length-map, length-drop, get_or_default, map-set}
+use Rattle.std.proofs.lemmas.List.{length-map, length-drop, get_or_default}
 use Rattle.mely_event.specs.declared.colour.Colour.{Colour}
 use Rattle.mely_event.specs.declared.event.Event.{Event}
 use Rattle.mely_event.specs.declared.trail.Trail.{Ghosts as TrailWords}
-use Rattle.mely_history.specs.Setup.{shape_of, colours_of}
+use Rattle.mely_history.specs.Setup.{shape_of, colours_of, is_listed}
 use Rattle.mely_history.specs.declared.setup.Setup.{Setup}
 use Rattle.mely_history.specs.declared.entry.Entry.{Entry}
 use Rattle.mely_history.specs.declared.entry.Entry.TheVariants.{Take}
@@ -23,20 +22,20 @@ use Rattle.mely_history.specs.Legal.{IsRunningOn, MayTake, IsReady}
 use Rattle.mely_history.specs.declared.no_take.NoTake.{NoTake}
 use Rattle.mely_history.specs.declared.no_take.NoTake.TheVariants.{Elsewhere, Busy, Empty}
 use Rattle.std.specs.Prelude.{IsSomeAnd, min}
-use Rattle.std.proofs.Common.{◌==◌, get_or-set_same, get_or-set_other}
+use Rattle.std.proofs.Common.{◌==◌}
 use Rattle.std.specs.Prelude.{is_none, if◌then◌else◌}
 use Rattle.std.proofs.lemmas.List.{nil_from_length}
 use Rattle.mely_queue.specs.ColourQueue.{after_take, registered_in}
 use Rattle.mely_shard.specs.declared.colour_slot.ColourSlot.{ColourSlot}
-use Rattle.mely_shard.specs.Shard.{ColourState, NoTakeAs, IsLaneAlike, IsRoomier, AreAlike}
+use Rattle.mely_shard.specs.Shard.{NoTakeAs}
 use Rattle.mely_history.specs.ColourAccount.{ColourAccount, account_of, next_account}
-use Rattle.mely_shard.specs.Invariant.{IsConsistentShard, SlotStands, StateStands, is_away, lane_of}
+use Rattle.mely_shard.specs.Invariant.{IsConsistentShard, SlotStands, StateStands, is_away}
 use Rattle.mely_shard.specs.Shard.{colour_at}
-use Rattle.mely_shard.specs.declared.room.TheConstants.{MAX_ENTRIES}
-use Rattle.mely_shard.specs.Replies.{no_take_of, SlotKeepsState}
+use Rattle.mely_history.specs.Kept.{limit_of}
+use Rattle.mely_shard.specs.Replies.{no_take_of}
 use Rattle.mely_history.proofs.ColourAccountLemmas.{account-own}
-use Rattle.mely_shard.proofs.SlotLemmas.{kept_after, same_or_not, same_frame_at}
-use Rattle.mely_shard.proofs.RegisterLemmas.{colour_at-place, slot_there, same_count}
+use Rattle.mely_shard.proofs.SlotLemmas.{kept_after}
+use Rattle.mely_shard.proofs.RegisterLemmas.{colour_at-place, slot_there}
 
 all_by_recursion-drop : {X : Type 0} (P : X → Type 0) (n : ℕ) (xs : List X) → AllByRecursion P xs → AllByRecursion P (drop n xs)
 all_by_recursion-drop P zero xs all = all
@@ -47,13 +46,6 @@ pub all_by_recursion-take : {X : Type 0} (P : X → Type 0) (n : ℕ) (xs : List
 all_by_recursion-take P zero xs all = tt
 all_by_recursion-take P (suc n) [] all = all
 all_by_recursion-take P (suc n) (x ∷ xs) all = (all.0, all_by_recursion-take P n xs all.1)
-
--- the laws of states that are the same but for a greater spare
-pub record RoomierLaws {S F : Type 0} (t : TrailWords S F) : Type 0 where
-  pub itself : (s : S) → IsRoomier t s s
-  pub trail : (s u : S) → IsRoomier t s u → t.trail_of s ≡ t.trail_of u
-  pub colour : (s u : S) → IsRoomier t s u → t.colour_of s ≡ t.colour_of u
-  pub frame : (s u : S) → IsRoomier t s u → t.frame_of s ≡ t.frame_of u
 
 module _ {S P F : Type 0} {t : TrailWords S F} {fits : F → Colour → Event → Option P → Type 0} {setup : Setup} {shard : ℕ} {history : List Entry} {slots : List (ColourSlot S P)} {running capacity : ℕ} (kept : IsConsistentShard t fits setup shard history slots running capacity) where
   -- a state at home, as the history has it
@@ -102,7 +94,7 @@ module _ {S P F : Type 0} {t : TrailWords S F} {fits : F → Colour → Event �
   -- a take keeps what the fields keep
   pub kept_taken : (c : Colour) (core capacity' : ℕ) (slot after : ColourSlot S P) → c.0 < colours_of setup → c.0 % (shape_of setup).shards ≡ shard → slot ≡ get_or slots (c.0 / (shape_of setup).shards) slot
       → Refuses c core slot.given.value slot.home None → (n : ℕ) → n ≡ min (shape_of setup).batch (length slot.queue.events) → 1 ≤ (shape_of setup).batch
-      → after ≡ record slot { queue = after_take slot.queue n; home = None; core = core; count = n } → length history + 2 + running ≤ capacity' → capacity' ≤ MAX_ENTRIES
+      → after ≡ record slot { queue = after_take slot.queue n; home = None; core = core; count = n } → length history + 2 + running ≤ capacity' → capacity' ≤ limit_of (is_listed setup)
       → MayTake setup history c core n × IsConsistentShard t fits setup shard (history ++ Take c core n ∷ []) (set slots (c.0 / (shape_of setup).shards) after) (running + 1) capacity'
   kept_taken c core capacity' slot after there here is ready n n_is batch after_is room limited =
       let i = c.0 / (shape_of setup).shards in
@@ -137,102 +129,21 @@ module _ {S P F : Type 0} {t : TrailWords S F} {fits : F → Colour → Event �
             limited,
       )
 
-  -- one slot changed, with the history as it is
-  kept_slot : (i : ℕ) (slot after : ColourSlot S P) (capacity' : ℕ) → i < length slots → slot ≡ get_or slots i slot
-      → SlotStands t fits setup (colour_at setup shard i) (account_of setup history (colour_at setup shard i)) after
-      → t.frame_of after.given.value ≡ t.frame_of slot.given.value → is_away after ≡ is_away slot → capacity ≤ capacity' → capacity' ≤ MAX_ENTRIES
-      → IsConsistentShard t fits setup shard history (set slots i after) running capacity'
-  kept_slot i slot after capacity' there is stands same_frame same_home room limited =
-      let same : t.frame_of after.given.value ≡ t.frame_of (get_or slots i after).given.value = same_frame ∙ ap (λ b. t.frame_of b.given.value) is ∙ ap (λ b. t.frame_of b.given.value) (get_or_default slots i slot after there) in
-      record {
-        legal = kept.legal;
-        numbered = kept.numbered;
-        whole = λ k lt of. rw length-set (kept.whole k lt of);
-        only = λ j lt. kept.only j (subst (λ n. j < n) (length-set slots i after) lt);
-        each = λ j d lt. ⊎_elim
-            (λ (e : j ≡ i). subst (λ k. SlotStands t fits setup (colour_at setup shard k) (account_of setup history (colour_at setup shard k)) (get_or (set slots i after) k d)) (sym e)
-            (rw (get_or-set_same slots i after d there) stands))
-            (λ (ne : j ≡ i → ⊥). rw (get_or-set_other slots i j after d ne) (kept.each j d (subst (λ n. j < n) (length-set slots i after) lt)))
-            (same_or_not j i);
-        own = kept.own;
-        frames = λ j k d lj lk.
-            same_frame_at t.frame_of slots i after there same j d
-            ∙ kept.frames j k d (subst (λ n. j < n) (length-set slots i after) lj) (subst (λ n. k < n) (length-set slots i after) lk)
-            ∙ sym (same_frame_at t.frame_of slots i after there same k d);
-        counted = kept.counted ∙ sym (same_count kept slots i slot after there is same_home);
-        room = omega (arith, kept.room, room);
-        limited = limited;
-      }
-
-  module _ (laws : RoomierLaws t) where
-    -- a greater spare keeps what the fields keep
-    pub kept_alike : (c : Colour) (slot after : ColourSlot S P) (capacity' : ℕ) → c.0 < colours_of setup → c.0 % (shape_of setup).shards ≡ shard → slot ≡ get_or slots (c.0 / (shape_of setup).shards) slot
-        → SlotKeepsState t slot after → capacity ≤ capacity' → capacity' ≤ MAX_ENTRIES → IsConsistentShard t fits setup shard history (set slots (c.0 / (shape_of setup).shards) after) running capacity'
-    kept_alike c slot after capacity' there here is keeps room limited =
-        let i = c.0 / (shape_of setup).shards in
-        let place : i < length slots = kept.whole c.0 there here in
-        let at : colour_at setup shard i ≡ c = colour_at-place setup shard c here in
-        let old = slot_there kept c slot there here is in
-        let was : StateStands t c slot.given.value (account_of setup history c) slot.core slot.count (Some keeps.home) = subst (λ o. StateStands t c slot.given.value (account_of setup history c) slot.core slot.count o) keeps.was old.state in
-        let stands : SlotStands t fits setup c (account_of setup history c) (record slot { home = Some keeps.state }) = record {
-          events = old.events;
-          weights = old.weights;
-          started = old.started;
-          finished = old.finished;
-          begun = old.begun;
-          owner = old.owner;
-          fit = old.fit;
-          state = (was.0, sym (laws.trail keeps.home keeps.state keeps.alike) ∙ was.1, sym (laws.colour keeps.home keeps.state keeps.alike) ∙ was.2, sym (laws.frame keeps.home keeps.state keeps.alike) ∙ was.3);
-        } in
-        let stood = subst (λ b. SlotStands t fits setup c (account_of setup history c) b) (sym keeps.left) stands in
-        kept_slot i slot after capacity' place is (subst (λ k. SlotStands t fits setup k (account_of setup history k) after) (sym at) stood)
-        (ap (λ b. t.frame_of b.given.value) keeps.left) (ap is_away keeps.left ∙ sym (ap is_none keeps.was)) room limited
-
-    -- two states that are the same but for the spare, or the same
-    alike_options : (o : Option S) → AreAlike (IsRoomier t) o o
-    alike_options None = tt
-    alike_options (Some s) = laws.itself s
-
-    lanes_alike : (a b : ColourSlot S P) → SlotKeepsState t a b → IsLaneAlike (IsRoomier t) (lane_of a) (lane_of b)
-    lanes_alike a b keeps = record {
-      given = ap (λ k. k.given.value) keeps.left;
-      events = ap (λ k. k.queue.events) keeps.left;
-      state = subst (λ o. AreAlike (IsRoomier t) o b.home) (sym keeps.was) (subst (λ o. AreAlike (IsRoomier t) (Some keeps.home) o) (sym (ap (λ k. k.home) keeps.left)) keeps.alike);
-    }
-
-    -- each lane is the same but for the spare
-    pub each_alike : (i : ℕ) (slot after : ColourSlot S P) → i < length slots → slot ≡ get_or slots i slot → SlotKeepsState t slot after
-        → (j : ℕ) (d : ColourState S P) → j < length (map lane_of slots) → IsLaneAlike (IsRoomier t) (get_or (map lane_of slots) j d) (get_or (map lane_of (set slots i after)) j d)
-    each_alike i slot after place is keeps j d lt = rw (map-set lane_of slots i after)
-        (⊎_elim
-        (λ (e : j ≡ i). subst (λ k. IsLaneAlike (IsRoomier t) (get_or (map lane_of slots) k d) (get_or (set (map lane_of slots) i (lane_of after)) k d)) (sym e)
-        (rw (get_or-set_same (map lane_of slots) i (lane_of after) d (subst (λ n. i < n) (sym (length-map slots lane_of)) place))
-        (subst (λ l. IsLaneAlike (IsRoomier t) l (lane_of after)) (lane_read i slot d place is) (lanes_alike slot after keeps))))
-        (λ (ne : j ≡ i → ⊥). rw (get_or-set_other (map lane_of slots) i j (lane_of after) d ne) (record { given = refl; events = refl; state = alike_options (get_or (map lane_of slots) j d).state }))
-        (same_or_not j i))
-      where
-        lane_read : (i : ℕ) (slot : ColourSlot S P) (d : ColourState S P) → i < length slots → slot ≡ get_or slots i slot → lane_of slot ≡ get_or (map lane_of slots) i d
-        lane_read i slot d place is = ap lane_of is ∙ sym (get_or-map lane_of slots i slot) ∙ get_or_default (map lane_of slots) i (lane_of slot) d (subst (λ n. i < n) (sym (length-map slots lane_of)) place)
-
-    -- the lanes as they are
-    pub lanes_as_they_are : (lanes : List (ColourState S P)) (j : ℕ) (d : ColourState S P) → IsLaneAlike (IsRoomier t) (get_or lanes j d) (get_or lanes j d)
-    lanes_as_they_are lanes j d = record { given = refl; events = refl; state = alike_options (get_or lanes j d).state }
-
-    -- the turn of a take
-    pub taken_turn : (c : Colour) (core n : ℕ) (slot : ColourSlot S P) → SlotStands t fits setup c (account_of setup history c) slot → Refuses c core slot.given.value slot.home None → 1 ≤ n
-        → (home state : S) → slot.home ≡ Some home → IsRoomier t home state
-        → IsRunningOn (history ++ Take c core n ∷ []) c core n × (t.trail_of state ++ map (λ e. e.0) (take n slot.queue.events) ≡ take (begun_of (history ++ Take c core n ∷ []) c) (registered_of (history ++ Take c core n ∷ []) c)) × (t.colour_of state ≡ c) × (t.frame_of state ≡ t.frame_of slot.given.value)
-    taken_turn c core n slot old ready some home state was alike =
-        let next = account-own setup history (Take c core n) c refl in
-        let h : IsHome c slot.given.value home = subst (λ o. IsSomeAnd o (IsHome c slot.given.value)) was ready.2 in
-        let begun_is : begun_of (history ++ Take c core n ∷ []) c ≡ begun_of history c + n = ap (λ (s : ColourAccount). s.begun) next in
-        let ended_is : ended_of (history ++ Take c core n ∷ []) c ≡ ended_of history c = ap (λ (s : ColourAccount). s.ended) next in
-        let registered_is : registered_of (history ++ Take c core n ∷ []) c ≡ registered_of history c = ap (λ (s : ColourAccount). s.registered) next in (
-          record { running = omega (arith, begun_is, ended_is, ready.1.at_rest, some); last = ap (λ (s : ColourAccount). s.last) next },
-          rw (begun_is, registered_is)
-              (ap (λ es. es ++ map (λ e. e.0) (take n slot.queue.events)) (sym (laws.trail home state alike) ∙ h.trailed ∙ ap (λ k. take k (registered_of history c)) (sym ready.1.at_rest))
-              ∙ ap (λ es. take (begun_of history c) (registered_of history c) ++ es) (sym (take-map (λ (e : Event × Option P). e.0) n slot.queue.events) ∙ ap (take n) old.events)
-              ∙ sym (take-add (begun_of history c) n (registered_of history c))),
-          sym (laws.colour home state alike) ∙ h.coloured,
-          sym (laws.frame home state alike) ∙ h.framed,
-        )
+  -- the turn of a take
+  pub taken_turn : (c : Colour) (core n : ℕ) (slot : ColourSlot S P) → SlotStands t fits setup c (account_of setup history c) slot → Refuses c core slot.given.value slot.home None → 1 ≤ n
+      → (home : S) → slot.home ≡ Some home
+      → IsRunningOn (history ++ Take c core n ∷ []) c core n × (t.trail_of home ++ map (λ e. e.0) (take n slot.queue.events) ≡ take (begun_of (history ++ Take c core n ∷ []) c) (registered_of (history ++ Take c core n ∷ []) c)) × (t.colour_of home ≡ c) × (t.frame_of home ≡ t.frame_of slot.given.value)
+  taken_turn c core n slot old ready some home was =
+      let next = account-own setup history (Take c core n) c refl in
+      let h : IsHome c slot.given.value home = subst (λ o. IsSomeAnd o (IsHome c slot.given.value)) was ready.2 in
+      let begun_is : begun_of (history ++ Take c core n ∷ []) c ≡ begun_of history c + n = ap (λ (s : ColourAccount). s.begun) next in
+      let ended_is : ended_of (history ++ Take c core n ∷ []) c ≡ ended_of history c = ap (λ (s : ColourAccount). s.ended) next in
+      let registered_is : registered_of (history ++ Take c core n ∷ []) c ≡ registered_of history c = ap (λ (s : ColourAccount). s.registered) next in (
+        record { running = omega (arith, begun_is, ended_is, ready.1.at_rest, some); last = ap (λ (s : ColourAccount). s.last) next },
+        rw (begun_is, registered_is)
+            (ap (λ es. es ++ map (λ e. e.0) (take n slot.queue.events)) (h.trailed ∙ ap (λ k. take k (registered_of history c)) (sym ready.1.at_rest))
+            ∙ ap (λ es. take (begun_of history c) (registered_of history c) ++ es) (sym (take-map (λ (e : Event × Option P). e.0) n slot.queue.events) ∙ ap (take n) old.events)
+            ∙ sym (take-add (begun_of history c) n (registered_of history c))),
+        h.coloured,
+        h.framed,
+      )

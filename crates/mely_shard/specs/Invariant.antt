@@ -1,10 +1,11 @@
 -- Within the crate: what the fields of a shard keep. Callers see it as `IsConsistent` of Shard.
-use Rattle.std.specs.Prelude.{◌≡◌, ◌≤◌, ◌<◌, ◌+◌, ◌/◌, ◌%◌, ℕ, List, [], Option, None, Some, Bool, length, map, take, drop, slice_index_or, count_by, is_none, slice_get, IsSome, min}
+use Rattle.std.specs.Prelude.{◌≡◌, ◌≤◌, ◌<◌, ◌+◌, ◌/◌, ◌%◌, ℕ, List, [], Option, None, Some, Bool, length, map, take, drop, slice_index_or, count_by, is_none, slice_get, IsSome}
 use Rattle.std.specs.List.{AllByRecursion}
 use Rattle.mely_event.specs.declared.colour.Colour.{Colour}
 use Rattle.mely_event.specs.declared.event.Event.{Event}
 use Rattle.mely_event.specs.declared.trail.Trail.{Ghosts as TrailWords}
-use Rattle.mely_history.specs.Setup.{shape_of, colours_of}
+use Rattle.mely_history.specs.Setup.{shape_of, colours_of, is_listed}
+use Rattle.mely_history.specs.Kept.{limit_of}
 use Rattle.mely_history.specs.declared.setup.Setup.{Setup}
 use Rattle.mely_history.specs.declared.entry.Entry.{Entry}
 use Rattle.mely_history.specs.History.{weight}
@@ -12,7 +13,6 @@ use Rattle.mely_history.specs.Legal.{IsLegal}
 use Rattle.mely_queue.specs.Turn.{EachFits}
 use Rattle.mely_shard.specs.declared.colour_slot.ColourSlot.{ColourSlot}
 use Rattle.mely_shard.specs.Shard.{ColourState, colour_at}
-use Rattle.mely_shard.specs.declared.room.TheConstants.{MAX_ENTRIES}
 use Rattle.mely_history.specs.ColourAccount.{ColourAccount, account_of}
 use Rattle.mely_history.specs.Entries.{colour_of}
 
@@ -71,10 +71,6 @@ AreInitialSlots {S} {P} setup shard states slots = (i : ℕ) (state : S) (slot :
 abbrev pub AreAtHome : {S P : Type 0} → List (ColourSlot S P) → Type 0
 AreAtHome slots = AllByRecursion (λ slot. IsSome slot.home) slots
 
--- how many entries a history may have where its vector has this capacity
-abbrev pub most_of : ℕ → ℕ
-most_of capacity = min capacity MAX_ENTRIES
-
 -- what the fields of a shard keep; the room of the history is below the limit
 pub record IsConsistentShard {S P F : Type 0} (t : TrailWords S F)
     (fits : F → Colour → Event → Option P → Type 0) (setup : Setup) (shard : ℕ)
@@ -93,4 +89,4 @@ pub record IsConsistentShard {S P F : Type 0} (t : TrailWords S F)
       ≡ t.frame_of (slice_index_or slots j d).given.value
   pub counted : running ≡ count_by is_away slots
   pub room : length history + running ≤ capacity
-  pub limited : capacity ≤ MAX_ENTRIES
+  pub limited : capacity ≤ limit_of (is_listed setup)

@@ -1,8 +1,7 @@
 -- Within the crate: what the slot of one colour answers, in its own fields. Callers see it by
 -- the words of ShardState.
-use Rattle.std.specs.Prelude.{◌≡◌, ◌≤◌, ◌==◌, ℕ, Bool, Option, None, Some, length, min, take, sum, ◌&&◌, is_some, is_none, nat_lt, if◌then◌else◌}
+use Rattle.std.specs.Prelude.{◌≡◌, ◌==◌, ℕ, Bool, Option, None, Some, length, min, take, sum, ◌&&◌, is_some, is_none, nat_lt, if◌then◌else◌}
 use Rattle.mely_event.specs.declared.colour.Colour.{Colour}
-use Rattle.mely_event.specs.declared.trail.Trail.{Ghosts as TrailWords}
 use Rattle.mely_history.specs.declared.registered.Registered.{Registered}
 use Rattle.mely_history.specs.declared.registered.Registered.TheVariants.{Woke, Told, Running}
 use Rattle.mely_history.specs.declared.no_take.NoTake.{NoTake}
@@ -16,7 +15,6 @@ use Rattle.mely_history.specs.declared.stolen.Stolen.{Stolen}
 use Rattle.mely_queue.specs.ColourQueue.{registered_in, after_take}
 use Rattle.mely_queue.specs.Turn.{TurnState}
 use Rattle.mely_shard.specs.declared.colour_slot.ColourSlot.{ColourSlot}
-use Rattle.mely_shard.specs.Shard.{IsRoomier}
 
 -- what a registration is told, where events waited before it or not
 abbrev pub reply_of : {S P : Type 0} → ColourSlot S P → Bool → Registered
@@ -40,18 +38,16 @@ after_of slot = if nat_lt 0 (length slot.queue.events) then More slot.queue.star
     (sum slot.queue.weights) else Idle
 
 -- the state and the first events are moved out
-pub record SlotTakes {S P F : Type 0} (t : TrailWords S F) (old new : ColourSlot S P)
-    (colour : Colour) (core batch : ℕ) (turn : TurnState S P) : Type 0 where
+pub record SlotTakes {S P : Type 0} (old new : ColourSlot S P) (colour : Colour) (core batch : ℕ)
+    (turn : TurnState S P) : Type 0 where
   pub home : S
   pub was : old.home ≡ Some home
-  pub alike : IsRoomier t home turn.state
-  pub room : min batch (length old.queue.events) ≤ t.spare_of turn.state
   pub made : turn ≡ record {
     colour = colour;
     core = core;
     count = min batch (length old.queue.events);
-    state = turn.state;
-    given = turn.state;
+    state = home;
+    given = home;
     events =
         take batch old.queue.events;
   }
@@ -61,15 +57,6 @@ pub record SlotTakes {S P F : Type 0} (t : TrailWords S F) (old new : ColourSlot
     core = core;
     count = min batch (length old.queue.events);
   }
-
--- only the spare of the state at home may be greater
-pub record SlotKeepsState {S P F : Type 0} (t : TrailWords S F)
-    (old new : ColourSlot S P) : Type 0 where
-  pub home : S
-  pub was : old.home ≡ Some home
-  pub state : S
-  pub alike : IsRoomier t home state
-  pub left : new ≡ record old { home = Some state }
 
 -- why a core may not steal a colour, memory aside
 abbrev pub no_steal_of : {S P : Type 0} → ColourSlot S P → ℕ → ℕ → Option NoSteal

@@ -1,9 +1,9 @@
 -- What callers see of a shard, and what its calls say of it.
-use Rattle.std.specs.Prelude.{◌≡◌, ◌≢◌, ◌<◌, ◌≤◌, ◌+◌, ◌*◌, ◌%◌, ℕ, List, [], ◌∷◌, ◌++◌, Option, None, Some, length, map, take, drop, slice_get, slice_set, slice_index_or, count_by, is_none}
+use Rattle.std.specs.Prelude.{◌≡◌, ◌≢◌, ◌<◌, ◌≤◌, ◌+◌, ◌*◌, ◌%◌, ℕ, List, [], ◌∷◌, ◌++◌, Option, None, Some, length, map, take, drop, slice_get, slice_set, count_by, is_none}
 use Rattle.mely_event.specs.declared.colour.Colour.{Colour}
 use Rattle.mely_event.specs.declared.event.Event.{Event}
 use Rattle.mely_event.specs.declared.trail.Trail.{Ghosts as TrailWords}
-use Rattle.mely_history.specs.Setup.{shape_of, colours_of, pinned_of}
+use Rattle.mely_history.specs.Setup.{shape_of, colours_of, pinned_of, is_listed}
 pub use Rattle.mely_history.specs.Setup.{place}
 use Rattle.mely_history.specs.declared.setup.Setup.{Setup}
 use Rattle.mely_history.specs.declared.entry.Entry.{Entry}
@@ -21,7 +21,7 @@ use Rattle.mely_history.specs.declared.no_steal.NoSteal.TheVariants as steals
 use Rattle.mely_history.specs.declared.no_steal.NoSteal.TheVariants.{Pinned, Own, Cheap}
 use Rattle.mely_history.specs.declared.stolen.Stolen.{Stolen}
 use Rattle.mely_queue.specs.Turn.{TurnState, EachFits}
-use Rattle.mely_shard.specs.declared.room.TheConstants.{MAX_ENTRIES}
+use Rattle.mely_history.specs.Kept.{limit_of}
 
 -- one colour: its state where it is at home, the state that it was given at first, and the events
 -- that wait with their loads
@@ -96,17 +96,6 @@ pub record KeepsAllButSpare {S P : Type 0} (old new : ShardState S P) : Type 0 w
   pub history : new.history ≡ old.history
   pub lanes : new.lanes ≡ old.lanes
 
--- the states are the same, but that the spare of the second may be greater
-abbrev pub IsRoomier : {S F : Type 0} → TrailWords S F → S → S → Type 0
-IsRoomier t s u = t.alike s u × (t.spare_of s ≤ t.spare_of u)
-
--- both are away, or both at home and the same but for the spare
-abbrev pub AreAlike : {S : Type 0} → (S → S → Type 0) → Option S → Option S → Type 0
-AreAlike Alike None None = Unit {0}
-AreAlike Alike None (Some b) = ⊥
-AreAlike Alike (Some a) None = ⊥
-AreAlike Alike (Some a) (Some b) = Alike a b
-
 -- one entry more, and one lane changed
 pub record Appends {S P : Type 0} (old new : ShardState S P) (entry : Entry) (c : Colour)
     (lane : ColourState S P) : Type 0 where
@@ -149,44 +138,25 @@ pub record TurnStands {S P F : Type 0} (t : TrailWords S F)
   pub fit : EachFits (fits (t.frame_of turn.state) turn.colour) turn.events
 
 -- the state and the first events are moved out into a turn
-pub record Takes {S P F : Type 0} (t : TrailWords S F) (old new : ShardState S P) (c : Colour)
-    (core : ℕ) (turn : TurnState S P) : Type 0 where
+pub record Takes {S P : Type 0} (old new : ShardState S P) (c : Colour) (core : ℕ)
+    (turn : TurnState S P) : Type 0 where
   pub before : ColourState S P
   pub was : lane_at old c ≡ Some before
   pub home : S
   pub at_home : before.state ≡ Some home
   pub allowed : MayTake old.setup old.history c core turn.count
-  pub alike : IsRoomier t home turn.state
-  pub room : turn.count ≤ t.spare_of turn.state
   pub made : turn ≡ record {
     colour = c;
     core = core;
     count = turn.count;
-    state = turn.state;
-    given = turn.state;
+    state = home;
+    given = home;
     events = take turn.count before.events;
   }
   pub after : Appends old new (Take c core turn.count) c (record before {
     state = None;
     events = drop turn.count before.events;
   })
-
--- two lanes are equal but for the spare of the state at home
-pub record IsLaneAlike {S P : Type 0} (Alike : S → S → Type 0)
-    (old new : ColourState S P) : Type 0 where
-  pub given : new.given ≡ old.given
-  pub events : new.events ≡ old.events
-  pub state : AreAlike Alike old.state new.state
-
--- nothing changes, but the spare of the history and of one state at home
-pub record KeepsStates {S P F : Type 0} (t : TrailWords S F)
-    (old new : ShardState S P) : Type 0 where
-  pub same_setup : new.setup ≡ old.setup
-  pub same_shard : new.shard ≡ old.shard
-  pub history : new.history ≡ old.history
-  pub many : length new.lanes ≡ length old.lanes
-  pub lanes : (i : ℕ) (d : ColourState S P) → i < length old.lanes
-      → IsLaneAlike (IsRoomier t) (slice_index_or old.lanes i d) (slice_index_or new.lanes i d)
 
 -- why nothing is taken
 abbrev pub NoTakeAs : Setup → List Entry → Colour → ℕ → NoTake → Type 0
@@ -230,7 +200,7 @@ pub record LaneStands {S P F : Type 0} (t : TrailWords S F)
 
 -- what a shard keeps: its history is legal and its own, and there is a lane for each of its
 -- colours, of one frame, which has what the history says; its entries, those that finish the
--- colours that run, and the spare are together within the limit
+-- colours that run, and the spare are together within the limit of a history that is listed or not
 pub record IsConsistent {S P F : Type 0} (t : TrailWords S F)
     (fits : F → Colour → Event → Option P → Type 0) (has : ShardState S P) : Type 0 where
   pub legal : IsLegal has.setup has.history
@@ -243,7 +213,8 @@ pub record IsConsistent {S P F : Type 0} (t : TrailWords S F)
       → slice_get has.lanes j ≡ Some b → t.frame_of a.given ≡ t.frame_of b.given
   pub each : (c : Colour) (lane : ColourState S P) → IsOwn has c → lane_at has c ≡ Some lane
       → LaneStands t fits has.history c lane
-  pub within_limit : length has.history + running_in has + has.spare ≤ MAX_ENTRIES
+  pub within_limit : length has.history + running_in has + has.spare
+      ≤ limit_of (is_listed has.setup)
 
 -- what is told of a ready colour; nothing where it runs or nothing is queued
 abbrev pub ReadyAs : Setup → List Entry → Colour → Option (ℕ × ℕ × ℕ) → Type 0

@@ -173,7 +173,7 @@ impl<S, P> ColourSlot<S, P> {
 }
 
 impl<S: Fits<P>, P> ColourSlot<S, P> {
-    ghost use Rattle.mely_shard.specs.Replies.{SlotTakes, SlotKeepsState};
+    ghost use Rattle.mely_shard.specs.Replies.{SlotTakes};
     ghost use Rattle.mely_queue.specs.Turn.{EachFits};
 
     /// Moves the state and the first events out, these in the emptied vector, in whose
@@ -194,15 +194,11 @@ impl<S: Fits<P>, P> ColourSlot<S, P> {
         requires fit { EachFits (S.fits_under (S.frame_of self.old.given.value) colour)
             self.old.queue.events }
         ensures ok { IfOk result (λ turn.
-            SlotTakes S.Trail self.old self.new colour core batch turn) }
-        ensures err { OnErr result (SlotKeepsState S.Trail self.old self.new) }
+            SlotTakes self.old self.new colour core batch turn) }
+        ensures err { OnErr result (self.new ≡ self.old) }
         ensures emptied { emptied.new.items ≡ [] }
     {
         let count = (batch as usize).min(self.queue.len());
-        match &mut self.home {
-            Some(state) => state.reserve(count)?,
-            None => unreachable!(),
-        }
         self.queue.take_into(batch, emptied)?;
         let events = mem::replace(emptied, Vec::new(alloc));
         let Some(state) = self.home.take() else {

@@ -8,7 +8,9 @@
 //! finishes, which takes the state home; an idle core steals a whole colour that is worth more
 //! than the declared cost, unless it is pinned. Each of these four calls appends its entry to
 //! the shard's history, and the type keeps that the history is legal by the rules of
-//! `mely_history`. A history has at most [`MAX_ENTRIES`].
+//! `mely_history`. Contracts read the history whatever the setup says; it is kept as a list that code
+//! can read where the setup asks for that ([`Setup::listed`](mely_history::Setup::listed)), and else
+//! it takes no memory.
 //!
 //! A worker runs what a turn has, and takes the state home:
 //!
@@ -21,8 +23,6 @@
 #![tactic(auto)]
 
 mod colour_slot;
-mod room;
 mod shard;
 
-pub use room::MAX_ENTRIES;
 pub use shard::Shard;

@@ -2,9 +2,8 @@
 ghost use Rattle.std.specs.Prelude.{◌≡◌, ◌<◌, ◌≤◌, ◌+◌, ◌-◌, ◌/◌, ◌%◌, ◌^◌, ◌++◌, ◌∷◌, [], ℕ, List, Option, ◌≢◌, length, IfOk, IfErr, OnOk, OnErr, option_copied, IsTrue, ◌↔◌};
 
 use crate::colour_slot::{ColourSlot, all_drained, slots_of, take_apart};
-use crate::room::make_room;
 use mely_event::{Colour, Event, Fits, Memory, Trail, Unregistered};
-use mely_history::{After, Entry, NoSteal, NoTake, Registered, Setup, Stolen};
+use mely_history::{After, Entry, History, NoSteal, NoTake, Registered, Setup, Stolen};
 use mely_queue::Turn;
 use std::alloc::Global;
 use std::marker::Model;
@@ -25,7 +24,8 @@ use std::snapshot::Snapshot;
 /// [`reserve`](Shard::reserve) raises it; a registration and a steal lower it by one at most, a
 /// take by two at most (its own entry, and that of its finish), a finish and a refused call not at
 /// all. The entries, those that finish the turns that are out and the spare are never more than
-/// [`MAX_ENTRIES`](crate::MAX_ENTRIES).
+/// [`MAX_ENTRIES`](mely_history::MAX_ENTRIES) where the history is listed. Where it isn't they are
+/// never more than [`MAX_NOTES`](mely_history::MAX_NOTES), and the history takes no memory.
 #[derive(Drop)]
 pub struct Shard<S: Fits<P>, P> {
     setup: Setup,
@@ -41,8 +41,8 @@ pub struct Shard<S: Fits<P>, P> {
     /// each call: with both on one line of memory, a core's call would take the fixed ones from the
     /// other cores (false sharing).
     apart: [u64; 8],
-    history: Vec<Entry>,
-    running: usize,
+    history: History,
+    running: u64,
 
     /// The vector of the turn that was finished last, empty, whose room the next turn uses.
     emptied: Vec<(Event, Option<P>)>,
@@ -57,27 +57,28 @@ impl<S: Fits<P>, P> Model for Shard<S, P> {
     ghost Value = { ShardState S P };
 
     ghost use Rattle.std.specs.Prelude.{map, length, vec_len, vec_capacity, ◌≡◌, ◌+◌, ◌-◌, []};
-    ghost use Rattle.mely_shard.specs.Invariant.{lane_of, most_of, IsConsistentShard, HasRoom};
+    ghost use Rattle.mely_history.specs.Setup.{is_listed};
+    ghost use Rattle.mely_shard.specs.Invariant.{lane_of, IsConsistentShard, HasRoom};
 
     ghost view = { λ s. record {
       setup = s.setup;
       shard = s.shard;
       history = s.history.items;
       lanes = map lane_of s.slots.items;
-      spare =
-          most_of (vec_capacity s.history) - (length s.history.items + s.running);
+      spare = s.history.most - (length s.history.items + s.running);
     } };
 
     ghost invariant = { λ s.
         IsConsistentShard S.Trail S.fits_under s.setup s.shard s.history.items s.slots.items
-        s.running (most_of (vec_capacity s.history))
+        s.running s.history.most
         × HasRoom (vec_len s.states) (vec_capacity s.states) (vec_len s.queues)
-        (vec_capacity s.queues) (length s.slots.items) × (s.emptied.items ≡ []) };
+        (vec_capacity s.queues) (length s.slots.items) × (s.emptied.items ≡ [])
+        × (s.history.listed ≡ is_listed s.setup) };
 }
 
 impl<S: Fits<P>, P> Shard<S, P> {
-    ghost use Rattle.mely_shard.specs.Shard.{ShardState, IsOwn, lane_at, Registers, RegisteredAs, KeepsAllButSpare, Takes, KeepsStates, NoTakeAs, Finishes, AfterAs, TurnStands, IsConsistent, ReadyAs, Steals, NoStealAs, AreInitialStates, IsInitialShard, KeepsFrame, StandsOnce};
-    ghost use Rattle.mely_history.specs.Setup.{shape_of};
+    ghost use Rattle.mely_shard.specs.Shard.{ShardState, IsOwn, lane_at, Registers, RegisteredAs, KeepsAllButSpare, Takes, NoTakeAs, Finishes, AfterAs, TurnStands, IsConsistent, ReadyAs, Steals, NoStealAs, AreInitialStates, IsInitialShard, KeepsFrame, StandsOnce};
+    ghost use Rattle.mely_history.specs.Setup.{shape_of, is_listed};
     ghost use Rattle.mely_event.specs.declared.colour.Colour.{Colour};
     ghost use Rattle.std.specs.Prelude.{map, Some};
     ghost use Rattle.mely_history.specs.Legal.{MayRegister, IsDrained};
@@ -116,7 +117,7 @@ impl<S: Fits<P>, P> Shard<S, P> {
             states,
             queues,
             apart: [0; 8],
-            history: Vec::new(alloc),
+            history: History::new(alloc, setup.is_listed()),
             running: 0,
             emptied: Vec::new(alloc),
             behind: [0; 8],
@@ -125,12 +126,13 @@ impl<S: Fits<P>, P> Shard<S, P> {
 
     /// The history, and the states and the queued events by colour, in the order of the colours. It
     /// takes no memory.
-    pub fn into_parts(self) -> (Vec<Entry>, Vec<S>, Vec<Vec<(Event, Option<P>)>>)
+    pub fn into_parts(self) -> (History, Vec<S>, Vec<Vec<(Event, Option<P>)>>)
     where
         S: Drop,
         P: Drop,
         requires { (c : Colour) → IsOwn self c → ¬ IsRunning self.history c }
         ensures history { result.0.items ≡ self.history }
+        ensures listed { result.0.listed ≡ is_listed self.setup }
         ensures states { map (λ state. Some state) result.1.items
             ≡ map (λ lane. lane.state) self.lanes }
         ensures queues { map (λ queue. queue.items) result.2.items
@@ -155,9 +157,10 @@ impl<S: Fits<P>, P> Shard<S, P> {
         all_drained(&self.slots)
     }
 
-    /// The entries so far, the oldest first.
-    pub fn history(&self) -> &[Entry]
-        ensures value { result.now ≡ self.now.history }
+    /// The history so far, whose entries can be read where the setup lists them.
+    pub fn history(&self) -> &History
+        ensures value { result.now.items ≡ self.now.history }
+        ensures listed { result.now.listed ≡ is_listed self.now.setup }
         ensures kept { IsConsistent S.Trail S.fits_under self.now }
     {
         &self.history
@@ -192,30 +195,29 @@ impl<S: Fits<P>, P> Shard<S, P> {
         ensures kept { IsConsistent S.Trail S.fits_under self.new }
         ensures frame { KeepsFrame self.old self.new }
     {
-        let Ok(()) = make_room(&mut self.history, self.running + 1) else {
+        let Ok(()) = self.history.reserve(self.running + 1) else {
             return Err(Unregistered { event, load });
         };
         let weight = self.setup.handlers().weight(event.handler);
         let place = self.setup.place_of(colour);
         let reply = self.slots[place].register(event, load, weight)?;
-        self.history.push_reserved(Entry::Reg { colour, event, by });
+        self.history.push(Entry::Reg { colour, event, by });
         Ok(reply)
     }
 
     /// Moves the state of a colour and its first events out, as many as the batch of the
-    /// setup or all that are queued. It makes room for the entry of its finish, and in the
-    /// state's trail for the events.
+    /// setup or all that are queued. It makes room for the entry of its finish.
     ///
     /// # Errors
     ///
     /// The first of these that applies: `Elsewhere`, the core is not the colour's owner; `Busy`, it
     /// runs; `Empty`, nothing is queued; `Memory`, there was none, or the history is at its limit.
-    /// The shard is then as it was, but for greater spares of its history and of the state.
+    /// The shard is then as it was, but for a greater spare.
     pub fn take(&mut self, colour: Colour, core: u16) -> Result<Turn<S, P>, NoTake>
         requires own { IsOwn self.old colour }
-        ensures ok { IfOk result (λ turn. Takes S.Trail self.old self.new colour core turn) }
+        ensures ok { IfOk result (λ turn. Takes self.old self.new colour core turn) }
         ensures stands { IfOk result (λ turn. TurnStands S.Trail S.fits_under self.new turn) }
-        ensures err { OnErr result (KeepsStates S.Trail self.old self.new) }
+        ensures err { OnErr result (KeepsAllButSpare self.old self.new) }
         ensures spare_left { self.old.spare ≤ self.new.spare + 2 }
         ensures spare_stays { OnErr result (self.old.spare ≤ self.new.spare) }
         ensures refusal { IfErr result (λ refusal.
@@ -228,7 +230,7 @@ impl<S: Fits<P>, P> Shard<S, P> {
         if let Some(refusal) = slot.no_take(core) {
             return Err(refusal);
         }
-        let Ok(()) = make_room(&mut self.history, self.running + 2) else {
+        let Ok(()) = self.history.reserve(self.running + 2) else {
             return Err(NoTake::Memory);
         };
         let batch = self.setup.batch();
@@ -236,7 +238,7 @@ impl<S: Fits<P>, P> Shard<S, P> {
             return Err(NoTake::Memory);
         };
         let count = turn.count();
-        self.history.push_reserved(Entry::Take {
+        self.history.push(Entry::Take {
             colour,
             core,
             count,
@@ -264,7 +266,7 @@ impl<S: Fits<P>, P> Shard<S, P> {
         let core = turn.core();
         let count = turn.count();
         let place = self.setup.place_of(colour);
-        self.history.push_reserved(Entry::Fin {
+        self.history.push(Entry::Fin {
             colour,
             core,
             count,
@@ -288,10 +290,11 @@ impl<S: Fits<P>, P> Shard<S, P> {
         ensures kept { IsConsistent S.Trail S.fits_under self.new }
         ensures frame { KeepsFrame self.old self.new }
     {
-        if entries > usize::MAX - self.running {
+        let entries = entries as u64;
+        if entries > u64::MAX - self.running {
             return Err(Memory);
         }
-        make_room(&mut self.history, self.running + entries)
+        self.history.reserve(self.running + entries)
     }
 
     /// The state of a colour, where it does not run.
@@ -343,13 +346,12 @@ impl<S: Fits<P>, P> Shard<S, P> {
         if let Some(refusal) = slot.no_steal(to, self.setup.steal_cost()) {
             return Err(refusal);
         }
-        let Ok(()) = make_room(&mut self.history, self.running + 1) else {
+        let Ok(()) = self.history.reserve(self.running + 1) else {
             return Err(NoSteal::Memory);
         };
         let stolen = slot.steal(to);
         let from = stolen.from;
-        self.history
-            .push_reserved(Entry::Steal { colour, from, to });
+        self.history.push(Entry::Steal { colour, from, to });
         Ok(stolen)
     }
 

@@ -14,14 +14,14 @@ use Rattle.mely_weave.specs.Runs.{StepsWell, RunsTo}
 use Rattle.mely_weave.specs.WeaveRun.{StepCall}
 use Rattle.mely_weave.specs.Drains.{Drains}
 use Rattle.mely_tally.specs.Tallies.{Carried}
-use Rattle.mely_tally.specs.Tells.{IgnoresSpare, OnlyMoves, RunsOne, HandlersKeep, total_of}
+use Rattle.mely_tally.specs.Tells.{OnlyMoves, RunsOne, HandlersKeep, total_of}
 use Rattle.mely_tally.proofs.CarryingLemmas.{carry_run, carry_drain}
 use Rattle.mely_tally.proofs.SumsLemmas.{sum_around, sum_one}
 use Rattle.mely_tally.proofs.TallyLemmas.{step_tells}
 
-module _ {R S P F : Type 0} (t : TrailWords S F) (fits : F → Colour → Event → Option P → Type 0) (y : AppWords R P S F) (app : R) (had : S → ℕ) (brought : Carried P → ℕ) (blind : IgnoresSpare t had) (keep : HandlersKeep t fits y app had brought) where
-  moved : (a b : WeaveState S P) → OnlyMoves t a b → total_of had brought b ≡ total_of had brought a
-  moved a b moves = let s = moves.states had blind in let w = moves.ways brought in omega (arith, s, w)
+module _ {R S P F : Type 0} (t : TrailWords S F) (fits : F → Colour → Event → Option P → Type 0) (y : AppWords R P S F) (app : R) (had : S → ℕ) (brought : Carried P → ℕ) (keep : HandlersKeep t fits y app had brought) where
+  moved : (a b : WeaveState S P) → OnlyMoves a b → total_of had brought b ≡ total_of had brought a
+  moved a b moves = let s = moves.states had in let w = moves.ways brought in omega (arith, s, w)
 
   ran : (a b : WeaveState S P) → RunsOne t fits y app a b → total_of had brought b ≡ total_of had brought a
   ran a b one =

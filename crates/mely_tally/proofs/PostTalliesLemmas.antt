@@ -39,7 +39,7 @@ module _ {S P F : Type 0} (t : TrailWords S F) where
     gains_only = record {
       states = λ f.
           let set = sum_set (λ (has : ShardState S P). homes_in has) f a.shards (shard_of a.setup c) at.old at.new at.was in
-          let stays = register_homes t f c event load (shape_of a.setup).cores answer at.old at.new at.does in
+          let stays = register_homes f c event load (shape_of a.setup).cores answer at.old at.new at.does in
           let h = ap (λ (l : List (ShardState S P)). sum_by f (flat_map homes_in l)) shards in
           let w = ap (λ (l : List (WorkerState S P)). sum_by f (flat_map turned_by l)) workers in
           omega (arith, set, stays, h, w, sum_by-append f (flat_map homes_in b.shards) (flat_map turned_by b.workers), sum_by-append f (flat_map homes_in a.shards) (flat_map turned_by a.workers));
@@ -55,12 +55,12 @@ module _ {S P F : Type 0} (t : TrailWords S F) where
   post_tells a b c event load (Ok reply) posts =
       let registers = posts.posts.1 in
       gains_only a b c event load (Ok reply) posts.posts.0 registers ((event, load) ∷ [])
-      (λ g. let more = registered_waits t g c event load (shape_of a.setup).cores reply registers.old registers.new registers.does in omega (arith, more))
+      (λ g. let more = registered_waits g c event load (shape_of a.setup).cores reply registers.old registers.new registers.does in omega (arith, more))
       (ap (λ (l : WeaveState S P). l.shards) posts.leaves ∙ delivered_shards posts.posts.0 posts.side c reply posts.posts.2.0 posts.posts.2.1)
       (ap (λ (l : WeaveState S P). l.workers) posts.leaves)
   post_tells a b c event load (Err back) posts =
       let registers = posts.posts in
       gains_only a b c event load (Err back) posts.side registers []
-      (λ g. let same = refused_waits t g c event load (shape_of a.setup).cores back registers.old registers.new registers.does in omega (arith, same))
+      (λ g. let same = refused_waits g c event load (shape_of a.setup).cores back registers.old registers.new registers.does in omega (arith, same))
       (ap (λ (l : WeaveState S P). l.shards) posts.leaves)
       (ap (λ (l : WeaveState S P). l.workers) posts.leaves)

@@ -41,7 +41,7 @@ use Rattle.mely_weave.specs.Steps.{StepsAt}
 use Rattle.mely_weave.proofs.Runs.SidedStepLemmas.{step_on_side}
 use Rattle.mely_weave.proofs.Entries.SideLemmas.{shard_owns}
 use Rattle.mely_tally.specs.Tallies.{Carried, homes_in, waiting_in, carried_by, turned_in, on_hand, turned_by, hold_of}
-use Rattle.mely_tally.specs.Tells.{IgnoresSpare, OnlyMoves, RunsOne, StepTells}
+use Rattle.mely_tally.specs.Tells.{OnlyMoves, RunsOne, StepTells}
 use Rattle.mely_tally.proofs.SumsLemmas.{around, one_behind, sum_around, sum_one, sum_set}
 use Rattle.mely_tally.proofs.FlowsLemmas.{homes, waits, register_homes, registered_waits, refused_waits, taken_homes, taken_waits, not_taken_homes, not_taken_waits, finish_homes, finish_waits, steal_homes, steal_waits}
 
@@ -53,23 +53,23 @@ abbrev pub all_waits : {S P : Type 0} → (Carried P → ℕ) → List (ShardSta
 all_waits g shards = sum_by g (flat_map waiting_in shards)
 
 -- of the shards and one worker the sums are as before
-record Flows {S P F : Type 0} (t : TrailWords S F) (a b : List (ShardState S P)) (w v : WorkerState S P) : Type 0 where
-  pub states : (f : S → ℕ) → IgnoresSpare t f → all_homes f b + sum_by f (turned_in v.phase) ≡ all_homes f a + sum_by f (turned_in w.phase)
+record Flows {S P : Type 0} (a b : List (ShardState S P)) (w v : WorkerState S P) : Type 0 where
+  pub states : (f : S → ℕ) → all_homes f b + sum_by f (turned_in v.phase) ≡ all_homes f a + sum_by f (turned_in w.phase)
   pub ways : (g : Carried P → ℕ) → all_waits g b + sum_by g (hold_of v) ≡ all_waits g a + sum_by g (hold_of w)
 
-module _ {S P F : Type 0} (t : TrailWords S F) where
+module _ {S P : Type 0} where
   -- one shard changes, and the worker
   at_shard : (a b : SideState S P) (c : Colour) (Does : ShardState S P → ShardState S P → Type 0) (w v : WorkerState S P) → (at : AtShard a b c Does)
-      → ((f : S → ℕ) → IgnoresSpare t f → homes t f at.new + sum_by f (turned_in v.phase) ≡ homes t f at.old + sum_by f (turned_in w.phase))
-      → ((g : Carried P → ℕ) → waits t g at.new + sum_by g (hold_of v) ≡ waits t g at.old + sum_by g (hold_of w))
-      → Flows t a.shards b.shards w v
+      → ((f : S → ℕ) → homes f at.new + sum_by f (turned_in v.phase) ≡ homes f at.old + sum_by f (turned_in w.phase))
+      → ((g : Carried P → ℕ) → waits g at.new + sum_by g (hold_of v) ≡ waits g at.old + sum_by g (hold_of w))
+      → Flows a.shards b.shards w v
   at_shard a b c Does w v at states ways =
       let becomes : b.shards ≡ slice_set a.shards (shard_of a.setup c) at.new = ap (λ (s : SideState S P). s.shards) at.becomes in
       record {
-        states = λ f same.
+        states = λ f.
             let set = sum_set (λ (has : ShardState S P). homes_in has) f a.shards (shard_of a.setup c) at.old at.new at.was in
             let e : all_homes f b.shards ≡ all_homes f (slice_set a.shards (shard_of a.setup c) at.new) = ap (λ (l : List (ShardState S P)). all_homes f l) becomes in
-            let h = states f same in
+            let h = states f in
             omega (arith, set, e, h);
         ways = λ g.
             let set = sum_set (λ (has : ShardState S P). waiting_in has) g a.shards (shard_of a.setup c) at.old at.new at.was in
@@ -79,9 +79,9 @@ module _ {S P F : Type 0} (t : TrailWords S F) where
       }
 
   -- no shard changes, and the worker holds the same
-  at_worker : (a b : SideState S P) (w v : WorkerState S P) → b.shards ≡ a.shards → turned_in v.phase ≡ turned_in w.phase → hold_of v ≡ hold_of w → Flows t a.shards b.shards w v
+  at_worker : (a b : SideState S P) (w v : WorkerState S P) → b.shards ≡ a.shards → turned_in v.phase ≡ turned_in w.phase → hold_of v ≡ hold_of w → Flows a.shards b.shards w v
   at_worker a b w v same turned held = record {
-    states = λ f respects. ap (λ (l : List (ShardState S P)). all_homes f l + sum_by f (turned_in v.phase)) same ∙ ap (λ (l : List S). all_homes f a.shards + sum_by f l) turned;
+    states = λ f. ap (λ (l : List (ShardState S P)). all_homes f l + sum_by f (turned_in v.phase)) same ∙ ap (λ (l : List S). all_homes f a.shards + sum_by f l) turned;
     ways = λ g. ap (λ (l : List (ShardState S P)). all_waits g l + sum_by g (hold_of v)) same ∙ ap (λ (l : List (Carried P)). all_waits g a.shards + sum_by g l) held;
   }
 
@@ -90,7 +90,7 @@ module _ {R S P F : Type 0} (t : TrailWords S F) (fits : F → Colour → Event 
   a = side_of weave k
 
   abbrev Flow : Type 0
-  Flow = Flows t weave.shards b.shards w v
+  Flow = Flows weave.shards b.shards w v
 
   low : k < (shape_of weave.setup).cores
   low = let in_list = slice_get_within weave.workers k w here in let many = well.workers in omega (arith, in_list, many)
@@ -108,7 +108,7 @@ module _ {R S P F : Type 0} (t : TrailWords S F) (fits : F → Colour → Event 
   -- a line on a chain: the worker holds the same
   chain_flow : (core : ℕ) (Does : CoreQueueState → CoreQueueState → Type 0) (u : WorkerState S P) → v ≡ u → AtChain a b core Does → turned_in u.phase ≡ turned_in w.phase → on_hand u.phase ≡ on_hand w.phase → u.lost ≡ w.lost → Flow
   chain_flow core Does u is at turned hand lost =
-      at_worker t a b w v (ap (λ (s : SideState S P). s.shards) at.becomes) (ap (λ (x : WorkerState S P). turned_in x.phase) is ∙ turned) (ap (λ (x : WorkerState S P). hold_of x) is ∙ same_hold u hand lost)
+      at_worker a b w v (ap (λ (s : SideState S P). s.shards) at.becomes) (ap (λ (x : WorkerState S P). turned_in x.phase) is ∙ turned) (ap (λ (x : WorkerState S P). hold_of x) is ∙ same_hold u hand lost)
 
   -- the state of a colour that runs isn't at home
   away_at : (history : List Entry) (c : Colour) (given : S) (state : Option S) → HomeStands t history c given state → IsRunning history c → state ≡ None
@@ -138,14 +138,14 @@ module _ {R S P F : Type 0} (t : TrailWords S F) (fits : F → Colour → Event 
       let held : hold_of v ≡ carried_by w.lost = ap (λ (x : WorkerState S P). hold_of x) is ∙ view.1 in
       let was : turned_in w.phase ≡ turn.state ∷ [] = ap turned_in phase in
       let had : hold_of w ≡ carried_by w.lost = ap (λ (p : Phase S P). on_hand p ++ carried_by w.lost) phase ∙ ap (λ (l : List (Carried P)). (l ++ []) ++ carried_by w.lost) none in
-      at_shard t a b turn.colour (FinishAs turn answer) w v at
-      (λ f respects.
-      let h = finish_homes t f turn answer at.old at.new at.does away in
+      at_shard a b turn.colour (FinishAs turn answer) w v at
+      (λ f.
+      let h = finish_homes f turn answer at.old at.new at.does away in
       let o : sum_by f (turned_in v.phase) ≡ 0 = ap (sum_by f) out in
       let i = ap (sum_by f) was ∙ sum_one f turn.state in
       omega (arith, h, o, i))
       (λ g.
-      let h = finish_waits t g turn answer at.old at.new at.does in
+      let h = finish_waits g turn answer at.old at.new at.does in
       let o : sum_by g (hold_of v) ≡ sum_by g (hold_of w) = ap (sum_by g) (held ∙ sym had) in
       omega (arith, h, o))
 
@@ -153,13 +153,13 @@ module _ {R S P F : Type 0} (t : TrailWords S F) (fits : F → Colour → Event 
   register_flow : (turn : TurnState S P) (put : Colour × Event × Option P) (rest : List (Colour × Event × Option P)) (answer : Result Registered (Unregistered P)) → w.phase ≡ Turning turn Nothing (put ∷ rest) → v ≡ after_register w turn rest put answer
       → AtShard a b put.0 (RegisterAs put.0 put.1 put.2 k answer) → Flow
   register_flow turn put rest (Ok reply) phase is at =
-      at_shard t a b put.0 (RegisterAs put.0 put.1 put.2 k (Ok reply)) w v at
-      (λ f respects.
-      let h = register_homes t f put.0 put.1 put.2 k (Ok reply) at.old at.new at.does in
+      at_shard a b put.0 (RegisterAs put.0 put.1 put.2 k (Ok reply)) w v at
+      (λ f.
+      let h = register_homes f put.0 put.1 put.2 k (Ok reply) at.old at.new at.does in
       let o : sum_by f (turned_in v.phase) ≡ sum_by f (turned_in w.phase) = ap (λ (x : WorkerState S P). sum_by f (turned_in x.phase)) is ∙ sym (ap (λ (p : Phase S P). sum_by f (turned_in p)) phase) in
       omega (arith, h, o))
       (λ g.
-      let h = registered_waits t g put.0 put.1 put.2 k reply at.old at.new at.does in
+      let h = registered_waits g put.0 put.1 put.2 k reply at.old at.new at.does in
       let lost : List (Carried P) = carried_by w.lost in
       let e : sum_by g (hold_of v) ≡ sum_by g ((turn.events ++ carried_by rest) ++ lost) = ap (λ (x : WorkerState S P). sum_by g (hold_of x)) is in
       let s : sum_by g (hold_of w) ≡ sum_by g ((turn.events ++ carried_by (put ∷ rest)) ++ lost) = ap (λ (p : Phase S P). sum_by g (on_hand p ++ lost)) phase in
@@ -170,13 +170,13 @@ module _ {R S P F : Type 0} (t : TrailWords S F) (fits : F → Colour → Event 
       let q3 = sum_by-cons g (put.1, put.2) (carried_by rest) in
       omega (arith, h, e, s, p1, p2, q1, q2, q3))
   register_flow turn put rest (Err back) phase is at =
-      at_shard t a b put.0 (RegisterAs put.0 put.1 put.2 k (Err back)) w v at
-      (λ f respects.
-      let h = register_homes t f put.0 put.1 put.2 k (Err back) at.old at.new at.does in
+      at_shard a b put.0 (RegisterAs put.0 put.1 put.2 k (Err back)) w v at
+      (λ f.
+      let h = register_homes f put.0 put.1 put.2 k (Err back) at.old at.new at.does in
       let o : sum_by f (turned_in v.phase) ≡ sum_by f (turned_in w.phase) = ap (λ (x : WorkerState S P). sum_by f (turned_in x.phase)) is ∙ sym (ap (λ (p : Phase S P). sum_by f (turned_in p)) phase) in
       omega (arith, h, o))
       (λ g.
-      let h = refused_waits t g put.0 put.1 put.2 k back at.old at.new at.does in
+      let h = refused_waits g put.0 put.1 put.2 k back at.old at.new at.does in
       let lost : List (Carried P) = carried_by w.lost in
       let more : List (Carried P) = carried_by (w.lost ++ put ∷ []) in
       let e : sum_by g (hold_of v) ≡ sum_by g ((turn.events ++ carried_by rest) ++ more) = ap (λ (x : WorkerState S P). sum_by g (hold_of x)) is in
@@ -197,16 +197,16 @@ module _ {R S P F : Type 0} (t : TrailWords S F) (fits : F → Colour → Event 
   take_view mark (no_take.Empty registered) = (refl, refl)
   take_view mark no_take.Memory = (refl, refl)
 
-  take_flow : (mark : Mark) (answer : Result (TurnState S P) NoTake) → w.phase ≡ Popped mark → v ≡ after_take w mark answer → AtShard a b mark.colour (TakeAs t mark.colour k answer) → Flow
+  take_flow : (mark : Mark) (answer : Result (TurnState S P) NoTake) → w.phase ≡ Popped mark → v ≡ after_take w mark answer → AtShard a b mark.colour (TakeAs mark.colour k answer) → Flow
   take_flow mark (Ok turn) phase is at =
-      at_shard t a b mark.colour (TakeAs t mark.colour k (Ok turn)) w v at
-      (λ f respects.
-      let h = taken_homes t f respects mark.colour k turn at.old at.new at.does in
+      at_shard a b mark.colour (TakeAs mark.colour k (Ok turn)) w v at
+      (λ f.
+      let h = taken_homes f mark.colour k turn at.old at.new at.does in
       let o = ap (λ (x : WorkerState S P). sum_by f (turned_in x.phase)) is ∙ sum_one f turn.state in
       let i : sum_by f (turned_in w.phase) ≡ 0 = ap (λ (p : Phase S P). sum_by f (turned_in p)) phase in
       omega (arith, h, o, i))
       (λ g.
-      let h = taken_waits t g mark.colour k turn at.old at.new at.does in
+      let h = taken_waits g mark.colour k turn at.old at.new at.does in
       let lost : List (Carried P) = carried_by w.lost in
       let e : sum_by g (hold_of v) ≡ sum_by g ((turn.events ++ []) ++ lost) = ap (λ (x : WorkerState S P). sum_by g (hold_of x)) is in
       let s : sum_by g (hold_of w) ≡ sum_by g ([] ++ lost) = ap (λ (p : Phase S P). sum_by g (on_hand p ++ lost)) phase in
@@ -217,13 +217,13 @@ module _ {R S P F : Type 0} (t : TrailWords S F) (fits : F → Colour → Event 
       let view = take_view mark why in
       let held : hold_of v ≡ hold_of w = ap (λ (x : WorkerState S P). hold_of x) is ∙ view.1 ∙ sym (ap (λ (p : Phase S P). on_hand p ++ carried_by w.lost) phase) in
       let out : turned_in v.phase ≡ turned_in w.phase = ap (λ (x : WorkerState S P). turned_in x.phase) is ∙ view.0 ∙ sym (ap turned_in phase) in
-      at_shard t a b mark.colour (TakeAs t mark.colour k (Err why)) w v at
-      (λ f respects.
-      let h = not_taken_homes t f respects mark.colour k why at.old at.new at.does in
+      at_shard a b mark.colour (TakeAs mark.colour k (Err why)) w v at
+      (λ f.
+      let h = not_taken_homes f mark.colour k why at.old at.new at.does in
       let o = ap (sum_by f) out in
       omega (arith, h, o))
       (λ g.
-      let h = not_taken_waits t g mark.colour k why at.old at.new at.does in
+      let h = not_taken_waits g mark.colour k why at.old at.new at.does in
       let o = ap (sum_by g) held in
       omega (arith, h, o))
 
@@ -241,13 +241,13 @@ module _ {R S P F : Type 0} (t : TrailWords S F) (fits : F → Colour → Event 
       let view = steal_view mark victim answer in
       let held : hold_of v ≡ hold_of w = ap (λ (x : WorkerState S P). hold_of x) is ∙ view.1 ∙ sym (ap (λ (p : Phase S P). on_hand p ++ carried_by w.lost) phase) in
       let out : turned_in v.phase ≡ turned_in w.phase = ap (λ (x : WorkerState S P). turned_in x.phase) is ∙ view.0 ∙ sym (ap turned_in phase) in
-      at_shard t a b mark.colour (StealAs mark.colour k answer) w v at
-      (λ f respects.
-      let h = steal_homes t f mark.colour k answer at.old at.new at.does in
+      at_shard a b mark.colour (StealAs mark.colour k answer) w v at
+      (λ f.
+      let h = steal_homes f mark.colour k answer at.old at.new at.does in
       let o = ap (sum_by f) out in
       omega (arith, h, o))
       (λ g.
-      let h = steal_waits t g mark.colour k answer at.old at.new at.does in
+      let h = steal_waits g mark.colour k answer at.old at.new at.does in
       let o = ap (sum_by g) held in
       omega (arith, h, o))
 
@@ -291,7 +291,7 @@ module _ {R S P F : Type 0} (t : TrailWords S F) (fits : F → Colour → Event 
   hunt_moves place None phase line = absurd line
 
   free_moves : (halted : Bool) (place : ℕ) → w.phase ≡ Free place → StepsFree (side_words t (λ _. Unit {0})) y app a w made b v halted place → Line_or
-  free_moves true place phase line = inl (at_worker t a b w v (ap (λ (s : SideState S P). s.shards) line.0) (ap (λ (x : WorkerState S P). turned_in x.phase) line.1) (ap (λ (x : WorkerState S P). hold_of x) line.1))
+  free_moves true place phase line = inl (at_worker a b w v (ap (λ (s : SideState S P). s.shards) line.0) (ap (λ (x : WorkerState S P). turned_in x.phase) line.1) (ap (λ (x : WorkerState S P). hold_of x) line.1))
   free_moves false zero phase line =
       let view = pop_view line.answer in
       inl (chain_flow k _ (after_pop w line.answer) line.becomes line.called (view.0 ∙ sym (ap turned_in phase)) (view.1 ∙ sym (ap on_hand phase)) view.2)
@@ -312,10 +312,10 @@ module _ {R S P F : Type 0} (t : TrailWords S F) (fits : F → Colour → Event 
   abbrev after : WeaveState S P
   after = record { setup = b.setup; given = b.given; shards = b.shards; chains = b.chains; workers = slice_set weave.workers k v }
 
-  only_moves : Flow → OnlyMoves t weave after
+  only_moves : Flow → OnlyMoves weave after
   only_moves flow = record {
-    states = λ f respects.
-        let h = flow.states f respects in
+    states = λ f.
+        let h = flow.states f in
         let set = sum_set (λ (x : WorkerState S P). turned_by x) f weave.workers k w v here in
         let p = sum_by-append f (flat_map homes_in b.shards) (flat_map turned_by (slice_set weave.workers k v)) in
         let q = sum_by-append f (flat_map homes_in weave.shards) (flat_map turned_by weave.workers) in
@@ -380,6 +380,6 @@ pub step_tells : {R S P F : Type 0} (t : TrailWords S F) (fits : F → Colour �
 step_tells {S = S} {P = P} t fits y app before later core made well at =
     let line = step_moves t fits y app before well core at.worker at.was at.side at.becomes made (step_on_side t y app (side_of before core) at.side at.worker at.becomes made at.steps) in
     elim line [
-      | inl flow ↦ inl (subst (λ (l : WeaveState S P). OnlyMoves t before l) (sym at.leaves) (only_moves t fits y app before well core at.worker at.was at.side at.becomes made flow))
+      | inl flow ↦ inl (subst (λ (l : WeaveState S P). OnlyMoves before l) (sym at.leaves) (only_moves t fits y app before well core at.worker at.was at.side at.becomes made flow))
       | inr ran ↦ inr (subst (λ (l : WeaveState S P). RunsOne t fits y app before l) (sym at.leaves) (runs_one t fits y app before well core at.worker at.was at.side at.becomes made ran))
     ]

@@ -110,9 +110,9 @@ module _ {R S P F : Type 0} (t : TrailWords S F) (fits : F → Colour → Event 
     abbrev told : List Entry → ℕ
     told history = sum_by number (registered_of history c)
 
-    takes : (d : Colour) (answer : Result (TurnState S P) NoTake) → AtShard a b d (TakeAs t d core answer) → registered_at b ≡ registered_at a
-    takes d (Ok turn) at = let more = grown a b c d (TakeAs t d core (Ok turn)) at told (Take d core turn.count) 0 at.does.after.history (put_more c number at.old.history (Take d core turn.count)) (λ _. refl) in omega (arith, more)
-    takes d (Err why) at = kept a b c d (TakeAs t d core (Err why)) at told at.does.0.history
+    takes : (d : Colour) (answer : Result (TurnState S P) NoTake) → AtShard a b d (TakeAs d core answer) → registered_at b ≡ registered_at a
+    takes d (Ok turn) at = let more = grown a b c d (TakeAs d core (Ok turn)) at told (Take d core turn.count) 0 at.does.after.history (put_more c number at.old.history (Take d core turn.count)) (λ _. refl) in omega (arith, more)
+    takes d (Err why) at = kept a b c d (TakeAs d core (Err why)) at told at.does.0.history
 
     steals : (d : Colour) (answer : Result Stolen NoSteal) → AtShard a b d (StealAs d core answer) → registered_at b ≡ registered_at a
     steals d (Ok stolen) at = let more = grown a b c d (StealAs d core (Ok stolen)) at told (Steal d stolen.from core) 0 at.does.history (put_more c number at.old.history (Steal d stolen.from core)) (λ _. refl) in omega (arith, more)
@@ -183,7 +183,7 @@ module _ {R S P F : Type 0} (t : TrailWords S F) (fits : F → Colour → Event 
     registers_taken d event load (Ok reply) at = untaken d (RegisterAs d event load core (Ok reply)) at (Reg d event core) at.does.0.after.history refl
     registers_taken d event load (Err back) at = kept a b c d (RegisterAs d event load core (Err back)) at told_taken at.does.history
 
-    module _ (mark : Mark) (turn : TurnState S P) (at : AtShard a b mark.colour (TakeAs t mark.colour core (Ok turn))) (is_then : v ≡ after_take w mark (Ok turn)) where
+    module _ (mark : Mark) (turn : TurnState S P) (at : AtShard a b mark.colour (TakeAs mark.colour core (Ok turn))) (is_then : v ≡ after_take w mark (Ok turn)) where
       abbrev old : ShardState S P
       old = at.old
 
@@ -206,7 +206,7 @@ module _ {R S P F : Type 0} (t : TrailWords S F) (fits : F → Colour → Event 
       trail_is =
           let phase = subst (λ (u : WorkerState S P). PhaseMayStep t fits b.setup b.core (t.frame_of b.given) (IsOut b) u.phase) is_then may_after.phase in
           let out : t.trail_of turn.state ++ events_of turn.events ≡ taken_of (history_at b turn.colour) turn.colour = phase.of_turn.owed.trailed in
-          let now : history_at b z ≡ old.history ++ Take z core turn.count ∷ [] = history_becomes a b z (TakeAs t z core (Ok turn)) at ∙ at.does.after.history in
+          let now : history_at b z ≡ old.history ++ Take z core turn.count ∷ [] = history_becomes a b z (TakeAs z core (Ok turn)) at ∙ at.does.after.history in
           let all : taken_of (history_at b turn.colour) turn.colour ≡ taken_of old.history z ++ take turn.count (queued_of old.history z) =
           ap (λ (k : Colour). taken_of (history_at b k) k) of_colour ∙ ap (λ h. taken_of h z) now ∙ taken_after old.history z core turn.count in
           cancel_behind (t.trail_of turn.state) (taken_of old.history z) (take turn.count (queued_of old.history z)) (ap (λ l. t.trail_of turn.state ++ l) (sym events_are) ∙ out ∙ all)
@@ -224,14 +224,14 @@ module _ {R S P F : Type 0} (t : TrailWords S F) (fits : F → Colour → Event 
           let share = counted (z.0 == c.0) refl in
           let of_turn : share_take c number old.history (Take z core turn.count) ≡ count_left t c number (Turning turn Nothing []) = share ∙ ap (λ (k : Colour). if k.0 == c.0 then sum_along number (t.trail_of turn.state) (events_of turn.events) else 0) (sym of_colour) in
           let more = take_more before.setup c number old.history (Take z core turn.count) (old_legal z old at.was) in
-          grown a b c z (TakeAs t z core (Ok turn)) at told_taken (Take z core turn.count) (count_left t c number (Turning turn Nothing [])) at.does.after.history
+          grown a b c z (TakeAs z core (Ok turn)) at told_taken (Take z core turn.count) (count_left t c number (Turning turn Nothing [])) at.does.after.history
           (more ∙ ap (λ n. told_taken old.history + n) of_turn)
           (λ apart. sym of_turn ∙ apart_none c z _ apart)
 
     turns : CountsTakes (side_words t (λ _. Unit {0})) y app a b w made v t c number taken_at
     turns = record {
       takes = takes_taken;
-      untaken = λ d why at. kept a b c d (TakeAs t d core (Err why)) at told_taken at.does.0.history;
+      untaken = λ d why at. kept a b c d (TakeAs d core (Err why)) at told_taken at.does.0.history;
       registers = registers_taken;
       finishes = λ turn answer at. untaken turn.colour (FinishAs turn answer) at (Fin turn.colour turn.core turn.count) at.does.0.after.history refl;
       steals = steals_taken;

@@ -20,15 +20,9 @@ use Rattle.mely_weave.specs.Side.{shard_of}
 use Rattle.mely_weave.specs.Weave.{WeaveState}
 use Rattle.mely_tally.specs.Tallies.{Carried, carried_by, states_of, under_way}
 
--- a number that is the same of states that are the same but for the spare
-abbrev pub IgnoresSpare : {S F : Type 0} → TrailWords S F → (S → ℕ) → Type 0
-IgnoresSpare {S} t f = (a b : S) → t.alike a b → f a ≡ f b
-
--- states and events only change their places, but for the spare of a state
-pub record OnlyMoves {S P F : Type 0} (t : TrailWords S F)
-    (before after : WeaveState S P) : Type 0 where
-  pub states : (f : S → ℕ) → IgnoresSpare t f → sum_by f (states_of after)
-      ≡ sum_by f (states_of before)
+-- states and events only change their places
+pub record OnlyMoves {S P : Type 0} (before after : WeaveState S P) : Type 0 where
+  pub states : (f : S → ℕ) → sum_by f (states_of after) ≡ sum_by f (states_of before)
   pub ways : (g : Carried P → ℕ) → sum_by g (under_way after) ≡ sum_by g (under_way before)
 
 module _ {R S P F : Type 0} (t : TrailWords S F) (fits : F → Colour → Event → Option P → Type 0)
@@ -53,7 +47,7 @@ module _ {R S P F : Type 0} (t : TrailWords S F) (fits : F → Colour → Event 
 
   -- a step runs one event, or it only moves states and events
   abbrev pub StepTells : Type 0
-  StepTells = OnlyMoves t before after ⊎ RunsOne
+  StepTells = OnlyMoves before after ⊎ RunsOne
 
 -- no state changes, and these events are under way beside those that were
 pub record GainsOnly {S P : Type 0} (before after : WeaveState S P)

@@ -19,7 +19,7 @@ ghost use Rattle.mely_weave.specs.WeaveRun.{PostCall, StepCall};
 ghost use Rattle.mely_weave.specs.WeaveStands.{WeaveStands};
 ghost use Rattle.mely_tally.specs.Account.{IsAccounted, and_posted};
 ghost use Rattle.mely_tally.specs.Tallies.{Carried, under_way, refused_in};
-ghost use Rattle.mely_tally.specs.Tells.{IgnoresSpare, HandlersKeep, StepTells, PostTells, BeginsAs, IsTakenApart, PartsFit, total_of};
+ghost use Rattle.mely_tally.specs.Tells.{HandlersKeep, StepTells, PostTells, BeginsAs, IsTakenApart, PartsFit, total_of};
 
 use mely_event::{Fits, Trail};
 use mely_worker::App;
@@ -45,8 +45,7 @@ pub fn a_post_brings_its_event<S: Fits<P>, P>()
 
 /// A step runs one event, which was under way and which fitted, on the state of its
 /// colour: that state becomes the one that the handler left, the event is no longer under
-/// way, and what the handler put is. Every other step only moves states and events, but
-/// that it may make room in a state.
+/// way, and what the handler put is. Every other step only moves states and events.
 pub fn a_step_runs_one_event_or_only_moves<S: Fits<P>, P, R: App<State = S, Load = P>>()
     ensures { (app : R) (core : ℕ) (step : Made) (before after : WeaveState S P)
         → StandsWell S.Trail S.fits_under before
@@ -58,19 +57,19 @@ pub fn a_step_runs_one_event_or_only_moves<S: Fits<P>, P, R: App<State = S, Load
 /// state and its event brought, the whole weave keeps its total: over a step, over a schedule that
 /// is run, and over a drain.
 pub fn what_each_handler_keeps_a_run_keeps<S: Fits<P>, P, R: App<State = S, Load = P>>()
-    ensures step { (app : R) (had : S → ℕ) (brought : Carried P → ℕ) → IgnoresSpare S.Trail had
+    ensures step { (app : R) (had : S → ℕ) (brought : Carried P → ℕ)
         → HandlersKeep S.Trail S.fits_under R.App app had brought
         → (core : ℕ) (step : Made) (before after : WeaveState S P)
         → StandsWell S.Trail S.fits_under before
         → StepCall S.Trail S.fits_under R.App app core step before after
         → total_of had brought after ≡ total_of had brought before }
-    ensures run { (app : R) (had : S → ℕ) (brought : Carried P → ℕ) → IgnoresSpare S.Trail had
+    ensures run { (app : R) (had : S → ℕ) (brought : Carried P → ℕ)
         → HandlersKeep S.Trail S.fits_under R.App app had brought
         → (cores : List ℕ) (went : Went) (before after : WeaveState S P)
         → StandsWell S.Trail S.fits_under before
         → RunsTo S.Trail S.fits_under R.App app before cores went after
         → total_of had brought after ≡ total_of had brought before }
-    ensures drain { (app : R) (had : S → ℕ) (brought : Carried P → ℕ) → IgnoresSpare S.Trail had
+    ensures drain { (app : R) (had : S → ℕ) (brought : Carried P → ℕ)
         → HandlersKeep S.Trail S.fits_under R.App app had brought
         → (drained : Drained) (before after : WeaveState S P)
         → StandsWell S.Trail S.fits_under before

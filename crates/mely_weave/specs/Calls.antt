@@ -15,7 +15,7 @@ use Rattle.mely_history.specs.Setup.{colours_of}
 use Rattle.mely_history.specs.History.{registered_of, begun_of}
 use Rattle.mely_history.specs.Legal.{IsRunningOn}
 use Rattle.mely_queue.specs.Turn.{TurnState}
-use Rattle.mely_shard.specs.Shard.{ShardState, Registers, RegisteredAs, KeepsAllButSpare, Takes, KeepsStates, NoTakeAs, Finishes, AfterAs, Steals, NoStealAs}
+use Rattle.mely_shard.specs.Shard.{ShardState, Registers, RegisteredAs, KeepsAllButSpare, Takes, NoTakeAs, Finishes, AfterAs, Steals, NoStealAs}
 use Rattle.mely_steal.specs.Marks.{mark_of, without, after_replacement}
 use Rattle.mely_steal.specs.StealQueue.{after_entry, after_mark_change, pick_of}
 use Rattle.mely_core.specs.CoreQueue.{CoreQueueState, told_of}
@@ -48,10 +48,10 @@ RegisterAs c event load by (Ok reply) old new = Registers old new c event load b
 RegisterAs c event load by (Err back) old new = KeepsAllButSpare old new
 
 -- a take on a shard does what its answer says
-abbrev pub TakeAs : {S P F : Type 0} → TrailWords S F → Colour → ℕ → Result (TurnState S P) NoTake
+abbrev pub TakeAs : {S P : Type 0} → Colour → ℕ → Result (TurnState S P) NoTake
     → ShardState S P → ShardState S P → Type 0
-TakeAs t c core (Ok turn) old new = Takes t old new c core turn
-TakeAs t c core (Err why) old new = KeepsStates t old new
+TakeAs c core (Ok turn) old new = Takes old new c core turn
+TakeAs c core (Err why) old new = KeepsAllButSpare old new
     × NoTakeAs old.setup old.history c core why
 
 -- a finish on a shard does what its answer says, of a colour that ran on the core of the turn
@@ -119,7 +119,7 @@ side_words t Stands = record {
   owes = λ a c core count trail. IsOut a c core count trail;
   keeps = λ a b. Stands a → Stands b;
   registers = λ a c event load answer b. AtShard a b c (RegisterAs c event load a.core answer);
-  takes = λ a c answer b. AtShard a b c (TakeAs t c a.core answer);
+  takes = λ a c answer b. AtShard a b c (TakeAs c a.core answer);
   finishes = λ a turn answer b. AtShard a b turn.colour (FinishAs turn answer);
   steals = λ a c answer b. AtShard a b c (StealAs c a.core answer);
   pushes = λ a core mark answer b. AtChain a b core (PushAs mark answer);

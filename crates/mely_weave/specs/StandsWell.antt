@@ -71,9 +71,9 @@ module _ {S P F : Type 0} (t : TrailWords S F) (fits : F → Colour → Event �
   -- a worker is that of its core, with the batch and the victims of the setup
   pub record WorkerStands (core : ℕ) (w : WorkerState S P) : Type 0 where
     -- Its turn is out on its core: it has the count of the colour's last take, and what was run of
-    -- it with what is left is what was begun. The state is of the colour, has the frame and has
-    -- room for what is left. Each registration that is left or lost is of a colour and a handler of
-    -- the setup, and event and load fit.
+    -- it with what is left is what was begun. The state is of the colour and has the frame. Each
+    -- registration that is left or lost is of a colour and a handler of the setup, and event and load
+    -- fit.
     pub may : MayStep t fits weave.setup core (t.frame_of weave.given) (IsOut (side_of weave core))
         w
     pub victims : w.victims

@@ -120,11 +120,10 @@ module _ {S P F : Type 0} (t : TrailWords S F) (fits : F → Colour → Event �
     pub colour : t.colour_of state ≡ c
     pub frame : t.frame_of state ≡ t.frame_of weave.given
 
-  -- a state is in a turn: it is of the colour, has the frame, and has room for what is left
+  -- a state is in a turn: it is of the colour and has the frame
   pub record IsTurnState (turn : TurnState S P) : Type 0 where
     pub colour : t.colour_of turn.state ≡ turn.colour
     pub frame : t.frame_of turn.state ≡ t.frame_of weave.given
-    pub room : length turn.events ≤ t.spare_of turn.state
 
   -- 7: the state of a colour is at home where the colour doesn't run, and in the turn where it does
   pub record StatesStand : Type 0 where

@@ -3,20 +3,22 @@ ghost use Rattle.std.specs.Prelude.{◌≡◌, ◌≤◌, ◌<◌, ◌+◌, ◌*
 ghost use Rattle.mely_weave.specs.Dealing.{AreDealt, AtEach};
 ghost use Rattle.mely_weave.specs.Spreading.{AreFull, IsAtRest};
 ghost use Rattle.mely_worker.specs.Phase.{is_free};
+ghost use Rattle.mely_history.specs.Setup.{is_listed};
+ghost use Rattle.std.specs.List.{AllByRecursion};
 
 use crate::room::WeaveRoom;
 use crate::side::Shared;
 use crate::weave::Weave;
 use mely_event::{Colour, Event, Fits, Trail};
-use mely_history::Entry;
+use mely_history::History;
 use mely_shard::Shard;
 use mely_worker::Worker;
 
 /// What a weave is taken apart into.
 #[derive(Drop)]
 pub struct WeaveParts<S, P> {
-    /// The history of each shard.
-    pub histories: Vec<Vec<Entry>>,
+    /// The history of each shard, whose entries can be read where the setup lists them.
+    pub histories: Vec<History>,
 
     /// The state of each colour.
     pub states: Vec<S>,
@@ -29,6 +31,7 @@ pub struct WeaveParts<S, P> {
 }
 
 impl<S: Fits<P> + Drop, P: Drop> Weave<S, P> {
+    ghost use Rattle.mely_history.specs.Setup.{is_listed};
     ghost use Rattle.mely_weave.specs.Lanes.{AreByColour};
 
     /// The histories by shard, the states and the queued events by colour, and by core the
@@ -38,6 +41,8 @@ impl<S: Fits<P> + Drop, P: Drop> Weave<S, P> {
         requires { AtEach (λ core w. IsTrue (is_free w.phase)) self.workers }
         ensures histories { map (λ history. history.items) result.histories.items
             ≡ map (λ has. has.history) self.shards }
+        ensures listed { AllByRecursion (λ history. history.listed ≡ is_listed self.setup)
+            result.histories.items }
         ensures states { AreByColour (λ lane. lane.state) self.setup self.shards
             (map (λ state. Some state) result.states.items) }
         ensures queued { AreByColour (λ lane. lane.events) self.setup self.shards
@@ -85,7 +90,7 @@ impl<S: Fits<P> + Drop, P: Drop> Weave<S, P> {
 /// Takes the shards apart, of which no colour runs, into lists that have room for what they give.
 fn take_apart<S: Fits<P> + Drop, P: Drop>(
     shards: Vec<Shard<S, P>>,
-    histories: &mut Vec<Vec<Entry>>,
+    histories: &mut Vec<History>,
     states: &mut Vec<Vec<S>>,
     queued: &mut Vec<Vec<Vec<(Event, Option<P>)>>>,
 )
@@ -98,6 +103,8 @@ fn take_apart<S: Fits<P> + Drop, P: Drop>(
         × (length shards.items ≤ vec_capacity queued.old) }
     ensures histories { map (λ history. history.items) histories.new.items
         ≡ map (λ has. has.history) shards.items }
+    ensures listed { map (λ history. history.listed) histories.new.items
+        ≡ map (λ has. is_listed has.setup) shards.items }
     ensures states { map (λ pile. map (λ state. Some state) pile.items) states.new.items
         ≡ map (λ has. map (λ lane. lane.state) has.lanes) shards.items }
     ensures queued { map (λ pile. map (λ queue. queue.items) pile.items) queued.new.items

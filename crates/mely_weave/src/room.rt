@@ -2,7 +2,7 @@
 ghost use Rattle.std.specs.Prelude.{◌≡◌, ◌*◌, IfOk, [], vec_len, vec_capacity};
 
 use mely_event::{Colour, Event, Memory};
-use mely_history::{Entry, Setup};
+use mely_history::{History, Setup};
 use std::alloc::Global;
 use std::marker::Model;
 
@@ -14,7 +14,7 @@ pub struct WeaveRoom<S, P> {
 
     /// Empty lists with room: a history for each shard, a state and a queue for each colour, and
     /// the registrations that all workers may have lost.
-    pub(crate) histories: Vec<Vec<Entry>>,
+    pub(crate) histories: Vec<History>,
     pub(crate) states: Vec<S>,
     pub(crate) queued: Vec<Vec<(Event, Option<P>)>>,
     pub(crate) lost: Vec<(Colour, Event, Option<P>)>,

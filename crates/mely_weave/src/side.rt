@@ -178,7 +178,7 @@ impl<'a, S: Fits<P> + Drop, P: Drop> Access<S, P> for Side<'a, S, P> {
         AtShard (side_state a) (side_state b) c (RegisterAs c event load a.core answer) };
 
     ghost takes = { λ a c answer b.
-        AtShard (side_state a) (side_state b) c (TakeAs S.Trail c a.core answer) };
+        AtShard (side_state a) (side_state b) c (TakeAs c a.core answer) };
 
     ghost finishes = { λ a turn answer b.
         AtShard (side_state a) (side_state b) turn.colour (FinishAs turn answer) };

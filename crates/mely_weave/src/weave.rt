@@ -4,7 +4,7 @@ ghost use Rattle.std.specs.Prelude.{◌≡◌, ◌<◌, ◌∷◌, ◌++◌, [],
 use crate::room::WeaveRoom;
 use crate::side::Shared;
 use mely_event::{Colour, Event, Fits, Mark, Trail, Unregistered};
-use mely_history::{Entry, Registered};
+use mely_history::{History, Registered};
 use mely_worker::{App, Made, Worker};
 use std::marker::Model;
 
@@ -59,7 +59,7 @@ impl<S: Fits<P>, P> Model for Weave<S, P> {
 }
 
 impl<S: Fits<P>, P> Weave<S, P> {
-    ghost use Rattle.mely_history.specs.Setup.{shape_of, colours_of};
+    ghost use Rattle.mely_history.specs.Setup.{shape_of, colours_of, is_listed};
     ghost use Rattle.mely_weave.specs.Lanes.{lane_for};
     ghost use Rattle.mely_weave.specs.StandsWell.{StandsWell};
     ghost use Rattle.mely_weave.specs.WeaveStands.{WeaveStands};
@@ -75,11 +75,12 @@ impl<S: Fits<P>, P> Weave<S, P> {
         let _shared = &self.shared;
     }
 
-    /// The entries of a shard so far, the oldest first.
-    pub fn history(&self, shard: u16) -> &[Entry]
+    /// The history of a shard so far, whose entries can be read where the setup lists them.
+    pub fn history(&self, shard: u16) -> &History
         requires { shard < (shape_of self.now.setup).shards }
-        ensures { (has : _) → slice_get self.now.shards shard ≡ Some has
-            → result.now ≡ has.history }
+        ensures value { (has : _) → slice_get self.now.shards shard ≡ Some has
+            → result.now.items ≡ has.history }
+        ensures listed { result.now.listed ≡ is_listed self.now.setup }
     {
         self.shared.shards[shard as usize].history()
     }

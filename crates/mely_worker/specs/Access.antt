@@ -48,8 +48,8 @@ abbrev pub StillOwes : {A : Type 0} → (A → Colour → ℕ → ℕ → List E
 StillOwes owes before after = (c : Colour) (core count : ℕ) (trail : List Event)
     → owes before c core count trail → owes after c core count trail
 
--- the turn that a take of the colour gives: its state has room for its events, each of which fits,
--- and once they were run its finish is owed
+-- the turn that a take of the colour gives: each of its events fits, and once they were run its
+-- finish is owed
 pub record IsTaken {A S F P : Type 0} (t : TrailWords S F)
     (fits : F → Colour → Event → Option P → Type 0) (setup_of : A → Setup) (core_of : A → ℕ)
     (frame_of : A → F) (owes : A → Colour → ℕ → ℕ → List Event → Type 0) (before after : A)
@@ -61,7 +61,6 @@ pub record IsTaken {A S F P : Type 0} (t : TrailWords S F)
   pub of_colour : t.colour_of turn.state ≡ c
   pub of_frame : t.frame_of turn.state ≡ frame_of before
   pub events_fit : EachFits (fits (frame_of before) c) turn.events
-  pub room : length turn.events ≤ t.spare_of turn.state
   pub owed : owes after c turn.core turn.count (t.trail_of turn.state ++ events_of turn.events)
 
 -- all events of the turn were run, and its finish is owed

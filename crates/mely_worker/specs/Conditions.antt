@@ -26,7 +26,6 @@ module _ {S P F : Type 0} (t : TrailWords S F) (fits : F → Colour → Event �
     pub of_colour : t.colour_of turn.state ≡ turn.colour
     pub of_frame : t.frame_of turn.state ≡ frame
     pub events_fit : EachFits (fits frame turn.colour) turn.events
-    pub room : length turn.events ≤ t.spare_of turn.state
     pub owed : owes turn.colour turn.core turn.count (t.trail_of turn.state
         ++ events_of turn.events)
 

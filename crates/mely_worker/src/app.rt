@@ -1,5 +1,5 @@
 //! The handlers of a program.
-ghost use Rattle.std.specs.Prelude.{◌≡◌, ◌≤◌, ◌+◌, ◌∷◌, ◌++◌, [], ℕ, List, Option, length};
+ghost use Rattle.std.specs.Prelude.{◌≡◌, ◌≤◌, ◌∷◌, ◌++◌, [], ℕ, List, Option, length};
 ghost use Rattle.std.specs.List.{AllByRecursion};
 ghost use Rattle.mely_event.specs.declared.colour.Colour.{Colour};
 ghost use Rattle.mely_event.specs.declared.event.Event.{Event};
@@ -34,8 +34,7 @@ pub trait App {
         → List (Colour × Event × Option Self.Load) → Type 0 };
 
     /// Runs the handler of an event on the state of its colour, and writes the event into the
-    /// state's trail. What it registers it puts into `outs`, at most two events. It takes no memory
-    /// of its own.
+    /// state's trail. What it registers it puts into `outs`, at most two events.
     fn run(
         &self,
         state: &mut Self::State,
@@ -44,7 +43,6 @@ pub trait App {
         outs: &mut Outs<Self::Load>,
     )
         requires serves { serves self.now (Self.State.frame_of state.old) }
-        requires room { 1 ≤ Self.State.spare_of state.old }
         requires empty { outs.old ≡ [] }
         requires fits { Self.State.fits_under (Self.State.frame_of state.old)
             (Self.State.colour_of state.old) event load }
@@ -53,7 +51,6 @@ pub trait App {
         ensures frame { Self.State.frame_of state.new ≡ Self.State.frame_of state.old }
         ensures trail { Self.State.trail_of state.new
             ≡ Self.State.trail_of state.old ++ event ∷ [] }
-        ensures spare { Self.State.spare_of state.old ≡ Self.State.spare_of state.new + 1 }
         ensures puts { AllByRecursion (FitsIn (colours_of self.now) (handlers_of self.now)
             (Self.State.fits_under (Self.State.frame_of state.old))) outs.new }
         ensures few { length outs.new ≤ 2 };

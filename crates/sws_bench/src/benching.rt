@@ -79,7 +79,7 @@ fn run_bench<R: Threads + Wait + Sync>(
 {
     let site = bench_site(alloc)?;
     let conns = generate(alloc, connections, number)?;
-    match run_script(rt, alloc, &site, shape, &conns, false) {
+    match run_script(rt, alloc, &site, shape, &conns, false, false) {
         Ok(ended) => tally_of(alloc, &ended.served),
         Err(_) => Err(Memory),
     }

@@ -313,5 +313,5 @@ module _ {W L T G H : Type 0} (x : WorldWords W L) (l : LinkWords L) (y : TalkWo
     pub hall : after.hall ≡ before.hall
     pub first : after.first ≡ before.first
     pub trail : after.trail ≡ before.trail ++ event ∷ []
-    pub lines : after.lines ≡ before.lines ++ logged before.role carried
+    pub lines : after.lines.came ≡ before.lines.came ++ logged before.role carried
     pub does : RunsRole before.colour before.role event carried after.role puts total

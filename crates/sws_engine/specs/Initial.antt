@@ -10,6 +10,7 @@ use Rattle.sws_engine.specs.declared.place.Role.TheVariants.{Polling, Accepting,
 use Rattle.sws_engine.specs.Counting.{colours_over}
 use Rattle.sws_engine.specs.declared.task.Task.TheVariants as task
 use Rattle.sws_engine.specs.Tasks.{event_of}
+use Rattle.sws_engine.specs.KeptLines.{no_lines}
 use Rattle.sws_engine.specs.Place.{PlaceState}
 
 module _ {W L T G H : Type 0} (y : TalkWords T L G H) (first : W) where
@@ -48,7 +49,7 @@ pub record IsInitialPlaceOver {W L T G H : Type 0} (y : TalkWords T L G H) (firs
     (total c : ℕ) (s : PlaceState H W T) : Type 0 where
   pub initial : IsInitialPlace y first total c s
   pub untouched : s.trail ≡ []
-  pub unlogged : s.lines ≡ []
+  pub unlogged : s.lines ≡ no_lines
   pub hall_is : s.hall ≡ hall
   pub own_hall : (seat : Seat T) → s.role ≡ Talking seat → y.hall_of seat.talk ≡ hall
 

@@ -88,4 +88,4 @@ module _ {W L T G H : Type 0} (x : WorldWords W L) (l : LinkWords L) (y : TalkWo
   -- the role of a state is sound by the state's own hall, world, colour, trail and lines
   abbrev pub IsConsistent : PlaceState H W T → Type 0
   IsConsistent place =
-      RoleStands place.hall place.first place.colour place.trail place.lines place.role
+      RoleStands place.hall place.first place.colour place.trail place.lines.came place.role

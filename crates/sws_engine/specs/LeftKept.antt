@@ -16,7 +16,7 @@ pub record KeepsStates {W L T G H : Type 0} (y : TalkWords T L G H)
   pub served_len : vec_len after.served ≡ vec_len before.served + length (talkers states)
   pub served_room : vec_capacity after.served ≡ vec_capacity before.served
   pub world : after.world ≡ resting_in before.world states
-  pub log : after.log.items ≡ lines_in before.log.items states
+  pub log : after.log ≡ lines_in before.log states
   pub trails : map (λ trail. trail.items) after.trails.items
       ≡ map (λ trail. trail.items) before.trails.items ++ map (λ place. place.trail) states
   pub trails_len : vec_len after.trails ≡ vec_len before.trails + length states

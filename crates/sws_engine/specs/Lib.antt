@@ -2,6 +2,7 @@ pub mod Tasks
 pub mod Counting
 pub mod Waiting
 pub mod WaitingKept
+pub mod KeptLines
 pub mod Place
 pub mod PlaceFields
 pub mod Loads

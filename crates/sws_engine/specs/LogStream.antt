@@ -27,7 +27,7 @@ module _ {W L T G H : Type 0} (y : TalkWords T L G H) (total : ℕ) where
     sender = record { 0 = i + 2 };
     receiver = record { 0 = total + 2 };
     number = λ e. turn_carried i e.1;
-    received = λ s. turns_of i s.lines;
+    received = λ s. turns_of i s.lines.came;
     sent = λ s. at_seat (λ seat. (y.view_of seat.talk).lines) s.role;
     is_gapless = true;
     is_sound = λ s. misplaced_count total s == 0;

@@ -1,17 +1,15 @@
 -- The state of a colour, as contracts see it.
-use Rattle.std.specs.Prelude.{ℕ, List}
+use Rattle.std.specs.Prelude.{List}
 use Rattle.mely_event.specs.declared.colour.Colour.{Colour}
 use Rattle.mely_event.specs.declared.event.Event.{Event}
-use Rattle.sws_log.specs.declared.line.LogLine.{LogLine}
+use Rattle.sws_engine.specs.KeptLines.{KeptLinesState}
 use Rattle.sws_engine.specs.declared.place.Role.{Role}
 
--- colour, trail and lines and the room that these have, hall, the world as it was at first, and
--- what the colour is for
+-- colour, trail, lines, hall, the world as it was at first, and what the colour is for
 pub record PlaceState (H W T : Type 0) : Type 0 where
   pub colour : Colour
   pub trail : List Event
-  pub lines : List LogLine
-  pub spare : ℕ
+  pub lines : KeptLinesState
   pub hall : H
   pub first : W
   pub role : Role W T

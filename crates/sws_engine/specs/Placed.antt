@@ -19,8 +19,6 @@ pub record IsPlaced {S P F R : Type 0} (t : TrailWords S F)
     (spoilt : S → Bool) (log : Bool) (whole : List (List Step)) : Type 0 where
   pub held : (state : S) (place : Place) → IsPlace state place → holds state ≡ worlds_of_place place
   pub carriage : (load : P) (l : Load) → IsLoad load l → carries load ≡ worlds_of_load (Some l)
-  pub roomy : (state roomy : S) (place : Place) → t.alike state roomy
-      → IsPlace state place → IsPlace roomy place
   pub runs : (s : Server) (state after : S) (event : Event) (load : Option P) (puts : List (Colour
       × Event × Option P)) (place : Place) (l : Option Load) → t.frame_of state ≡ frame
       → fits frame (t.colour_of state) event load
@@ -31,8 +29,6 @@ pub record IsPlaced {S P F R : Type 0} (t : TrailWords S F)
       → IsPlace after (runs_place log (length whole) (t.colour_of state) place event l).place
       × ArePuts IsLoad puts
       (runs_place log (length whole) (t.colour_of state) place event l).puts
-  pub spoilt_roomier : (state roomy : S) → t.alike state roomy
-      → spoilt state ≡ true → spoilt roomy ≡ true
   pub spoilt_after : (state after : S) (event : Event) (load : Option P) (puts : List (Colour
       × Event × Option P)) → y.runs app state event load after puts
       → spoilt state ≡ true → spoilt after ≡ true

@@ -17,6 +17,7 @@ use Rattle.sws_engine.specs.declared.place.Seat.{Seat}
 use Rattle.sws_engine.specs.declared.place.Role.{Role}
 use Rattle.sws_engine.specs.declared.place.Role.TheVariants.{Polling, Accepting, Talking, Logging}
 use Rattle.sws_engine.specs.Invariant.{LogStands}
+use Rattle.sws_engine.specs.KeptLines.{KeptLinesState, AreKept}
 use Rattle.sws_engine.specs.LogTurns.{turns_of, is_numbered}
 use Rattle.sws_engine.specs.Loads.{WorldStands}
 use Rattle.sws_engine.specs.Place.{PlaceState}
@@ -59,14 +60,14 @@ resting_in before [] = before
 resting_in before (place ∷ states) = resting_in (or_else (resting_by place.role) before) states
 
 -- the lines of a state that keeps the log, or those that were found before
-abbrev pub lines_by : {W T : Type 0} → Role W T → List LogLine → List LogLine → List LogLine
+abbrev pub lines_by : {W T : Type 0} → Role W T → KeptLinesState → KeptLinesState → KeptLinesState
 lines_by (Polling desk) lines before = before
 lines_by Accepting lines before = before
 lines_by (Talking seat) lines before = before
 lines_by Logging lines before = lines
 
 -- the lines of the state that keeps the log
-abbrev pub lines_in : {H W T : Type 0} → List LogLine → List (PlaceState H W T) → List LogLine
+abbrev pub lines_in : {H W T : Type 0} → KeptLinesState → List (PlaceState H W T) → KeptLinesState
 lines_in before [] = before
 lines_in before (place ∷ states) = lines_in (lines_by place.role place.lines before) states
 
@@ -95,12 +96,13 @@ pub record ShowAll {W T L G H : Type 0} (y : TalkWords T L G H) (all : List (Tal
 
 module _ {W L T G H : Type 0} (x : WorldWords W L) (l : LinkWords L) (y : TalkWords T L G H) where
   -- a world that rests is the one of the run, a connection was served as its trail says, and the
-  -- lines of the log are those of its trail
+  -- lines of the log that came are those of its trail, of which the first are kept
   abbrev pub RoleTells : PlaceState H W T → Role W T → Type 0
   RoleTells place (Polling desk) = IfSome desk.resting (WorldStands x l place.first)
   RoleTells place Accepting = Unit {0}
   RoleTells place (Talking seat) = SeatServes x l y place seat
-  RoleTells place Logging = LogStands x l y place.hall place.first place.trail place.lines
+  RoleTells place Logging = LogStands x l y place.hall place.first place.trail place.lines.came
+      × AreKept place.lines
 
   -- what a state tells of the run by the role that it has
   abbrev pub StateTells : PlaceState H W T → Type 0

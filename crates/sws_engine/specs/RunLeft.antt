@@ -13,6 +13,7 @@ use Rattle.mely_machine.specs.Rules.{rules_of}
 use Rattle.mely_weave.specs.Side.{shard_of}
 use Rattle.sws_link.specs.declared.Link.{Ghosts as LinkWords}
 use Rattle.sws_link.specs.declared.world.World.{Ghosts as WorldWords}
+use Rattle.sws_link.specs.Contents.{IsPrefix}
 use Rattle.sws_link.specs.Scripts.{Script}
 use Rattle.sws_link.specs.Links.{input_of}
 use Rattle.sws_link.specs.Worlds.{Coming, initial_contents}
@@ -67,8 +68,12 @@ module _ {W L T G H : Type 0} (x : WorldWords W L) (l : LinkWords L) (y : TalkWo
         → slice_get histories_in (shard_of setup c) ≡ Some history → trail ≡ ran_of history c
     pub many_trails : length ended.trails.items ≡ colours_over (x.tells first).total log
     -- the lines of the log are of the connections that the trail of its colour names, in this
-    -- order, each is one of its connection's log, and without the log there is none
-    pub log_runs : (trail : List Event)
+    -- order, and unless memory was refused of all that it names; each is one of its connection's
+    -- log, and without the log there is none
+    pub log_begins : (trail : List Event)
+        → slice_get (map (λ t. t.items) ended.trails.items) ((x.tells first).total + 2) ≡ Some trail
+        → IsPrefix (map (λ line. line.conn) ended.log.items) (map (λ event. event.arg) trail)
+    pub log_runs : ended.verdict ≢ verdict.Memory → (trail : List Event)
         → slice_get (map (λ t. t.items) ended.trails.items) ((x.tells first).total + 2) ≡ Some trail
         → map (λ line. line.conn) ended.log.items ≡ map (λ event. event.arg) trail
     pub lines_told : AllByRecursion (λ line. (line.conn < (x.tells first).total)

@@ -74,7 +74,6 @@ impl<W: World + Drop, T: Talk<W::Link> + Drop> App for Sws<W, T> {
     )
         requires serves { ((W.tells state.old.first).total ≡ self.now.total)
             × (self.now.total ≤ conn_limit) }
-        requires room { 1 ≤ state.old.spare }
         requires empty { outs.old ≡ [] }
         requires fits { FitsTold W.World W.Link.Link T.Talk state.old.hall state.old.first
             state.old.colour event load }
@@ -83,7 +82,6 @@ impl<W: World + Drop, T: Talk<W::Link> + Drop> App for Sws<W, T> {
         ensures colour { state.new.colour ≡ state.old.colour }
         ensures frame { frame_in state.new ≡ frame_in state.old }
         ensures trail { state.new.trail ≡ state.old.trail ++ event ∷ [] }
-        ensures spare { state.old.spare ≡ state.new.spare + 1 }
         ensures puts { AllByRecursion
             (FitsIn (colours_over self.now.total self.now.log) handler_count
             (FitsTold W.World W.Link.Link T.Talk state.old.hall state.old.first)) outs.new }
@@ -93,7 +91,7 @@ impl<W: World + Drop, T: Talk<W::Link> + Drop> App for Sws<W, T> {
         T::a_run_serves();
         let total = self.total;
         let log = self.log;
-        state.trail.push_reserved(event);
+        state.trail.push(&event);
         match &mut *state.role {
             Role::Polling(desk) => run_desk(desk, event, load, outs),
             Role::Accepting => run_accepting(total, event, load, outs),

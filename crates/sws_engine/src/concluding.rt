@@ -3,7 +3,7 @@ ghost use Rattle.std.specs.Prelude.{◌≡◌, ◌≤◌, ◌+◌, length, optio
 ghost use Rattle.std.specs.List.{AllByRecursion};
 ghost use Rattle.sws_engine.specs.EndRoom.{HasEndRoom};
 ghost use Rattle.sws_engine.specs.RunLeaves.{StateTells, talkers};
-ghost use Rattle.sws_engine.specs.Conclusion.{IsConcluded, accepted_of, failed_of, is_whole};
+ghost use Rattle.sws_engine.specs.Conclusion.{IsConcluded, accepted_of, failed_of, ran_all as ran_all_of};
 
 use crate::ended::{EndRoom, Ended};
 use crate::handing::{keep_lost, keep_queued};
@@ -18,7 +18,7 @@ use sws_link::{Link, World};
 
 /// Whether the weave was drained, and nothing was refused for memory.
 fn ran_all<P>(drained: Drained, lost: &[(Colour, Event, Option<P>)]) -> bool
-    ensures { result ≡ is_whole drained lost.now }
+    ensures { result ≡ ran_all_of drained lost.now }
 {
     match drained {
         Drained::Empty => lost.is_empty(),
@@ -42,9 +42,9 @@ fn split_world<W: Drop>(found: Option<WorldLoad<W>>) -> (Option<W>, u16, bool)
 /// rest. It takes no memory.
 ///
 /// The verdict is [`Memory`](crate::Verdict::Memory) exactly where memory was refused: the weave
-/// wasn't drained, a registration was refused, or a link met want of memory. With the log, the
-/// lines of each connection that was to be served are numbered too, or the connection counts as
-/// lost.
+/// wasn't drained, a registration was refused, a line of the log was lost, or a link met want of
+/// memory. With the log, the lines of each connection that was to be served are numbered too, or the
+/// connection counts as lost.
 pub fn conclude<W: World + Drop, T: Talk<W::Link> + Drop>(
     room: EndRoom<W::Link>,
     total: u16,
@@ -58,7 +58,7 @@ pub fn conclude<W: World + Drop, T: Talk<W::Link> + Drop>(
     ensures concluded { IsConcluded T.Talk total log drained parts result }
     ensures tell { AllByRecursion (StateTells W.World W.Link.Link T.Talk) parts.states.items }
 {
-    let whole = ran_all(drained, &parts.lost);
+    let ran = ran_all(drained, &parts.lost);
     let WeaveParts {
         histories,
         states,
@@ -84,14 +84,15 @@ pub fn conclude<W: World + Drop, T: Talk<W::Link> + Drop>(
         world,
         served,
         trails,
-        log: lines,
+        log: kept,
     } = left;
+    let (lines, line_lost) = kept.into_kept();
     let (world, accepted, failed) = split_world(world);
     let verdict = judge(
         log,
         &lines,
         &mut turns,
-        whole,
+        ran && !line_lost,
         total,
         world.is_some(),
         accepted,

@@ -3,8 +3,10 @@ ghost use Rattle.std.specs.Prelude.{◌≡◌, ◌≤◌, ◌+◌, [], IfOk, vec
 ghost use Rattle.sws_engine.specs.EndRoom.{HasEndRoom};
 ghost use Rattle.sws_link.specs.Limits.{conn_limit};
 
+use crate::logging::KeptLines;
 use mely_event::Event;
-use mely_history::Entry;
+use mely_history::History;
+use mely_log::Log;
 use std::alloc::Global;
 use sws_conn::End;
 use sws_link::{Link, Memory, World};
@@ -65,13 +67,14 @@ pub struct Ended<W: World> {
     /// What has become of each connection, by number.
     pub served: Vec<Served<W::Link>>,
 
-    /// The entries of each shard, the oldest first.
-    pub histories: Vec<Vec<Entry>>,
+    /// The history of each shard, whose entries can be read where they were to be listed.
+    pub histories: Vec<History>,
 
-    /// The events that were run of each colour, in order.
-    pub trails: Vec<Vec<Event>>,
+    /// The events that were run of each colour, in order, for contracts alone.
+    pub trails: Vec<Log<Event>>,
 
-    /// The lines of the access log, in the order in which they were kept; none without the log.
+    /// The lines of the access log, in the order in which they came; none without the log. Where
+    /// memory was refused they end before the first line that found none.
     pub log: Vec<LogLine>,
 }
 
@@ -79,10 +82,10 @@ pub struct Ended<W: World> {
 #[derive(Drop)]
 pub struct EndRoom<L> {
     pub(crate) served: Vec<Served<L>>,
-    pub(crate) trails: Vec<Vec<Event>>,
+    pub(crate) trails: Vec<Log<Event>>,
 
     /// It takes the lines of the log as they come, and has none itself.
-    pub(crate) no_line: Vec<LogLine>,
+    pub(crate) no_line: KeptLines,
 
     /// For each connection the last turn of its lines, before the first.
     pub(crate) turns: Vec<Option<u16>>,
@@ -105,7 +108,7 @@ impl<L> EndRoom<L> {
         Ok(EndRoom {
             served,
             trails,
-            no_line: Vec::new(alloc),
+            no_line: KeptLines::new(alloc),
             turns: vec![in alloc; Some(0); usize::from(total)]?,
         })
     }

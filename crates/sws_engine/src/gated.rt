@@ -71,7 +71,6 @@ impl<'g, W: World + Drop, T: Talk<W::Link> + Drop, G: Gate> App for Gated<'g, W,
     )
         requires serves { ((W.tells state.old.first).total ≡ self.now.app.total)
             × (self.now.app.total ≤ conn_limit) }
-        requires room { 1 ≤ state.old.spare }
         requires empty { outs.old ≡ [] }
         requires fits { FitsTold W.World W.Link.Link T.Talk state.old.hall state.old.first
             state.old.colour event load }
@@ -80,7 +79,6 @@ impl<'g, W: World + Drop, T: Talk<W::Link> + Drop, G: Gate> App for Gated<'g, W,
         ensures colour { state.new.colour ≡ state.old.colour }
         ensures frame { frame_in state.new ≡ frame_in state.old }
         ensures trail { state.new.trail ≡ state.old.trail ++ event ∷ [] }
-        ensures spare { state.old.spare ≡ state.new.spare + 1 }
         ensures puts { AllByRecursion
             (FitsIn (colours_over self.now.app.total self.now.app.log) handler_count
             (FitsTold W.World W.Link.Link T.Talk state.old.hall state.old.first)) outs.new }

@@ -7,19 +7,20 @@ ghost use Rattle.sws_engine.specs.LeftKept.{KeepsStates};
 use crate::ended::Served;
 use crate::laws::a_state_tells_what_was_served;
 use crate::load::WorldLoad;
+use crate::logging::KeptLines;
 use crate::place::{Desk, Place, Role, Seat};
 use mely_event::Event;
+use mely_log::Log;
 use sws_conn::Talk;
 use sws_link::{Link, World};
-use sws_log::LogLine;
 
 /// What is found of a run: the world, the connections, the trails, and the lines of the log.
 #[derive(Drop)]
 pub(crate) struct Left<W, L> {
     pub(crate) world: Option<WorldLoad<W>>,
     pub(crate) served: Vec<Served<L>>,
-    pub(crate) trails: Vec<Vec<Event>>,
-    pub(crate) log: Vec<LogLine>,
+    pub(crate) trails: Vec<Log<Event>>,
+    pub(crate) log: KeptLines,
 }
 
 /// What has become of a connection; its talk is given up.

@@ -44,6 +44,7 @@ pub use laws::{
     worked_schedules_hold,
 };
 pub use load::{Load, WorldLoad};
+pub use logging::KeptLines;
 pub use place::{Desk, Frame, Place, Role, Seat};
 pub use running::run_through;
 pub use serving::serve_steps;

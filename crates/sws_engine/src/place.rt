@@ -1,14 +1,13 @@
 //! The state of a colour.
-ghost use Rattle.std.specs.Prelude.{◌≡◌, ◌≤◌, ◌-◌, length, vec_len, vec_capacity};
-
 use crate::load::{Load, WorldLoad};
+use crate::logging::KeptLines;
 use crate::waiting::Waiting;
-use mely_event::{Colour, Event, Fits, Memory, Trail};
+use mely_event::{Colour, Event, Fits, Trail};
+use mely_log::Log;
 use std::marker::Model;
 use std::snapshot::Snapshot;
 use sws_conn::{Next, Talk};
 use sws_link::{Link, World};
-use sws_log::LogLine;
 
 /// What stays the same over a run: the hall, and the world as it was at first.
 /// It is for contracts alone.
@@ -55,10 +54,12 @@ pub enum Role<W, T> {
 #[derive(Drop)]
 pub struct Place<W: World, T: Talk<W::Link>> {
     pub(crate) colour: Colour,
-    pub(crate) trail: Vec<Event>,
+
+    /// The events that were run, for contracts alone.
+    pub(crate) trail: Log<Event>,
 
     /// The lines of the access log, at the colour that keeps it.
-    pub(crate) lines: Vec<LogLine>,
+    pub(crate) lines: KeptLines,
     pub(crate) hall: T::Hall,
     pub(crate) first: Snapshot<W>,
 
@@ -83,43 +84,11 @@ impl<W: World, T: Talk<W::Link>> Model for Place<W, T> {
 impl<W: World, T: Talk<W::Link>> Trail for Place<W, T> {
     type Frame = Frame<T::Contents, W>;
 
-    ghost use Rattle.sws_engine.specs.PlaceFields.{IsAlike};
-
     ghost trail_of = { λ s. s.trail };
 
     ghost colour_of = { λ s. s.colour };
 
     ghost frame_of = { λ s. record { hall = s.hall; first = s.first } };
-
-    ghost spare_of = { λ s. s.spare };
-
-    ghost alike = { IsAlike };
-
-    fn trail(&self) -> &[Event] {
-        &self.trail
-    }
-
-    fn reserve(&mut self, n: usize) -> Result<(), Memory> {
-        self.trail.reserve(n)?;
-        if let Role::Logging = *self.role {
-            self.lines.reserve(n)?;
-        }
-        Ok(())
-    }
-
-    ghost use Rattle.std.proofs.Common.{refl, sym, ap, ◌∙◌};
-
-    ghost alike_itself = { λ s. refl };
-
-    ghost use Rattle.sws_engine.specs.PlaceFields.{alike_onward as alike_on, alike_framed};
-
-    ghost alike_onward = { alike_on };
-
-    ghost alike_trail = { λ s t same. ap (λ p. p.trail) (sym same) };
-
-    ghost alike_colour = { λ s t same. ap (λ p. p.colour) (sym same) };
-
-    ghost alike_frame = { λ s t same. alike_framed s t same };
 }
 
 impl<W: World, T: Talk<W::Link>> Fits<Load<W, W::Link>> for Place<W, T> {

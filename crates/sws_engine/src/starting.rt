@@ -9,11 +9,13 @@ ghost use Rattle.sws_engine.specs.RunFact.{RunFact};
 ghost use Rattle.sws_link.specs.Limits.{conn_limit};
 
 use crate::load::{Load, WorldLoad};
+use crate::logging::KeptLines;
 use crate::place::{Desk, Place, Role, Seat};
 use crate::task::Task;
 use crate::waiting::Waiting;
 use mely_event::{Colour, Event, Fits, Trail};
 use mely_history::Setup;
+use mely_log::Log;
 use mely_order::{a_post_keeps_a_stream_in_order, an_initial_stream_is_in_order};
 use mely_tally::{a_post_brings_its_event, an_initial_weave_has_what_it_was_given};
 use mely_weave::Weave;
@@ -54,8 +56,8 @@ fn initial_place<W: World + Drop, T: Talk<W::Link> + Drop>(
     let role = Box::new(alloc, role)?;
     Ok(Place {
         colour: Colour(number),
-        trail: Vec::new(alloc),
-        lines: Vec::new(alloc),
+        trail: Log::new(),
+        lines: KeptLines::new(alloc),
         hall,
         first: Snapshot::of(world),
         role,

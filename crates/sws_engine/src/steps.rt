@@ -1,6 +1,8 @@
 //! The server over a weave, from the world and the hall to what the run leaves.
-ghost use Rattle.std.specs.Prelude.{◌≡◌, length};
+ghost use Rattle.std.specs.Prelude.{◌≡◌, None, length};
+ghost use Rattle.std.specs.List.{AllByRecursion};
 ghost use Rattle.mely_event.specs.HandlerTable.{rows_of};
+ghost use Rattle.mely_history.specs.Setup.{colours_of, first_out_of_range, handlers_of, is_listed, pinned_of, shape_of};
 ghost use Rattle.sws_engine.specs.Begins.{IsScheduleOf, IsShapedFor};
 ghost use Rattle.sws_engine.specs.StepsLeave.{HasNotBegun, StepsLeave};
 ghost use Rattle.sws_engine.specs.ServerRun.{handler_rows};
@@ -49,6 +51,23 @@ pub fn handler_table() -> Handlers
     }
 }
 
+/// The setup of a run with this shape and so many colours: the server's handlers, and colour 0
+/// pinned. Its histories are listed or not, as is asked.
+pub(crate) fn setup_of(shape: &Shape, colours: u16, listed: bool) -> Setup
+    requires { first_out_of_range shape.now colours 1 ≡ None }
+    ensures shape { shape_of result ≡ shape.now }
+    ensures colours { colours_of result ≡ colours }
+    ensures rows { rows_of (handlers_of result) ≡ handler_rows }
+    ensures count { length (rows_of (handlers_of result)) ≡ handler_count }
+    ensures pinned { pinned_of result ≡ 1 }
+    ensures listed { is_listed result ≡ listed }
+{
+    let Ok(setup) = Setup::new(shape, u32::from(colours), handler_table(), 1) else {
+        unreachable!()
+    };
+    if listed { setup.listed() } else { setup }
+}
+
 /// What is left where there was no memory to begin: the world, and empty lists.
 pub(crate) fn unbegun<W: World>(alloc: Global, world: W) -> Ended<W>
     ensures { HasNotBegun world result }
@@ -67,7 +86,8 @@ pub(crate) fn unbegun<W: World>(alloc: Global, world: W) -> Ended<W>
 
 /// Serves all links of a world by talks of one hall over a weave: the schedule's steps of each
 /// core, and then rounds of one step a core until nothing is left. The gate is passed before each
-/// handler, as by core 0. All room for what the run leaves is made before its first event.
+/// handler, as by core 0. All room for what the run leaves is made before its first event. The
+/// histories are listed or not, as is asked.
 pub(crate) fn talk_gated<R: Wait, W: World + Drop, T: Talk<W::Link> + Drop, G: Gate>(
     rt: &R,
     alloc: Global,
@@ -77,6 +97,7 @@ pub(crate) fn talk_gated<R: Wait, W: World + Drop, T: Talk<W::Link> + Drop, G: G
     schedule: &[(u16, u32)],
     gate: &G,
     log: bool,
+    listed: bool,
 ) -> Ended<W>
     requires shape { IsShapedFor W.World shape.now world log }
     requires schedule { IsScheduleOf shape.now.cores schedule.now }
@@ -84,15 +105,15 @@ pub(crate) fn talk_gated<R: Wait, W: World + Drop, T: Talk<W::Link> + Drop, G: G
         (T.contents_of hall) world log result }
     ensures model { IsModelled W.World W.Link.Link T.Talk (T.contents_of hall) shape.now
         world log schedule.now result }
+    ensures listed { AllByRecursion (λ history. history.listed ≡ listed)
+        result.histories.items }
 {
     let total = world.total();
     let Ok(room) = EndRoom::new(alloc, total) else {
         return unbegun(alloc, world);
     };
     let colours = colour_count(total, log);
-    let Ok(setup) = Setup::new(shape, u32::from(colours), handler_table(), 1) else {
-        unreachable!()
-    };
+    let setup = setup_of(shape, colours, listed);
     match run_apart::<R, W, T, G>(rt, alloc, &setup, hall, world, schedule, gate, log) {
         Ok((parts, drained)) => conclude(room, total, parts, drained, log),
         Err(world) => unbegun(alloc, world),
@@ -101,7 +122,7 @@ pub(crate) fn talk_gated<R: Wait, W: World + Drop, T: Talk<W::Link> + Drop, G: G
 
 /// Serves all links of a world by talks of one hall: the schedule's steps of each core, and
 /// then rounds of one step a core until nothing is left. All room for what the run leaves is
-/// made before its first event.
+/// made before its first event. The histories are listed or not, as is asked.
 ///
 /// Where the world is scripted, the histories at [`Verdict::Ok`] are those of the definition of a
 /// run, and no others.
@@ -113,6 +134,7 @@ pub fn talk_steps<R: Wait, W: World + Drop, T: Talk<W::Link> + Drop>(
     world: W,
     schedule: &[(u16, u32)],
     log: bool,
+    listed: bool,
 ) -> Ended<W>
     requires shape { IsShapedFor W.World shape.now world log }
     requires schedule { IsScheduleOf shape.now.cores schedule.now }
@@ -120,6 +142,10 @@ pub fn talk_steps<R: Wait, W: World + Drop, T: Talk<W::Link> + Drop>(
         (T.contents_of hall) world log result }
     ensures model { IsModelled W.World W.Link.Link T.Talk (T.contents_of hall) shape.now
         world log schedule.now result }
+    ensures listed { AllByRecursion (λ history. history.listed ≡ listed)
+        result.histories.items }
 {
-    talk_gated::<R, W, T, OpenGate>(rt, alloc, hall, shape, world, schedule, &OpenGate, log)
+    talk_gated::<R, W, T, OpenGate>(
+        rt, alloc, hall, shape, world, schedule, &OpenGate, log, listed,
+    )
 }

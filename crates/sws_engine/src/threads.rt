@@ -1,7 +1,9 @@
 //! The server with a thread for each worker, from the world and the hall to what the run leaves.
 //! One worker needs no thread: it runs over a weave.
 ghost use Rattle.std.specs.Prelude.{◌≡◌, ◌≢◌, ◌≤◌, ◌+◌, [], ◌∷◌, Some, false, IfOk, IfErr, IsSome, map, slice_get};
+ghost use Rattle.std.specs.List.{AllByRecursion};
 ghost use Rattle.mely_fleet.specs.Crew.{IsRegistered};
+ghost use Rattle.mely_history.specs.Setup.{is_listed};
 ghost use Rattle.mely_tally.specs.Account.{IsAccounted};
 ghost use Rattle.mely_weave.specs.Dealing.{AtEach};
 ghost use Rattle.mely_weave.specs.Drains.{SomeHalted};
@@ -28,7 +30,7 @@ use crate::laws::each_path_opens_once;
 use crate::load::{Load, WorldLoad};
 use crate::place::Place;
 use crate::starting::{colour_count, first_event, initial_places};
-use crate::steps::{handler_table, talk_gated, unbegun};
+use crate::steps::{setup_of, talk_gated, unbegun};
 use mely_event::{Colour, Event, Fits, Trail, Unregistered};
 use mely_fleet::run_crew;
 use mely_history::{Setup, Shape};
@@ -190,6 +192,8 @@ where
     ensures handled { IfOk result (λ ran. HandlersRan W.World W.Link.Link T.Talk
         (T.contents_of hall) world log setup.now
         (map (λ history. history.items) ran.0.histories.items) ran.0.lost.items) }
+    ensures listed { IfOk result (λ ran. AllByRecursion
+        (λ history. history.listed ≡ is_listed setup.now) ran.0.histories.items) }
     ensures back { IfErr result (λ back. back ≡ world) }
 {
     let total = world.total();
@@ -216,7 +220,7 @@ where
 
 /// Serves all links of a world by talks of one hall, with a thread for each worker; the gate
 /// is passed before each handler. All room for what the run leaves is made before its first
-/// event. It need not return.
+/// event. The histories are listed or not, as is asked. It need not return.
 ///
 /// One worker runs over a weave, on the thread of the caller and with no lock. It leaves what
 /// [`talk_steps`](crate::talk_steps) leaves of an empty schedule, so no connection is ever lost.
@@ -228,7 +232,16 @@ pub fn talk_all<
     W: World + Drop + Send,
     T: Talk<W::Link> + Drop + Send,
     G: Gate + Sync,
->(rt: &R, alloc: Global, hall: T::Hall, shape: &Shape, world: W, gate: &G, log: bool) -> Ended<W>
+>(
+    rt: &R,
+    alloc: Global,
+    hall: T::Hall,
+    shape: &Shape,
+    world: W,
+    gate: &G,
+    log: bool,
+    listed: bool,
+) -> Ended<W>
 where
     W::Link: Send,
     T::Hall: Send,
@@ -241,18 +254,18 @@ where
         (T.contents_of hall) world log result }
     ensures model { shape.now.cores ≡ 1 → IsModelled W.World W.Link.Link T.Talk
         (T.contents_of hall) shape.now world log [] result }
+    ensures listed { AllByRecursion (λ history. history.listed ≡ listed)
+        result.histories.items }
 {
     if shape.cores == 1 {
-        return talk_gated::<R, W, T, G>(rt, alloc, hall, shape, world, &[], gate, log);
+        return talk_gated::<R, W, T, G>(rt, alloc, hall, shape, world, &[], gate, log, listed);
     }
     let total = world.total();
     let Ok(room) = EndRoom::new(alloc, total) else {
         return unbegun(alloc, world);
     };
     let colours = colour_count(total, log);
-    let Ok(setup) = Setup::new(shape, u32::from(colours), handler_table(), 1) else {
-        unreachable!()
-    };
+    let setup = setup_of(shape, colours, listed);
     ended_is_unkept::<W::Link, T>();
     match run_threads::<R, W, T, G>(rt, alloc, &setup, hall, world, gate, log) {
         Ok((parts, drained)) => conclude(room, total, parts, drained, log),
@@ -261,7 +274,7 @@ where
 }
 
 /// Serves all links of a world out of a site, with a thread for each worker; the gate is passed
-/// before each handler. It need not return.
+/// before each handler. The histories are listed or not, as is asked. It need not return.
 ///
 /// The verdict is exactly what the run shows: [`Verdict::Apart`](crate::Verdict::Apart) names the
 /// first connection that was lost, and where none was says that the world was.
@@ -281,6 +294,7 @@ pub fn serve_all<'s, R: Threads + Wait + Sync, W: World + Drop + Send, G: Gate +
     world: W,
     gate: &G,
     log: bool,
+    listed: bool,
 ) -> Ended<W>
 where
     W::Link: Send,
@@ -295,8 +309,10 @@ where
         shape.now site.now world log result }
     ensures scheduled { shape.now.cores ≡ 1
         → IsScheduled W.World site.now shape.now world log [] result }
+    ensures listed { AllByRecursion (λ history. history.listed ≡ listed)
+        result.histories.items }
 {
     site.limits();
     each_path_opens_once();
-    talk_all::<R, W, Conn<'s, W::Link>, G>(rt, alloc, site, shape, world, gate, log)
+    talk_all::<R, W, Conn<'s, W::Link>, G>(rt, alloc, site, shape, world, gate, log, listed)
 }

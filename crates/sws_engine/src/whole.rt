@@ -1,6 +1,7 @@
 //! A whole run of the server on a weave: from the world and the hall to the weave's parts.
 ghost use Rattle.std.specs.Prelude.{◌≡◌, ◌++◌, IfOk, IfErr, [], map};
-ghost use Rattle.mely_history.specs.Setup.{shape_of};
+ghost use Rattle.std.specs.List.{AllByRecursion};
+ghost use Rattle.mely_history.specs.Setup.{is_listed, shape_of};
 ghost use Rattle.sws_engine.specs.Begins.{IsAtRest, IsScheduleOf, IsSetFor};
 ghost use Rattle.sws_engine.specs.LogStream.{LogsInOrder};
 ghost use Rattle.sws_engine.specs.RunFact.{RunFact};
@@ -92,6 +93,8 @@ pub fn run_apart<R: Wait, W: World + Drop, T: Talk<W::Link> + Drop, G: Gate>(
         IsOfPaths W.World T.Talk W.Link.Link (T.contents_of hall) setup.now world log
         schedule.now ran.1 (map (λ history. history.items) ran.0.histories.items)
         ran.0.states.items) }
+    ensures listed { IfOk result (λ ran. AllByRecursion
+        (λ history. history.listed ≡ is_listed setup.now) ran.0.histories.items) }
     ensures back { IfErr result (λ back. back ≡ world) }
 {
     let (weave, drained) = run_whole(rt, alloc, setup, hall, world, schedule, gate, log)?;

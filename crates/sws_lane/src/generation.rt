@@ -83,6 +83,7 @@ where
         Opened::Failed => return unopened(alloc, world, Opened::Failed),
         Opened::Memory => return unopened(alloc, world, Opened::Memory),
     }
-    let ended = serve_all(rt, alloc, site, &terms.shape, world, &OpenGate, terms.log);
+    let log = terms.log;
+    let ended = serve_all(rt, alloc, site, &terms.shape, world, &OpenGate, log, false);
     told_of(ended)
 }

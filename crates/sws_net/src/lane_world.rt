@@ -31,22 +31,6 @@ const UNMANNED: u64 = 1000;
 /// For how many milliseconds such a connection hasn't got on.
 const STANDSTILL: u64 = 5000;
 
-/// How many entries the history of a generation may have before its world leaves.
-const MOST_ENTRIES: u64 = 2_000_000;
-
-/// How many it may have before all its connections are cut: twice as many as those of 1,024
-/// connections with 64 requests each.
-const LAST_ENTRIES: u64 = 8_000_000;
-
-/// How many entries an event of a run costs: it is registered, taken and finished.
-const ENTRIES_OF_AN_EVENT: u64 = 3;
-
-/// How many events a poll of the world stands for: itself.
-const OF_A_POLL: u64 = 1;
-
-/// How many an accept stands for: itself, and the opening of a connection.
-const OF_AN_ACCEPT: u64 = 2;
-
 /// What lanes share, and for how long one takes connections.
 #[derive(Clone, Copy, Drop)]
 pub struct Entrance<'d> {
@@ -69,17 +53,16 @@ pub struct Entrance<'d> {
 /// they bring nothing is known.
 ///
 /// Whoever opens it has entered the door as its lane. The world leaves once it has given as many
-/// links as it was opened for, at the age of its [`Entrance`], once the run over it may have two
-/// million entries, and where the door is closed or renewed, or the stop file is there. From then
-/// on it gives no further link: others take those connections. Where it was opened for more, it
-/// waits until those that it gave are gone, and then says that it failed, so that a run over it
-/// ends.
+/// links as it was opened for, at the age of its [`Entrance`], and where the door is closed or
+/// renewed, or the stop file is there. From then on it gives no further link: others take those
+/// connections. Where it was opened for more, it waits until those that it gave are gone, and then
+/// says that it failed, so that a run over it ends.
 ///
 /// After the grace it cuts those that are still there, but for those in which 240 bytes a second
 /// have moved over the last time of the grace's length. These may go on as long as the door lets
 /// them ([`Door::may_last`]), and as long as a lane is there to take connections. Where for a second
 /// none is, it cuts within the grace already those in which no such number of bytes has moved for
-/// five seconds; and at eight million entries it cuts all.
+/// five seconds.
 ///
 /// It counts this, the errors of the machine, and how often it had nobody to name, though somebody
 /// waited, or nothing to give. It waits as [`TcpWorld`](crate::TcpWorld) does, but for a quarter of
@@ -102,9 +85,6 @@ struct Stay<'d> {
     /// When the world was opened, and when it left, in milliseconds.
     opened: u64,
     left: Option<u64>,
-
-    /// How many events the polls and accepts of the world stand for.
-    events: u64,
 
     /// When it was last looked which connections are to be cut, and since when nobody was seen to
     /// take connections.
@@ -149,7 +129,6 @@ impl<'d> Stay<'d> {
     fn begin(&mut self, now: u64) {
         self.opened = now;
         self.left = None;
-        self.events = 0;
         self.unmanned = None;
     }
 
@@ -164,12 +143,6 @@ impl<'d> Stay<'d> {
         }
     }
 
-    /// How many entries the history of the run may have.
-    fn entries(&self, server: &Server) -> u64 {
-        let events = self.events.saturating_add(server.events());
-        events.saturating_mul(ENTRIES_OF_AN_EVENT)
-    }
-
     /// Whether the world is to take no further connection.
     fn is_over(&mut self, server: &Server) -> bool {
         let now = server.now();
@@ -179,7 +152,6 @@ impl<'d> Stay<'d> {
         self.end_listening();
         self.entrance.door.is_to_leave(self.lane)
             || now.saturating_sub(self.opened) >= self.entrance.age
-            || self.entries(server) >= MOST_ENTRIES
     }
 
     /// Ends the listener where the door is closed. Where the machine has no room for that, it is
@@ -229,9 +201,7 @@ impl<'d> Stay<'d> {
         let step = (grace / 1000).saturating_mul(LEAST_PACE).max(1);
         server.watch(step);
         let is_unmanned = self.is_unmanned(now);
-        if self.entries(server) >= LAST_ENTRIES {
-            server.cut(0);
-        } else if now.saturating_sub(left) < grace {
+        if now.saturating_sub(left) < grace {
             if is_unmanned {
                 server.cut(STANDSTILL);
             }
@@ -256,7 +226,6 @@ impl<'d> Stay<'d> {
     ) -> io::Result<Option<u16>>
         ensures { IfOk result (λ named. IfSome named (λ conn. Contains waiting.now conn)) }
     {
-        self.events = self.events.saturating_add(OF_A_POLL);
         if self.is_over(server) || is_last {
             self.leave(server);
         }
@@ -271,7 +240,6 @@ impl<'d> Stay<'d> {
     fn next(&mut self, server: &mut Server, number: u16, total: u16) -> Came
         ensures { IsInitialIfCame result }
     {
-        self.events = self.events.saturating_add(OF_AN_ACCEPT);
         if self.left.is_none() && self.is_over(server) {
             self.leave(server);
         }
@@ -309,7 +277,6 @@ impl<'d> LaneWorld<'d> {
                 lane,
                 opened: 0,
                 left: None,
-                events: 0,
                 watched: 0,
                 unmanned: None,
                 has_ended: false,

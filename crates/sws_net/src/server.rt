@@ -156,11 +156,6 @@ impl Server {
         self.progress.cut_idle(&self.lobby, self.now, longest)
     }
 
-    /// How many events of a run the calls of the links may stand for.
-    pub fn events(&self) -> u64 {
-        self.lobby.events()
-    }
-
     /// How many of so many links that were accepted are still there.
     pub fn there(&self, accepted: u16) -> u64 {
         u64::from(accepted).saturating_sub(self.lobby.gone())

@@ -11,16 +11,6 @@ use std::alloc::Global;
 use std::io;
 use sws_link::{Link, LinkRead, LinkWrite};
 
-/// How many events of a run a read of a link stands for at most: itself, and either a wait or a
-/// search for a request and a look at it.
-const OF_A_READ: u64 = 3;
-
-/// How many a write stands for: the same, and a line of the log.
-const OF_A_WRITE: u64 = 4;
-
-/// How many the shutting stands for: itself.
-const OF_A_SHUTTING: u64 = 1;
-
 /// A link over a socket of the machine, of whose bytes nothing is known; it counts the machine's
 /// errors, but for those of its shutting.
 ///
@@ -55,17 +45,14 @@ impl Link for TcpLink {
     ghost since = { λ _ _ _. Unit {0} };
 
     fn read(&mut self, into: &mut [u8]) -> LinkRead {
-        self.kept.socket().note_events(OF_A_READ);
         self.kept.read(into)
     }
 
     fn write(&mut self, bytes: &[u8]) -> LinkWrite {
-        self.kept.socket().note_events(OF_A_WRITE);
         self.kept.write(bytes)
     }
 
     fn shut(&mut self) {
-        self.kept.socket().note_events(OF_A_SHUTTING);
         self.kept.shut();
     }
 }

@@ -63,13 +63,6 @@ impl TcpSocket {
             has_ended: false,
         }
     }
-
-    /// Notes a call of the link over this socket, which may stand for so many events of a run.
-    pub fn note_events(&self, count: u64) {
-        if let Some(open) = &self.open {
-            open.presence.note_events(count);
-        }
-    }
 }
 
 impl Socket for TcpSocket {

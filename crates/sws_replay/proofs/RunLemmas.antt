@@ -57,6 +57,9 @@ some_of : {A : Type 0} (o : Option A) → IsSome o → (a : A) × (o ≡ Some a)
 some_of None some = cc
 some_of (Some a) some = (a, refl)
 
+ok≢memory : verdict.Ok ≢ verdict.Memory
+ok≢memory same = cc
+
 -- ---- one connection
 
 module _ {T G H : Type 0} (x : WorldWords MemWorldState MemLinkState) (l : LinkWords MemLinkState) (y : TalkWords T MemLinkState G H) (hall : H) (first : MemWorldState) (conns : List ScriptConn)
@@ -167,7 +170,7 @@ module _ {T G H : Type 0} (x : WorldWords MemWorldState MemLinkState) (l : LinkW
       let trail = get_there ended.trails.items (length conns + 2) (omega (arith, many, total_is)) in
       let at : slice_get (map (λ t. t.items) ended.trails.items) (length conns + 2) ≡ Some trail.0.items = map_at (λ t. t.items) ended.trails.items (length conns + 2) trail.0 trail.1 in
       ap (λ (events : List Event). map (λ event. event.arg) events) (sym (run.trailed (colour_for (length conns)) history trail.0.items at there))
-      ∙ sym (run.log_runs trail.0.items (ap (λ (n : ℕ). slice_get (map (λ t. t.items) ended.trails.items) (n + 2)) total_is ∙ at))
+      ∙ sym (run.log_runs (λ memory. ok≢memory (sym well ∙ memory)) trail.0.items (ap (λ (n : ℕ). slice_get (map (λ t. t.items) ended.trails.items) (n + 2)) total_is ∙ at))
 
   -- what was run of a connection is its path
   path_ran : (setup : Setup)
@@ -181,9 +184,6 @@ module _ {T G H : Type 0} (x : WorldWords MemWorldState MemLinkState) (l : LinkW
       sym (trailed (colour_for i) history trail.0 trail.1 there) ∙ (followed i conn s.0 trail.0 at s.1 trail.1).path
 
 -- ---- whole runs
-
-ok≢memory : verdict.Ok ≢ verdict.Memory
-ok≢memory same = cc
 
 -- what both ways of running leave
 run_well : {T G H : Type 0} (x : WorldWords MemWorldState MemLinkState) (l : LinkWords MemLinkState) (y : TalkWords T MemLinkState G H) (hall : H) (shape : Shape) (first : MemWorldState) (conns : List ScriptConn) (log : Bool) (ended : Ended MemWorldState MemLinkState)

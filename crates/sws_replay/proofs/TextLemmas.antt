@@ -1,7 +1,10 @@
 -- What is written of a run.
-use Rattle.std.proofs.Common.{◌≡◌, ◌≢◌, ℕ, zero, suc, ◌+◌, ◌<◌, Bool, true, false, List, [], ◌∷◌, ◌++◌, Option, None, Some, Result, length, map, drop, get_or, drop-cons, append-nil, append_assoc, refl, sym, ap, ◌∙◌, subst, arith, inr}
-use Rattle.std.specs.Prelude.{slice_get}
+use Rattle.std.proofs.Common.{◌≡◌, ◌≢◌, ℕ, zero, suc, ◌+◌, ◌<◌, Bool, true, false, List, [], ◌∷◌, ◌++◌, Option, None, Some, Result, Vec, Global, length, map, drop, get_or, drop-cons, append-nil, append_assoc, refl, sym, ap, ◌∙◌, subst, arith, inr}
+use Rattle.std.specs.Prelude.{slice_get, if◌then◌else◌}
+use Rattle.std.proofs.lemmas.Option.{same_Some}
 use Rattle.std.specs.List.{AllByRecursion}
+use Rattle.mely_history.specs.Kept.{HistoryState, shown_of as entries_shown}
+use Rattle.mely_history.specs.declared.entry.Entry.{Entry}
 use Rattle.mely_history.specs.declared.shape.Shape.{Shape}
 use Rattle.sws_steps.specs.declared.End.{End}
 use Rattle.mely_check.specs.Journals.{IsFitHistory}
@@ -18,6 +21,7 @@ use Rattle.mely_journal.specs.Journal.{journal}
 use Rattle.sws_report.specs.Transcript.{transcript, transcript_from, conn_text}
 use Rattle.sws_replay.proofs.GoingLemmas.{Going, Going-moved, Going-written, Going-stopped, Going-cause}
 use Rattle.sws_log.specs.Lines.{log_text}
+use Rattle.sws_log.specs.declared.line.LogLine.{LogLine}
 use Rattle.sws_script.specs.Scripted.{script_of}
 use Rattle.sws_script.specs.declared.input.Input.{Input}
 use Rattle.sws_script.specs.declared.input.ScriptConn.{ScriptConn}
@@ -153,3 +157,31 @@ module _ (site : SiteState) (shape : Shape) (conns : List ScriptConn) (log : Boo
       subst (WritesOne (IsScheduledReplay site shape input log) before after) (sym is)
       (writes_one (IsScheduledReplay site shape input log) (transcript (map shown_of ended.served.items) ++ (log_text all ++ journal (histories_of ended))) before after answer
       (all, histories_of ended, run_is, logged_is, served_is, record { many = ran.served.shards; fit = fit refl }, text_is) puts)
+
+-- ---- the run itself
+
+-- where nothing was written there is a front of every text
+pub put_none : (before : Option (List ℕ)) (all : List ℕ) → Puts before before put.Memory all
+put_none None all = refl
+put_none (Some before) all = ([], (all, refl), ap (λ (bytes : List ℕ). Some bytes) (sym (append-nil before)))
+
+-- the journal of histories is that of the same ones, where it is asked for
+same_part : (asked : Bool) (lists histories : List (List Entry)) → (asked ≡ true → lists ≡ histories) → journal_part asked lists ≡ journal_part asked histories
+same_part false lists histories are = refl
+same_part true lists histories are = ap (λ (all : List (List Entry)). journal_part true all) (are refl)
+
+-- what was taken out of a history that is listed are its entries
+pub list_taken : (history : HistoryState) (entries : List Entry) → history.listed ≡ true → Some entries ≡ entries_shown history → entries ≡ history.items
+list_taken history entries listed taken = same_Some entries history.items (taken ∙ ap (λ (b : Bool). if b then Some history.items else None) listed)
+
+-- the text of a run, of what was read of its parts
+pub run_text : (before now : Option (List ℕ)) (result : Put) (served seen : List (Served MemLinkState)) (lines shown : List LogLine) (lists read : List (Vec Entry Global)) (histories : List (List Entry)) (asked : Bool)
+    → seen ≡ served → shown ≡ lines → read ≡ lists → (asked ≡ true → map (λ list. list.items) lists ≡ histories)
+    → Puts before now result (transcript (map shown_of seen) ++ (log_text shown ++ journal_part asked (map (λ list. list.items) read))) → Puts before now result (transcript (map shown_of served) ++ (log_text lines ++ journal_part asked histories))
+run_text before now result served seen lines shown lists read histories asked served_is lines_is lists_is same =
+    let parts : journal_part asked (map (λ list. list.items) read) ≡ journal_part asked histories = ap (λ (ls : List (Vec Entry Global)). journal_part asked (map (λ list. list.items) ls)) lists_is ∙ same_part asked (map (λ list. list.items) lists) histories same in
+    let text : transcript (map shown_of seen) ++ (log_text shown ++ journal_part asked (map (λ list. list.items) read)) ≡ transcript (map shown_of served) ++ (log_text lines ++ journal_part asked histories) =
+    ap (λ (s : List (Served MemLinkState)). transcript (map shown_of s) ++ (log_text shown ++ journal_part asked (map (λ list. list.items) read))) served_is
+    ∙ ap (λ (ls : List LogLine). transcript (map shown_of served) ++ (log_text ls ++ journal_part asked (map (λ list. list.items) read))) lines_is
+    ∙ ap (λ (part : List ℕ). transcript (map shown_of served) ++ (log_text lines ++ part)) parts in
+    λ puts. subst (λ (bytes : List ℕ). Puts before now result bytes) text puts

@@ -1,5 +1,6 @@
 -- What a run of scripted connections leaves, where it ends well.
 use Rattle.std.specs.Prelude.{◌≡◌, ◌≢◌, ◌≤◌, ◌<◌, ◌^◌, ◌++◌, ℕ, Bool, List, Some, length, map, slice_get}
+use Rattle.std.specs.List.{AllByRecursion}
 use Rattle.mely_history.specs.declared.entry.Entry.{Entry}
 use Rattle.mely_history.specs.declared.shape.Shape.{Shape}
 use Rattle.sws_steps.specs.declared.End.TheVariants.{Memory}
@@ -58,6 +59,11 @@ HasLostNothing verdict.Memory = Unit {0}
 -- the entries of each shard
 abbrev pub histories_of : Ended MemWorldState MemLinkState → List (List Entry)
 histories_of ended = map (λ history. history.items) ended.histories.items
+
+-- each of them can be read at run time, or none, as was asked
+abbrev pub AreListedAs : Bool → Ended MemWorldState MemLinkState → Type 0
+AreListedAs listed ended = AllByRecursion (λ history. history.listed ≡ listed)
+    ended.histories.items
 
 -- the run went well, its log has the lines of these connections, and its histories are those of a
 -- server that has served them

@@ -3,7 +3,7 @@ ghost use Rattle.std.specs.Prelude.{◌≡◌, ◌<◌, true, map};
 ghost use Rattle.std.specs.List.{AllByRecursion};
 ghost use Rattle.mely_check.specs.Journals.{IsFit, IsFitHistory};
 
-use mely_history::Entry;
+use mely_history::{Entry, History};
 
 /// Three numbers of 16 bits are within their range.
 fn three_fit(first: u16, second: u16, third: u16)
@@ -45,18 +45,23 @@ fn history_fits(history: &[Entry])
     }
 }
 
-/// The numbers of all histories are within the ranges of a journal's, as their types have no
-/// others. It reads each entry once, as a contract knows of a number's range only where it is read.
-fn histories_fit(histories: &[Vec<Entry>])
+/// The numbers of all histories, which are listed, are within the ranges of a journal's, as their
+/// types have no others. It reads each entry once, as a contract knows of a number's range only where it is read.
+fn histories_fit(histories: &[History])
+    requires { AllByRecursion (λ history. history.listed ≡ true) histories.now }
     ensures { AllByRecursion IsFitHistory (map (λ history. history.items) histories.now) }
 {
     for history in histories {
-        history_fits(history);
+        match history.entries() {
+            Some(entries) => history_fits(entries),
+            None => unreachable!(),
+        }
     }
 }
 
-/// The numbers of all histories are so where their journal is asked for.
-pub(crate) fn journal_fits(histories: &[Vec<Entry>], journal: bool)
+/// The numbers of all histories are so where their journal is asked for, and they are listed.
+pub(crate) fn journal_fits(histories: &[History], journal: bool)
+    requires { AllByRecursion (λ history. history.listed ≡ journal) histories.now }
     ensures { journal ≡ true
         → AllByRecursion IsFitHistory (map (λ history. history.items) histories.now) }
 {

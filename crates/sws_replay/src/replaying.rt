@@ -83,8 +83,8 @@ where
         (O.written out.old) (O.written out.new) result }
     ensures cause { HasCause (O.faults out.old) (O.faults out.new) (result ≡ Err RunFault.Write) }
 {
-    let ended = run_talks::<R, T>(rt, alloc, hall, shape, conns, log)?;
-    fault_of(write_run(alloc, out, &ended, journal))
+    let ended = run_talks::<R, T>(rt, alloc, hall, shape, conns, log, journal)?;
+    fault_of(write_run(alloc, out, ended, journal))
 }
 
 /// Serves the connections of an input out of a site on one thread, by its schedule, and writes
@@ -119,8 +119,9 @@ pub fn replay_by_schedule<R: Wait, O: Sink>(
     ensures cause { HasCause (O.faults out.old) (O.faults out.new) (result ≡ Err RunFault.Write) }
 {
     let conns = input.conns.as_slice();
-    let ended = run_steps(rt, alloc, site, shape, conns, input.steps.as_slice(), log)?;
-    fault_of(write_run(alloc, out, &ended, true))
+    let steps = input.steps.as_slice();
+    let ended = run_steps(rt, alloc, site, shape, conns, steps, log, true)?;
+    fault_of(write_run(alloc, out, ended, true))
 }
 
 /// How a replay ends by its last write.

@@ -7,7 +7,7 @@ ghost use Rattle.sws_link.specs.MemWorlds.{mem_world_tells};
 ghost use Rattle.sws_script.specs.Scripted.{script_of, told_of};
 ghost use Rattle.sws_replay.specs.Expected.{by_http, of_talk};
 ghost use Rattle.sws_replay.specs.OfInput.{AreOfInput};
-ghost use Rattle.sws_replay.specs.Runs.{HasLostNothing, RunsWell, histories_of};
+ghost use Rattle.sws_replay.specs.Runs.{AreListedAs, HasLostNothing, RunsWell, histories_of};
 ghost use Rattle.sws_link.specs.Limits.{conn_limit};
 
 use crate::fault::RunFault;
@@ -23,7 +23,8 @@ use sws_script::{ScriptConn, script_world};
 use sws_site::Site;
 
 /// Serves the connections of a script out of a site, with a thread for each of several workers, and
-/// gives what the run leaves, with the access log where that is asked for. It need not return.
+/// gives what the run leaves, with the access log and with histories that are listed where these
+/// are asked for. It need not return.
 ///
 /// However the threads run, each connection is served as if it were alone.
 ///
@@ -37,19 +38,21 @@ pub fn run_script<'s, R: Threads + Wait + Sync>(
     shape: &Shape,
     conns: &[ScriptConn],
     log: bool,
+    listed: bool,
 ) -> Result<Ended<MemWorld>, RunFault>
     requires shape { first_out_of_range shape.now (colours_over (length conns.now) log) 1 ≡ None }
     requires few { length conns.now ≤ conn_limit }
     requires conns { AreOfInput conns.now }
     ensures ran { IfOk result (λ ended. RunsWell (by_http site.now) shape.now conns.now log ended) }
+    ensures listed { IfOk result (AreListedAs listed) }
     ensures refused { IfErr result (λ fault. fault ≡ RunFault.Memory) }
 {
-    run_talks::<R, Conn<'s, MemLink>>(rt, alloc, site, shape, conns, log)
+    run_talks::<R, Conn<'s, MemLink>>(rt, alloc, site, shape, conns, log, listed)
 }
 
 /// Serves the connections of a script by talks of one hall, with a thread for each of several
-/// workers, and gives what the run leaves, with the access log where that is asked for. It need not
-/// return.
+/// workers, and gives what the run leaves, with the access log and with histories that are listed
+/// where these are asked for. It need not return.
 ///
 /// However the threads run, each connection is served as if it were alone.
 ///
@@ -63,6 +66,7 @@ pub fn run_talks<R: Threads + Wait + Sync, T: Talk<MemLink> + Drop + Send>(
     shape: &Shape,
     conns: &[ScriptConn],
     log: bool,
+    listed: bool,
 ) -> Result<Ended<MemWorld>, RunFault>
 where
     T::Hall: Send,
@@ -71,9 +75,10 @@ where
     requires conns { AreOfInput conns.now }
     ensures ran { IfOk result (λ ended.
         RunsWell (of_talk T.Talk (T.contents_of hall)) shape.now conns.now log ended) }
+    ensures listed { IfOk result (AreListedAs listed) }
     ensures refused { IfErr result (λ fault. fault ≡ RunFault.Memory) }
 {
-    given(run_threads::<R, T>(rt, alloc, hall, shape, conns, log)?)
+    given(run_threads::<R, T>(rt, alloc, hall, shape, conns, log, listed)?)
 }
 
 /// What a run gives that has lost nothing: all that it leaves, where it went well.
@@ -107,6 +112,7 @@ fn run_threads<R: Threads + Wait + Sync, T: Talk<MemLink> + Drop + Send>(
     shape: &Shape,
     conns: &[ScriptConn],
     log: bool,
+    listed: bool,
 ) -> Result<Ended<MemWorld>, RunFault>
 where
     T::Hall: Send,
@@ -116,13 +122,16 @@ where
     ensures ran { IfOk result (λ ended. ended.verdict ≡ Verdict.Ok
         → RunsWell (of_talk T.Talk (T.contents_of hall)) shape.now conns.now log ended) }
     ensures whole { IfOk result (λ ended. HasLostNothing ended.verdict) }
+    ensures listed { IfOk result (AreListedAs listed) }
     ensures refused { IfErr result (λ fault. fault ≡ RunFault.Memory) }
 {
     let world = make_world(alloc, conns)?;
-    let ended = talk_all::<R, MemWorld, T, OpenGate>(rt, alloc, hall, shape, world, &OpenGate, log);
+    let ended = talk_all::<R, MemWorld, T, OpenGate>(
+        rt, alloc, hall, shape, world, &OpenGate, log, listed,
+    );
     match ended.verdict {
         Verdict::Ok | Verdict::Memory => Ok(ended),
-        Verdict::Apart { .. } => run_again::<R, T>(rt, alloc, hall, shape, conns, log),
+        Verdict::Apart { .. } => run_again::<R, T>(rt, alloc, hall, shape, conns, log, listed),
         Verdict::World => unreachable!(),
     }
 }
@@ -139,6 +148,7 @@ fn run_again<R: Wait, T: Talk<MemLink> + Drop>(
     shape: &Shape,
     conns: &[ScriptConn],
     log: bool,
+    listed: bool,
 ) -> Result<Ended<MemWorld>, RunFault>
     requires shape { first_out_of_range shape.now (colours_over (length conns.now) log) 1 ≡ None }
     requires few { length conns.now ≤ conn_limit }
@@ -146,16 +156,17 @@ fn run_again<R: Wait, T: Talk<MemLink> + Drop>(
     ensures ran { IfOk result (λ ended. ended.verdict ≡ Verdict.Ok
         → RunsWell (of_talk T.Talk (T.contents_of hall)) shape.now conns.now log ended) }
     ensures whole { IfOk result (λ ended. HasLostNothing ended.verdict) }
+    ensures listed { IfOk result (AreListedAs listed) }
     ensures refused { IfErr result (λ fault. fault ≡ RunFault.Memory) }
 {
     let world = make_world(alloc, conns)?;
-    let ended = talk_steps::<R, MemWorld, T>(rt, alloc, hall, shape, world, &[], log);
+    let ended = talk_steps::<R, MemWorld, T>(rt, alloc, hall, shape, world, &[], log, listed);
     Ok(ended)
 }
 
 /// Serves the connections of a script out of a site on one thread: the schedule's steps of each
-/// core, and then rounds of one step a core until nothing is left; with the access log where that
-/// is asked for. It need not return.
+/// core, and then rounds of one step a core until nothing is left; with the access log and with
+/// histories that are listed where these are asked for. It need not return.
 ///
 /// # Errors
 ///
@@ -168,6 +179,7 @@ pub fn run_steps<R: Wait>(
     conns: &[ScriptConn],
     schedule: &[(u16, u32)],
     log: bool,
+    listed: bool,
 ) -> Result<Ended<MemWorld>, RunFault>
     requires shape { first_out_of_range shape.now (colours_over (length conns.now) log) 1 ≡ None }
     requires few { length conns.now ≤ conn_limit }
@@ -178,10 +190,11 @@ pub fn run_steps<R: Wait>(
     ensures scheduled { IfOk result (λ ended.
         IsServerRun shape.now log site.now (map script_of conns.now) schedule.now
         (histories_of ended)) }
+    ensures listed { IfOk result (AreListedAs listed) }
     ensures refused { IfErr result (λ fault. fault ≡ RunFault.Memory) }
 {
     let world = make_world(alloc, conns)?;
-    given(serve_steps(rt, alloc, site, shape, world, schedule, log))
+    given(serve_steps(rt, alloc, site, shape, world, schedule, log, listed))
 }
 
 /// The world of the connections.

@@ -87,7 +87,7 @@ where
     }
     let alloc = rt.alloc();
     let ended = talk_all::<T, W, K, OpenGate>(
-        rt, alloc, hall, &how.shape, world, &OpenGate, how.log,
+        rt, alloc, hall, &how.shape, world, &OpenGate, how.log, false,
     );
     let fault = write_end(alloc, ended.verdict, &ended.log, &ended.served, out);
     Outcome::of_run(ended, fault)

@@ -95,7 +95,7 @@ fn talked(
     workers: u16,
     guests: &[Guest],
     failing: &[u32],
-) -> (usize, Vec<Came>)
+) -> (u64, Vec<Came>)
     requires some { 1 ≤ workers }
     requires few { workers ≤ 64 }
 {
@@ -127,8 +127,8 @@ fn talked(
 /// The room got so many lines, each guest was shown this, and its time has ended so.
 fn has_come(
     rt: &(impl AllocGlobal + Abort),
-    talked: &(usize, Vec<Came>),
-    lines: usize,
+    talked: &(u64, Vec<Came>),
+    lines: u64,
     guests: &[(End, &[u8])],
 ) {
     let (got, came) = talked;
@@ -143,8 +143,8 @@ fn has_come(
 /// The room got so many lines, and each guest was shown this and left by itself.
 fn is_left(
     rt: &(impl AllocGlobal + Abort),
-    talked: &(usize, Vec<Came>),
-    lines: usize,
+    talked: &(u64, Vec<Came>),
+    lines: u64,
     shown: &[&[u8]],
 ) {
     let (got, came) = talked;

@@ -7,7 +7,6 @@ use Rattle.mely_event.specs.declared.colour.Colour.{Colour}
 use Rattle.mely_event.specs.declared.event.Event.{Event}
 use Rattle.mely_event.specs.declared.logged.Logged.{Logged}
 use Rattle.mely_event.specs.declared.trail.Trail.{Ghosts as TrailWords}
-use Rattle.mely_event.specs.TrailLog.{AreAlike}
 use Rattle.mely_history.specs.declared.entry.Entry.{Entry}
 use Rattle.mely_history.specs.declared.no_take.NoTake.{NoTake}
 use Rattle.mely_history.specs.declared.setup.Setup.{Setup}
@@ -35,7 +34,7 @@ use Rattle.test_fleet.specs.Callers.{IsCaller, MayFinish}
 
 -- what contracts see of the state
 abbrev pub tally_words : TrailWords (Logged ℕ) (Unit {0})
-tally_words = record { trail_of = λ s. s.log.events; colour_of = λ s. s.log.colour; frame_of = λ s. tt; spare_of = λ s. s.log.spare; alike = AreAlike (λ (s : Logged ℕ). s.log) (λ (s : Logged ℕ). s.value) }
+tally_words = record { trail_of = λ s. s.log.events; colour_of = λ s. s.log.colour; frame_of = λ s. tt }
 
 module _ {S P F : Type 0} {g : _} (t : TrailWords S F) (fits : F → Colour → Event → Option P → Type 0) (fleet : FleetOf (KeptShardState S P) Entry (ShardFrame F)) (before after : PassesOf (KeptShardState S P) Entry (ShardFrame F) g) (same : after.number ≡ before.number) (c : Colour) (answer : Result (TurnState S P) NoTake)
     (sees : SeesOn fleet (shard_of fleet.setup c) before after (λ setup n. TakesAt t fits setup (frame_in (shard_frame t.frame_of) fleet) n c answer)) where
@@ -48,7 +47,6 @@ module _ {S P F : Type 0} {g : _} (t : TrailWords S F) (fits : F → Colour → 
         (owes_kept fleet.setup before.number (shard_of fleet.setup c) (fronts before.shards.items) (fronts after.shards.items) _ sees turn.colour (λ point does. takes_no_finish t fits fleet.setup (frame_in (shard_frame t.frame_of) fleet) before.number c answer turn.colour point _ does) turn.core turn.count _ may.owed);
     coloured = may.coloured;
     framed = may.framed;
-    room = may.room;
   }
 
 -- the turn that a take gives may be finished
@@ -67,17 +65,14 @@ may_finish {S} {P} {F} t fits fleet before after c (Ok turn) low same sees =
       owed = subst (λ d. owed_by fleet after d turn.core turn.count (t.trail_of turn.state ++ events_of turn.events)) (sym taken.colour) taken.owed;
       coloured = taken.of_colour ∙ sym taken.colour;
       framed = taken.of_frame;
-      room = taken.room;
     }
 
 -- an event more of a turn was run
 pub may_onward : {S P F : Type 0} {g : _} (t : TrailWords S F) (fleet : FleetOf (KeptShardState S P) Entry (ShardFrame F)) (own : PassesOf (KeptShardState S P) Entry (ShardFrame F) g) (old new : TurnState S P) (e : Event × Option P) → MayFinish t fleet own old → old.events ≡ e ∷ new.events → new.colour ≡ old.colour → new.core ≡ old.core → new.count ≡ old.count
-    → t.trail_of new.state ≡ t.trail_of old.state ++ e.0 ∷ [] → t.colour_of new.state ≡ t.colour_of old.state → t.frame_of new.state ≡ t.frame_of old.state → t.spare_of old.state ≡ t.spare_of new.state + 1 → MayFinish t fleet own new
-may_onward t fleet own old new e may next colour core count trail coloured framed spare =
+    → t.trail_of new.state ≡ t.trail_of old.state ++ e.0 ∷ [] → t.colour_of new.state ≡ t.colour_of old.state → t.frame_of new.state ≡ t.frame_of old.state → MayFinish t fleet own new
+may_onward t fleet own old new e may next colour core count trail coloured framed =
     let ran : t.trail_of old.state ++ events_of old.events ≡ t.trail_of new.state ++ events_of new.events =
     ap (λ es. t.trail_of old.state ++ events_of es) next ∙ sym (append_assoc (t.trail_of old.state) (e.0 ∷ []) (events_of new.events)) ∙ ap (λ es. es ++ events_of new.events) (sym trail) in
-    let shorter : length old.events ≡ length new.events + 1 = ap length next ∙ omega arith in
-    let room = may.room in
     record {
       colour = subst (λ (d : Colour). d.0 < colours_of fleet.setup) (sym colour) may.colour;
       owed = subst (λ es. owed_by fleet own new.colour new.core new.count es) ran
@@ -86,7 +81,6 @@ may_onward t fleet own old new e may next colour core count trail coloured frame
           (subst (λ d. owed_by fleet own d old.core old.count (t.trail_of old.state ++ events_of old.events)) (sym colour) may.owed)));
       coloured = coloured ∙ may.coloured ∙ sym colour;
       framed = framed ∙ may.framed;
-      room = omega (arith, shorter, room, spare);
     }
 
 -- a caller at first

@@ -55,4 +55,3 @@ pub record MayFinish {S P F : Type 0} {g : _} (t : TrailWords S F)
       ++ events_of turn.events)
   pub coloured : t.colour_of turn.state ≡ turn.colour
   pub framed : t.frame_of turn.state ≡ frame_in (shard_frame t.frame_of) fleet
-  pub room : length turn.events ≤ t.spare_of turn.state

@@ -7,7 +7,7 @@ ghost use Rattle.test_fleet.specs.Callers.{AreCallers, IsRow};
 
 mod calls;
 mod crowd;
-mod grudging;
+mod sowing;
 mod stress;
 mod wanting;
 
@@ -32,6 +32,13 @@ fn setup_of(shape: &Shape, colours: u16, weight: u32) -> Result<Setup, Fail>
         Ok(setup) => Ok(setup),
         Err(_) => Err(Fail::from("no setup")),
     }
+}
+
+/// The same, with histories that are listed.
+fn listed_setup_of(shape: &Shape, colours: u16, weight: u32) -> Result<Setup, Fail>
+    ensures { IfOk result (λ setup. IsRow shape.now.cores colours setup) }
+{
+    Ok(setup_of(shape, colours, weight)?.listed())
 }
 
 /// A fleet of a setup of so many colours, and the passes of its cores and of so many other callers.

@@ -221,7 +221,7 @@ module _ {S P F X : Type 0} (t : TrailWords S F) (fits : F → Colour → Event 
       by_answer Idle d e line = line (after_finish w turn.colour Idle) d e going
 
   -- a popped mark's colour is taken
-  pub take_line : (b : SideState S P) (mark : Mark) (turn : TurnState S P) → IsColour weave.setup mark.colour → AtShard a b mark.colour (TakeAs t mark.colour k (Ok turn))
+  pub take_line : (b : SideState S P) (mark : Mark) (turn : TurnState S P) → IsColour weave.setup mark.colour → AtShard a b mark.colour (TakeAs mark.colour k (Ok turn))
       → Follows b (after_take w mark (Ok turn)) (step_take rules k m mark.colour (queued_of (history_for rules m mark.colour) mark.colour))
   take_line b mark turn in_setup called =
       let c : Colour = mark.colour in
@@ -233,7 +233,7 @@ module _ {S P F X : Type 0} (t : TrailWords S F) (fits : F → Colour → Event 
       let colour : turn.colour ≡ c = ap (λ (u : TurnState S P). u.colour) takes.made in
       subst (λ (queued : List Event). Follows b (after_take w mark (Ok turn)) (step_take rules k m c queued)) (ap (λ (h : List Entry). queued_of h c) (sym (was_history c called.old called.was)))
       (subst (λ (n : ℕ). Follows b (after_take w mark (Ok turn)) (turns_to k (Turning c n (take n (queued_of called.old.history c)) Nothing []) (enters (shard c) (Take c k n) m))) (sym count)
-      (shard_line b c (TakeAs t c k (Ok turn)) called (Take c k turn.count) takes.after.history (after_take w mark (Ok turn))
+      (shard_line b c (TakeAs c k (Ok turn)) called (Take c k turn.count) takes.after.history (after_take w mark (Ok turn))
       (Turning c turn.count (take turn.count (queued_of called.old.history c)) Nothing [])
       (λ i. Turning (sym colour i) turn.count (sym events i) Nothing []) going))
 

@@ -1,5 +1,4 @@
--- What a step does to what an app has: pieces are in other places, or a state has
--- more room, or a handler ran.
+-- What a step does to what an app has: pieces are in other places, or a handler ran.
 use Rattle.std.proofs.Common.{◌≡◌, ◌≤◌, ℕ, Bool, true, false, cond, List, ◌∷◌, ◌++◌, Option, map, arith, refl, inl, inr}
 use Rattle.std.specs.Prelude.{IsPermutation, sum_by}
 use Rattle.std.proofs.lemmas.List.Sums.{sum_by-append, sum_by-cons}
@@ -32,16 +31,6 @@ no_more false b to = omega arith
 no_more true true to = omega arith
 no_more true false to = let e : false ≡ true = to refl in cc
 
--- a state has more room
-pub record Roomed {S P F : Type 0} (t : TrailWords S F) (before after : List (Piece S P)) : Type 0 where
-  pub colour : Colour
-  pub state : S
-  pub roomy : S
-  pub rest : List (Piece S P)
-  pub was : IsPermutation before (state_piece colour state ∷ rest)
-  pub alike : t.alike state roomy
-  pub becomes : IsPermutation (state_piece colour roomy ∷ rest) after
-
 module _ {S P F R : Type 0} (t : TrailWords S F) (fits : F → Colour → Event → Option P → Type 0) (y : AppWords R P S F) (app : R) (frame : F) where
   -- a handler ran on an event that had come
   pub record Ran (before after : List (Piece S P)) : Type 0 where
@@ -61,33 +50,23 @@ module _ {S P F R : Type 0} (t : TrailWords S F) (fits : F → Colour → Event 
 
   pub data Changed (before after : List (Piece S P)) : Type 0 where
     moved : IsPermutation before after → Changed before after
-    roomed : Roomed t before after → Changed before after
     ran : Ran before after → Changed before after
 
   module _ {X : Type 0} (act : Acts X) (before after : List (Piece S P)) (x : X) where
     -- what the app is then, by the function
     abbrev pub becomes_by : Changed before after → X
     becomes_by (moved order) = x
-    becomes_by (roomed r) = x
     becomes_by (ran r) = (act x r.colour r.event).becomes
 
     -- what was put is what the function says
     abbrev pub PutsTold : Changed before after → Type 0
     PutsTold (moved order) = Unit {0}
-    PutsTold (roomed r) = Unit {0}
     PutsTold (ran r) = without_loads r.puts ≡ (act x r.colour r.event).puts
 
   module _ {X : Type 0} (act : Acts X) (Agrees : X → List (Piece S P) → Type 0) (spoilt : S → Bool) (is_told : IsTold t fits y app frame act Agrees spoilt) (before after : List (Piece S P)) where
     -- there are no fewer spoilt states
     pub stays_spoilt : Changed before after → how_spoilt spoilt before ≤ how_spoilt spoilt after
     stays_spoilt (moved order) = let same = sum_by-IsPermutation (spoilt_in spoilt) before after order in omega (arith, same)
-    stays_spoilt (roomed r) =
-        let was = sum_by-IsPermutation (spoilt_in spoilt) before (state_piece r.colour r.state ∷ r.rest) r.was in
-        let now = sum_by-IsPermutation (spoilt_in spoilt) (state_piece r.colour r.roomy ∷ r.rest) after r.becomes in
-        let one = sum_by-cons (spoilt_in spoilt) (state_piece r.colour r.state) r.rest in
-        let other = sum_by-cons (spoilt_in spoilt) (state_piece r.colour r.roomy) r.rest in
-        let more = no_more (spoilt r.state) (spoilt r.roomy) (is_told.spoilt_roomier r.state r.roomy r.alike) in
-        omega (arith, was, now, one, other, more)
     stays_spoilt (ran r) =
         let was = sum_by-IsPermutation (spoilt_in spoilt) before (state_piece r.colour r.state ∷ event_piece r.colour r.event r.load ∷ r.rest) r.was in
         let now = sum_by-IsPermutation (spoilt_in spoilt) (state_piece r.colour r.left ∷ (map of_put r.puts ++ r.rest)) after r.becomes in
@@ -101,11 +80,6 @@ module _ {S P F R : Type 0} (t : TrailWords S F) (fits : F → Colour → Event 
     -- where no state is spoilt then, both sides agree again
     pub change_told : (x : X) (change : Changed before after) → how_spoilt spoilt after ≡ 0 → Agrees x before → PutsTold act before after x change × Agrees (becomes_by act before after x change) after
     change_told x (moved order) none agrees = (tt, is_told.moved x before after order agrees)
-    change_told x (roomed r) none agrees = (
-      tt,
-      is_told.moved x (state_piece r.colour r.roomy ∷ r.rest) after r.becomes
-          (is_told.roomier x r.colour r.state r.roomy r.rest r.alike (is_told.moved x before (state_piece r.colour r.state ∷ r.rest) r.was agrees)),
-    )
     change_told x (ran r) none agrees =
         let now = sum_by-IsPermutation (spoilt_in spoilt) (state_piece r.colour r.left ∷ (map of_put r.puts ++ r.rest)) after r.becomes in
         let one = sum_by-cons (spoilt_in spoilt) (state_piece r.colour r.left) (map of_put r.puts ++ r.rest) in

@@ -30,7 +30,7 @@ use Rattle.mely_weave.specs.Weave.{WeaveState}
 use Rattle.mely_weave.proofs.Entries.SideLemmas.{shard_owns}
 use Rattle.mely_weave.proofs.Lines.LineLemmas.{stands}
 use Rattle.mely_run.specs.Pieces.{Piece, state_piece, event_piece, of_state, of_lane, of_put, of_phase, of_worker, pieces}
-use Rattle.mely_run.proofs.Pieces.ChangesLemmas.{Roomed, Ran}
+use Rattle.mely_run.proofs.Pieces.ChangesLemmas.{Ran}
 use Rattle.mely_run.proofs.Pieces.PermutingLemmas.{same_order, onward, back, past}
 use Rattle.mely_run.proofs.Pieces.MovesLemmas.{next, worker_front, none_moves, lane_front}
 
@@ -120,7 +120,7 @@ module _ {S P F : Type 0} (t : TrailWords S F) (fits : F → Colour → Event �
           absurd (omega (arith, rests, less))
 
   -- a colour is taken
-  pub take_moves : (mark : Mark) (turn : TurnState S P) → w.phase ≡ at.Popped mark → AtShard from b mark.colour (TakeAs t mark.colour k (Ok turn)) → Roomed t (pieces weave) (pieces (after (after_take w mark (Ok turn))))
+  pub take_moves : (mark : Mark) (turn : TurnState S P) → w.phase ≡ at.Popped mark → AtShard from b mark.colour (TakeAs mark.colour k (Ok turn)) → IsPermutation (pieces weave) (pieces (after (after_take w mark (Ok turn))))
   take_moves mark turn phase called =
       let c : Colour = mark.colour in
       let does = called.does in
@@ -133,13 +133,13 @@ module _ {S P F : Type 0} (t : TrailWords S F) (fits : F → Colour → Event �
       (same_order (of_lane c does.before ++ front.rest) (state_piece c does.home ∷ (map piece does.before.events ++ front.rest)) (ap (λ (o : Option S). (of_state c o ++ map piece does.before.events) ++ front.rest) does.at_home)) in
       let split : map piece does.before.events ≡ map piece (take turn.count does.before.events) ++ map piece (drop turn.count does.before.events) =
       ap (map piece) (sym (take-append-drop turn.count does.before.events)) ∙ map-append piece (take turn.count does.before.events) (drop turn.count does.before.events) in
-      let held : of_worker u ≡ state_piece c turn.state ∷ (map piece (take turn.count does.before.events) ++ []) = ap (λ (r : TurnState S P). of_phase (at.Turning r Nothing [])) does.made in
-      let out : IsPermutation (state_piece c turn.state ∷ (map piece does.before.events ++ front.rest)) (pieces (after u)) =
-      onward (same_order (state_piece c turn.state ∷ (map piece does.before.events ++ front.rest)) (state_piece c turn.state ∷ ((map piece (take turn.count does.before.events) ++ map piece (drop turn.count does.before.events)) ++ front.rest)) (ap (λ (ps : List (Piece S P)). state_piece c turn.state ∷ (ps ++ front.rest)) split))
-      (onward (taken_over (state_piece c turn.state) (map piece (take turn.count does.before.events)) (map piece (drop turn.count does.before.events)) front.rest)
+      let held : of_worker u ≡ state_piece c does.home ∷ (map piece (take turn.count does.before.events) ++ []) = ap (λ (r : TurnState S P). of_phase (at.Turning r Nothing [])) does.made in
+      let out : IsPermutation (state_piece c does.home ∷ (map piece does.before.events ++ front.rest)) (pieces (after u)) =
+      onward (same_order (state_piece c does.home ∷ (map piece does.before.events ++ front.rest)) (state_piece c does.home ∷ ((map piece (take turn.count does.before.events) ++ map piece (drop turn.count does.before.events)) ++ front.rest)) (ap (λ (ps : List (Piece S P)). state_piece c does.home ∷ (ps ++ front.rest)) split))
+      (onward (taken_over (state_piece c does.home) (map piece (take turn.count does.before.events)) (map piece (drop turn.count does.before.events)) front.rest)
       (subst (λ (ps : List (Piece S P)). IsPermutation (map piece (drop turn.count does.before.events) ++ (ps ++ front.rest)) (pieces (after u))) held
       (front.becomes b u called.new _ (record does.before { state = None; events = drop turn.count does.before.events }) does.after (ap (λ (s : SideState S P). s.shards) called.becomes)))) in
-      record { colour = c; state = does.home; roomy = turn.state; rest = map piece does.before.events ++ front.rest; was = in_lane; alike = does.alike.0; becomes = out }
+      onward in_lane out
 
   -- a handler runs
   unfoldable pub run_moves : {R : Type 0} (y : AppWords R P S F) (app : R) (turn : TurnState S P) (event : Event × Option P) (rest : List (Event × Option P)) (state : S) (puts : List (Colour × Event × Option P)) → w.phase ≡ at.Turning turn Nothing [] → turn.events ≡ event ∷ rest → b ≡ from

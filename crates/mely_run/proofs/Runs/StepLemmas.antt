@@ -45,7 +45,7 @@ use Rattle.mely_run.specs.Corresponds.{worker_doing, doing_of, without_loads, Is
 use Rattle.mely_run.specs.Pieces.{Piece, of_lanes, of_worker, pieces}
 use Rattle.mely_run.proofs.Lines.FollowsLemmas.{Follows, push_line, report_line, pop_line, pick_line, register_line, finish_line, take_line, steal_line, same_line}
 use Rattle.mely_run.proofs.Pieces.MovesLemmas.{next, shard_same}
-use Rattle.mely_run.proofs.Pieces.ChangesLemmas.{Changed, moved, roomed, ran, becomes_by, PutsTold}
+use Rattle.mely_run.proofs.Pieces.ChangesLemmas.{Changed, moved, ran, becomes_by, PutsTold}
 use Rattle.mely_run.proofs.Pieces.HandingLemmas.{chain_still, held_in, may, register_moves, finish_moves, take_moves, run_moves}
 
 module _ {S P F R X : Type 0} (t : TrailWords S F) (fits : F → Colour → Event → Option P → Type 0) (weave : WeaveState S P) (well : StandsWell t fits weave) (k : ℕ) (w : WorkerState S P) (here : slice_get weave.workers k ≡ Some w) (low : k < (shape_of weave.setup).cores)
@@ -210,9 +210,9 @@ module _ {S P F R X : Type 0} (t : TrailWords S F) (fits : F → Colour → Even
       in_setup : IsColour weave.setup mark.colour
       in_setup = may t fits weave well k w here low b (at.Popped mark) phase
 
-      by_answer : (answer : Result (TurnState S P) NoTake) → AtShard from b mark.colour (TakeAs t mark.colour k answer) → WasntRefused (take_name answer) → take_name answer ≢ names.Memory → Goes (after_take w mark answer) (step_from rules k act m (Popped mark))
+      by_answer : (answer : Result (TurnState S P) NoTake) → AtShard from b mark.colour (TakeAs mark.colour k answer) → WasntRefused (take_name answer) → take_name answer ≢ names.Memory → Goes (after_take w mark answer) (step_from rules k act m (Popped mark))
       by_answer (Ok turn) called _ _ = record {
-        change = roomed (take_moves t fits weave well k w here low b mark turn phase called);
+        change = moved (take_moves t fits weave well k w here low b mark turn phase called);
         going = awake;
         follows = λ is told. take_line t fits weave well k w here low m is b mark turn in_setup called;
         becomes = refl;

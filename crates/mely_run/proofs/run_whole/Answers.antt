@@ -1,6 +1,8 @@
-use Rattle.std.proofs.Common.{◌<◌, ◌∙◌, sym, subst, get_or}
+use Rattle.std.proofs.Common.{◌≡◌, ◌<◌, ◌∙◌, sym, subst, get_or}
+use Rattle.std.specs.List.{AllByRecursion}
 use Rattle.mely_history.specs.declared.setup.Setup.{Setup}
-use Rattle.mely_history.specs.Setup.{shape_of}
+use Rattle.mely_history.specs.Setup.{shape_of, is_listed}
+use Rattle.mely_history.specs.Kept.{HistoryState}
 use Rattle.mely_weave.specs.Runs.{RunsTo}
 use Rattle.mely_history.specs.Schedules.{spelled_out}
 use Rattle.mely_weave.specs.Drains.{Drains}
@@ -52,4 +54,6 @@ returns-in-All-Empty g c = record {
     told = c.into_parts-parts.ensures.histories;
     states_left = c.into_parts-parts.ensures.states;
   };
+  listed = subst (λ (s : Setup). AllByRecursion (λ (history : HistoryState). history.listed ≡ is_listed s) c.into_parts-parts.result.histories.items)
+      (c.drain-drained.ensures.same.setup ∙ c.run-went.ensures.same.setup ∙ c.post.ensures.same.setup ∙ c.in-Ok.ensures.first.of_setup) c.into_parts-parts.ensures.listed;
 }

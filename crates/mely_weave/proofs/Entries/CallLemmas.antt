@@ -25,7 +25,7 @@ use Rattle.mely_history.specs.Legal.{IsRunningOn, IsLegal, MayRegister, MayTake,
 use Rattle.mely_history.specs.ColourAccount.{account_of}
 use Rattle.mely_history.proofs.LegalAccountLemmas.{IsOnTurn, running_on_owner, owner_within}
 use Rattle.mely_queue.specs.Turn.{TurnState, EachFits}
-use Rattle.mely_shard.specs.Shard.{ShardState, ColourState, IsOwn, IsConsistent, KeepsFrame, lane_at, place, Registers, RegisteredAs, KeepsAllButSpare, Takes, KeepsStates, NoTakeAs, Steals, NoStealAs, TurnStands}
+use Rattle.mely_shard.specs.Shard.{ShardState, ColourState, IsOwn, IsConsistent, KeepsFrame, lane_at, place, Registers, RegisteredAs, KeepsAllButSpare, Takes, NoTakeAs, Steals, NoStealAs, TurnStands}
 use Rattle.mely_steal.specs.Marks.{mark_of, without}
 use Rattle.mely_steal.specs.StealQueue.{after_entry, pick_of}
 use Rattle.mely_core.specs.CoreQueue.{CoreQueueState}
@@ -43,9 +43,9 @@ module _ {S P : Type 0} where
   register_does c event load by old new (Ok reply) ok told err = (ok, told)
   register_does c event load by old new (Err back) ok told err = err
 
-  pub take_does : {F : Type 0} (t : TrailWords S F) (c : Colour) (core : ℕ) (old new : ShardState S P) (result : Result (TurnState S P) NoTake) → IfOk result (λ turn. Takes t old new c core turn) → OnErr result (KeepsStates t old new) → IfErr result (λ refusal. NoTakeAs old.setup old.history c core refusal) → TakeAs t c core result old new
-  take_does t c core old new (Ok turn) ok err refusal = ok
-  take_does t c core old new (Err why) ok err refusal = (err, refusal)
+  pub take_does : (c : Colour) (core : ℕ) (old new : ShardState S P) (result : Result (TurnState S P) NoTake) → IfOk result (λ turn. Takes old new c core turn) → OnErr result (KeepsAllButSpare old new) → IfErr result (λ refusal. NoTakeAs old.setup old.history c core refusal) → TakeAs c core result old new
+  take_does c core old new (Ok turn) ok err refusal = ok
+  take_does c core old new (Err why) ok err refusal = (err, refusal)
 
   pub steal_does : (c : Colour) (to : ℕ) (old new : ShardState S P) (result : Result Stolen NoSteal) → IfOk result (λ stolen. Steals old new c to stolen) → OnErr result (KeepsAllButSpare old new) → IfErr result (λ refusal. NoStealAs old.setup old.history c to refusal) → StealAs c to result old new
   steal_does c to old new (Ok stolen) ok err refusal = ok
@@ -76,10 +76,10 @@ module _ {S P F : Type 0} (t : TrailWords S F) (fits : F → Colour → Event �
   pub register_adds : (event : Event) (load : Option P) (by : ℕ) (reply : Registered) → MayRegister a.setup c event → AtShard a b c (RegisterAs c event load by (Ok reply)) → Adds a.setup (history_at a) (history_at b) (Reg c event by)
   register_adds event load by reply may at = adds_entry a b c (RegisterAs c event load by (Ok reply)) at (Reg c event by) refl (legal_at at.old at.was) may at.does.0.after.history
 
-  pub take_adds : (core : ℕ) (turn : TurnState S P) → AtShard a b c (TakeAs t c core (Ok turn)) → Adds a.setup (history_at a) (history_at b) (Take c core turn.count)
+  pub take_adds : (core : ℕ) (turn : TurnState S P) → AtShard a b c (TakeAs c core (Ok turn)) → Adds a.setup (history_at a) (history_at b) (Take c core turn.count)
   take_adds core turn at =
       let is = stands.shard (shard_of a.setup c) at.old at.was in
-      adds_entry a b c (TakeAs t c core (Ok turn)) at (Take c core turn.count) refl (legal_at at.old at.was) (subst (λ (s : Setup). MayTake s at.old.history c core turn.count) is.of_setup at.does.allowed) at.does.after.history
+      adds_entry a b c (TakeAs c core (Ok turn)) at (Take c core turn.count) refl (legal_at at.old at.was) (subst (λ (s : Setup). MayTake s at.old.history c core turn.count) is.of_setup at.does.allowed) at.does.after.history
 
   pub steal_adds : (to : ℕ) (stolen : Stolen) → AtShard a b c (StealAs c to (Ok stolen)) → Adds a.setup (history_at a) (history_at b) (Steal c stolen.from to)
   steal_adds to stolen at =
@@ -133,11 +133,11 @@ module _ {S P F : Type 0} (t : TrailWords S F) (fits : F → Colour → Event �
   register_owes event load by (Err back) may at d core count trail =
       still_out_same a b (setup_stays a b c (RegisterAs c event load by (Err back)) at) (histories_stay a b c (RegisterAs c event load by (Err back)) at at.does.history) d core count trail
 
-  pub take_owes : (core : ℕ) (answer : Result (TurnState S P) NoTake) → AtShard a b c (TakeAs t c core answer) → StillOwes IsOut a b
+  pub take_owes : (core : ℕ) (answer : Result (TurnState S P) NoTake) → AtShard a b c (TakeAs c core answer) → StillOwes IsOut a b
   take_owes k (Ok turn) at d core count trail =
-      still_out a b (Take c k turn.count) (setup_stays a b c (TakeAs t c k (Ok turn)) at) (take_adds t fits a b c stands k turn at) d core count trail (λ _ no. no)
+      still_out a b (Take c k turn.count) (setup_stays a b c (TakeAs c k (Ok turn)) at) (take_adds t fits a b c stands k turn at) d core count trail (λ _ no. no)
   take_owes k (Err why) at d core count trail =
-      still_out_same a b (setup_stays a b c (TakeAs t c k (Err why)) at) (histories_stay a b c (TakeAs t c k (Err why)) at at.does.0.history) d core count trail
+      still_out_same a b (setup_stays a b c (TakeAs c k (Err why)) at) (histories_stay a b c (TakeAs c k (Err why)) at at.does.0.history) d core count trail
 
   pub steal_owes : (to : ℕ) (answer : Result Stolen NoSteal) → AtShard a b c (StealAs c to answer) → StillOwes IsOut a b
   steal_owes to (Ok stolen) at d core count trail =
@@ -156,7 +156,7 @@ names_core setup old new c (Running core) legal told = tt
 
 module _ {S P F : Type 0} (t : TrailWords S F) (fits : F → Colour → Event → Option P → Type 0) (a b : SideState S P) (c : Colour) (stands : PartsOf t fits a) where
   -- the turn that a take gives
-  turn_taken : (turn : TurnState S P) (at : AtShard a b c (TakeAs t c a.core (Ok turn))) → c.0 < colours_of a.setup → PartsOf t fits b → TurnStands t fits at.new turn
+  turn_taken : (turn : TurnState S P) (at : AtShard a b c (TakeAs c a.core (Ok turn))) → c.0 < colours_of a.setup → PartsOf t fits b → TurnStands t fits at.new turn
       → IsTaken t fits (λ (s : SideState S P). s.setup) (λ (s : SideState S P). s.core) (λ (s : SideState S P). t.frame_of s.given) IsOut a b c turn
   turn_taken turn at low after out =
       let took = at.does in
@@ -182,16 +182,15 @@ module _ {S P F : Type 0} (t : TrailWords S F) (fits : F → Colour → Event �
         of_colour = out.coloured ∙ is_c;
         of_frame = frame;
         events_fit = subst (λ (d : Colour). EachFits (fits (t.frame_of a.given) d) turn.events) is_c (subst (λ (f : F). EachFits (fits f turn.colour) turn.events) frame out.fit);
-        room = subst (λ n. n ≤ t.spare_of turn.state) (sym many) took.room;
         owed = record {
-          colour = subst (λ (s : Setup). c.0 < colours_of s) (sym (setup_stays a b c (TakeAs t c a.core (Ok turn)) at)) low;
-          runs = subst (λ (h : List Entry). IsRunningOn h c turn.core turn.count) (sym (history_becomes a b c (TakeAs t c a.core (Ok turn)) at)) (subst (λ (d : Colour). IsRunningOn at.new.history d turn.core turn.count) is_c out.away);
-          trailed = subst (λ (h : List Entry). t.trail_of turn.state ++ events_of turn.events ≡ take (begun_of h c) (registered_of h c)) (sym (history_becomes a b c (TakeAs t c a.core (Ok turn)) at)) (subst (λ (d : Colour). t.trail_of turn.state ++ events_of turn.events ≡ take (begun_of at.new.history d) (registered_of at.new.history d)) is_c out.trailed);
+          colour = subst (λ (s : Setup). c.0 < colours_of s) (sym (setup_stays a b c (TakeAs c a.core (Ok turn)) at)) low;
+          runs = subst (λ (h : List Entry). IsRunningOn h c turn.core turn.count) (sym (history_becomes a b c (TakeAs c a.core (Ok turn)) at)) (subst (λ (d : Colour). IsRunningOn at.new.history d turn.core turn.count) is_c out.away);
+          trailed = subst (λ (h : List Entry). t.trail_of turn.state ++ events_of turn.events ≡ take (begun_of h c) (registered_of h c)) (sym (history_becomes a b c (TakeAs c a.core (Ok turn)) at)) (subst (λ (d : Colour). t.trail_of turn.state ++ events_of turn.events ≡ take (begun_of at.new.history d) (registered_of at.new.history d)) is_c out.trailed);
         };
       }
 
   -- the same, whatever the answer
-  pub turn_of : (answer : Result (TurnState S P) NoTake) (at : AtShard a b c (TakeAs t c a.core answer)) → c.0 < colours_of a.setup → PartsOf t fits b → IfOk answer (λ turn. TurnStands t fits at.new turn)
+  pub turn_of : (answer : Result (TurnState S P) NoTake) (at : AtShard a b c (TakeAs c a.core answer)) → c.0 < colours_of a.setup → PartsOf t fits b → IfOk answer (λ turn. TurnStands t fits at.new turn)
       → IfOk answer (λ turn. IsTaken t fits (λ (s : SideState S P). s.setup) (λ (s : SideState S P). s.core) (λ (s : SideState S P). t.frame_of s.given) IsOut a b c turn)
   turn_of (Ok turn) at low after out = turn_taken turn at low after out
   turn_of (Err why) at low after out = tt

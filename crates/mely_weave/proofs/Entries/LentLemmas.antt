@@ -26,7 +26,7 @@ module _ {A B S P F : Type 0} (view : B → A) (t : TrailWords S F) (setup_of : 
   -- the turn that a take gives
   pub taken_shown : {E : Type 0} (fits : F → Colour → Event → Option P → Type 0) (core_of : A → ℕ) (b b' : B) (c : Colour) (answer : Result (TurnState S P) E) → IfOk answer (λ turn. IsTaken t fits setup_of core_of frame_of owes (view b) (view b') c turn)
       → IfOk answer (λ turn. IsTaken t fits (λ s. setup_of (view s)) (λ s. core_of (view s)) (λ s. frame_of (view s)) (λ s. owes (view s)) b b' c turn)
-  taken_shown fits core_of b b' c (Ok turn) is = record { colour = is.colour; core = is.core; count = is.count; few = is.few; of_colour = is.of_colour; of_frame = is.of_frame; events_fit = is.events_fit; room = is.room; owed = is.owed }
+  taken_shown fits core_of b b' c (Ok turn) is = record { colour = is.colour; core = is.core; count = is.count; few = is.few; of_colour = is.of_colour; of_frame = is.of_frame; events_fit = is.events_fit; owed = is.owed }
   taken_shown fits core_of b b' c (Err why) is = tt
 
 -- what contracts see of a side that is lent
@@ -38,7 +38,7 @@ lent_words t fits = record {
   owes = λ a c core count trail. IsOut (side_state a) c core count trail;
   keeps = λ a b. IsLentOn t fits a b;
   registers = λ a c event load answer b. AtShard (side_state a) (side_state b) c (RegisterAs c event load a.core answer);
-  takes = λ a c answer b. AtShard (side_state a) (side_state b) c (TakeAs t c a.core answer);
+  takes = λ a c answer b. AtShard (side_state a) (side_state b) c (TakeAs c a.core answer);
   finishes = λ a turn answer b. AtShard (side_state a) (side_state b) turn.colour (FinishAs turn answer);
   steals = λ a c answer b. AtShard (side_state a) (side_state b) c (StealAs c a.core answer);
   pushes = λ a core mark answer b. AtChain (side_state a) (side_state b) core (PushAs mark answer);

@@ -109,11 +109,11 @@ module _ {S P F : Type 0} (t : TrailWords S F) (fits : F → Colour → Event �
       stand_alike (of weave.shards) (marks_in_system held_by weave.chains weave.workers) (marks_in_system held_by weave.chains (slice_set weave.workers k v)) (λ p. sym (hand_same held_by weave.chains weave.workers k w v here same p)) well.marks
 
   -- a popped mark's colour is taken
-  pub take_line : (mark : Mark) → w.phase ≡ Popped mark → (b : SideState S P) (answer : Result (TurnState S P) NoTake) → AtShard a b mark.colour (TakeAs t mark.colour k answer) → StepKeeps b (after_take w mark answer) (take_name answer)
+  pub take_line : (mark : Mark) → w.phase ≡ Popped mark → (b : SideState S P) (answer : Result (TurnState S P) NoTake) → AtShard a b mark.colour (TakeAs mark.colour k answer) → StepKeeps b (after_take w mark answer) (take_name answer)
   take_line mark phase b (Ok turn) at =
       let c : Colour = mark.colour in
       let shards : List (ShardState S P) = with_shard c at.new in
-      let at' : AtShard a (side shards weave.chains) c (TakeAs t c k (Ok turn)) = record { old = at.old; new = at.new; was = at.was; does = at.does; becomes = refl } in
+      let at' : AtShard a (side shards weave.chains) c (TakeAs c k (Ok turn)) = record { old = at.old; new = at.new; was = at.was; does = at.does; becomes = refl } in
       let adds : Adds weave.setup (h weave.shards) (h shards) (Take c k turn.count) = take_adds t fits a (side shards weave.chains) c stands k turn at' in
       let v : WorkerState S P = in_phase w (Turning turn Nothing []) in
       let holds : held_by w ≡ (w.core, mark) ∷ [] = ap (held_in w.core) phase in
@@ -132,13 +132,13 @@ module _ {S P F : Type 0} (t : TrailWords S F) (fits : F → Colour → Event �
   take_line mark phase b (Err no_take.Memory) at =
       let c : Colour = mark.colour in
       let shards : List (ShardState S P) = with_shard c at.new in
-      let at' : AtShard a (side shards weave.chains) c (TakeAs t c k (Err no_take.Memory)) = record { old = at.old; new = at.new; was = at.was; does = at.does; becomes = refl } in
+      let at' : AtShard a (side shards weave.chains) c (TakeAs c k (Err no_take.Memory)) = record { old = at.old; new = at.new; was = at.was; does = at.does; becomes = refl } in
       let v : WorkerState S P = halted_in w (Pushing w.core mark) in
       record {
         shards = shards;
         chains = weave.chains;
         becomes = at.becomes;
-        kept = same_keeps t fits weave well k w here shards weave.chains v (histories_stay a (side shards weave.chains) c (TakeAs t c k (Err no_take.Memory)) at' at.does.0.history) refl (sym (ap colour_in phase)) tt
+        kept = same_keeps t fits weave well k w here shards weave.chains v (histories_stay a (side shards weave.chains) c (TakeAs c k (Err no_take.Memory)) at' at.does.0.history) refl (sym (ap colour_in phase)) tt
             (same_marks shards v (sym (ap (held_in w.core) phase)));
         never = tt;
       }
@@ -146,11 +146,11 @@ module _ {S P F : Type 0} (t : TrailWords S F) (fits : F → Colour → Event �
       let c : Colour = mark.colour in
       let holds : held_by w ≡ (w.core, mark) ∷ [] = ap (held_in w.core) phase in
       let of_setup = (well.shard (shard_of weave.setup c) at.old at.was).of_setup in
-      absurd (at.does.1.0 (sym own ∙ (in_hand_sound (w.core, mark) holds).owner ∙ ap (λ (l : List Entry). owner_of weave.setup l c) (history_was a b c (TakeAs t c k (Err (no_take.Elsewhere owner))) at) ∙ ap (λ (s : Setup). owner_of s at.old.history c) (sym of_setup)))
+      absurd (at.does.1.0 (sym own ∙ (in_hand_sound (w.core, mark) holds).owner ∙ ap (λ (l : List Entry). owner_of weave.setup l c) (history_was a b c (TakeAs c k (Err (no_take.Elsewhere owner))) at) ∙ ap (λ (s : Setup). owner_of s at.old.history c) (sym of_setup)))
   take_line mark phase b (Err (no_take.Busy core)) at =
-      absurd (not_running (w.core, mark) at.old.history (ap (held_in w.core) phase) (history_was a b mark.colour (TakeAs t mark.colour k (Err (no_take.Busy core))) at) at.does.1.1)
+      absurd (not_running (w.core, mark) at.old.history (ap (held_in w.core) phase) (history_was a b mark.colour (TakeAs mark.colour k (Err (no_take.Busy core))) at) at.does.1.1)
   take_line mark phase b (Err (no_take.Empty registered)) at =
-      absurd (not_empty (w.core, mark) at.old.history (ap (held_in w.core) phase) (history_was a b mark.colour (TakeAs t mark.colour k (Err (no_take.Empty registered))) at) at.does.1.2)
+      absurd (not_empty (w.core, mark) at.old.history (ap (held_in w.core) phase) (history_was a b mark.colour (TakeAs mark.colour k (Err (no_take.Empty registered))) at) at.does.1.2)
 
   -- a picked mark's colour is stolen
   pub steal_line : (mark : Mark) (victim : ℕ) → w.phase ≡ Picked mark victim → (b : SideState S P) (answer : Result Stolen NoSteal) → AtShard a b mark.colour (StealAs mark.colour k answer) → StepKeeps b (after_steal w mark victim answer) (steal_name mark.colour answer)

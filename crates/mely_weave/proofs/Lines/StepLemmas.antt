@@ -80,7 +80,6 @@ phase_may t fits setup of core frame owes owes' still (Turning turn hand puts) t
     of_colour = may.of_turn.of_colour;
     of_frame = may.of_turn.of_frame;
     events_fit = may.of_turn.events_fit;
-    room = may.of_turn.room;
     owed = still turn.colour turn.core turn.count _ told.0 may.of_turn.owed;
   };
   in_hand = may.in_hand;

@@ -80,9 +80,9 @@ pub register_grows : {S P : Type 0} (c : Colour) (event : Event) (load : Option 
 register_grows c event load by (Ok reply) old new does = (_, does.0.after.history)
 register_grows c event load by (Err back) old new does = grows_same old new does.history
 
-take_grows : {S P F : Type 0} (t : TrailWords S F) (c : Colour) (core : ℕ) (answer : Result (TurnState S P) NoTake) (old new : ShardState S P) → TakeAs t c core answer old new → Grows old new
-take_grows t c core (Ok turn) old new does = (_, does.after.history)
-take_grows t c core (Err why) old new does = grows_same old new does.0.history
+take_grows : {S P : Type 0} (c : Colour) (core : ℕ) (answer : Result (TurnState S P) NoTake) (old new : ShardState S P) → TakeAs c core answer old new → Grows old new
+take_grows c core (Ok turn) old new does = (_, does.after.history)
+take_grows c core (Err why) old new does = grows_same old new does.0.history
 
 steal_grows : {S P : Type 0} (c : Colour) (to : ℕ) (answer : Result Stolen NoSteal) (old new : ShardState S P) → StealAs c to answer old new → Grows old new
 steal_grows c to (Ok stolen) old new does = (_, does.history)
@@ -189,7 +189,7 @@ module _ {S P F R : Type 0} (t : TrailWords S F) (Keep : SideState S P → Type 
   phase_stays : (phase : Phase S P) → StepsFrom (side_words t Keep) y app a w step b v phase → StepStays a b w v
   phase_stays (Turning turn hand puts) line = turning_stays turn hand puts line
   phase_stays (Pushing core mark) line = by_line _ _ _ (λ answer called. chain_stays a b core _ called) (λ answer h. h) line
-  phase_stays (Popped mark) line = by_line _ _ _ (λ answer called. shard_stays a b mark.colour _ (take_grows t mark.colour a.core answer) called) (take_halts mark) line
+  phase_stays (Popped mark) line = by_line _ _ _ (λ answer called. shard_stays a b mark.colour _ (take_grows mark.colour a.core answer) called) (take_halts mark) line
   phase_stays (Picked mark victim) line = by_line _ _ _ (λ answer called. shard_stays a b mark.colour _ (steal_grows mark.colour a.core answer) called) (steal_halts mark victim) line
   phase_stays (Landing mark) line = by_line _ _ _ (λ answer called. chain_stays a b w.core _ called) (λ answer h. h) line
   phase_stays (Free place) line = free_stays w.halted place line

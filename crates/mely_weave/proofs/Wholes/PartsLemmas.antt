@@ -1,14 +1,16 @@
 -- A weave whose workers are free, taken apart.
-use Rattle.std.proofs.Common.{◌≡◌, ℕ, ◌+◌, ◌*◌, ◌≤◌, ◌<◌, ◌/◌, ◌%◌, IsTrue, List, Option, Some, length, map, ap, sym, ◌∙◌, arith}
+use Rattle.std.proofs.Common.{◌≡◌, ℕ, ◌+◌, ◌*◌, ◌≤◌, ◌<◌, ◌/◌, ◌%◌, IsTrue, suc, List, [], ◌∷◌, refl, Option, Some, length, map, ap, sym, ◌∙◌, arith}
 use Rattle.std.proofs.lemmas.List.{length-map}
 use Rattle.std.proofs.lemmas.Nat.{div-mul-add, mod-mul-add, div-add-mod'}
 use Rattle.std.proofs.lemmas.Option.{slice_get_within, slice_get-map, same_Some, none-some}
 use Rattle.std.specs.Prelude.{slice_get, option_map}
+use Rattle.std.specs.List.{AllByRecursion}
 use Rattle.mely_event.specs.declared.colour.Colour.{Colour}
 use Rattle.mely_event.specs.declared.event.Event.{Event}
 use Rattle.mely_event.specs.declared.trail.Trail.{Ghosts as TrailWords}
 use Rattle.mely_history.specs.declared.setup.Setup.{Setup}
-use Rattle.mely_history.specs.Setup.{shape_of, colours_of}
+use Rattle.mely_history.specs.Setup.{shape_of, colours_of, is_listed}
+use Rattle.mely_history.specs.Kept.{HistoryState}
 use Rattle.mely_history.specs.History.{owner_of}
 use Rattle.mely_history.proofs.LegalAccountLemmas.{running_on_owner}
 use Rattle.mely_shard.specs.Shard.{ShardState, ColourState, IsOwn, colour_at, place}
@@ -41,7 +43,17 @@ get_same f g xs ys i y same at =
     let here = get_there xs i low in
     (here.0, (here.1, same_Some (f here.0) (g y) (sym (slice_get-map f xs i ∙ ap (option_map f) here.1) ∙ ap (λ zs. slice_get zs i) same ∙ slice_get-map g ys i ∙ ap (option_map g) at)))
 
+-- what is one value in the whole of an equal list
+all_same : {A B C : Type 0} (f : A → C) (g : B → C) (v : C) (xs : List A) (ys : List B) → map f xs ≡ map g ys → ((i : ℕ) (y : B) → slice_get ys i ≡ Some y → g y ≡ v) → AllByRecursion (λ x. f x ≡ v) xs
+all_same f g v [] ys same each = tt
+all_same f g v (x ∷ xs) [] same each = absurd (cc same)
+all_same f g v (x ∷ xs) (y ∷ ys) same each = (let first : f x ≡ g y = cc same in first ∙ each 0 y refl, all_same f g v xs ys (cc same) (λ i z at. each (suc i) z at))
+
 module _ {S P F : Type 0} (t : TrailWords S F) (fits : F → Colour → Event → Option P → Type 0) (weave : WeaveState S P) (stands : StandsWell t fits weave) where
+  -- the histories of the shards are listed as the setup says
+  pub listed_as_setup : (histories : List HistoryState) → map (λ (history : HistoryState). history.listed) histories ≡ map (λ (has : ShardState S P). is_listed has.setup) weave.shards → AllByRecursion (λ (history : HistoryState). history.listed ≡ is_listed weave.setup) histories
+  listed_as_setup histories same = all_same (λ (history : HistoryState). history.listed) (λ (has : ShardState S P). is_listed has.setup) (is_listed weave.setup) histories weave.shards same (λ number has at. ap (λ (s : Setup). is_listed s) (stands.shard number has at).of_setup)
+
   -- where all workers are free, no colour runs
   pub rests_where_free : ((core : ℕ) (w : WorkerState S P) → slice_get weave.workers core ≡ Some w → IsTrue (is_free w.phase)) → (number : ℕ) (has : ShardState S P) → slice_get weave.shards number ≡ Some has → IsAtRest has
   rests_where_free free number has at c own runs =

@@ -173,7 +173,7 @@ module _ {S P F : Type 0} (t : TrailWords S F) (fits : F → Colour → Event �
   states_stand = record {
     home = λ c lane low at rests. let in_shard = is_lane c lane low at in home c lane in_shard lane.state refl in_shard.stands.state rests;
     away = λ c lane low at runs. away c lane lane.state refl (is_lane c lane low at).stands.state runs;
-    turn = λ core turn hand puts at. let is = (may core turn hand puts at).of_turn in record { colour = is.of_colour; frame = is.of_frame; room = is.room };
+    turn = λ core turn hand puts at. let is = (may core turn hand puts at).of_turn in record { colour = is.of_colour; frame = is.of_frame };
   }
 
   registrations_fit : RegistrationsFit t fits weave

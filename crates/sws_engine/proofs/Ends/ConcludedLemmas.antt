@@ -1,9 +1,9 @@
 -- What a conclusion shows of the connections and the world, by what the states keep and
 -- what is still under way.
-use Rattle.std.proofs.Common.{◌≡◌, ◌≢◌, ℕ, zero, suc, ◌+◌, ◌-◌, ◌≤◌, ◌<◌, ◌⊎◌, Bool, true, false, true≢false, List, [], ◌∷◌, Option, None, Some, length, map, take, refl, sym, ◌∙◌, ap, subst, arith, inl, inr}
+use Rattle.std.proofs.Common.{◌≡◌, ◌≢◌, ℕ, zero, suc, ◌+◌, ◌-◌, ◌≤◌, ◌<◌, ◌⊎◌, Bool, true, false, true≢false, List, [], ◌∷◌, ◌++◌, Option, None, Some, length, map, take, refl, sym, ◌∙◌, ap, subst, arith, inl, inr}
 use Rattle.std.proofs.lemmas.Option.{same_Some, slice_get_within}
 use Rattle.std.specs.List.{AllByRecursion}
-use Rattle.std.specs.Prelude.{slice_get, is_some, is_none, IsSome, IfSome, option_map, ◌||◌, not, ◌↔◌, ◌^◌}
+use Rattle.std.specs.Prelude.{slice_get, is_some, is_none, IsSome, IfSome, option_map, ◌||◌, ◌&&◌, not, ◌↔◌, ◌^◌}
 use Rattle.mely_event.specs.declared.event.Event.{Event}
 use Rattle.mely_event.specs.HandlerTable.{rows_of}
 use Rattle.mely_history.specs.Setup.{shape_of, handlers_of, pinned_of}
@@ -29,10 +29,12 @@ use Rattle.sws_engine.specs.declared.ended.Verdict.TheVariants as verdict
 use Rattle.sws_engine.specs.declared.load.WorldLoad.{WorldLoad}
 use Rattle.sws_engine.specs.declared.load.Load.{Load}
 use Rattle.sws_engine.specs.declared.load.Load.TheVariants as load
+use Rattle.sws_engine.specs.KeptLines.{KeptLinesState, AreKept, no_lines}
 use Rattle.sws_engine.specs.Place.{PlaceState}
 use Rattle.sws_engine.specs.RunEnds.{IsPlacedAs}
 use Rattle.sws_engine.specs.ServerRun.{server_rules, handler_rows}
 use Rattle.sws_engine.specs.RunFits.{CarriesStanding, RunFits}
+use Rattle.sws_link.specs.Contents.{IsPrefix}
 use Rattle.sws_link.specs.Scripts.{Script}
 use Rattle.sws_link.specs.Worlds.{Coming, initial_contents}
 use Rattle.sws_engine.specs.ConnFollows.{ConnFollows}
@@ -47,7 +49,7 @@ use Rattle.sws_engine.specs.Counting.{colours_over}
 use Rattle.sws_log.specs.declared.line.LogLine.{LogLine}
 use Rattle.sws_engine.specs.Loads.{IsComing, IsLineIn}
 use Rattle.std.specs.List.{range_with_len}
-use Rattle.std.proofs.lemmas.List.{length-map}
+use Rattle.std.proofs.lemmas.List.{length-map, map-append}
 use Rattle.sws_link.specs.Links.{LinkContents, input_of}
 use Rattle.sws_log.specs.Lines.{lines_within}
 use Rattle.sws_steps.specs.Talks.{LinesServed, LinesOf}
@@ -58,10 +60,10 @@ use Rattle.sws_engine.specs.Handling.{conn_of}
 use Rattle.sws_engine.specs.declared.place.Seat.{Seat}
 use Rattle.sws_engine.specs.declared.place.Role.{Role}
 use Rattle.sws_engine.specs.declared.place.Role.TheVariants.{Talking, Logging}
-use Rattle.sws_engine.specs.RunLeaves.{lines_kept, is_out_of_turn, is_lost, talkers, resting_in, ShowsSeat, RoleTells, StateTells, is_lacking, is_out_of_memory, IsJudged, VerdictIs}
+use Rattle.sws_engine.specs.RunLeaves.{lines_in, lines_kept, is_out_of_turn, is_lost, talkers, resting_in, ShowsSeat, RoleTells, StateTells, is_lacking, is_out_of_memory, IsJudged, VerdictIs}
 use Rattle.sws_engine.specs.declared.left.Left.{Left}
 use Rattle.sws_engine.specs.Handing.{place_link, served_with_load, served_with_loads, HandsOut}
-use Rattle.sws_engine.specs.Conclusion.{is_empty, is_whole, accepted_of, failed_of, ways_of, world_found, IsConcluded}
+use Rattle.sws_engine.specs.Conclusion.{is_empty, ran_all, is_whole, accepted_of, failed_of, ways_of, world_found, IsConcluded}
 use Rattle.sws_engine.proofs.Ends.InitialServedLemmas.{initial_served}
 use Rattle.sws_engine.proofs.Paths.ScriptFollowedLemmas.{followed}
 use Rattle.sws_engine.proofs.Ends.HandedLemmas.{GotLink, ways_stand, world_stands, served_given}
@@ -100,9 +102,28 @@ empty_is : {A : Type 0} (xs : List A) → is_empty xs ≡ true → xs ≡ []
 empty_is [] is = refl
 empty_is (x ∷ xs) is = cc
 
-pub whole_is : {A : Type 0} (how : Drained) (lost : List A) → is_whole how lost ≡ true → (how ≡ drained.Empty) × (lost ≡ [])
-whole_is drained.Empty lost is = (refl, empty_is lost is)
-whole_is drained.Memory lost is = cc
+not_both : (a b : Bool) → a && not b ≡ true → (a ≡ true) × (b ≡ false)
+not_both true false is = (refl, refl)
+not_both true true is = cc
+not_both false b is = cc
+
+all_ran : {A : Type 0} (how : Drained) (lost : List A) → ran_all how lost ≡ true → (how ≡ drained.Empty) × (lost ≡ [])
+all_ran drained.Empty lost is = (refl, empty_is lost is)
+all_ran drained.Memory lost is = cc
+
+pub whole_is : {A : Type 0} (how : Drained) (lost : List A) (lines : KeptLinesState) → is_whole how lost lines ≡ true → (how ≡ drained.Empty) × (lost ≡ []) × (lines.lost ≡ false)
+whole_is how lost lines is =
+    let both = not_both (ran_all how lost) lines.lost is in
+    let ran = all_ran how lost both.0 in
+    (ran.0, ran.1, both.1)
+
+-- what holds of each in a list holds of each in a front of it
+each_front : {A : Type 0} (P : A → Type 0) (xs ys all : List A) → all ≡ xs ++ ys → AllByRecursion P all → AllByRecursion P xs
+each_front {A} P xs ys all is told = front_of xs (subst (λ (l : List A). AllByRecursion P l) is told)
+  where
+    front_of : (xs : List A) → AllByRecursion P (xs ++ ys) → AllByRecursion P xs
+    front_of [] told = tt
+    front_of (x ∷ xs) told = (told.0, front_of xs told.1)
 
 -- a verdict but want of memory is over a run that was whole
 pub judged : {L : Type 0} (kept : Option (List LogLine)) (served : List (Served L)) (whole there failed : Bool) (total accepted : ℕ) (told : Verdict) → told ≢ verdict.Memory → VerdictIs kept served whole total there accepted failed told → IsJudged served whole
@@ -333,28 +354,52 @@ module _ {W L T G H : Type 0} (x : WorldWords W L) (l : LinkWords L) (y : TalkWo
   pub world_is_ours : (world : W) → ended.world ≡ Some world → WorldStands x l first (record { world = world; accepted = ended.accepted; failed = ended.failed })
   world_is_ours world there = ours x l first (world_found y total log how parts ended) found_stands world ended.accepted ended.failed (sym is.world ∙ there) is.accepted is.failed
 
-  -- the state that keeps the log, where there is one
-  log_kept : (last : PlaceState H W T) → slice_get parts.states.items (total + 2) ≡ Some last → LogStands x l y hall first last.trail ended.log.items
-  log_kept last there =
-      let own : last.role ≡ Logging = (placed (total + 2) last there).logs refl in
-      let stands : LogStands x l y last.hall last.first last.trail last.lines = subst (λ (r : Role W T). RoleTells x l y last r) own (told_of (total + 2) last there) in
-      let here : LogStands x l y hall first last.trail last.lines = subst (λ (w : W). LogStands x l y hall w last.trail last.lines) (of_world (total + 2) last there) (subst (λ (h : H). LogStands x l y h last.first last.trail last.lines) (fits.of_hall (total + 2) last there) stands) in
-      subst (λ (ls : List LogLine). LogStands x l y hall first last.trail ls) (sym (is.kept ∙ seats.logged last there)) here
+  -- the lines that the states leave
+  abbrev pub found : KeptLinesState
+  found = lines_in no_lines parts.states.items
 
-  pub log_runs : (trail : List Event) → slice_get (map (λ t. t.items) ended.trails.items) (total + 2) ≡ Some trail → map (λ (line : LogLine). line.conn) ended.log.items ≡ map (λ (event : Event). event.arg) trail
-  log_runs trail at =
+  -- the state that keeps the log, where there is one
+  pub log_stands : (last : PlaceState H W T) → slice_get parts.states.items (total + 2) ≡ Some last → LogStands x l y hall first last.trail found.came × AreKept found
+  log_stands last there =
+      let own : last.role ≡ Logging = (placed (total + 2) last there).logs refl in
+      let stands : LogStands x l y last.hall last.first last.trail last.lines.came × AreKept last.lines = subst (λ (r : Role W T). RoleTells x l y last r) own (told_of (total + 2) last there) in
+      let here : LogStands x l y hall first last.trail last.lines.came = subst (λ (w : W). LogStands x l y hall w last.trail last.lines.came) (of_world (total + 2) last there) (subst (λ (h : H). LogStands x l y h last.first last.trail last.lines.came) (fits.of_hall (total + 2) last there) stands.0) in
+      subst (λ (ls : KeptLinesState). LogStands x l y hall first last.trail ls.came × AreKept ls) (sym (seats.logged last there)) (here, stands.1)
+
+  -- the trail of the log's colour is that of its state
+  log_named : (trail : List Event) → slice_get (map (λ t. t.items) ended.trails.items) (total + 2) ≡ Some trail → (map (λ (line : LogLine). line.conn) found.came ≡ map (λ (event : Event). event.arg) trail) × AreKept found
+  log_named trail at =
       let back = from_map (λ (p : PlaceState H W T). p.trail) parts.states.items (total + 2) trail (ap (λ (all : List (List Event)). slice_get all (total + 2)) (sym is.trails) ∙ at) in
-      (log_kept back.0 back.1).named ∙ ap (λ (es : List Event). map (λ (event : Event). event.arg) es) back.2
+      let stands = log_stands back.0 back.1 in
+      (stands.0.named ∙ ap (λ (es : List Event). map (λ (event : Event). event.arg) es) back.2, stands.1)
+
+  pub log_begins : (trail : List Event) → slice_get (map (λ t. t.items) ended.trails.items) (total + 2) ≡ Some trail → IsPrefix (map (λ (line : LogLine). line.conn) ended.log.items) (map (λ (event : Event). event.arg) trail)
+  log_begins trail at =
+      let named = log_named trail at in
+      let behind = named.1.front in
+      let split = ap (λ (ls : List LogLine). map (λ (line : LogLine). line.conn) ls) behind.1 ∙ map-append (λ (line : LogLine). line.conn) found.kept behind.0 in (
+        map (λ (line : LogLine). line.conn) behind.0,
+        sym named.0 ∙ split ∙ ap (λ (ls : List LogLine). map (λ (line : LogLine). line.conn) ls ++ map (λ (line : LogLine). line.conn) behind.0) (sym is.kept),
+      )
+
+  -- where none was lost
+  pub log_runs : found.lost ≡ false → (trail : List Event) → slice_get (map (λ t. t.items) ended.trails.items) (total + 2) ≡ Some trail → map (λ (line : LogLine). line.conn) ended.log.items ≡ map (λ (event : Event). event.arg) trail
+  log_runs none trail at =
+      let named = log_named trail at in
+      ap (λ (ls : List LogLine). map (λ (line : LogLine). line.conn) ls) (is.kept ∙ named.1.all none) ∙ named.0
 
   pub unlogged : log ≡ false → ended.log.items ≡ []
-  unlogged none = is.kept ∙ seats.unlogged (many ∙ ap (λ (b : Bool). colours_over total b) none ∙ omega arith)
+  unlogged none = is.kept ∙ ap (λ (ls : KeptLinesState). ls.kept) (seats.unlogged (many ∙ ap (λ (b : Bool). colours_over total b) none ∙ omega arith))
 
   lines_told_by : (b : Bool) → log ≡ b → AllByRecursion (λ (line : LogLine). (line.conn < total) × IsLineIn (y.log hall) (x.tells first).coming line) ended.log.items
   lines_told_by false none = subst (λ (ls : List LogLine). AllByRecursion (λ (line : LogLine). (line.conn < total) × IsLineIn (y.log hall) (x.tells first).coming line) ls) (sym (unlogged none)) tt
   lines_told_by true on =
       let long : length parts.states.items ≡ total + 2 + 1 = many ∙ ap (λ (b : Bool). colours_over total b) on in
       let last = get_there parts.states.items (total + 2) (omega (arith, long)) in
-      (log_kept last.0 last.1).told
+      let stands = log_stands last.0 last.1 in
+      let behind = stands.1.front in
+      subst (λ (ls : List LogLine). AllByRecursion (λ (line : LogLine). (line.conn < total) × IsLineIn (y.log hall) (x.tells first).coming line) ls) (sym is.kept)
+      (each_front (λ (line : LogLine). (line.conn < total) × IsLineIn (y.log hall) (x.tells first).coming line) found.kept behind.0 found.came behind.1 stands.0.told)
 
   pub lines_told : AllByRecursion (λ (line : LogLine). (line.conn < total) × IsLineIn (y.log hall) (x.tells first).coming line) ended.log.items
   lines_told = lines_told_by log refl

@@ -1,16 +1,17 @@
 -- How what is found of a run grows.
-use Rattle.std.proofs.Common.{◌≡◌, ℕ, zero, suc, ◌+◌, ◌<◌, ◌⊎◌, List, [], ◌∷◌, ◌++◌, Option, Vec, Global, length, map, vec_len, vec_capacity, refl, sym, ◌∙◌, ap, subst, arith, inl, inr, Some, append_assoc, append-nil, length-append}
+use Rattle.std.proofs.Common.{◌≡◌, ℕ, zero, suc, ◌+◌, ◌<◌, ◌⊎◌, List, [], ◌∷◌, ◌++◌, Option, length, map, vec_len, vec_capacity, refl, sym, ◌∙◌, ap, subst, arith, inl, inr, Some, append_assoc, append-nil, length-append}
 use Rattle.std.proofs.lemmas.List.{map-append}
 use Rattle.std.specs.Prelude.{slice_get}
 use Rattle.mely_event.specs.declared.event.Event.{Event}
 use Rattle.sws_steps.specs.declared.talk.Talk.{Ghosts as TalkWords}
-use Rattle.sws_log.specs.declared.line.LogLine.{LogLine}
+use Rattle.mely_log.specs.declared.log.Log.{Log}
 use Rattle.sws_engine.specs.declared.ended.Served.{Served}
 use Rattle.sws_engine.specs.declared.left.Left.{Left}
 use Rattle.sws_engine.specs.declared.load.WorldLoad.{WorldLoad}
 use Rattle.sws_engine.specs.declared.place.Role.{Role}
 use Rattle.sws_engine.specs.declared.place.Role.TheVariants.{Talking}
 use Rattle.sws_engine.specs.declared.place.Seat.{Seat}
+use Rattle.sws_engine.specs.KeptLines.{KeptLinesState}
 use Rattle.sws_engine.specs.Place.{PlaceState}
 use Rattle.sws_engine.specs.RunLeaves.{Talker, talker_by, talkers, or_else, resting_by, resting_in, lines_by, lines_in, ShowAll, ShowsSeat}
 use Rattle.sws_engine.specs.LeftKept.{KeepsStates}
@@ -72,7 +73,7 @@ module _ {W L T G H : Type 0} (y : TalkWords T L G H) where
   resting_more before [] ys = refl
   resting_more before (x ∷ xs) ys = resting_more (or_else (resting_by x.role) before) xs ys
 
-  lines_more : (before : List LogLine) (xs ys : List (PlaceState H W T)) → lines_in before (xs ++ ys) ≡ lines_in (lines_in before xs) ys
+  lines_more : (before : KeptLinesState) (xs ys : List (PlaceState H W T)) → lines_in before (xs ++ ys) ≡ lines_in (lines_in before xs) ys
   lines_more before [] ys = refl
   lines_more before (x ∷ xs) ys = lines_more (lines_by x.role x.lines before) xs ys
 
@@ -104,7 +105,7 @@ module _ {W L T G H : Type 0} (y : TalkWords T L G H) where
         served_len = let m = one.served_len in let n = other.served_len in omega (arith, m, n, all, split);
         served_room = other.served_room ∙ one.served_room;
         world = other.world ∙ ap (λ (o : Option (WorldLoad W)). resting_in o ys) one.world ∙ sym (resting_more a.world xs ys);
-        log = other.log ∙ ap (λ (ls : List LogLine). lines_in ls ys) one.log ∙ sym (lines_more a.log.items xs ys);
+        log = other.log ∙ ap (λ (ls : KeptLinesState). lines_in ls ys) one.log ∙ sym (lines_more a.log xs ys);
         trails = other.trails ∙ ap (λ (l : List (List Event)). l ++ map (λ (p : PlaceState H W T). p.trail) ys) one.trails ∙ append_assoc (map (λ trail. trail.items) a.trails.items) (map (λ (p : PlaceState H W T). p.trail) xs) (map (λ (p : PlaceState H W T). p.trail) ys)
             ∙ ap (λ (l : List (List Event)). map (λ trail. trail.items) a.trails.items ++ l) (sym (map-append (λ (p : PlaceState H W T). p.trail) xs ys));
         trails_len = let m = one.trails_len in let n = other.trails_len in omega (arith, m, n, both);
@@ -112,7 +113,7 @@ module _ {W L T G H : Type 0} (y : TalkWords T L G H) where
       }
 
   -- a state that doesn't talk
-  pub keep_quiet : (place : PlaceState H W T) (role : Role W T) (trail : Vec Event Global) (a b : Left W L) → place.role ≡ role → talker_by place role ≡ [] → trail.items ≡ place.trail → b.served ≡ a.served → b.world ≡ or_else (resting_by role) a.world → b.log.items ≡ lines_by role place.lines a.log.items
+  pub keep_quiet : (place : PlaceState H W T) (role : Role W T) (trail : Log Event) (a b : Left W L) → place.role ≡ role → talker_by place role ≡ [] → trail.items ≡ place.trail → b.served ≡ a.served → b.world ≡ or_else (resting_by role) a.world → b.log ≡ lines_by role place.lines a.log
       → b.trails.items ≡ a.trails.items ++ trail ∷ [] → vec_len b.trails ≡ vec_len a.trails + 1 → vec_capacity b.trails ≡ vec_capacity a.trails → KeepsStates y (place ∷ []) a b
   keep_quiet place role trail a b role_is quiet trail_is served world log trails len room =
       let none : talkers (place ∷ []) ≡ [] = append-nil (talker_by place place.role) ∙ ap (talker_by place) role_is ∙ quiet in
@@ -124,15 +125,15 @@ module _ {W L T G H : Type 0} (y : TalkWords T L G H) where
         served_len = (let same = ap vec_len served in omega (arith, same, no_length));
         served_room = ap vec_capacity served;
         world = world ∙ ap (λ (r : Role W T). or_else (resting_by r) a.world) (sym role_is);
-        log = log ∙ ap (λ (r : Role W T). lines_by r place.lines a.log.items) (sym role_is);
+        log = log ∙ ap (λ (r : Role W T). lines_by r place.lines a.log) (sym role_is);
         trails = ap (λ l. map (λ v. v.items) l) trails ∙ map-append (λ v. v.items) a.trails.items (trail ∷ []) ∙ ap (λ (e : List Event). map (λ v. v.items) a.trails.items ++ e ∷ []) trail_is;
         trails_len = len;
         trails_room = room;
       }
 
   -- a state that talks
-  pub keep_talking : (place : PlaceState H W T) (seat : Seat T) (trail : Vec Event Global) (s : Served L) (a b : Left W L) → place.role ≡ Talking seat → trail.items ≡ place.trail → ShowsSeat y seat s
-      → b.served.items ≡ a.served.items ++ s ∷ [] → vec_len b.served ≡ vec_len a.served + 1 → vec_capacity b.served ≡ vec_capacity a.served → b.world ≡ a.world → b.log.items ≡ a.log.items
+  pub keep_talking : (place : PlaceState H W T) (seat : Seat T) (trail : Log Event) (s : Served L) (a b : Left W L) → place.role ≡ Talking seat → trail.items ≡ place.trail → ShowsSeat y seat s
+      → b.served.items ≡ a.served.items ++ s ∷ [] → vec_len b.served ≡ vec_len a.served + 1 → vec_capacity b.served ≡ vec_capacity a.served → b.world ≡ a.world → b.log ≡ a.log
       → b.trails.items ≡ a.trails.items ++ trail ∷ [] → vec_len b.trails ≡ vec_len a.trails + 1 → vec_capacity b.trails ≡ vec_capacity a.trails → KeepsStates y (place ∷ []) a b
   keep_talking place seat trail s a b role_is trail_is shows served served_len served_room world log trails len room =
       let one : talkers (place ∷ []) ≡ record { place = place; seat = seat } ∷ [] = append-nil (talker_by place place.role) ∙ ap (talker_by place) role_is in
@@ -144,7 +145,7 @@ module _ {W L T G H : Type 0} (y : TalkWords T L G H) where
         served_len = omega (arith, served_len, one_length);
         served_room = served_room;
         world = world ∙ ap (λ (r : Role W T). or_else (resting_by r) a.world) (sym role_is);
-        log = log ∙ ap (λ (r : Role W T). lines_by r place.lines a.log.items) (sym role_is);
+        log = log ∙ ap (λ (r : Role W T). lines_by r place.lines a.log) (sym role_is);
         trails = ap (λ l. map (λ v. v.items) l) trails ∙ map-append (λ v. v.items) a.trails.items (trail ∷ []) ∙ ap (λ (e : List Event). map (λ v. v.items) a.trails.items ++ e ∷ []) trail_is;
         trails_len = len;
         trails_room = room;

@@ -27,6 +27,7 @@ use Rattle.sws_engine.specs.declared.ended.Verdict.{Verdict}
 use Rattle.sws_engine.specs.declared.ended.Verdict.TheVariants as verdict
 use Rattle.sws_engine.specs.declared.load.WorldLoad.{WorldLoad}
 use Rattle.sws_engine.specs.declared.load.Load.{Load}
+use Rattle.sws_engine.specs.KeptLines.{KeptLinesState, no_lines}
 use Rattle.sws_engine.specs.Place.{PlaceState}
 use Rattle.sws_engine.specs.RunEnds.{RunEnds}
 use Rattle.sws_engine.specs.RunParts.{RunParts}
@@ -35,7 +36,7 @@ use Rattle.sws_engine.specs.RunFits.{RunFits}
 use Rattle.sws_engine.specs.declared.place.Seat.{Seat}
 use Rattle.sws_engine.specs.declared.place.Role.TheVariants.{Talking}
 use Rattle.sws_engine.specs.Counting.{colours_over}
-use Rattle.sws_engine.specs.RunLeaves.{Talker, talkers, resting_in, ShowsSeat, RoleTells, StateTells, is_lacking, is_out_of_turn, links_owed, AreWhole, VerdictIs, lines_kept}
+use Rattle.sws_engine.specs.RunLeaves.{lines_in, Talker, talkers, resting_in, ShowsSeat, RoleTells, StateTells, is_lacking, is_out_of_turn, links_owed, AreWhole, VerdictIs, lines_kept}
 use Rattle.std.specs.List.{range_with_len}
 use Rattle.mely_order.specs.Stream.{numbers_of, numbers_put}
 use Rattle.sws_log.specs.declared.line.LogLine.{LogLine}
@@ -49,7 +50,7 @@ use Rattle.sws_engine.specs.Handing.{served_with_loads, world_with_loads}
 use Rattle.sws_engine.specs.Conclusion.{is_whole, accepted_of, failed_of, ways_of, world_found, IsConcluded}
 use Rattle.sws_engine.specs.StepsLeave.{HasRun}
 use Rattle.sws_engine.proofs.Ends.RunLeftLemmas.{run_left, told_as as told_of}
-use Rattle.sws_engine.proofs.Ends.ConcludedLemmas.{all_at, whole_is, served_many, conn_follows}
+use Rattle.sws_engine.proofs.Ends.ConcludedLemmas.{all_at, log_stands, whole_is, served_many, conn_follows}
 use Rattle.sws_engine.proofs.Ends.SeatsOfRunLemmas.{SeatsStand, seats_stand}
 
 -- where nothing is due, nothing is pending
@@ -146,8 +147,8 @@ module _ {W L T G H : Type 0} (x : WorldWords W L) (l : LinkWords L) (y : TalkWo
         ∙ ap (λ (n : ℕ). not ends.held.failed && nat_lt n total) (is.accepted ∙ ap (λ (o : Option (WorldLoad W)). accepted_of o) world_is)
         ∙ ends.ended
 
-    all_whole : AreWhole (lines_kept log ended.log.items) ended.served.items (links_owed ended.failed ended.accepted total)
-    all_whole i s low at =
+    all_whole : (lines_in no_lines parts.states.items).lost ≡ false → AreWhole (lines_kept log ended.log.items) ended.served.items (links_owed ended.failed ended.accepted total)
+    all_whole kept_all i s low at =
         let here : slice_get is.found i ≡ Some s = ap (λ (l : List (Served L)). slice_get l i) (sym served_are) ∙ at in
         let under : i < total = (let within = slice_get_within is.found i s here in omega (arith, within, found_many)) in
         let many = seats.many in
@@ -171,8 +172,9 @@ module _ {W L T G H : Type 0} (x : WorldWords W L) (l : LinkWords L) (y : TalkWo
             let none : queue.0 ≡ [] = none_in (map (λ events. events.items) parts.queued.items) (total + 2) queue.0 (ran.emptied empty) queue.1 in
             let all = (ran.ordered on i under).whole refl last.0 place queue.0 last.1 there queue.1
             (ap (λ (events : List (Event × Option (Load W L))). numbers_of (log_stream y total i) events) none) (ap (λ puts. numbers_put (log_stream y total i) puts) none_lost) in
+            let came : ended.log.items ≡ (lines_in no_lines parts.states.items).came = is.kept ∙ (log_stands x l y hall first log how parts ended ran.many ran.placed ran.of_world fits is tell last.0 last.1).1.all kept_all in
             let sent : at_seat (λ (k : Seat T). (y.view_of k.talk).lines) place.role ≡ (y.view_of seat.talk).lines = ap (λ (r : Role W T). at_seat (λ (k : Seat T). (y.view_of k.talk).lines) r) talks in
-            ap (λ (ls : List LogLine). turns_of i ls) (is.kept ∙ seats.logged last.0 last.1) ∙ all ∙ ap (λ (n : ℕ). range_with_len 1 n) (sent ∙ sym answered)
+            ap (λ (ls : List LogLine). turns_of i ls) (came ∙ ap (λ (ls : KeptLinesState). ls.came) (seats.logged last.0 last.1)) ∙ all ∙ ap (λ (n : ℕ). range_with_len 1 n) (sent ∙ sym answered)
 
         in_turn : (b : Bool) → log ≡ b → (i : ℕ) (s : Served L) (place : PlaceState H W T) (seat : Seat T) → i < total → slice_get parts.states.items (i + 2) ≡ Some place → place.role ≡ Talking seat → s.answered ≡ (y.view_of seat.talk).lines → is_out_of_turn (lines_kept log ended.log.items) i s ≡ false
         in_turn false off i s place seat under there talks answered = ap (λ (b : Bool). is_out_of_turn (lines_kept b ended.log.items) i s) off
@@ -188,14 +190,14 @@ module _ {W L T G H : Type 0} (x : WorldWords W L) (l : LinkWords L) (y : TalkWo
         let below = owed_below ended.failed ended.accepted total i unended low under in
         omega (arith, below, accepted_same)
 
-    not_apart : (conn : ℕ) → VerdictIs (lines_kept log ended.log.items) ended.served.items (is_whole how parts.lost.items) total (is_some ended.world) ended.accepted ended.failed (verdict.Apart conn) → ⊥
-    not_apart conn told = elim told.1 [
-      | inl lacking ↦ true≢false (sym lacking.lacks ∙ all_whole conn lacking.s lacking.below lacking.there)
+    not_apart : (lines_in no_lines parts.states.items).lost ≡ false → (conn : ℕ) → VerdictIs (lines_kept log ended.log.items) ended.served.items (is_whole how parts.lost.items (lines_in no_lines parts.states.items)) total (is_some ended.world) ended.accepted ended.failed (verdict.Apart conn) → ⊥
+    not_apart kept_all conn told = elim told.1 [
+      | inl lacking ↦ true≢false (sym lacking.lacks ∙ all_whole kept_all conn lacking.s lacking.below lacking.there)
       | inr gone ↦ true≢false (sym there_is ∙ gone.0)
     ]
 
   abbrev Told : Verdict → Type 0
-  Told v = VerdictIs (lines_kept log ended.log.items) ended.served.items (is_whole how parts.lost.items) total (is_some ended.world) ended.accepted ended.failed v
+  Told v = VerdictIs (lines_kept log ended.log.items) ended.served.items (is_whole how parts.lost.items (lines_in no_lines parts.states.items)) total (is_some ended.world) ended.accepted ended.failed v
 
   told_as : (v : Verdict) → ended.verdict ≡ v → Told v
   told_as v same = told_of x l y shape setup hall first log how parts ended rules colours ran.kept fits is tell v same
@@ -210,13 +212,13 @@ module _ {W L T G H : Type 0} (x : WorldWords W L) (l : LinkWords L) (y : TalkWo
     left = run_left x l y shape setup hall first log how parts ended rules colours ran.kept fits is tell;
     follows = λ same coming one script i s trail known at answers there run_of.
         let told = told_as verdict.Ok same in
-        let run = whole_is how parts.lost.items told.0.ran in
+        let run = whole_is how parts.lost.items (lines_in no_lines parts.states.items) told.0.ran in
         let whole = subst (λ (b : Bool). AreWhole (lines_kept log ended.log.items) ended.served.items (links_owed b ended.accepted total)) told.2 told.3 in
         let many = served_many x l y hall first log how parts ended ran.many ran.placed ran.of_world fits is tell in
         let under : i < total = (let within = slice_get_within ended.served.items i s there in omega (arith, within, many)) in
         conn_follows x l y hall first log how parts ended ran.many ran.placed ran.of_world fits is tell (served_are run.0 run.1) i (λ place seat at talks nothing some. is_shut run.0 run.1 told.2 i under place seat at talks) coming one script s trail known at answers there run_of (whole i s under there) (told.0.enough i s there);
     never_apart = λ conn same.
         let told = told_as (verdict.Apart conn) same in
-        let run = whole_is how parts.lost.items told.0.ran in
-        not_apart run.0 run.1 conn told;
+        let run = whole_is how parts.lost.items (lines_in no_lines parts.states.items) told.0.ran in
+        not_apart run.0 run.1 run.2 conn told;
   }

@@ -50,7 +50,7 @@ module _ {W L T G H : Type 0} (x : WorldWords W L) (y : TalkWords T L G H) (t : 
   ways = flat_map (λ events. events) queued ++ carried_by lost
 
   stands : RunStands y total states ways
-  stands = same_stands y total (states_of weave) states (under_way weave) ways (λ f blind. sym (apart.made.states f)) (λ g. sym (apart.made.ways g)) fact.stands
+  stands = same_stands y total (states_of weave) states (under_way weave) ways (λ f. sym (apart.made.states f)) (λ g. sym (apart.made.ways g)) fact.stands
 
   coloured : (i : ℕ) (place : PlaceState H W T) → slice_get states i ≡ Some place → place.colour.0 ≡ i
   coloured i place at = ap (λ (c : Colour). c.0) (sym (colour_is place) ∙ apart.coloured (record { 0 = i }) place at)

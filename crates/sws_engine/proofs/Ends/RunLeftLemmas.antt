@@ -22,14 +22,15 @@ use Rattle.sws_engine.specs.declared.ended.Ended.{Ended}
 use Rattle.sws_engine.specs.declared.ended.Verdict.{Verdict}
 use Rattle.sws_engine.specs.declared.ended.Verdict.TheVariants as verdict
 use Rattle.sws_engine.specs.declared.load.Load.{Load}
+use Rattle.sws_engine.specs.KeptLines.{no_lines}
 use Rattle.sws_engine.specs.Place.{PlaceState}
 use Rattle.sws_engine.specs.ServerRun.{server_rules}
 use Rattle.sws_engine.specs.RunFits.{RunFits}
-use Rattle.sws_engine.specs.RunLeaves.{links_owed, AreWhole, VerdictIs, StateTells, lines_kept}
+use Rattle.sws_engine.specs.RunLeaves.{lines_in, links_owed, AreWhole, VerdictIs, StateTells, lines_kept}
 use Rattle.sws_engine.specs.Conclusion.{is_whole, IsConcluded}
 use Rattle.sws_engine.specs.PartsKept.{PartsKept}
 use Rattle.sws_engine.specs.RunLeft.{RunLeft, histories_in}
-use Rattle.sws_engine.proofs.Ends.ConcludedLemmas.{from_map, whole_is, judged, served_many, conn_left, world_is_ours, log_runs, lines_told, unlogged, lines_of}
+use Rattle.sws_engine.proofs.Ends.ConcludedLemmas.{from_map, whole_is, judged, served_many, conn_left, world_is_ours, log_begins, log_runs, lines_told, unlogged, lines_of}
 use Rattle.sws_engine.specs.Counting.{colours_over}
 
 module _ {W L T G H : Type 0} (x : WorldWords W L) (l : LinkWords L) (y : TalkWords T L G H) (shape : Shape) (setup : Setup) (hall : H) (first : W) (log : Bool) (how : Drained) (parts : WeaveParts (PlaceState H W T) (Load W L)) (ended : Ended W L)
@@ -43,8 +44,8 @@ module _ {W L T G H : Type 0} (x : WorldWords W L) (l : LinkWords L) (y : TalkWo
   pub histories_are : histories_in x l y shape hall first log ended ≡ map (λ history. history.items) parts.histories.items
   histories_are = ap (λ v. map (λ history. history.items) v.items) is.histories
 
-  pub told_as : (v : Verdict) → ended.verdict ≡ v → VerdictIs (lines_kept log ended.log.items) ended.served.items (is_whole how parts.lost.items) total (is_some ended.world) ended.accepted ended.failed v
-  told_as v same = subst (λ (w : Verdict). VerdictIs (lines_kept log ended.log.items) ended.served.items (is_whole how parts.lost.items) total (is_some ended.world) ended.accepted ended.failed w) same is.verdict
+  pub told_as : (v : Verdict) → ended.verdict ≡ v → VerdictIs (lines_kept log ended.log.items) ended.served.items (is_whole how parts.lost.items (lines_in no_lines parts.states.items)) total (is_some ended.world) ended.accepted ended.failed v
+  told_as v same = subst (λ (w : Verdict). VerdictIs (lines_kept log ended.log.items) ended.served.items (is_whole how parts.lost.items (lines_in no_lines parts.states.items)) total (is_some ended.world) ended.accepted ended.failed w) same is.verdict
 
   pub trail_is : (c : Colour) (history : List Entry) (trail : List Event) → slice_get (map (λ t. t.items) ended.trails.items) c.0 ≡ Some trail → slice_get (histories_in x l y shape hall first log ended) (shard_of setup c) ≡ Some history → trail ≡ ran_of history c
   trail_is c history trail at there =
@@ -60,17 +61,20 @@ module _ {W L T G H : Type 0} (x : WorldWords W L) (l : LinkWords L) (y : TalkWo
     setup = setup;
     rules = rules;
     colours = colours;
-    whole = is_whole how parts.lost.items;
+    whole = is_whole how parts.lost.items (lines_in no_lines parts.states.items);
     judged = is.verdict;
     legal = subst (λ (l : List (List Entry)). AreLegal setup l) (sym histories_are) kept.legal;
     shards = ap length histories_are ∙ kept.shards ∙ ap (λ (r : Rules). r.shape.shards) rules;
     drained = λ isnt shard history at.
-        let whole = judged (lines_kept log ended.log.items) ended.served.items (is_whole how parts.lost.items) (is_some ended.world) ended.failed total ended.accepted ended.verdict isnt is.verdict in
-        let run = whole_is how parts.lost.items whole.ran in
+        let whole = judged (lines_kept log ended.log.items) ended.served.items (is_whole how parts.lost.items (lines_in no_lines parts.states.items)) (is_some ended.world) ended.failed total ended.accepted ended.verdict isnt is.verdict in
+        let run = whole_is how parts.lost.items (lines_in no_lines parts.states.items) whole.ran in
         kept.drained run.0 shard history (ap (λ (l : List (List Entry)). slice_get l shard) (sym histories_are) ∙ at);
     trailed = trail_is;
     many_trails = sym (length-map ended.trails.items (λ t. t.items)) ∙ ap length is.trails ∙ length-map parts.states.items (λ (p : PlaceState H W T). p.trail) ∙ kept.many;
-    log_runs = log_runs x l y hall first log how parts ended kept.many kept.placed kept.of_world fits is tell;
+    log_begins = log_begins x l y hall first log how parts ended kept.many kept.placed kept.of_world fits is tell;
+    log_runs = λ isnt.
+        let whole = judged (lines_kept log ended.log.items) ended.served.items (is_whole how parts.lost.items (lines_in no_lines parts.states.items)) (is_some ended.world) ended.failed total ended.accepted ended.verdict isnt is.verdict in
+        log_runs x l y hall first log how parts ended kept.many kept.placed kept.of_world fits is tell (whole_is how parts.lost.items (lines_in no_lines parts.states.items) whole.ran).2;
     lines_told = lines_told x l y hall first log how parts ended kept.many kept.placed kept.of_world fits is tell;
     unlogged = unlogged x l y hall first log how parts ended kept.many kept.placed kept.of_world fits is tell;
     lines = λ on good coming one i s known at low there.

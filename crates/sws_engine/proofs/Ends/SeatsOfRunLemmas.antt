@@ -8,10 +8,10 @@ use Rattle.sws_engine.specs.declared.place.Desk.{Desk}
 use Rattle.sws_engine.specs.declared.place.Seat.{Seat}
 use Rattle.sws_engine.specs.declared.place.Role.{Role}
 use Rattle.sws_engine.specs.declared.place.Role.TheVariants.{Polling, Talking, Logging}
+use Rattle.sws_engine.specs.KeptLines.{KeptLinesState, no_lines}
 use Rattle.sws_engine.specs.Place.{PlaceState}
 use Rattle.sws_engine.specs.RunEnds.{IsPlacedAs}
 use Rattle.sws_engine.specs.RunLeaves.{Talker, talker_by, talkers, or_else, resting_by, resting_in, lines_by, lines_in}
-use Rattle.sws_log.specs.declared.line.LogLine.{LogLine}
 use Rattle.sws_engine.specs.Counting.{bit, colours_over}
 
 or_none : {A : Type 0} (o : Option A) → or_else o None ≡ o
@@ -36,8 +36,8 @@ module _ {H W T : Type 0} where
     pub many : length (talkers states) ≡ count
     pub each : (i : ℕ) (talker : Talker H W T) → slice_get (talkers states) i ≡ Some talker → ComesFrom states i talker
     pub quiet : (before : Option (WorldLoad W)) → resting_in before states ≡ before
-    pub unlogged : length states ≡ count → (before : List LogLine) → lines_in before states ≡ before
-    pub logged : (place : PlaceState H W T) → slice_get states count ≡ Some place → (before : List LogLine) → lines_in before states ≡ place.lines
+    pub unlogged : length states ≡ count → (before : KeptLinesState) → lines_in before states ≡ before
+    pub logged : (place : PlaceState H W T) → slice_get states count ≡ Some place → (before : KeptLinesState) → lines_in before states ≡ place.lines
 
   one_from : (place : PlaceState H W T) (seat : Seat T) (states : List (PlaceState H W T)) (count : ℕ) → place.role ≡ Talking seat → SomeTalk count states → (i : ℕ) (talker : Talker H W T) → slice_get (record { place = place; seat = seat } ∷ talkers states) i ≡ Some talker → ComesFrom (place ∷ states) i talker
   one_from place seat states count talks rest zero talker at =
@@ -93,8 +93,8 @@ module _ {H W T : Type 0} where
     pub first : slice_get states 0 ≡ Some place
     pub polls : place.role ≡ Polling desk
     pub resting : resting_in None states ≡ desk.resting
-    pub unlogged : length states ≡ total + 2 → lines_in [] states ≡ []
-    pub logged : (last : PlaceState H W T) → slice_get states (total + 2) ≡ Some last → lines_in [] states ≡ last.lines
+    pub unlogged : length states ≡ total + 2 → lines_in no_lines states ≡ no_lines
+    pub logged : (last : PlaceState H W T) → slice_get states (total + 2) ≡ Some last → lines_in no_lines states ≡ last.lines
 
   pub seats_stand : (total : ℕ) (log : Bool) (states : List (PlaceState H W T)) → length states ≡ colours_over total log → ((i : ℕ) (place : PlaceState H W T) → slice_get states i ≡ Some place → IsPlacedAs total i place) → SeatsStand total states
   seats_stand total log [] many placed = absurd (omega (arith, many))
@@ -104,7 +104,7 @@ module _ {H W T : Type 0} where
       let accepts = (placed 1 second refl).accepts refl in
       let rest = all_talk total total 2 (omega arith) (omega arith) states (omega (arith, many)) (omega (arith, many, below_bit log)) (λ i place at. (let same : suc (suc i) ≡ i + 2 = omega arith in subst (λ k. IsPlacedAs total k place) same (placed (suc (suc i)) place at))) in
       let none : talkers (first ∷ (second ∷ states)) ≡ talkers states = ap (λ (role : Role W T). talker_by first role ++ (talker_by second second.role ++ talkers states)) polls.1 ∙ ap (λ (role : Role W T). talker_by second role ++ talkers states) accepts in
-      let kept : lines_in [] (first ∷ (second ∷ states)) ≡ lines_in [] states = ap (λ (role : Role W T). lines_in (lines_by second.role second.lines (lines_by role first.lines [])) states) polls.1 ∙ ap (λ (role : Role W T). lines_in (lines_by role second.lines []) states) accepts in
+      let kept : lines_in no_lines (first ∷ (second ∷ states)) ≡ lines_in no_lines states = ap (λ (role : Role W T). lines_in (lines_by second.role second.lines (lines_by role first.lines no_lines)) states) polls.1 ∙ ap (λ (role : Role W T). lines_in (lines_by role second.lines no_lines) states) accepts in
       record {
         many = (let long = ap length none in let all = rest.many in omega (arith, long, all));
         each = λ i talker at. (let from = rest.each i talker (ap (λ (l : List (Talker H W T)). slice_get l i) (sym none) ∙ at) in record { there = ap (slice_get (first ∷ (second ∷ states))) (let two : i + 2 ≡ suc (suc i) = omega arith in two) ∙ from.there; talks = from.talks });
@@ -117,6 +117,6 @@ module _ {H W T : Type 0} where
             ∙ ap (λ (role : Role W T). resting_in (or_else (resting_by role) (or_else polls.0.resting None)) states) accepts
             ∙ rest.quiet (or_else polls.0.resting None)
             ∙ or_none polls.0.resting;
-        unlogged = λ all. kept ∙ rest.unlogged (omega (arith, all)) [];
-        logged = λ last at. kept ∙ rest.logged last (ap (slice_get (first ∷ (second ∷ states))) (let two : suc (suc total) ≡ total + 2 = omega arith in two) ∙ at) [];
+        unlogged = λ all. kept ∙ rest.unlogged (omega (arith, all)) no_lines;
+        logged = λ last at. kept ∙ rest.logged last (ap (slice_get (first ∷ (second ∷ states))) (let two : suc (suc total) ≡ total + 2 = omega arith in two) ∙ at) no_lines;
       }

@@ -33,13 +33,14 @@ use Rattle.sws_engine.specs.declared.load.Load.{Load}
 use Rattle.sws_engine.specs.declared.place.Frame.{Frame}
 use Rattle.sws_engine.specs.declared.place.Role.{Role}
 use Rattle.sws_engine.specs.declared.place.Role.TheVariants.{Polling, Accepting, Talking, Logging}
+use Rattle.sws_engine.specs.KeptLines.{no_lines}
 use Rattle.sws_engine.specs.Place.{PlaceState}
 use Rattle.sws_engine.specs.Invariant.{RoleStands, IsConsistent}
 use Rattle.sws_engine.specs.RunEnds.{IsPlacedAs}
 use Rattle.sws_engine.specs.ServerRun.{server_rules}
 use Rattle.sws_engine.specs.RunFits.{RunFits}
 use Rattle.sws_engine.specs.Counting.{colours_over}
-use Rattle.sws_engine.specs.RunLeaves.{links_owed, AreWhole, VerdictIs, StateTells, lines_kept}
+use Rattle.sws_engine.specs.RunLeaves.{lines_in, links_owed, AreWhole, VerdictIs, StateTells, lines_kept}
 use Rattle.sws_engine.specs.Handing.{served_with_loads}
 use Rattle.sws_engine.specs.Conclusion.{is_whole, ways_of, IsConcluded}
 use Rattle.sws_engine.specs.PartsKept.{PartsKept}
@@ -50,7 +51,7 @@ use Rattle.sws_engine.proofs.Ends.ConcludedLemmas.{whole_is, judged, served_many
 
 -- what a state keeps says which role it has
 module _ {W L T G H : Type 0} (x : WorldWords W L) (l : LinkWords L) (y : TalkWords T L G H) where
-  role_placed : (i : ℕ) (place : PlaceState H W T) (role : Role W T) → place.role ≡ role → place.colour.0 ≡ i → RoleStands x l y place.hall place.first place.colour place.trail place.lines role → IsPlacedAs (x.tells place.first).total i place
+  role_placed : (i : ℕ) (place : PlaceState H W T) (role : Role W T) → place.role ≡ role → place.colour.0 ≡ i → RoleStands x l y place.hall place.first place.colour place.trail place.lines.came role → IsPlacedAs (x.tells place.first).total i place
   role_placed i place (Polling desk) is colour stands = let at = stands.0 in record {
     colour = colour;
     polls = λ none. (desk, is);
@@ -115,7 +116,7 @@ module _ {W L T G H : Type 0} (x : WorldWords W L) (l : LinkWords L) (y : TalkWo
   abbrev total : ℕ
   total = (x.tells first).total
 
-  pub told_well : ended.verdict ≡ verdict.Ok → VerdictIs (lines_kept log ended.log.items) ended.served.items (is_whole how parts.lost.items) total (is_some ended.world) ended.accepted ended.failed verdict.Ok
+  pub told_well : ended.verdict ≡ verdict.Ok → VerdictIs (lines_kept log ended.log.items) ended.served.items (is_whole how parts.lost.items (lines_in no_lines parts.states.items)) total (is_some ended.world) ended.accepted ended.failed verdict.Ok
   told_well same = told_as x l y shape setup hall first log how parts ended rules colours kept fits is tell verdict.Ok same
 
   unfoldable pub has_run_threads : HasRunThreads x l y shape hall first log ended
@@ -124,7 +125,7 @@ module _ {W L T G H : Type 0} (x : WorldWords W L) (l : LinkWords L) (y : TalkWo
     left = run_left x l y shape setup hall first log how parts ended rules colours kept fits is tell;
     follows = λ same coming one script i s trail known at answers there run_of.
         let told = told_well same in
-        let run = whole_is how parts.lost.items told.0.ran in
+        let run = whole_is how parts.lost.items (lines_in no_lines parts.states.items) told.0.ran in
         let whole = subst (λ (b : Bool). AreWhole (lines_kept log ended.log.items) ended.served.items (links_owed b ended.accepted total)) told.2 told.3 in
         let many = served_many x l y hall first log how parts ended kept.many kept.placed kept.of_world fits is tell in
         let under : i < total = (let within = slice_get_within ended.served.items i s there in omega (arith, within, many)) in
@@ -143,6 +144,6 @@ module _ {W L T G H : Type 0} (x : WorldWords W L) (l : LinkWords L) (y : TalkWo
     lost = parts.lost.items;
     handled = subst (λ (all : List (List Entry)). HandlersRan x l y hall first log setup all parts.lost.items) (sym (histories_are x l y shape setup hall first log how parts ended rules colours kept fits is tell)) handled;
     none_lost = λ isnt.
-        let whole = judged (lines_kept log ended.log.items) ended.served.items (is_whole how parts.lost.items) (is_some ended.world) ended.failed total ended.accepted ended.verdict isnt is.verdict in
-        (whole_is how parts.lost.items whole.ran).1;
+        let whole = judged (lines_kept log ended.log.items) ended.served.items (is_whole how parts.lost.items (lines_in no_lines parts.states.items)) (is_some ended.world) ended.failed total ended.accepted ended.verdict isnt is.verdict in
+        (whole_is how parts.lost.items (lines_in no_lines parts.states.items) whole.ran).1;
   }

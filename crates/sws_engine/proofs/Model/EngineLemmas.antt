@@ -41,7 +41,6 @@ use Rattle.sws_engine.specs.declared.place.Seat.{Seat}
 use Rattle.sws_engine.specs.declared.place.Role.{Role}
 use Rattle.sws_engine.specs.declared.place.Role.TheVariants.{Polling, Accepting, Talking, Logging}
 use Rattle.sws_engine.specs.Place.{PlaceState}
-use Rattle.sws_engine.specs.PlaceFields.{IsAlike}
 use Rattle.sws_engine.specs.Loads.{Fit}
 use Rattle.sws_engine.specs.Counting.{colours_over}
 use Rattle.sws_engine.specs.Initial.{IsInitialRole, AreInitialPlacesOver, first_poll, initial_load}
@@ -53,7 +52,7 @@ use Rattle.sws_engine.specs.ServerRun.{server_rules, IsRunOfPaths}
 use Rattle.sws_engine.specs.Agrees.{AreOpened, PlaceAgrees}
 use Rattle.sws_engine.specs.Placed.{IsPlaced, initial_place, AreInitialPlacesBy}
 use Rattle.sws_engine.specs.ServedRun.{HasRunOut}
-use Rattle.sws_engine.proofs.Paths.PathServerLemmas.{place_runs, stays_spoilt, state_counts, load_counts, alike_has, alike_spoilt, first_world}
+use Rattle.sws_engine.proofs.Paths.PathServerLemmas.{place_runs, stays_spoilt, state_counts, load_counts, first_world}
 use Rattle.sws_engine.proofs.Model.FirstLemmas.{server_run}
 
 bit_small : (log : Bool) → bit log ≤ 1
@@ -104,7 +103,7 @@ module _ {W L T G H : Type 0} (x : WorldWords W L) (l : LinkWords L) (y : TalkWo
       subst (λ (n : ℕ). HasPlace x l y hall paths state (initial_place total n)) (let e : i ≡ 0 + i = omega arith in e) (initial_role total i state.role is.initial.role is.own_hall)
 
   module _ {R : Type 0} (t : TrailWords (PlaceState H W T) (Frame H W)) (fits : Frame H W → Colour → Event → Option (Load W L) → Type 0) (a : AppWords R (Load W L) (PlaceState H W T) (Frame H W)) (total_of : R → ℕ) (log_of : R → Bool)
-      (alike_is : (p q : PlaceState H W T) → t.alike p q → IsAlike p q) (coloured : (s : PlaceState H W T) → t.colour_of s ≡ s.colour) (framed : (s : PlaceState H W T) → t.frame_of s ≡ record { hall = s.hall; first = s.first })
+      (coloured : (s : PlaceState H W T) → t.colour_of s ≡ s.colour) (framed : (s : PlaceState H W T) → t.frame_of s ≡ record { hall = s.hall; first = s.first })
       (fits_is : (frame : Frame H W) (c : Colour) (event : Event) (carried : Option (Load W L)) → fits frame c event carried → Fit x l frame.first c event carried)
       (runs_is : (app : R) (s : PlaceState H W T) (event : Event) (carried : Option (Load W L)) (after : PlaceState H W T) (puts : List (Colour × Event × Option (Load W L))) → a.runs app s event carried after puts → Runs x l y (log_of app) (total_of app) s event carried after puts) where
     abbrev frame : Frame H W
@@ -117,7 +116,6 @@ module _ {W L T G H : Type 0} (x : WorldWords W L) (l : LinkWords L) (y : TalkWo
     engine_placed log app total logs tells steps_law = record {
       held = λ state place is. state_counts x l y hall paths state place is;
       carriage = λ carried p is. load_counts x l y hall paths carried p is;
-      roomy = λ state roomy place alike is. alike_has x l y hall paths state roomy place (alike_is state roomy alike) is;
       runs = λ s state after event carried puts place p of_frame fit is_place stands are comes alone ran fine.
           let c_is : t.colour_of state ≡ state.colour = coloured state in
           let fit_there : Fit x l first state.colour event carried = subst (λ (c : Colour). Fit x l first c event carried) c_is (fits_is frame (t.colour_of state) event carried fit) in
@@ -125,7 +123,6 @@ module _ {W L T G H : Type 0} (x : WorldWords W L) (l : LinkWords L) (y : TalkWo
           let did = place_runs x l y hall first paths tells steps_law log (total_of app) state after event carried puts place p fit_there at is_place are alone (subst (λ (b : Bool). Runs x l y b (total_of app) state event carried after puts) logs (runs_is app state event carried after puts ran)) fine in
           subst (λ (c : Colour). HasPlace x l y hall paths after (path.runs_place log (length paths) c place event p).place × ArePuts (HasLoad x l y hall paths) puts (path.runs_place log (length paths) c place event p).puts) (sym c_is)
           (subst (λ (n : ℕ). HasPlace x l y hall paths after (path.runs_place log n state.colour place event p).place × ArePuts (HasLoad x l y hall paths) puts (path.runs_place log n state.colour place event p).puts) total did);
-      spoilt_roomier = λ state roomy alike is. alike_spoilt x l y hall paths state roomy (alike_is state roomy alike) is;
       spoilt_after = λ state after event carried puts ran is. stays_spoilt x l y (total_of app) (log_of app) state after event carried puts (runs_is app state event carried after puts ran) is;
     }
 

@@ -1,5 +1,5 @@
 -- At Ok no link met want of memory, so the histories that a run leaves are those of the definition.
-use Rattle.std.proofs.Common.{◌≡◌, ◌+◌, ◌<◌, ℕ, zero, suc, All, Bool, true, false, List, [], ◌∷◌, ◌++◌, Option, None, Some, get_or, map, arith, refl, sym, ap, subst, ◌∙◌, inl, inr}
+use Rattle.std.proofs.Common.{◌≡◌, ◌+◌, ◌<◌, ℕ, zero, suc, All, Bool, false, List, [], ◌++◌, Option, None, Some, get_or, map, arith, refl, sym, ap, subst, ◌∙◌, inl, inr}
 use Rattle.std.specs.Prelude.{slice_get, is_none, is_some, IsSome, ◌||◌}
 use Rattle.std.proofs.lemmas.Bool.{or_parts}
 use Rattle.std.proofs.lemmas.Option.{same_Some, slice_get_within, slice_get-get_or}
@@ -31,25 +31,19 @@ use Rattle.sws_engine.specs.declared.load.Load.{Load}
 use Rattle.sws_engine.specs.declared.place.Seat.{Seat}
 use Rattle.sws_engine.specs.declared.place.Role.{Role}
 use Rattle.sws_engine.specs.declared.place.Role.TheVariants.{Polling, Accepting, Talking, Logging}
+use Rattle.sws_engine.specs.KeptLines.{no_lines}
 use Rattle.sws_engine.specs.Place.{PlaceState}
 use Rattle.sws_engine.specs.RunParts.{RunParts}
-use Rattle.sws_engine.specs.RunLeaves.{Talker, talkers, is_out_of_memory, links_owed, AreWhole, VerdictIs, lines_kept, is_lacking, is_out_of_turn}
+use Rattle.sws_engine.specs.RunLeaves.{lines_in, Talker, talkers, is_out_of_memory, links_owed, AreWhole, VerdictIs, lines_kept, is_lacking, is_out_of_turn}
 use Rattle.sws_engine.specs.Handing.{served_with_loads}
-use Rattle.sws_engine.specs.Conclusion.{is_empty, is_whole, IsConcluded}
+use Rattle.sws_engine.specs.Conclusion.{is_whole, IsConcluded}
 use Rattle.sws_engine.specs.PathStates.{TellsPaths, is_memory, is_spoilt_role, is_spoilt}
 use Rattle.sws_engine.specs.Agrees.{AreOpened}
 use Rattle.sws_engine.specs.ServerRun.{handler_rows, IsRunOfPaths}
 use Rattle.sws_engine.specs.ServedRun.{IsOfPaths}
+use Rattle.sws_engine.proofs.Ends.ConcludedLemmas.{whole_is}
 use Rattle.sws_engine.proofs.Ends.SeatsOfRunLemmas.{SeatsStand, seats_stand, below_bit}
 use Rattle.std.proofs.lemmas.Bool.{cases_lt}
-
-empty_is : {A : Type 0} (xs : List A) → is_empty xs ≡ true → xs ≡ []
-empty_is [] is = refl
-empty_is (x ∷ xs) is = cc
-
-whole_is : {A : Type 0} (how : Drained) (lost : List A) → is_whole how lost ≡ true → (how ≡ drained.Empty) × (lost ≡ [])
-whole_is drained.Empty lost is = (refl, empty_is lost is)
-whole_is drained.Memory lost is = cc
 
 has_end : (o : Option End) → is_none o ≡ false → IsSome o
 has_end None is = cc
@@ -68,11 +62,11 @@ module _ {W L T G H : Type 0} (x : WorldWords W L) (l : LinkWords L) (y : TalkWo
   abbrev total : ℕ
   total = (x.tells first).total
 
-  told : VerdictIs (lines_kept log ended.log.items) ended.served.items (is_whole how parts.lost.items) total (is_some ended.world) ended.accepted ended.failed verdict.Ok
-  told = subst (λ (v : Verdict). VerdictIs (lines_kept log ended.log.items) ended.served.items (is_whole how parts.lost.items) total (is_some ended.world) ended.accepted ended.failed v) ok is.verdict
+  told : VerdictIs (lines_kept log ended.log.items) ended.served.items (is_whole how parts.lost.items (lines_in no_lines parts.states.items)) total (is_some ended.world) ended.accepted ended.failed verdict.Ok
+  told = subst (λ (v : Verdict). VerdictIs (lines_kept log ended.log.items) ended.served.items (is_whole how parts.lost.items (lines_in no_lines parts.states.items)) total (is_some ended.world) ended.accepted ended.failed v) ok is.verdict
 
-  whole : (how ≡ drained.Empty) × (parts.lost.items ≡ [])
-  whole = whole_is how parts.lost.items (told.0.ran)
+  whole : (how ≡ drained.Empty) × (parts.lost.items ≡ []) × ((lines_in no_lines parts.states.items).lost ≡ false)
+  whole = whole_is how parts.lost.items (lines_in no_lines parts.states.items) (told.0.ran)
 
   -- what is shown is what was found of the states
   served_are : ended.served.items ≡ is.found

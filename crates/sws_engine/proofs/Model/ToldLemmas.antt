@@ -231,27 +231,6 @@ server_told {S} {P} t fits y app frame IsPlace IsLoad holds carries spoilt log w
     one_world = let same = sum_by-IsPermutation (worlds_of holds carries) some others order in let one = agrees.one_world in omega (arith, same, one);
     one_state = λ c. let same = sum_by-IsPermutation (λ (piece : Piece S P). cond {A = ℕ} (is_state_of c piece) 1 0) some others order in let one = agrees.one_state c in omega (arith, same, one);
   };
-  roomier = λ s c state room rest alike agrees.
-      let all = recursion_from_All (PieceAgrees IsPlace IsLoad holds carries whole s) (state_piece c state ∷ rest) agrees.each in
-      let is = all.0 in
-      let now_is = placed.roomy state room is.0 alike is.1 in
-      record {
-        many = agrees.many;
-        logs = agrees.logs;
-        each = All-from_recursion (PieceAgrees IsPlace IsLoad holds carries whole s) (state_piece c room ∷ rest) ((is.0, now_is, is.2), all.1);
-        one_world =
-            let one = agrees.one_world in
-            let was = sum_by-cons (worlds_of holds carries) (state_piece c state) rest in
-            let now = sum_by-cons (worlds_of holds carries) (state_piece c room) rest in
-            let e = placed.held state is.0 is.1 in
-            let f = placed.held room is.0 now_is in
-            omega (arith, one, was, now, e, f);
-        one_state = λ d.
-            let one = agrees.one_state d in
-            let was = sum_by-cons (λ (piece : Piece S P). cond {A = ℕ} (is_state_of d piece) 1 0) (state_piece c state) rest in
-            let now = sum_by-cons (λ (piece : Piece S P). cond {A = ℕ} (is_state_of d piece) 1 0) (state_piece c room) rest in
-            omega (arith, one, was, now);
-      };
   runs = λ s c event load state after puts rest coloured framed fit agrees ran fine.
       let all = recursion_from_All (PieceAgrees IsPlace IsLoad holds carries whole s) (state_piece c state ∷ event_piece c event load ∷ rest) agrees.each in
       let is = all.0 in
@@ -267,6 +246,5 @@ server_told {S} {P} t fits y app frame IsPlace IsLoad holds carries spoilt log w
         puts_told IsPlace IsLoad holds carries whole placed.held placed.carriage opened log s c event load state after puts rest agrees is.0 is.1 is.2 comes.0 comes.1 comes.2 place_is puts_are,
         agrees_after IsPlace IsLoad holds carries whole placed.held placed.carriage opened log s c event load state after puts rest agrees is.0 is.1 is.2 comes.0 comes.1 comes.2 place_is puts_are,
       );
-  spoilt_roomier = placed.spoilt_roomier;
   spoilt_after = placed.spoilt_after;
 }

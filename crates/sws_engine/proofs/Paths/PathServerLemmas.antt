@@ -25,12 +25,11 @@ use Rattle.sws_engine.specs.declared.task.Task.{Task}
 use Rattle.sws_steps.specs.declared.Handler.TheVariants as handler
 use Rattle.sws_engine.specs.declared.task.Task.TheVariants as task
 use Rattle.sws_engine.specs.Place.{PlaceState}
-use Rattle.sws_engine.specs.PlaceFields.{IsAlike}
 use Rattle.sws_engine.specs.Tasks.{task_of}
 use Rattle.sws_engine.specs.Loads.{TaskFits, Fit}
 use Rattle.sws_engine.specs.Handling.{Put, is_due, conn_of, RunsDesk, RunsAccepting, RunsSeat, RunsRole}
 use Rattle.sws_engine.specs.PathPlaces as path
-use Rattle.sws_engine.specs.PathStates.{steps_to_come, TellsPaths, HasWorld, HasRest, HasDesk, HasTalk, HasRole, HasPlace, HasLoad, IsPlacedAt, is_memory, is_spoilt_role, is_spoilt, AreLoads, ArePuts, FollowsPaths, StaysSpoilt, worlds_of_rest, worlds_of_role, worlds_of_state, worlds_of_load}
+use Rattle.sws_engine.specs.PathStates.{steps_to_come, TellsPaths, HasWorld, HasRest, HasDesk, HasTalk, HasRole, HasPlace, HasLoad, IsPlacedAt, is_memory, is_spoilt_role, AreLoads, ArePuts, FollowsPaths, StaysSpoilt, worlds_of_rest, worlds_of_role, worlds_of_state, worlds_of_load}
 use Rattle.sws_engine.proofs.Events.FitLemmas.{number_is, conn_fit, desk_fit, accept_fit}
 use Rattle.sws_engine.proofs.Paths.PathRunsLemmas.{poll_runs, wait_runs, accept_runs}
 use Rattle.sws_engine.proofs.Paths.PathTalksLemmas.{opened_runs, waiting_runs, opening_runs}
@@ -309,13 +308,6 @@ module _ {W L T G H : Type 0} (x : WorldWords W L) (l : LinkWords L) (y : TalkWo
   load_counts (load.Line line) (path.world w) has = absurd has
   load_counts (load.Line line) (path.link way) has = absurd has
   load_counts (load.Line line) path.line has = refl
-
-  -- with more room a state is what it was
-  pub alike_has : (s t : PlaceState H W T) (place : path.Place) → IsAlike s t → HasPlace x l y hall paths s place → HasPlace x l y hall paths t place
-  alike_has s t place same has = let role_is : t.role ≡ s.role = ap (λ (p : PlaceState H W T). p.role) same in subst (λ (r : Role W T). HasRole x l y hall paths r place) (sym role_is) has
-
-  pub alike_spoilt : (s t : PlaceState H W T) → IsAlike s t → is_spoilt y s ≡ true → is_spoilt y t ≡ true
-  alike_spoilt s t same is = let role_is : t.role ≡ s.role = ap (λ (p : PlaceState H W T). p.role) same in ap (λ (r : Role W T). is_spoilt_role y r) role_is ∙ is
 
   -- a world of which no link was accepted has all paths to come
   pub first_world : (world : W) → HasLoad x l y hall paths (load.World (record { world = world; accepted = 0; failed = false })) (path.world (record { accepted = 0; coming = paths }))

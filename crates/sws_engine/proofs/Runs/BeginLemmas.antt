@@ -101,7 +101,7 @@ pub start_fact : {W L T G H : Type 0} (x : WorldWords W L) (y : TalkWords T L G 
 start_fact {W} {L} {T} {G} {H} x y t world hall total log states weave after event reply event_is begins post given are same frame_is =
     let stands = starts y world total log states (places_initial y world hall total log states are) world in
     let moved = same_stands y total states (states_of after) ((first_poll total, Some (load.World (initial_load world))) ∷ []) (under_way after)
-    (λ f blind. post.states f ∙ begins.made.states f)
+    (λ f. post.states f ∙ begins.made.states f)
     (λ g.
     let gains = post.ways g in
     let none = begins.made.ways g in

@@ -36,8 +36,8 @@ use Rattle.sws_engine.specs.declared.task.Task.TheVariants as task
 use Rattle.sws_engine.specs.Tasks.{task_of}
 use Rattle.sws_engine.specs.Counting.{bit, colours_over}
 use Rattle.sws_engine.specs.Initial.{IsInitialRole, AreInitialPlacesOver}
+use Rattle.sws_engine.specs.KeptLines.{KeptLinesState}
 use Rattle.sws_engine.specs.Place.{PlaceState}
-use Rattle.sws_engine.specs.PlaceFields.{IsAlike}
 use Rattle.sws_engine.specs.Loads.{Fit}
 use Rattle.sws_engine.specs.LogTurns.{turn_in, turns_of}
 use Rattle.sws_engine.specs.LogStream.{turn_carried, log_stream, LogsInOrder}
@@ -221,10 +221,10 @@ module _ {W L T G H : Type 0} (x : WorldWords W L) (l : LinkWords L) (y : TalkWo
     logging_serves : s.role ≡ Logging → becomes.role ≡ Logging → puts ≡ [] → HandlerServes stream s.colour s (event, carried) becomes puts
     logging_serves was is does =
         let own : s.colour.0 ≡ total + 2 = bit_is_number s.colour.0 (total + 2) (placed Logging was) in
-        let joined : becomes.lines ≡ s.lines ++ line_in carried = runs.lines ∙ ap (λ (r : Role W T). s.lines ++ logged_in r) was in
+        let joined : becomes.lines.came ≡ s.lines.came ++ line_in carried = runs.lines ∙ ap (λ (r : Role W T). s.lines.came ++ logged_in r) was in
         record {
           sound = still_sound Logging is (placed Logging was);
-          receives = λ at. ap (λ (ls : List LogLine). turns_of i ls) joined ∙ filter_map-append (turn_in i) s.lines (line_in carried) ∙ ap (λ (ns : List ℕ). turns_of i s.lines ++ ns) (carried_turns event carried);
+          receives = λ at. ap (λ (ls : List LogLine). turns_of i ls) joined ∙ filter_map-append (turn_in i) s.lines.came (line_in carried) ∙ ap (λ (ns : List ℕ). turns_of i s.lines.came ++ ns) (carried_turns event carried);
           sends = λ at. let e = ap (λ (c : Colour). c.0) at in absurd (omega (arith, own, e, low));
           counts = λ gapless at. let e = ap (λ (c : Colour). c.0) at in absurd (omega (arith, own, e, low));
           silent = λ apart. ap (λ (ps : List (Put W L)). numbers_put stream ps) does;
@@ -257,18 +257,12 @@ module _ {W L T G H : Type 0} (x : WorldWords W L) (l : LinkWords L) (y : TalkWo
 -- the app serves the stream
 pub serves_lines : {W L T G H R : Type 0} (x : WorldWords W L) (l : LinkWords L) (y : TalkWords T L G H) (t : TrailWords (PlaceState H W T) (Frame H W)) (fits : Frame H W → Colour → Event → Option (Load W L) → Type 0) (z : AppWords R (Load W L) (PlaceState H W T) (Frame H W)) (app : R) (total : ℕ) (log : Bool) (i : ℕ) (given : PlaceState H W T)
     → log ≡ true → i < total → (x.tells given.first).total ≡ total
-    → ((p q : PlaceState H W T) → t.alike p q → IsAlike p q)
     → ((s : PlaceState H W T) → t.frame_of s ≡ record { hall = s.hall; first = s.first })
     → ((s : PlaceState H W T) → t.colour_of s ≡ s.colour)
     → ((frame : Frame H W) (k : Colour) (event : Event) (carried : Option (Load W L)) → fits frame k event carried → Fit x l frame.first k event carried)
     → ((s : PlaceState H W T) (event : Event) (carried : Option (Load W L)) (becomes : PlaceState H W T) (puts : List (Put W L)) → z.runs app s event carried becomes puts → Runs x l y log total s event carried becomes puts)
     → ServesStream t fits z app (t.frame_of given) (log_stream y total i)
-serves_lines {W} {L} {T} {G} {H} x l y t fits z app total log i given on low of_first alike_is frame_is colour_is fits_is runs_is = record {
-  alike = record {
-    received = λ a b same. ap (λ (s : PlaceState H W T). turns_of i s.lines) (sym (alike_is a b same));
-    sent = λ a b same. ap (λ (s : PlaceState H W T). at_seat (λ (k : Seat T). (y.view_of k.talk).lines) s.role) (sym (alike_is a b same));
-    sound = λ a b same. ap (λ (s : PlaceState H W T). misplaced_count total s == 0) (sym (alike_is a b same));
-  };
+serves_lines {W} {L} {T} {G} {H} x l y t fits z app total log i given on low of_first frame_is colour_is fits_is runs_is = record {
   each = λ s event carried becomes puts framed sound fit ran.
       let given_first : (t.frame_of given).first ≡ given.first = ap (λ (f : Frame H W). f.first) (frame_is given) in
       let fit0 : Fit x l (t.frame_of given).first (t.colour_of s) event carried = fits_is (t.frame_of given) (t.colour_of s) event carried fit in
@@ -286,7 +280,7 @@ begins_in_order {W} {L} {T} {G} {H} y world hall total log states i on low are =
     let many = are.many ∙ ap (λ (b : Bool). colours_over total b) on in
     let last = get_there states (total + 2) (omega (arith, many)) in
     let own = get_there states (i + 2) (omega (arith, many, low)) in
-    let received : turns_of i last.0.lines ≡ [] = ap (λ (ls : List LogLine). turns_of i ls) (are.each (total + 2) last.0 last.1).unlogged in
+    let received : turns_of i last.0.lines.came ≡ [] = ap (λ (ls : KeptLinesState). turns_of i ls.came) (are.each (total + 2) last.0 last.1).unlogged in
     let sent : at_seat (λ (k : Seat T). (y.view_of k.talk).lines) own.0.role ≡ 0 = none_sent (i + 2) own.0.role (are.each (i + 2) own.0 own.1).initial.role in
     let none = ap length received in
     record {

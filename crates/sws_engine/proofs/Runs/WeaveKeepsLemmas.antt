@@ -20,13 +20,11 @@ use Rattle.sws_engine.specs.declared.place.Frame.{Frame}
 use Rattle.sws_engine.specs.Place.{PlaceState}
 use Rattle.sws_engine.specs.Loads.{Fit, at_first}
 use Rattle.sws_engine.specs.Handling.{Put, Runs}
-use Rattle.sws_engine.specs.PlaceFields.{IsAlike}
 use Rattle.sws_engine.specs.RunStands.{RunStands}
 use Rattle.sws_engine.proofs.Runs.RunKeepsLemmas.{run_keeps}
 use Rattle.sws_engine.proofs.Runs.SameStandsLemmas.{same_stands}
 
 module _ {W L T G H R : Type 0} (x : WorldWords W L) (l : LinkWords L) (y : TalkWords T L G H) (t : TrailWords (PlaceState H W T) (Frame H W)) (fits : Frame H W → Colour → Event → Option (Load W L) → Type 0) (z : AppWords R (Load W L) (PlaceState H W T) (Frame H W)) (app : R)
-    (alike_is : (a b : PlaceState H W T) → t.alike a b → IsAlike a b)
     (frame_is : (s : PlaceState H W T) → t.frame_of s ≡ record { hall = s.hall; first = s.first })
     (colour_is : (s : PlaceState H W T) → t.colour_of s ≡ s.colour)
     (fits_is : (frame : Frame H W) (c : Colour) (event : Event) (carried : Option (Load W L)) → fits frame c event carried → Fit x l frame.first c event carried)
@@ -37,8 +35,8 @@ module _ {W L T G H R : Type 0} (x : WorldWords W L) (l : LinkWords L) (y : Talk
     pub stands : RunStands y (at_first x l first).total (states_of weave) (under_way weave)
     pub framed : (t.frame_of weave.given).first ≡ first
 
-  moved : (a b : WeaveState (PlaceState H W T) (Load W L)) → OnlyMoves t a b → RunStands y (at_first x l first).total (states_of a) (under_way a) → RunStands y (at_first x l first).total (states_of b) (under_way b)
-  moved a b moves was = same_stands y (at_first x l first).total (states_of a) (states_of b) (under_way a) (under_way b) (λ f same. moves.states f (λ p q alike. same p q (alike_is p q alike))) moves.ways was
+  moved : (a b : WeaveState (PlaceState H W T) (Load W L)) → OnlyMoves a b → RunStands y (at_first x l first).total (states_of a) (under_way a) → RunStands y (at_first x l first).total (states_of b) (under_way b)
+  moved a b moves was = same_stands y (at_first x l first).total (states_of a) (states_of b) (under_way a) (under_way b) moves.states moves.ways was
 
   ran : (a b : WeaveState (PlaceState H W T) (Load W L)) → RunsOne t fits z app a b → WeaveFact a → RunStands y (at_first x l first).total (states_of b) (under_way b)
   ran a b one was =

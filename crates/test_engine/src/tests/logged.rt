@@ -35,7 +35,7 @@ fn run_logged<R: AllocGlobal + Abort + Wait>(
     let Ok(_) = Setup::new(shape, u32::from(world.total()) + 3, handlers, 1) else {
         panic!(rt; "a number of the shape is out of its range");
     };
-    serve_steps(rt, rt.alloc(), site, shape, world, schedule, true)
+    serve_steps(rt, rt.alloc(), site, shape, world, schedule, true, false)
 }
 
 /// The run went well, and left these lines.

@@ -47,7 +47,7 @@ fn serve_logged<R: AllocGlobal + Abort + Threads + Wait + Sync>(
     let Ok(_setup) = Setup::new(shape, colours, handler_table(), 1) else {
         panic!(rt; "a number of the shape is out of its range");
     };
-    serve_all(rt, rt.alloc(), site, shape, world, &OpenGate, true)
+    serve_all(rt, rt.alloc(), site, shape, world, &OpenGate, true, false)
 }
 
 /// The lines of this connection are these.

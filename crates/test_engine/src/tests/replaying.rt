@@ -5,7 +5,7 @@ ghost use Rattle.sws_link.specs.MemWorlds.{IsInitialMemLink};
 ghost use Rattle.sws_link.specs.Limits.{conn_limit};
 
 use mely_event::Handlers;
-use mely_history::{Setup, Shape};
+use mely_history::{Entry, History, Setup, Shape};
 use std::process::Abort;
 use std::sync::Wait;
 use sws_conn::End;
@@ -125,7 +125,15 @@ pub(super) fn run<R: AllocGlobal + Abort + Wait>(
     let Ok(_) = Setup::new(shape, u32::from(world.total()) + 2, handlers, 1) else {
         panic!(rt; "a number of the shape is out of its range");
     };
-    serve_steps(rt, rt.alloc(), site, shape, world, schedule, false)
+    serve_steps(rt, rt.alloc(), site, shape, world, schedule, false, true)
+}
+
+/// The entries of a history that is listed.
+pub(super) fn entries_of<'h>(rt: &impl Abort, history: &'h History) -> &'h [Entry] {
+    match history.entries() {
+        Some(entries) => entries,
+        None => panic!(rt; "a history isn't listed"),
+    }
 }
 
 /// What a run left, as a replay prints it: each connection, and the histories
@@ -154,7 +162,15 @@ pub(super) fn printed(
         assert!(rt; put == Put::Done);
     }
     if is_journal {
-        let put = write_journal(rt.alloc(), &mut sink, &ended.histories);
+        let mut histories = Vec::new(rt.alloc());
+        for history in &ended.histories {
+            let mut entries = Vec::new(rt.alloc());
+            for entry in entries_of(rt, history) {
+                entries.push(*entry).expect(rt, "memory");
+            }
+            histories.push(entries).expect(rt, "memory");
+        }
+        let put = write_journal(rt.alloc(), &mut sink, &histories);
         assert!(rt; put == Put::Done);
     }
     sink

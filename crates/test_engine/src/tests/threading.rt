@@ -6,11 +6,11 @@ ghost use Rattle.sws_link.specs.MemWorlds.{IsInitialMemLink};
 ghost use Rattle.sws_link.specs.Limits.{conn_limit};
 
 use super::counted::CountedWorld;
-use super::replaying::{Client, Part, links_of, printed, site};
+use super::replaying::{Client, Part, entries_of, links_of, printed, site};
 use super::starving::Starving;
 use super::{A, ASKS, G, PLAIN, THREE};
 use mely_event::{Colour, Event};
-use mely_history::{Judged, Setup, Shape, judge};
+use mely_history::{Entry, History, Judged, Setup, Shape, judge};
 use mely_worker::{Gate, OpenGate};
 use std::process::Abort;
 use std::sync::Wait;
@@ -137,9 +137,9 @@ fn serve<R: AllocGlobal + Abort + Threads + Wait + Sync, G: Gate + Sync>(
     let Ok(setup) = Setup::new(shape, colours, handler_table(), 1) else {
         panic!(rt; "a number of the shape is out of its range");
     };
-    let ended = serve_all(rt, rt.alloc(), site, shape, world, gate, false);
+    let ended = serve_all(rt, rt.alloc(), site, shape, world, gate, false, true);
     for history in &ended.histories {
-        assert!(rt; judge(&setup, history) == Judged::Legal);
+        assert!(rt; judge(&setup, entries_of(rt, history)) == Judged::Legal);
     }
     ended
 }
@@ -160,11 +160,15 @@ fn three<R: AllocGlobal + Abort + Threads + Wait + Sync, G: Gate + Sync>(
     ended
 }
 
-/// How many events were run.
-fn events_of(trails: &[Vec<Event>]) -> u64 {
+/// How many events were run, by the histories.
+fn events_of(rt: &impl Abort, histories: &[History]) -> u64 {
     let mut events: u64 = 0;
-    for trail in trails {
-        events = events.wrapping_add(trail.len() as u64);
+    for history in histories {
+        for entry in entries_of(rt, history) {
+            if let Entry::Fin { count, .. } = entry {
+                events = events.wrapping_add(u64::from(*count));
+            }
+        }
     }
     events
 }
@@ -204,7 +208,7 @@ fn starve<R: AllocGlobal + Abort + Threads + Wait + Sync>(
     let Ok(_) = Setup::new(shape, colours, handler_table(), 1) else {
         panic!(rt; "a number of the shape is out of its range");
     };
-    serve_all(rt, rt.alloc(), &site, shape, world, &OpenGate, false)
+    serve_all(rt, rt.alloc(), &site, shape, world, &OpenGate, false, false)
 }
 
 /// A run of a world whose link of some number found no memory left these connections.
@@ -246,7 +250,7 @@ fn the_gate_is_passed_as_often_as_handlers_run(rt: HostRuntime) {
                 passed: AtomicU64::new(0),
             };
             let ended = three(&rt, &site, cores, shards, &gate);
-            assert!(rt; gate.passed.load(Ordering::SeqCst) == events_of(&ended.trails));
+            assert!(rt; gate.passed.load(Ordering::SeqCst) == events_of(&rt, &ended.histories));
         }
     }
 }
@@ -282,7 +286,7 @@ fn one_behind_the_gate<R: AllocGlobal + Abort + Threads + Wait + Sync>(rt: &R, c
     let Ok(_setup) = Setup::new(&shape, colours, handler_table(), 1) else {
         panic!(rt; "a number of the shape is out of its range");
     };
-    let ended = serve_all(rt, rt.alloc(), &site, &shape, world, &gate, false);
+    let ended = serve_all(rt, rt.alloc(), &site, &shape, world, &gate, false, false);
     assert!(rt; ended.verdict == Verdict::Ok);
     assert!(rt; gate.is_late.load(Ordering::SeqCst) == 0);
     // a read that finds the link not ready, that read again, a write of the answer's head, one of
@@ -316,7 +320,7 @@ fn two_workers_are_at_the_gate_at_once(rt: HostRuntime) {
     let ended = serve(&rt, &site, &free, links, &gate);
     assert!(rt; ended.verdict == Verdict::Ok);
     assert!(rt; gate.is_missed.load(Ordering::SeqCst) == 0);
-    assert!(rt; gate.passed.load(Ordering::SeqCst) == events_of(&ended.trails));
+    assert!(rt; gate.passed.load(Ordering::SeqCst) == events_of(&rt, &ended.histories));
 }
 
 /// A client whose link fails, one whose link is not ready, one whose link stays so, one that is cut

@@ -5,11 +5,10 @@ ghost use Rattle.mely_history.specs.Setup.{first_out_of_range};
 ghost use Rattle.sws_link.specs.MemWorlds.{IsInitialMemLink};
 ghost use Rattle.sws_link.specs.Limits.{conn_limit};
 
-use super::replaying::{Client, Part, links_of, site};
+use super::replaying::{Client, Part, entries_of, links_of, site};
 use super::starving::{Starving, Thrifty};
 use super::{A, ASKS, EMPTY, G, GET_EMPTY, PLAIN, joined};
-use mely_event::Colour;
-use mely_history::{Entry, Judged, Setup, Shape, judge};
+use mely_history::{Judged, Setup, Shape, judge};
 use std::process::Abort;
 use std::sync::Wait;
 use sws_conn::End;
@@ -47,7 +46,7 @@ fn starve<R: AllocGlobal + Abort + Wait>(
         given: 0,
     };
     setup_of(rt, shape, u32::from(world.total()) + 2 + u32::from(log));
-    serve_steps(rt, rt.alloc(), &site, shape, world, schedule, log)
+    serve_steps(rt, rt.alloc(), &site, shape, world, schedule, log, true)
 }
 
 /// The server's setup of so many colours.
@@ -60,33 +59,12 @@ fn setup_of(rt: &impl Abort, shape: &Shape, colours: u32) -> Setup
     }
 }
 
-/// How many events of a colour were finished, by a history.
-fn finished(history: &[Entry], sought: Colour) -> u64 {
-    let mut finished = 0u64;
-    for entry in history {
-        match entry {
-            Entry::Fin { colour, count, .. } if *colour == sought => {
-                finished = finished.wrapping_add(u64::from(*count));
-            }
-            _ => {}
-        }
-    }
-    finished
-}
-
-/// What a run leaves that had begun, whatever it was refused: legal histories, of each colour a
-/// trail of what was finished, the world, and each link that it gave.
+/// What a run leaves that had begun, whatever it was refused: legal histories, the world, and each
+/// link that it gave.
 fn stands(rt: &(impl AllocGlobal + Abort), ended: &Ended<Starving>, shape: &Shape, log: bool) {
     let setup = setup_of(rt, shape, 4 + u32::from(log));
     for history in &ended.histories {
-        assert!(rt; judge(&setup, history) == Judged::Legal);
-    }
-    for (colour, trail) in ended.trails.iter().enumerate() {
-        let mut count = 0u64;
-        for history in &ended.histories {
-            count = count.wrapping_add(finished(history, Colour((colour % 8) as u16)));
-        }
-        assert!(rt; trail.len() as u64 == count, "colour {colour}");
+        assert!(rt; judge(&setup, entries_of(rt, history)) == Judged::Legal);
     }
     let mut links = 0u16;
     for served in &ended.served {

@@ -9,7 +9,7 @@ ghost use Rattle.mely_fleet.specs.Frames.{shard_frame};
 ghost use Rattle.mely_fleet.specs.Seats.{IsOutsider};
 ghost use Rattle.test_fleet.specs.Callers.{AreCallers, IsCaller, IsRow};
 
-use super::{fleet_of, setup_of};
+use super::{fleet_of, listed_setup_of, setup_of};
 use example_counting::{Passing, Tally};
 use mely_event::{Colour, Event, Fits, Kept, Memory, Trail};
 use mely_fleet::{Fleet, Passes, Room, Seat, SeatOf, Worked};
@@ -297,6 +297,19 @@ fn counts(history: &[Entry]) -> (u64, u64) {
     (registered, finished)
 }
 
+/// How many handlers ran on a state: each draws one number, by one step of a linear congruential
+/// generator, which begins with the number of the colour. Its period is 2^32.
+fn draws_of(state: &Tally) -> u64 {
+    let mut seed = u32::from(state.log.colour().0);
+    for count in 0..10_000u64 {
+        if seed == state.value {
+            return count;
+        }
+        seed = seed.wrapping_mul(1_664_525).wrapping_add(1_013_904_223);
+    }
+    u64::MAX
+}
+
 #[test]
 fn two_workers_run_what_one_outsider_posted(rt: HostRuntime) -> Result<(), Fail> {
     let shape = Shape {
@@ -320,7 +333,7 @@ fn two_workers_run_what_one_outsider_posted(rt: HostRuntime) -> Result<(), Fail>
     assert!(rt; parts.queued.iter().all(|events| events.is_empty()));
     let mut lengths = Vec::new(rt.alloc());
     for state in &parts.states {
-        lengths.push(state.log.trail().len())?;
+        lengths.push(draws_of(state))?;
     }
     assert_eq!(rt; lengths.as_slice(), [10, 0, 10].as_slice());
     Ok(())
@@ -369,7 +382,7 @@ fn crowd_is_right<R: Threads + Wait + Sync + Abort>(
         steal_cost: 5,
         group: 4,
     };
-    let setup = setup_of(&shape, 12, 10)?;
+    let setup = listed_setup_of(&shape, 12, 10)?;
     let run = Run::new(12, 24, 4, None);
     let left = run_once(rt, alloc, &setup, 12, 3, &run, Who::All)?;
     let Left {
@@ -385,14 +398,17 @@ fn crowd_is_right<R: Threads + Wait + Sync + Abort>(
     let mut registered = 0u64;
     let mut finished = 0u64;
     for history in &parts.histories {
-        assert_eq!(rt; judge(&setup, history), Judged::Legal);
-        let (here, ended) = counts(history);
+        let Some(entries) = history.entries() else {
+            return Err(Fail::from("no list"));
+        };
+        assert_eq!(rt; judge(&setup, entries), Judged::Legal);
+        let (here, ended) = counts(entries);
         registered = registered.wrapping_add(here);
         finished = finished.wrapping_add(ended);
     }
-    let mut ran = 0usize;
+    let mut ran = 0u64;
     for state in &parts.states {
-        ran = ran.wrapping_add(state.log.trail().len());
+        ran = ran.wrapping_add(draws_of(state));
     }
     assert_eq!(rt; registered, 360);
     assert_eq!(rt; finished, 360);

@@ -1,15 +1,15 @@
-//! Want of memory in a take: the mark goes back, and all that was registered is handed out.
+//! Want of memory: whatever is refused, all that was registered is handed out.
 ghost use Rattle.std.specs.Prelude.{◌≡◌, ◌<◌, ◌≤◌, IfOk};
 ghost use Rattle.mely_history.specs.Setup.{shape_of, colours_of};
 ghost use Rattle.test_fleet.specs.Callers.{IsRow};
 
-use super::grudging::{Grudging, Sowing, grudging_states};
-use super::setup_of;
-use mely_event::{Colour, Event, Fits, Mark, Trail};
+use super::listed_setup_of;
+use super::sowing::{Sowing, Sown, sown_states};
+use mely_event::{Colour, Event, Fits, Trail};
 use mely_fleet::run_crew;
-use mely_history::{Entry, Judged, Setup, Shape, judge};
+use mely_history::{Entry, History, Judged, Setup, Shape, judge};
 use mely_weave::{Drained, Weave, WeaveParts};
-use mely_worker::{Made, OpenGate};
+use mely_worker::OpenGate;
 use std::alloc::Global;
 use std::process::Abort;
 use std::sync::Wait;
@@ -19,29 +19,6 @@ use std::thread::Threads;
 const C0: Colour = Colour(0);
 
 const C1: Colour = Colour(1);
-
-/// The steps of core 1 that run one event of colour 1 where more wait.
-const POPPED: Made = Made::Popped { colour: C1 };
-
-const TOOK: Made = Made::Took {
-    colour: C1,
-    count: 1,
-};
-
-const RAN: Made = Made::Ran {
-    colour: C1,
-    handler: 0,
-};
-
-const FINISHED: Made = Made::Finished {
-    colour: C1,
-    more: true,
-};
-
-const PUSHED: Made = Made::Pushed {
-    colour: C1,
-    core: 1,
-};
 
 /// An event that sows so many.
 fn sowing(count: u16) -> Event
@@ -53,7 +30,7 @@ fn sowing(count: u16) -> Event
     }
 }
 
-/// Two cores and two colours, batches of 1, and one handler of weight 10.
+/// Two cores and two colours, batches of 1, and one handler of weight 10. The histories are listed.
 fn pair(shards: u16, steal_cost: u32) -> Result<Setup, Fail>
     ensures { IfOk result (IsRow 2 2) }
 {
@@ -64,50 +41,16 @@ fn pair(shards: u16, steal_cost: u32) -> Result<Setup, Fail>
         steal_cost,
         group: 2,
     };
-    setup_of(&shape, 2, 10)
-}
-
-/// A weave of two states, of which that of colour 1 refuses room once, after so many requests.
-fn weave_of(alloc: Global, setup: &Setup, granted: u16) -> Result<Weave<Grudging, u8>, Fail>
-    requires { IsRow 2 2 setup.now }
-    ensures { IfOk result (λ weave. weave.setup ≡ setup.now) }
-{
-    let Ok(states) = grudging_states(alloc, granted) else {
-        return Err(Fail::from("no states"));
-    };
-    match Weave::new(alloc, setup, states) {
-        Ok(weave) => Ok(weave),
-        Err(_) => Err(Fail::from("no weave")),
-    }
-}
-
-fn post(weave: &mut Weave<Grudging, u8>, colour: u16, event: Event) -> bool
-    requires row { IsRow 2 2 weave.old.setup }
-    requires colour { colour < 2 }
-    requires handler { event.handler ≡ 0 }
-    ensures { weave.new.setup ≡ weave.old.setup }
-{
-    weave.post(Colour(colour), event, Some(7)).is_ok()
-}
-
-/// Makes a step of a core for each of these names, and answers whether each was named so.
-fn follows(weave: &mut Weave<Grudging, u8>, core: u16, steps: &[Made]) -> bool
-    requires row { IsRow 2 2 weave.old.setup }
-    requires core { core < 2 }
-    ensures { weave.new.setup ≡ weave.old.setup }
-{
-    for made in steps {
-        if weave.step(core, &Sowing) != *made {
-            return false;
-        }
-    }
-    true
+    listed_setup_of(&shape, 2, 10)
 }
 
 /// The events of a colour, in the order in which they were registered in its history.
-fn registered(alloc: Global, history: &[Entry], sought: Colour) -> Result<Vec<Event>, Fail> {
+fn registered(alloc: Global, history: &History, sought: Colour) -> Result<Vec<Event>, Fail> {
     let mut events = Vec::new(alloc);
-    for entry in history {
+    let Some(entries) = history.entries() else {
+        return Err(Fail::from("no list"));
+    };
+    for entry in entries {
         match entry {
             Entry::Reg { colour, event, .. } if *colour == sought => events.push(*event)?,
             _ => {}
@@ -125,9 +68,9 @@ struct Remains {
 
 /// How many events a run registered or lost where it all began with one post: that one, and two for
 /// each event that ran and sows.
-fn sown_by(trail: &[Event]) -> usize {
+fn sown_by(ran: &[Event]) -> usize {
     let mut count: usize = 1;
-    for event in trail {
+    for event in ran {
         if event.arg > 0 {
             count = count.wrapping_add(2);
         }
@@ -136,24 +79,27 @@ fn sown_by(trail: &[Event]) -> usize {
 }
 
 /// Whatever a run was refused, each history is legal; the events that were registered
-/// on a colour are those of its trail and then those that wait; and those that wait or
+/// on a colour are those that ran and then those that wait; and those that wait or
 /// were lost have their loads.
 fn remains_of(
     rt: &impl Abort,
     alloc: Global,
     setup: &Setup,
-    parts: &WeaveParts<Grudging, u8>,
+    parts: &WeaveParts<Sown, u8>,
 ) -> Result<Remains, Fail> {
     assert_eq!(rt; (parts.states.len(), parts.queued.len()), (2, 2));
     let mut waiting = 0;
     for (number, (state, queued)) in parts.states.iter().zip(&parts.queued).enumerate() {
         let mut known = Vec::new(alloc);
         for history in &parts.histories {
-            assert_eq!(rt; judge(setup, history), Judged::Legal);
+            let Some(entries) = history.entries() else {
+                return Err(Fail::from("no list"));
+            };
+            assert_eq!(rt; judge(setup, entries), Judged::Legal);
             let here = registered(alloc, history, Colour((number % 2) as u16))?;
             known.extend_from_slice(&here)?;
         }
-        let mut handed = state.log.trail().to_vec(alloc)?;
+        let mut handed = state.ran.to_vec(alloc)?;
         for (event, load) in queued {
             assert_eq!(rt; *load, Some(7));
             handed.push(*event)?;
@@ -169,86 +115,44 @@ fn remains_of(
     Ok(Remains { waiting, lost })
 }
 
-#[test]
-fn a_take_without_memory_puts_the_mark_back_on_its_chain(rt: HostRuntime) -> Result<(), Fail> {
-    let setup = pair(1, 1_000_000)?;
-    let mut weave = weave_of(rt.alloc(), &setup, 1)?;
-    assert!(rt; post(&mut weave, 1, sowing(0)));
-    assert!(rt; post(&mut weave, 1, sowing(0)));
-    assert!(rt; post(&mut weave, 1, sowing(0)));
-    let takes = [POPPED, TOOK, RAN, FINISHED, PUSHED];
-    assert!(rt; follows(&mut weave, 1, &takes));
-    let mark = Mark {
-        colour: C1,
-        started: 1,
-        worth: 20,
-    };
-    assert_eq!(rt; weave.chain_at(1, 0), Some(mark));
-    let refused = [POPPED, Made::Memory];
-    assert!(rt; follows(&mut weave, 1, &refused));
-    assert_eq!(rt; weave.chain_at(1, 0), None);
-    let pushed = [PUSHED, Made::Halted];
-    assert!(rt; follows(&mut weave, 1, &pushed));
-    assert_eq!(rt; weave.chain_at(1, 0), Some(mark));
-    assert_eq!(rt; weave.drain(&rt, &Sowing), Drained::Memory);
-    let left = remains_of(&rt, rt.alloc(), &setup, &weave.into_parts())?;
-    assert_eq!(rt;
-        left,
-        Remains {
-            waiting: 2,
-            lost: 0
+/// How many events a run registered or lost, by those that ran on colour 0.
+fn sown_in(states: &[Sown]) -> usize {
+    let mut sown: usize = 0;
+    for state in states {
+        if state.log.colour() == C0 {
+            sown = sown_by(&state.ran);
         }
-    );
-    Ok(())
+    }
+    sown
 }
 
-/// Another core steals the colour whose mark was put back, and runs all of it.
-#[test]
-fn a_mark_that_was_put_back_is_as_good_as_before(rt: HostRuntime) -> Result<(), Fail> {
-    let setup = pair(1, 5)?;
-    let mut weave = weave_of(rt.alloc(), &setup, 0)?;
-    assert!(rt; post(&mut weave, 1, sowing(0)));
-    assert!(rt; post(&mut weave, 1, sowing(0)));
-    let refused = [POPPED, Made::Memory, PUSHED, Made::Halted];
-    assert!(rt; follows(&mut weave, 1, &refused));
-    let stolen = [
-        Made::NoneHere,
-        Made::Picked {
-            colour: C1,
-            victim: 1,
-        },
-        Made::Stole {
-            colour: C1,
-            from: 1,
-        },
-        Made::Landed { colour: C1 },
-        POPPED,
-        TOOK,
-    ];
-    assert!(rt; follows(&mut weave, 0, &stolen));
-    assert_eq!(rt; weave.drain(&rt, &Sowing), Drained::Memory);
-    let left = remains_of(&rt, rt.alloc(), &setup, &weave.into_parts())?;
-    assert_eq!(rt;
-        left,
-        Remains {
-            waiting: 1,
-            lost: 0
+/// What remains of a run: each event that was sown was registered or is among the lost.
+fn harvest(
+    rt: &impl Abort,
+    alloc: Global,
+    setup: &Setup,
+    parts: &WeaveParts<Sown, u8>,
+) -> Result<Remains, Fail> {
+    let left = remains_of(rt, alloc, setup, parts)?;
+    let mut known = left.lost;
+    for history in &parts.histories {
+        for colour in [C0, C1] {
+            known = known.wrapping_add(registered(alloc, history, colour)?.len());
         }
-    );
-    Ok(())
+    }
+    assert_eq!(rt; known, sown_in(&parts.states));
+    Ok(left)
 }
 
-/// Two threads run what one event sows, where a take of colour 1 is refused after so many. How it
-/// ended, and what remains.
+/// Two threads run what one event sows. How it ended, and what remains.
 fn sow<R: AllocGlobal + Threads + Wait + Sync + Abort>(
     rt: &R,
     setup: &Setup,
-    granted: u16,
 ) -> Result<Option<(Drained, Remains)>, Fail>
     requires { IsRow 2 2 setup.now }
 {
     let alloc = rt.alloc();
-    let Ok(states) = grudging_states(alloc, granted) else {
+    let Ok(states) = sown_states(alloc) else {
         return Err(Fail::from("no states"));
     };
     let begin = (C0, sowing(20), Some(7));
@@ -259,37 +163,56 @@ fn sow<R: AllocGlobal + Threads + Wait + Sync + Abort>(
             return Ok(None);
         }
     };
-    let parts = weave.into_parts();
-    let left = remains_of(rt, alloc, setup, &parts)?;
-    let mut sown: usize = 0;
-    for state in &parts.states {
-        if state.log.colour() == C0 {
-            sown = sown_by(state.log.trail());
-        }
-    }
-    let mut known = left.lost;
-    for history in &parts.histories {
-        for colour in [C0, C1] {
-            known = known.wrapping_add(registered(alloc, history, colour)?.len());
-        }
-    }
-    assert_eq!(rt; known, sown);
+    let left = harvest(rt, alloc, setup, &weave.into_parts())?;
     Ok(Some((drained, left)))
 }
 
+/// One weave runs what one event sows, a step of one core after another.
+fn sow_alone<R: AllocGlobal + Wait + Abort>(
+    rt: &R,
+    setup: &Setup,
+) -> Result<Option<(Drained, Remains)>, Fail>
+    requires { IsRow 2 2 setup.now }
+{
+    let alloc = rt.alloc();
+    let Ok(states) = sown_states(alloc) else {
+        return Err(Fail::from("no states"));
+    };
+    let Ok(mut weave) = Weave::new(alloc, setup, states) else {
+        return Ok(None);
+    };
+    let is_posted = weave.post(C0, sowing(20), Some(7)).is_ok();
+    let drained = weave.drain(rt, &Sowing);
+    let parts = weave.into_parts();
+    if !is_posted {
+        return Ok(None);
+    }
+    let left = harvest(rt, alloc, setup, &parts)?;
+    Ok(Some((drained, left)))
+}
+
+/// All was run, and nothing is left.
+fn is_reaped(ran: Option<(Drained, Remains)>) -> bool {
+    match ran {
+        Some((Drained::Empty, left)) => left.waiting == 0 && left.lost == 0,
+        _ => false,
+    }
+}
+
+/// Nothing was run, or memory was refused, or all was run and nothing is left.
+fn is_handed_out(ran: Option<(Drained, Remains)>) -> bool {
+    match ran {
+        Some((Drained::Memory, _)) => true,
+        None => true,
+        all => is_reaped(all),
+    }
+}
+
 #[test]
-fn threads_that_meet_want_of_memory_in_a_take_hand_all_out(rt: HostRuntime) -> Result<(), Fail> {
+fn threads_run_all_that_one_event_sows(rt: HostRuntime) -> Result<(), Fail> {
     for (shards, steal_cost) in [(1, 5), (2, 5), (1, 1_000_000), (2, 1_000_000)] {
         let setup = pair(shards, steal_cost)?;
-        for granted in [0, 1, 5] {
-            match sow(&rt, &setup, granted)? {
-                Some((drained, left)) => {
-                    assert_eq!(rt; (drained, left.lost), (Drained::Memory, 0));
-                    assert!(rt; left.waiting > 0);
-                }
-                None => panic!(rt; "nothing was run"),
-            }
-        }
+        assert!(rt; is_reaped(sow(&rt, &setup)?));
     }
     Ok(())
 }
@@ -300,18 +223,14 @@ fn threads_that_meet_want_of_memory_in_a_take_hand_all_out(rt: HostRuntime) -> R
 #[test]
 fn threads_that_are_refused_memory_hand_all_out(rt: HostRuntime) -> Result<(), Fail> {
     let setup = pair(2, 5)?;
-    match sow(&rt, &setup, u16::MAX)? {
-        Some((Drained::Empty, left)) => {
-            assert_eq!(rt;
-                left,
-                Remains {
-                    waiting: 0,
-                    lost: 0
-                }
-            );
-        }
-        Some((Drained::Memory, _)) => {}
-        None => {}
-    }
+    assert!(rt; is_handed_out(sow(&rt, &setup)?));
+    Ok(())
+}
+
+/// The same of a weave, whose steps are made in one order.
+#[test]
+fn a_weave_that_is_refused_memory_hands_all_out(rt: HostRuntime) -> Result<(), Fail> {
+    let setup = pair(1, 5)?;
+    assert!(rt; is_handed_out(sow_alone(&rt, &setup)?));
     Ok(())
 }

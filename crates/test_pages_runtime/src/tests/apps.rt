@@ -1,5 +1,5 @@
 //! The pages of `mely_weave` and `mely_fleet`.
-ghost use Rattle.std.specs.Prelude.{◌≡◌, ◌≤◌, ◌+◌, ◌++◌, ◌∷◌, [], IfOk, length};
+ghost use Rattle.std.specs.Prelude.{◌≡◌, ◌≤◌, ◌++◌, ◌∷◌, [], IfOk, length};
 ghost use Rattle.std.specs.List.{AllByRecursion};
 ghost use Rattle.mely_weave.specs.Making.{AreInitialBelow};
 ghost use Rattle.mely_worker.specs.Access.{FitsIn};
@@ -30,13 +30,11 @@ impl App for Sending {
     ghost runs = { λ app before event load after puts. Unit {0} };
 
     fn run(&self, state: &mut TrailLog, event: Event, load: Option<u8>, outs: &mut Outs<u8>)
-        requires room { 1 ≤ state.old.spare }
         requires empty { outs.old ≡ [] }
         ensures ran { Unit {0} }
         ensures colour { state.new.colour ≡ state.old.colour }
         ensures frame { Unit {0} }
         ensures trail { state.new.events ≡ state.old.events ++ event ∷ [] }
-        ensures spare { state.old.spare ≡ state.new.spare + 1 }
         ensures puts { AllByRecursion (FitsIn 2 2 (λ colour event load. Unit {0})) outs.new }
         ensures few { length outs.new ≤ 2 }
     {
@@ -68,7 +66,7 @@ fn initial_states(alloc: Global, colours: u32) -> Result<Vec<TrailLog>, Memory>
 {
     let mut states = Vec::new(alloc);
     'colours: for colour in 0..colours {
-        states.push(TrailLog::new(alloc, Colour(colour as u16)))?;
+        states.push(TrailLog::new(Colour(colour as u16)))?;
     }
     Ok(states)
 }

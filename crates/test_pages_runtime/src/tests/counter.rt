@@ -1,9 +1,7 @@
 //! The page of `mely_event::TrailLog`: a state that has one.
-ghost use Rattle.std.specs.Prelude.{◌≡◌, ◌≤◌, ◌-◌, ◌++◌, ◌∷◌, []};
+ghost use Rattle.std.specs.Prelude.{◌≡◌, ◌++◌, ◌∷◌, []};
 
-use mely_event::{Colour, Event, Fits, Memory, Trail, TrailLog};
-use std::alloc::Global;
-use std::test::Fail;
+use mely_event::{Colour, Event, Fits, Trail, TrailLog};
 
 #[derive(Drop)]
 struct Counter {
@@ -12,9 +10,6 @@ struct Counter {
 }
 
 impl Trail for Counter {
-    ghost use Rattle.mely_event.specs.TrailLog.{AreAlike, alike_itself, alike_onward};
-    ghost use Rattle.std.proofs.Common.{refl};
-
     type Frame = ();
 
     ghost trail_of = { λ s. s.log.events };
@@ -22,28 +17,6 @@ impl Trail for Counter {
     ghost colour_of = { λ s. s.log.colour };
 
     ghost frame_of = { λ s. tt };
-
-    ghost spare_of = { λ s. s.log.spare };
-
-    ghost alike = { AreAlike (λ s. s.log) (λ s. s.total) };
-
-    fn trail(&self) -> &[Event] {
-        self.log.trail()
-    }
-
-    fn reserve(&mut self, n: usize) -> Result<(), Memory> {
-        self.log.reserve(n)
-    }
-
-    ghost alike_itself = { λ s. alike_itself s };
-
-    ghost alike_onward = { λ r s t one other. alike_onward one other };
-
-    ghost alike_trail = { λ s t same. same.events };
-
-    ghost alike_colour = { λ s t same. same.colour };
-
-    ghost alike_frame = { λ s t same. refl };
 }
 
 impl Fits<u32> for Counter {
@@ -52,22 +25,19 @@ impl Fits<u32> for Counter {
 
 impl Counter {
     /// A state on which nothing was run.
-    pub fn new(alloc: Global, colour: u16) -> Counter
-        ensures { result.log ≡ record { colour = record { 0 = colour }; events = []; spare = 0 } }
+    pub fn new(colour: u16) -> Counter
+        ensures { result.log ≡ record { colour = record { 0 = colour }; events = [] } }
     {
         Counter {
-            log: TrailLog::new(alloc, Colour(colour)),
+            log: TrailLog::new(Colour(colour)),
             total: 0,
         }
     }
 
     /// Runs an event, whose load is added.
     pub fn run(&mut self, event: Event, load: Option<u32>)
-        requires { 1 ≤ self.old.log.spare }
-        ensures { self.new.log ≡ record self.old.log {
-          events = self.old.log.events ++ event ∷ [];
-          spare = self.old.log.spare - 1;
-        } }
+        ensures { self.new.log
+            ≡ record self.old.log { events = self.old.log.events ++ event ∷ [] } }
     {
         self.log.push(event);
         self.total = self.total.wrapping_add(u64::from(load.unwrap_or(0)));
@@ -79,14 +49,18 @@ impl Counter {
     }
 }
 
-/// Room is made through the bound, and an event is run.
+/// Hands a state on, by its bound alone.
+fn handed_on<S: Fits<u32>>(state: S) -> S
+    ensures { S.trail_of result ≡ S.trail_of state }
+{
+    state
+}
+
 #[test]
-fn a_state_with_a_log_is_a_trail(rt: HostRuntime) -> Result<(), Fail> {
-    let mut state = Counter::new(rt.alloc(), 2);
-    let event = Event { handler: 0, arg: 7 };
-    state.reserve(1)?;
-    state.run(event, Some(5));
-    assert!(rt; state.trail() == [event].as_slice());
+fn a_state_with_a_log_is_a_trail(rt: HostRuntime) {
+    let mut state = Counter::new(2);
+    state.run(Event { handler: 0, arg: 7 }, Some(5));
+    let state = handed_on(state);
+    assert!(rt; state.log.colour() == Colour(2));
     assert!(rt; state.total() == 5);
-    Ok(())
 }

@@ -1,15 +1,16 @@
-ghost use Rattle.std.specs.Prelude.{◌≡◌, ◌≤◌, OnOk};
+ghost use Rattle.std.specs.Prelude.{◌≡◌};
 
 use mely_event::{
-    Colour, Event, Fits, Handlers, Kept, Logged, Mark, Memory, TableFault, There, Trail, TrailLog,
+    Colour, Event, Fits, Handlers, Kept, Logged, Mark, Memory, TableFault, There, TrailLog,
     Unregistered,
 };
+use std::mem::size_of;
 use std::test::Fail;
 
-/// What a lock keeps: a log, which is noted event by event.
+/// What a lock keeps: a list, which is noted event by event.
 #[derive(Drop)]
 struct Noted {
-    log: TrailLog,
+    events: Vec<Event>,
 }
 
 impl Kept for Noted {
@@ -17,24 +18,23 @@ impl Kept for Noted {
 
     type Frame = ();
 
-    ghost history_of = { λ s. s.log.events };
+    ghost history_of = { λ s. s.events.items };
 
     ghost pass_of = { λ event. event.arg };
 
     ghost frame_of = { λ s. tt };
 
     fn notes(&self) -> u64 {
-        self.log.trail().len() as u64
+        self.events.len() as u64
     }
 }
 
-/// Makes room for one event through the bound alone, and answers how many are there.
-fn with_room<S: Fits<Vec<u8>>>(state: &mut S) -> Result<usize, Memory>
-    ensures same { S.alike state.old state.new }
-    ensures room { OnOk result (1 ≤ S.spare_of state.new) }
+/// Hands on a state whose events carry bytes, by its bound alone.
+fn handed_on<S: Fits<Vec<u8>>>(state: S) -> S
+    ensures trail { S.trail_of result ≡ S.trail_of state }
+    ensures colour { S.colour_of result ≡ S.colour_of state }
 {
-    state.reserve(1)?;
-    Ok(state.trail().len())
+    state
 }
 
 #[test]
@@ -71,43 +71,46 @@ fn a_table_has_at_most_32_rows_and_no_penalty_0(rt: HostRuntime) {
 }
 
 #[test]
-fn a_state_makes_room_through_its_bounds(rt: HostRuntime) -> Result<(), Fail> {
+fn a_log_has_a_value_beside_it(rt: HostRuntime) {
     let mut ledger = Logged {
-        log: TrailLog::new(rt.alloc(), Colour(2)),
+        log: TrailLog::new(Colour(2)),
         value: 7,
     };
     for arg in 7..9 {
-        assert!(rt; with_room(&mut ledger) == Ok(arg - 7));
-        let event = Event {
-            handler: 0,
-            arg: arg as u16,
-        };
-        ledger.log.push(event);
-        assert!(rt; ledger.trail().last() == Some(&event));
+        ledger.log.push(Event { handler: 0, arg });
     }
+    let ledger = handed_on(ledger);
     assert!(rt; ledger.log.colour() == Colour(2));
     assert!(rt; ledger.value == 7);
-    assert!(rt; Noted { log: ledger.log }.notes() == 2);
-    Ok(())
 }
 
-/// Makes room for one event of any state whose events carry numbers.
-fn numbered<S: Fits<u32>>(state: &mut S) -> Result<(), Memory>
-    ensures room { OnOk result (1 ≤ S.spare_of state.new) }
-    ensures same { S.alike state.old state.new }
+/// Hands on a state whose events carry numbers, by its bound alone.
+fn handed_on_numbered<S: Fits<u32>>(state: S) -> S
+    ensures { S.trail_of result ≡ S.trail_of state }
 {
-    state.reserve(1)
+    state
 }
 
 #[test]
-fn a_trail_is_a_state_of_its_own(rt: HostRuntime) -> Result<(), Fail> {
-    let event = Event { handler: 3, arg: 7 };
-    let mut log = TrailLog::new(rt.alloc(), Colour(5));
-    assert!(rt; log.trail() == [].as_slice());
-    assert!(rt; numbered(&mut log) == Ok(()));
-    log.push(event);
-    assert!(rt; log.trail() == [event].as_slice());
+fn a_trail_is_a_state_of_the_size_of_its_colour(rt: HostRuntime) {
+    let mut log = TrailLog::new(Colour(5));
+    log.push(Event { handler: 3, arg: 7 });
+    let log = handed_on_numbered(log);
     assert!(rt; log.colour() == Colour(5));
+    assert!(rt; size_of::<TrailLog>() == 2);
+    assert!(rt; size_of::<TrailLog>() == size_of::<Colour>());
+}
+
+#[test]
+fn what_a_lock_keeps_counts_its_notes(rt: HostRuntime) -> Result<(), Fail> {
+    let mut noted = Noted {
+        events: Vec::new(rt.alloc()),
+    };
+    for arg in 0..2 {
+        assert!(rt; noted.notes() == u64::from(arg));
+        noted.events.push(Event { handler: 0, arg })?;
+    }
+    assert!(rt; noted.notes() == 2);
     Ok(())
 }
 

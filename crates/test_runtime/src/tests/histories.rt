@@ -1,5 +1,9 @@
-use mely_event::{Colour, Event, Handlers};
-use mely_history::{Entry, Judged, NoSteal, NoTake, Setup, SetupFault, Shape, judge};
+use mely_event::{Colour, Event, Handlers, Memory};
+use mely_history::{
+    Entry, History, Judged, MAX_ENTRIES, MAX_NOTES, NoSteal, NoTake, Setup, SetupFault, Shape,
+    judge,
+};
+use std::alloc::Global;
 use std::process::Abort;
 use std::test::Fail;
 
@@ -300,6 +304,58 @@ fn all_colours_may_be_pinned_and_no_more(rt: HostRuntime) -> Result<(), Fail> {
             "number {field}"
         );
     }
+    Ok(())
+}
+
+#[test]
+fn a_setup_lists_histories_where_it_is_asked_to(rt: HostRuntime) -> Result<(), Fail> {
+    let setup = small(&rt)?;
+    assert!(rt; !setup.is_listed());
+    let listed = setup.listed();
+    assert!(rt; listed.is_listed());
+    assert!(rt; numbers_of(&listed) == numbers_of(&setup));
+    Ok(())
+}
+
+/// A history of these entries, each of which found room.
+fn history_of(alloc: Global, listed: bool, entries: &[Entry]) -> Result<History, Memory> {
+    let mut history = History::new(alloc, listed);
+    for entry in entries {
+        history.reserve(1)?;
+        history.push(*entry);
+    }
+    Ok(history)
+}
+
+#[test]
+fn a_history_is_read_where_it_is_listed(rt: HostRuntime) -> Result<(), Fail> {
+    let written = [reg(0, 0, 0, 2), take(0, 0, 1)];
+    for (listed, shown) in [(false, None), (true, Some(written.as_slice()))] {
+        let history = history_of(rt.alloc(), listed, &written)
+            .ok()
+            .ok_or("no history")?;
+        assert!(rt; history.len() == 2, "listed: {listed}");
+        assert!(rt; history.entries() == shown, "listed: {listed}");
+        match history.into_entries() {
+            Some(list) => assert!(rt; shown == Some(list.as_slice())),
+            None => assert!(rt; shown == None),
+        }
+    }
+    Ok(())
+}
+
+#[test]
+fn a_history_has_room_up_to_its_limit(rt: HostRuntime) -> Result<(), Fail> {
+    for (listed, most) in [(false, MAX_NOTES), (true, MAX_ENTRIES)] {
+        let mut history = history_of(rt.alloc(), listed, &[steal(1, 1, 0)])
+            .ok()
+            .ok_or("no history")?;
+        assert!(rt; history.reserve(most) == Err(Memory), "listed: {listed}");
+        assert!(rt; history.reserve(9) == Ok(()), "listed: {listed}");
+        assert!(rt; history.len() == 1, "listed: {listed}");
+    }
+    let mut unlisted = History::new(rt.alloc(), false);
+    assert!(rt; unlisted.reserve(MAX_NOTES) == Ok(()));
     Ok(())
 }
 

@@ -1,7 +1,7 @@
 //! A queue and a turn with ample memory.
 ghost use Rattle.std.specs.Prelude.{◌≡◌, [], length};
 
-use mely_event::{Colour, Event, Fits, Trail, TrailLog};
+use mely_event::{Colour, Event, Fits, Logged, TrailLog};
 use mely_queue::{ColourQueue, Turn};
 use std::alloc::Global;
 use std::process::Abort;
@@ -61,19 +61,23 @@ fn a_turn_hands_out_each_event_once_in_order(rt: HostRuntime) -> Result<(), Fail
     let mut events = Vec::new(rt.alloc());
     events.push((FIRST, Some(1)))?;
     events.push((SECOND, None))?;
-    let mut state = TrailLog::new(rt.alloc(), Colour(2));
-    assert!(rt; state.reserve(1).is_ok());
+    let state = Logged {
+        log: TrailLog::new(Colour(2)),
+        value: 0,
+    };
     let mut turn = Turn::new(Colour(2), 5, state, events);
     assert!(rt; turn.colour() == Colour(2));
     assert!(rt; turn.core() == 5);
     assert!(rt; turn.count() == 2);
     assert!(rt; handed_out(&mut turn) == Some((FIRST, Some(1))));
     assert!(rt; turn.left() == 1);
-    turn.state().push(FIRST);
+    turn.state().log.push(FIRST);
+    turn.state().value = 7;
     assert!(rt; handed_out(&mut turn) == Some((SECOND, None)));
     assert!(rt; handed_out(&mut turn) == None);
     let state = turn.into_state();
-    assert!(rt; state.trail() == [FIRST].as_slice());
+    assert!(rt; state.log.colour() == Colour(2));
+    assert!(rt; state.value == 7);
     Ok(())
 }
 
@@ -87,7 +91,7 @@ fn handed_out_of(
     requires { length room.items ≡ 1 }
     ensures { result.items ≡ [] }
 {
-    let state = TrailLog::new(alloc, Colour(2));
+    let state = TrailLog::new(Colour(2));
     let mut turn = Turn::new(Colour(2), 5, state, room);
     assert!(rt; handed_out(&mut turn) == Some((FIRST, Some(1))));
     let (state, room) = turn.into_parts();

@@ -1,9 +1,10 @@
-ghost use Rattle.std.specs.Prelude.{◌≡◌, ◌≤◌, ◌<◌, ◌-◌, ◌++◌, ◌∷◌, [], length, IfOk, OnOk};
+ghost use Rattle.std.specs.Prelude.{◌≡◌, ◌<◌, ◌++◌, ◌∷◌, [], IfOk};
+ghost use Rattle.mely_history.specs.Setup.{shape_of, colours_of, handlers_of};
 ghost use Rattle.mely_shard.specs.Shard.{IsOwn, KeepsFrame, TurnStands};
 ghost use Rattle.test_runtime.specs.ShardExamples.{IsExample};
 
-use mely_event::{Colour, Event, Fits, Handlers, Memory, Trail, TrailLog};
-use mely_history::{After, Judged, NoSteal, NoTake, Registered, Setup, Shape, Stolen, judge};
+use mely_event::{Colour, Event, Fits, Handlers, Trail, TrailLog};
+use mely_history::{After, Entry, NoSteal, NoTake, Registered, Setup, Shape, Stolen};
 use mely_queue::Turn;
 use mely_shard::Shard;
 use std::alloc::{AllocError, Global};
@@ -18,9 +19,6 @@ struct Tally {
 }
 
 impl Trail for Tally {
-    ghost use Rattle.mely_event.specs.TrailLog.{AreAlike, alike_itself, alike_onward};
-    ghost use Rattle.std.proofs.Common.{refl};
-
     type Frame = ();
 
     ghost trail_of = { λ s. s.log.events };
@@ -28,28 +26,6 @@ impl Trail for Tally {
     ghost colour_of = { λ s. s.log.colour };
 
     ghost frame_of = { λ s. tt };
-
-    ghost spare_of = { λ s. s.log.spare };
-
-    ghost alike = { AreAlike (λ s. s.log) (λ s. s.total) };
-
-    fn trail(&self) -> &[Event] {
-        self.log.trail()
-    }
-
-    fn reserve(&mut self, n: usize) -> Result<(), Memory> {
-        self.log.reserve(n)
-    }
-
-    ghost alike_itself = { λ s. alike_itself s };
-
-    ghost alike_onward = { λ r s t one other. alike_onward one other };
-
-    ghost alike_trail = { λ s t same. same.events };
-
-    ghost alike_colour = { λ s t same. same.colour };
-
-    ghost alike_frame = { λ s t same. refl };
 }
 
 impl Fits<u32> for Tally {
@@ -59,11 +35,8 @@ impl Fits<u32> for Tally {
 impl Tally {
     /// Runs an event.
     fn run(&mut self, event: Event, load: Option<u32>)
-        requires { 1 ≤ self.old.log.spare }
-        ensures { self.new.log ≡ record self.old.log {
-          events = self.old.log.events ++ event ∷ [];
-          spare = self.old.log.spare - 1;
-        } }
+        ensures { self.new.log
+            ≡ record self.old.log { events = self.old.log.events ++ event ∷ [] } }
     {
         self.log.push(event);
         self.total = self.total.wrapping_add(u64::from(load.unwrap_or(0)));
@@ -71,11 +44,11 @@ impl Tally {
 }
 
 /// A state at first.
-fn initial_tally(alloc: Global, colour: u16) -> Tally
-    ensures { result.log ≡ record { colour = record { 0 = colour }; events = []; spare = 0 } }
+fn initial_tally(colour: u16) -> Tally
+    ensures { result.log ≡ record { colour = record { 0 = colour }; events = [] } }
 {
     Tally {
-        log: TrailLog::new(alloc, Colour(colour)),
+        log: TrailLog::new(Colour(colour)),
         total: 0,
     }
 }
@@ -85,7 +58,6 @@ fn run_and_finish(shard: &mut Shard<Tally, u32>, mut turn: Turn<Tally, u32>) -> 
     requires own { IsOwn shard.old turn.colour }
     requires stands { TurnStands ⟦<Tally as Trail>⟧
         ⟦<Tally as Fits<u32>>⟧.fits_under shard.old turn }
-    requires room { length turn.events ≤ ⟦<Tally as Trail>⟧.spare_of turn.state }
     ensures { KeepsFrame shard.old shard.new }
 {
     while let Some((event, load)) = turn.next() {
@@ -94,8 +66,23 @@ fn run_and_finish(shard: &mut Shard<Tally, u32>, mut turn: Turn<Tally, u32>) -> 
     shard.finish(turn)
 }
 
-/// Four colours on two cores in one shard, batch 10, and one handler of weight 30.
-fn example(alloc: Global, steal_cost: u32, pinned: u32) -> Result<Shard<Tally, u32>, Fail>
+/// The same setup, with histories that are listed where they are to be.
+fn listed_where(setup: Setup, listed: bool) -> Setup
+    ensures shape { shape_of result ≡ shape_of setup }
+    ensures colours { colours_of result ≡ colours_of setup }
+    ensures handlers { handlers_of result ≡ handlers_of setup }
+{
+    if listed { setup.listed() } else { setup }
+}
+
+/// Four colours on two cores in one shard, batch 10, and one handler of weight 30. Its history is
+/// listed or not.
+fn example(
+    alloc: Global,
+    steal_cost: u32,
+    pinned: u32,
+    listed: bool,
+) -> Result<Shard<Tally, u32>, Fail>
     ensures { IfOk result IsExample }
 {
     let shape = Shape {
@@ -111,11 +98,12 @@ fn example(alloc: Global, steal_cost: u32, pinned: u32) -> Result<Shard<Tally, u
     let Ok(setup) = Setup::new(&shape, 4, handlers, pinned) else {
         return Err(Fail::from("no setup"));
     };
+    let setup = listed_where(setup, listed);
     let mut states = Vec::new(alloc);
-    states.push(initial_tally(alloc, 0))?;
-    states.push(initial_tally(alloc, 1))?;
-    states.push(initial_tally(alloc, 2))?;
-    states.push(initial_tally(alloc, 3))?;
+    states.push(initial_tally(0))?;
+    states.push(initial_tally(1))?;
+    states.push(initial_tally(2))?;
+    states.push(initial_tally(3))?;
     match Shard::new(alloc, &setup, 0, states) {
         Ok(shard) => Ok(shard),
         Err(_) => Err(Fail::from("no shard")),
@@ -315,7 +303,7 @@ enum Call {
     IsDrained(bool),
 
     /// How long the history is.
-    Entries(usize),
+    Entries(u64),
 }
 
 /// Makes a call, and says whether it answers so.
@@ -370,7 +358,7 @@ const IN_ORDER: [Call; 12] = [
 
 #[test]
 fn calls_on_one_shard_answer_in_order(rt: HostRuntime) -> Result<(), Fail> {
-    let shard = &mut example(rt.alloc(), 20, 0)?;
+    let shard = &mut example(rt.alloc(), 20, 0, false)?;
     play(&rt, shard, &IN_ORDER);
     Ok(())
 }
@@ -386,7 +374,7 @@ const AT_THE_COST: [Call; 6] = [
 
 #[test]
 fn a_steal_at_the_cost_is_cheap(rt: HostRuntime) -> Result<(), Fail> {
-    let shard = &mut example(rt.alloc(), 30, 0)?;
+    let shard = &mut example(rt.alloc(), 30, 0, false)?;
     play(&rt, shard, &AT_THE_COST);
     Ok(())
 }
@@ -407,7 +395,7 @@ const ONE_IS_PINNED: [Call; 8] = [
 
 #[test]
 fn a_pinned_colour_is_never_stolen(rt: HostRuntime) -> Result<(), Fail> {
-    let shard = &mut example(rt.alloc(), 20, 1)?;
+    let shard = &mut example(rt.alloc(), 20, 1, false)?;
     play(&rt, shard, &ONE_IS_PINNED);
     Ok(())
 }
@@ -417,7 +405,7 @@ fn a_pinned_colour_is_never_stolen(rt: HostRuntime) -> Result<(), Fail> {
 fn parts_of(
     alloc: Global,
     shard: Shard<Tally, u32>,
-) -> Result<Option<(usize, Vec<u64>, usize)>, AllocError> {
+) -> Result<Option<(u64, Vec<u64>, usize)>, AllocError> {
     if !shard.is_drained() {
         return Ok(None);
     }
@@ -434,8 +422,8 @@ fn apart_after(
     rt: &impl Abort,
     alloc: Global,
     calls: &[Call],
-) -> Result<Option<(usize, Vec<u64>, usize)>, Fail> {
-    let mut shard = example(alloc, 30, 0)?;
+) -> Result<Option<(u64, Vec<u64>, usize)>, Fail> {
+    let mut shard = example(alloc, 30, 0, false)?;
     play(rt, &mut shard, calls);
     shard.events_stand_once();
     Ok(parts_of(alloc, shard)?)
@@ -446,6 +434,36 @@ const ONE_RAN: [Call; 3] = [
     Call::Turn(3, 1, Ok((1, After::Idle))),
     Call::Total(3, 5),
 ];
+
+/// The entries that these calls write.
+const ONE_RAN_WRITES: [Entry; 3] = [
+    Entry::Reg {
+        colour: Colour(3),
+        event: Event { handler: 0, arg: 0 },
+        by: 2,
+    },
+    Entry::Take {
+        colour: Colour(3),
+        core: 1,
+        count: 1,
+    },
+    Entry::Fin {
+        colour: Colour(3),
+        core: 1,
+        count: 1,
+    },
+];
+
+#[test]
+fn a_history_is_listed_where_the_setup_asks(rt: HostRuntime) -> Result<(), Fail> {
+    for (listed, shown) in [(false, None), (true, Some(ONE_RAN_WRITES.as_slice()))] {
+        let shard = &mut example(rt.alloc(), 30, 0, listed)?;
+        play(&rt, shard, &ONE_RAN);
+        assert!(rt; shard.history().len() == 3, "listed: {listed}");
+        assert!(rt; shard.history().entries() == shown, "listed: {listed}");
+    }
+    Ok(())
+}
 
 #[test]
 fn a_shard_comes_apart_into_what_it_held(rt: HostRuntime) -> Result<(), Fail> {

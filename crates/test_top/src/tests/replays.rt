@@ -102,6 +102,7 @@ fn ran(rt: &(impl AllocGlobal + Abort + Threads + Wait + Sync), script: &[u8]) -
         &TWO,
         input.conns.as_slice(),
         false,
+        false,
     ) else {
         panic!(rt; "no memory");
     };

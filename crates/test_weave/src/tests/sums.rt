@@ -72,7 +72,7 @@ fn purses(alloc: Global, colours: u16) -> Result<Vec<Purse>, Memory>
 {
     let mut states = Vec::new(alloc);
     'colours: for colour in 0..colours {
-        states.push(purse_of(alloc, colour, 100))?;
+        states.push(purse_of(colour, 100))?;
     }
     Ok(states)
 }

@@ -6,15 +6,15 @@ ghost use Rattle.test_weave.specs.Examples.{IsExample};
 mod named;
 mod sending;
 
-use mely_event::{Colour, Event, Fits, Handlers, Mark, Memory, Trail, TrailLog};
-use mely_history::{Entry, Judged, Registered, Setup, Shape, judge};
+use mely_event::{Colour, Event, Fits, Handlers, Mark, Memory, Trail};
+use mely_history::{Entry, History, Judged, Registered, Setup, Shape, judge};
 use mely_weave::{Drained, Weave, WeaveParts, WeaveRoom, Went};
 use mely_worker::Made;
 use named::{
     fin, finished, landed, mark, picked, popped, pushed, ran, reg, registered, stole, take, told,
     took,
 };
-use sending::Sending;
+use sending::{Listing, Sending, listing_of};
 use std::alloc::Global;
 use std::process::Abort;
 use std::sync::Wait;
@@ -31,8 +31,23 @@ fn setup_of(cores: u16, colours: u32, batch: u16) -> Result<Setup, Fail>
     setup_with(cores, colours, batch, 15, 0)
 }
 
-/// One shard, two handlers of weight 10, this cost of a steal, and so many colours pinned.
+/// One shard, two handlers of weight 10, this cost of a steal, and so many colours pinned; the
+/// history is listed.
 fn setup_with(
+    cores: u16,
+    colours: u32,
+    batch: u16,
+    steal_cost: u32,
+    pinned: u32,
+) -> Result<Setup, Fail>
+    ensures { IfOk result (IsExample cores colours) }
+{
+    let setup = unlisted_setup(cores, colours, batch, steal_cost, pinned)?;
+    Ok(setup.listed())
+}
+
+/// The same, but that the history isn't listed.
+fn unlisted_setup(
     cores: u16,
     colours: u32,
     batch: u16,
@@ -58,12 +73,12 @@ fn setup_with(
 }
 
 /// A weave of a setup, at first.
-fn weave_of(alloc: Global, setup: &Setup) -> Result<Weave<TrailLog, u8>, Fail>
+fn weave_of(alloc: Global, setup: &Setup) -> Result<Weave<Listing, u8>, Fail>
     ensures { IfOk result (λ weave. weave.setup ≡ setup.now) }
 {
     let mut states = Vec::new(alloc);
     for colour in 0..setup.colours() {
-        states.push(TrailLog::new(alloc, Colour(colour as u16)))?;
+        states.push(listing_of(alloc, colour as u16))?;
     }
     match Weave::new(alloc, setup, states) {
         Ok(weave) => Ok(weave),
@@ -71,7 +86,7 @@ fn weave_of(alloc: Global, setup: &Setup) -> Result<Weave<TrailLog, u8>, Fail>
     }
 }
 
-fn post(weave: &mut Weave<TrailLog, u8>, colour: u16, handler: u8, arg: u16) -> Option<Registered>
+fn post(weave: &mut Weave<Listing, u8>, colour: u16, handler: u8, arg: u16) -> Option<Registered>
     requires colour { colour < colours_of weave.old.setup }
     requires handler { handler < 2 }
     requires example { IsExample (shape_of weave.old.setup).cores
@@ -81,6 +96,11 @@ fn post(weave: &mut Weave<TrailLog, u8>, colour: u16, handler: u8, arg: u16) -> 
     weave
         .post(Colour(colour), Event { handler, arg }, None)
         .ok()
+}
+
+/// The entries of a history that is listed.
+fn entries_of(history: &History) -> &[Entry] {
+    history.entries().unwrap_or(&[])
 }
 
 /// A part of a run, with what comes of it.
@@ -100,7 +120,7 @@ enum Part {
 }
 
 /// Plays a part, and says whether it comes so.
-fn comes_so(weave: &mut Weave<TrailLog, u8>, setup: &Setup, part: Part) -> bool
+fn comes_so(weave: &mut Weave<Listing, u8>, setup: &Setup, part: Part) -> bool
     requires of_setup { weave.old.setup ≡ setup.now }
     requires colours { 2 ≤ colours_of setup.now }
     requires example { IsExample (shape_of setup.now).cores (colours_of setup.now) setup.now }
@@ -125,7 +145,7 @@ fn played(
     alloc: Global,
     setup: &Setup,
     parts: &[Part],
-) -> Result<Weave<TrailLog, u8>, Fail>
+) -> Result<Weave<Listing, u8>, Fail>
     requires colours { 2 ≤ colours_of setup.now }
     requires example { IsExample (shape_of setup.now).cores (colours_of setup.now) setup.now }
     ensures { IfOk result (λ weave. weave.setup ≡ setup.now) }
@@ -137,18 +157,18 @@ fn played(
     Ok(weave)
 }
 
-/// Drains a weave, in which nothing is lost. How long its history is then, and what it
+/// Drains a weave, in which nothing is lost. How many entries are listed of it then, and what it
 /// comes apart into.
 fn drained<R: Wait + Abort>(
     rt: &R,
-    mut weave: Weave<TrailLog, u8>,
-) -> (usize, WeaveParts<TrailLog, u8>)
+    mut weave: Weave<Listing, u8>,
+) -> (usize, WeaveParts<Listing, u8>)
     requires colours { 2 ≤ colours_of weave.setup }
     requires example { IsExample (shape_of weave.setup).cores
         (colours_of weave.setup) weave.setup }
 {
     assert!(rt; weave.drain(rt, &Sending) == Drained::Empty);
-    let entries = weave.history(0).len();
+    let entries = entries_of(weave.history(0)).len();
     let parts = weave.into_parts();
     assert!(rt; parts.lost.is_empty());
     assert!(rt; parts.histories.len() == 1);
@@ -198,8 +218,8 @@ fn a_late_report_finds_no_mark_of_its_period(rt: HostRuntime) -> Result<(), Fail
         Part::Chain(1, 1, None),
     ];
     let weave = played(&rt, rt.alloc(), &setup, &parts)?;
-    assert!(rt; has_written_late_report(weave.history(0)));
-    assert!(rt; judge(&setup, weave.history(0)) == Judged::Legal);
+    assert!(rt; has_written_late_report(entries_of(weave.history(0))));
+    assert!(rt; judge(&setup, entries_of(weave.history(0))) == Judged::Legal);
     let (entries, parts) = drained(&rt, weave);
     assert!(rt; entries == 9);
     assert!(rt; has_run(parts.states.get(0), &[SENDS]));
@@ -245,14 +265,14 @@ fn a_pinned_colour_stays_on_its_core(rt: HostRuntime) -> Result<(), Fail> {
     assert!(rt; entries == 7);
     for entry in [take(C0, 0, 1), take(c2, 1, 1), fin(C0, 0, 1), fin(c2, 1, 1)] {
         for history in &parts.histories {
-            assert!(rt; history.contains(&entry));
+            assert!(rt; entries_of(history).contains(&entry));
         }
     }
     Ok(())
 }
 
 /// Posts ten events on colour 0, and then ten on colour 2.
-fn post_twenty(weave: &mut Weave<TrailLog, u8>) -> bool
+fn post_twenty(weave: &mut Weave<Listing, u8>) -> bool
     requires colours { 2 < colours_of weave.old.setup }
     requires example { IsExample (shape_of weave.old.setup).cores
         (colours_of weave.old.setup) weave.old.setup }
@@ -289,22 +309,22 @@ fn alternates(entries: &[Entry], count: u16) -> bool {
 }
 
 /// Whether the ten events were run on the state of a colour, in order.
-fn has_run_ten(state: Option<&TrailLog>) -> bool {
+fn has_run_ten(state: Option<&Listing>) -> bool {
     let Some(state) = state else {
         return false;
     };
-    for (at, event) in state.trail().iter().enumerate() {
+    for (at, event) in state.value.iter().enumerate() {
         if event.handler != 0 || usize::from(event.arg) != at {
             return false;
         }
     }
-    state.trail().len() == 10
+    state.value.len() == 10
 }
 
 /// Whether these events were run on the state of a colour.
-fn has_run(state: Option<&TrailLog>, events: &[Event]) -> bool {
+fn has_run(state: Option<&Listing>, events: &[Event]) -> bool {
     match state {
-        Some(state) => state.trail() == events,
+        Some(state) => state.value.as_slice() == events,
         None => false,
     }
 }
@@ -317,7 +337,7 @@ fn batches_leave<R: Wait + Abort>(
     entries: usize,
 ) -> Result<(), Fail> {
     let setup = setup_of(1, 3, batch)?;
-    let room: Result<WeaveRoom<TrailLog, u8>, Memory> = WeaveRoom::new(alloc, &setup);
+    let room: Result<WeaveRoom<Listing, u8>, Memory> = WeaveRoom::new(alloc, &setup);
     assert!(rt; room.is_ok());
     let mut weave = weave_of(alloc, &setup)?;
     assert!(rt; post_twenty(&mut weave));
@@ -325,7 +345,8 @@ fn batches_leave<R: Wait + Abort>(
     let (written, parts) = drained(rt, weave);
     assert!(rt; written == entries);
     for history in &parts.histories {
-        assert!(rt; alternates(history, batch));
+        assert!(rt; entries_of(history).len() == entries);
+        assert!(rt; alternates(entries_of(history), batch));
     }
     assert!(rt; has_run_ten(parts.states.get(0)) && has_run_ten(parts.states.get(2)));
     assert!(rt; has_run(parts.states.get(1), &[]));
@@ -336,4 +357,19 @@ fn batches_leave<R: Wait + Abort>(
 fn batches_alternate_or_take_all(rt: HostRuntime) -> Result<(), Fail> {
     batches_leave(&rt, rt.alloc(), 1, 60)?;
     batches_leave(&rt, rt.alloc(), 10, 24)
+}
+
+#[test]
+fn a_history_that_is_not_listed_is_only_counted(rt: HostRuntime) -> Result<(), Fail> {
+    let setup = unlisted_setup(1, 2, 1, 15, 0)?;
+    let weave = played(&rt, rt.alloc(), &setup, &[Part::Post(0, 0, 0)])?;
+    assert!(rt; weave.history(0).entries().is_none());
+    assert!(rt; weave.history(0).len() == 1);
+    let (entries, parts) = drained(&rt, weave);
+    assert!(rt; entries == 0);
+    for history in parts.histories {
+        assert!(rt; history.len() == 3);
+        assert!(rt; history.into_entries().is_none());
+    }
+    Ok(())
 }

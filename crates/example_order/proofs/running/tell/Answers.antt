@@ -2,13 +2,13 @@ use Rattle.std.proofs.Common.{◌≡◌, [], List, Option, None, Some, Vec, Glob
 use Rattle.std.proofs.lemmas.Bool.{eqb-true}
 use Rattle.std.proofs.lemmas.List.{length-map}
 use Rattle.std.proofs.lemmas.Option.{slice_get_read, slice_get-map}
-use Rattle.std.specs.Prelude.{filter_map, slice_get, option_map}
+use Rattle.std.specs.Prelude.{slice_get, option_map}
 use Rattle.mely_history.specs.declared.setup.Setup.{Setup}
 use Rattle.mely_history.specs.Setup.{colours_of}
 use Rattle.mely_order.specs.Seen.{Put}
 use Rattle.mely_event.specs.declared.event.Event.{Event}
 use Rattle.mely_order.specs.Stream.{numbers_of, numbers_put}
-use Rattle.example_order.specs.Telling.{number_in, telling}
+use Rattle.example_order.specs.Telling.{telling}
 use Rattle.example_order.proofs.TellingLemmas.{begins, initial_two, nothing_in}
 use Rattle.example_order.proofs.running.tell.Goals as goal
 
@@ -19,7 +19,6 @@ returns-then-is_empty-2 g c = λ hears tells at_hears at_tells.
     let posted = c.a_post_keeps_a_stream_in_order.ensures telling (record { 0 = 1 }) (record { handler = 0; arg = c.args.more }) None c.post.result c.in-Ok-new.weave c.post.new.self c.post.ensures.call refl first in
     let drained = c.what_is_sent_in_order_is_received_in_order.ensures.drain (record {}) telling c.drain-drained.result c.post.new.self c.drain-drained.new.self
     (record {
-      alike = record { received = λ a b same. ap (λ (l : List Event). filter_map number_in l) same.events; sent = λ a b same. same.rest; sound = λ a b same. refl };
       each = λ state event load becomes puts framed sound fit ran. ran;
     }) c.post.ensures.stands c.drain-drained.ensures.drains posted in
     let parts = c.into_parts-parts in

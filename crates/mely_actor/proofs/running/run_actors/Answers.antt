@@ -1,10 +1,19 @@
+use denote.Param.Send.{sendable}
+use Rattle.std.proofs.Crossing.{crosses}
 use Rattle.std.proofs.Common.{◌≡◌, ◌≤◌, ◌<◌, ◌∙◌, refl, ap, sym, subst, arith}
+use Rattle.mely_event.proofs.trail_log.TrailLog.TheSendSync as trail
 use Rattle.mely_history.specs.Setup.{colours_of}
 use Rattle.mely_weave.proofs.Wholes.GatherLemmas.{get_there}
 use Rattle.mely_actor.specs.declared.load.Plan.{Plan}
 use Rattle.mely_actor.specs.Loads.{Serves}
 use Rattle.mely_actor.proofs.KeptLemmas.{are_initial, are_kept}
 use Rattle.mely_actor.proofs.running.run_actors.Goals as goal
+
+pub run_states-requires-send-S : goal.run_states-requires-send-S
+run_states-requires-send-S g c κs within =
+    let value = c.type_bounds.send-A-Value in
+    let message = c.type_bounds.send-A-Message in
+    search (crosses, sendable, trail.the_send) depth 60 fits 20000
 
 pub run_states-requires-clause-first : goal.run_states-requires-clause-first
 run_states-requires-clause-first g c = λ lifetimes outlives. are_initial _ (λ s. refl) (λ s. refl) (λ s. refl) (record { actor = c.args.actor; posts = c.args.posts }) c.args.setup.now c.in_ok-states.states.items c.in_ok-states.ensures
@@ -36,8 +45,8 @@ run_states-requires-clause-fits g c = λ lifetimes outlives state at.
       };
     }
 
-pub returns : goal.returns
-returns g c =
+pub returns-clause-kept : goal.returns-clause-kept
+returns-clause-kept g c =
     let plan : Plan g.row.A.Denot g.row.A-Message.Denot = record { actor = c.args.actor; posts = c.args.posts } in
     let some : 1 ≤ colours_of c.args.setup.now = c.args.setup.now.colours_in.0 in
     let many = c.in_ok-states.ensures.many in

@@ -1,4 +1,8 @@
-use Rattle.std.proofs.Common.{◌≡◌, [], sym, ◌∙◌, eqb-true}
+use Rattle.std.proofs.Common.{◌≡◌, [], sym, ◌∙◌, subst, eqb-true}
+use Rattle.std.specs.List.{AllByRecursion}
+use Rattle.mely_history.specs.declared.history.History.{History}
+use Rattle.mely_history.specs.declared.setup.Setup.{Setup}
+use Rattle.mely_history.specs.Setup.{is_listed}
 use Rattle.std.specs.Prelude.{vec_len}
 use Rattle.mely_app.proofs.AllPutLemmas.{has_put_all, none_of}
 use Rattle.mely_app.proofs.RanLemmas.{ran_all}
@@ -28,3 +32,9 @@ returns-in-Empty-clause-framed g c =
     let ran = c.in-Ok.ensures in
     let apart = c.the_parts_are_what_the_weave_had.ensures c.in-Ok.weave _ _ _ _ stands.keeps stands.parts ran.free parts.histories parts.states parts.queued parts.lost in
     λ first at colour state there. apart.framed colour state there ∙ ran.framed first at
+
+pub returns-in-Empty-clause-listed : goal.returns-in-Empty-clause-listed
+returns-in-Empty-clause-listed g c =
+    let parts = c.into_parts-histories.ensures in
+    let listed : Setup → Type 0 = λ s. AllByRecursion (λ (history : History). history.listed ≡ is_listed s) c.into_parts-histories.result.histories.items in
+    subst listed c.in-Ok.ensures.of_setup parts.listed

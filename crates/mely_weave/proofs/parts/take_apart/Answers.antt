@@ -1,6 +1,7 @@
 use Rattle.std.proofs.Common.{◌≡◌, ◌∷◌, Some, [], suc, length, map, ap, ◌∙◌, arith, append_assoc}
 use Rattle.std.specs.Prelude.{slice_get}
 use Rattle.std.specs.Vec.Iter.{into_iter_items}
+use Rattle.mely_history.specs.Setup.{is_listed}
 use Rattle.mely_weave.proofs.Wholes.SpreadLemmas.{map_push}
 use Rattle.mely_weave.proofs.parts.take_apart.Goals as goal
 
@@ -24,6 +25,7 @@ loop-shard-preserved g c =
       room_states = let room = at.room_states in let kept = c.push_reserved-in-loop-shard.ensures.capacity in let len = c.push_reserved-in-loop-shard.ensures.len in omega (arith, room, kept, len, short);
       room_queued = let room = at.room_queued in let kept = c.push_reserved-in-loop-shard-2.ensures.capacity in let len = c.push_reserved-in-loop-shard-2.ensures.len in omega (arith, room, kept, len, short);
       histories = rw c.push_reserved.ensures.items (map_push (λ history. history.items) (λ has. has.history) c.loop-shard.histories.items c.loop-shard.yielded c.into_parts-history.result.0 shard at.histories parts.history);
+      listed = rw c.push_reserved.ensures.items (map_push (λ history. history.listed) (λ has. is_listed has.setup) c.loop-shard.histories.items c.loop-shard.yielded c.into_parts-history.result.0 shard at.listed parts.listed);
       states = rw c.push_reserved-in-loop-shard.ensures.items (map_push (λ pile. map (λ state. Some state) pile.items) (λ has. map (λ lane. lane.state) has.lanes) c.loop-shard.states.items c.loop-shard.yielded c.into_parts-history.result.1 shard at.states parts.states);
       queued = rw c.push_reserved-in-loop-shard-2.ensures.items (map_push (λ pile. map (λ queue. queue.items) pile.items) (λ has. map (λ lane. lane.events) has.lanes) c.loop-shard.queued.items c.loop-shard.yielded c.into_parts-history.result.2 shard at.queued parts.queues);
     }

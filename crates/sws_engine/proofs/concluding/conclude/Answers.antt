@@ -1,20 +1,31 @@
-use Rattle.std.proofs.Common.{◌≡◌, ℕ, List, [], ◌++◌, Option, Some, length, sym, ap, ◌∙◌, subst, arith}
+use Rattle.std.specs.Prelude.{◌&&◌, not}
+use Rattle.std.proofs.Common.{◌≡◌, ℕ, Bool, List, [], ◌++◌, Option, Some, length, sym, ap, ◌∙◌, subst, arith}
 use Rattle.std.proofs.lemmas.List.{length-replicate}
 use Rattle.sws_engine.specs.declared.ended.Served.{Served}
-use Rattle.sws_engine.specs.Conclusion.{is_whole}
+use Rattle.sws_engine.specs.Conclusion.{ran_all, is_whole}
 use Rattle.sws_engine.specs.LogTurns.{AreLastTurns}
 use Rattle.sws_engine.specs.RunLeaves.{VerdictIs, lines_kept, talkers}
 use Rattle.sws_engine.proofs.Ends.ConcludeLemmas.{concluded}
 use Rattle.sws_engine.proofs.Ends.ConcludedLemmas.{handed_many}
 use Rattle.sws_engine.proofs.Ends.LogTurnsLemmas.{counts_none}
 use Rattle.sws_engine.proofs.concluding.conclude.Goals as goal
+use Rattle.sws_engine.proofs.concluding.conclude.Goals.{then-ran, else-ran}
 
 pub returns-clause-concluded : goal.returns-clause-concluded
 returns-clause-concluded g c =
-    let lines = subst (λ lines. VerdictIs (lines_kept c.args.log lines) c.deref-3.result.now c.ran_all-whole.result c.args.total c.is_some.result c.split_world-world.result.1 c.split_world-world.result.2 c.judge-verdict.result) c.deref-2.ensures.value c.judge-verdict.ensures in
-    let told = subst (λ served. VerdictIs (lines_kept c.args.log c.keep_lost.new.left.log.items) served c.ran_all-whole.result c.args.total c.is_some.result c.split_world-world.result.1 c.split_world-world.result.2 c.judge-verdict.result) c.deref-3.ensures.value lines in
-    concluded g.T.Talk c.args.total c.args.log c.args.drained c.args.parts c.args.room c.keep_states.new.left c.keep_queued.new.left c.keep_lost.new.left _ _ _ c.ran_all-whole.result c.is_some.result _ c.requires.room.none_served c.requires.room.no_trail c.requires.room.no_line
-    c.keep_states.ensures.keeps c.keep_queued.ensures c.keep_lost.ensures c.split_world-world.ensures.world c.split_world-world.ensures.accepted c.split_world-world.ensures.failed (c.ran_all-whole.ensures ∙ ap (is_whole c.args.drained) c.deref.ensures.value) c.is_some.ensures told
+    let line_lost = c.into_kept-lines.result.1 in
+    let both : c.if-ran.judge ≡ c.ran_all-ran.result && not line_lost =
+    elim c.if-ran.branch [
+      | then-ran w ↦ w.judge-is ∙ ap (λ (b : Bool). b && not line_lost) (sym w.if-ran.true)
+      | else-ran w ↦ w.judge-is ∙ w.if-ran.false ∙ ap (λ (b : Bool). b && not line_lost) (sym w.if-ran.false)
+    ] in
+    let whole : c.if-ran.judge ≡ is_whole c.args.drained c.args.parts.lost.items c.keep_lost.new.left.log =
+    both ∙ ap (λ (b : Bool). b && not line_lost) (c.ran_all-ran.ensures ∙ ap (ran_all c.args.drained) c.deref.ensures.value)
+    ∙ ap (λ (b : Bool). ran_all c.args.drained c.args.parts.lost.items && not b) c.into_kept-lines.ensures.lost in
+    let lines = subst (λ lines. VerdictIs (lines_kept c.args.log lines) c.deref-3.result.now c.if-ran.judge c.args.total c.is_some.result c.split_world-world.result.1 c.split_world-world.result.2 c.judge-verdict.result) c.deref-2.ensures.value c.judge-verdict.ensures in
+    let told = subst (λ served. VerdictIs (lines_kept c.args.log c.into_kept-lines.result.0.items) served c.if-ran.judge c.args.total c.is_some.result c.split_world-world.result.1 c.split_world-world.result.2 c.judge-verdict.result) c.deref-3.ensures.value lines in
+    concluded g.T.Talk c.args.total c.args.log c.args.drained c.args.parts c.args.room c.keep_states.new.left c.keep_queued.new.left c.keep_lost.new.left _ _ _ c.if-ran.judge c.is_some.result c.into_kept-lines.result.0 _ c.requires.room.none_served c.requires.room.no_trail c.requires.room.no_line
+    c.keep_states.ensures.keeps c.keep_queued.ensures c.keep_lost.ensures c.split_world-world.ensures.world c.split_world-world.ensures.accepted c.split_world-world.ensures.failed c.into_kept-lines.ensures.kept whole c.is_some.ensures told
 
 pub judge-verdict-requires-clause-counted : goal.judge-verdict-requires-clause-counted
 judge-verdict-requires-clause-counted g c =

@@ -1,3 +1,5 @@
+use denote.Param.Send.{sendable}
+use Rattle.std.proofs.Crossing.{crosses}
 use Rattle.sws_engine.specs.Counting.{bit}
 use Rattle.std.proofs.Common.{◌∙◌, sym, ap, refl, subst, arith}
 use Rattle.mely_event.specs.declared.event.Event.{Event}
@@ -6,7 +8,18 @@ use Rattle.mely_weave.proofs.Wholes.GatherLemmas.{get_there}
 use Rattle.sws_engine.specs.declared.place.Frame.{Frame}
 use Rattle.sws_engine.proofs.Ends.HandledLemmas.{accounted_by}
 use Rattle.sws_engine.proofs.Runs.BeginLemmas.{are_first, first_fits_in}
+use Rattle.mely_log.proofs.log.Log.TheSendSync as log
+use Rattle.sws_engine.proofs.logging.KeptLines.TheSendSync as lines
+use Rattle.sws_engine.proofs.place.Role.TheSendSync as role
 use Rattle.sws_engine.proofs.threads.run_places.Goals as goal
+
+pub run_lent-requires-send-S : goal.run_lent-requires-send-S
+run_lent-requires-send-S g c κs within =
+    let world = c.type_bounds.send-W in
+    let talk = c.type_bounds.send-T in
+    let link = c.type_bounds.send-W-Link in
+    let hall = c.type_bounds.send-T-Hall in
+    search (crosses, sendable, log.the_send, lines.the_send, role.the_send) depth 60 fits 20000
 
 pub run_lent-requires-clause-first : goal.run_lent-requires-clause-first
 run_lent-requires-clause-first g c = λ _ _. are_first g.T.Talk c.args.world c.requires.set.first.0 c.args.total c.args.log _ _ _ c.requires.set.first.1 c.requires.set.colours (λ s. refl) (λ s. refl) (λ s. refl)

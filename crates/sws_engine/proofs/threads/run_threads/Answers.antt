@@ -1,4 +1,7 @@
-use Rattle.std.proofs.Common.{subst, refl}
+use Rattle.std.proofs.Common.{◌≡◌, subst, refl}
+use Rattle.std.specs.List.{AllByRecursion}
+use Rattle.mely_history.specs.Setup.{is_listed}
+use Rattle.mely_history.specs.declared.setup.Setup.{Setup}
 use Rattle.mely_weave.specs.Dealing.{AtEach}
 use Rattle.sws_engine.specs.Invariant.{IsConsistent}
 use Rattle.sws_engine.proofs.Ends.HandledLemmas.{handlers_ran}
@@ -31,3 +34,7 @@ returns-clause-handled g c =
     handlers_ran g.W.World g.W.Link.Link g.T.Talk _ _ _ _ _ c.args.setup.now _ c.args.world c.args.log c.total-total.result c.in_ok-weave.weave _ _ ran.accounted ran.begun c.total-total.ensures
     ran.rests.of_setup c.requires.colours (ran.of_hall _ c.in-Ok.ensures) ran.of_world parts.histories ran.rests.free parts.lost
     (λ s. refl) (λ s. refl) (λ s. refl) (λ frame k event carried is. is) (λ app s event carried after puts is. is)
+
+pub returns-clause-listed : goal.returns-clause-listed
+returns-clause-listed g c =
+    subst (λ (setup : Setup). AllByRecursion (λ history. history.listed ≡ is_listed setup) c.into_parts-parts.result.histories.items) c.in_ok-weave.ensures.rests.of_setup c.into_parts-parts.ensures.listed

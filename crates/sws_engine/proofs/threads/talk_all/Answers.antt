@@ -1,5 +1,5 @@
-use Rattle.std.proofs.Common.{ap, ◌∙◌, subst, inr, arith}
-use Rattle.mely_event.specs.HandlerTable.{rows_of}
+use Rattle.std.proofs.Common.{◌≡◌, Bool, sym, subst, inr, arith}
+use Rattle.std.specs.List.{AllByRecursion}
 use Rattle.sws_engine.specs.Conclusion.{IsConcluded}
 use Rattle.sws_engine.proofs.Ends.AloneLemmas.{steps_leave_threads}
 use Rattle.sws_engine.proofs.Ends.ThreadLemmas.{has_run_crew, has_run_threads}
@@ -26,11 +26,10 @@ returns-then-shape-eq1-clause-leaves g c = steps_leave_threads g.W.World g.W.Lin
 pub returns-in-Ok-run_threads-clause-leaves : goal.returns-in-Ok-run_threads-clause-leaves
 returns-in-Ok-run_threads-clause-leaves g c =
     let same = c.total-total.ensures in
-    let setup = c.in-Ok-new.ensures in
-    let from = c.from.ensures in
+    let setup = c.setup_of-setup.ensures in
     let made = c.colour_count-colours.ensures in
     let count = setup.colours in
-    inr (has_run_threads g.W.World g.W.Link.Link g.T.Talk c.args.shape.now c.in-Ok-new.setup _ c.args.world c.args.log c.in-Ok-run_threads.drained c.in-Ok-run_threads.parts c.conclude.result (rules_are c.in-Ok-new.setup c.args.shape.now setup.shape (ap (λ handlers. rows_of handlers) setup.handlers ∙ c.handler_table.ensures.rows) setup.pinned) (omega (arith, count, from, made, same)) c.in-Ok-run_threads.ensures.kept c.in-Ok-run_threads.ensures.fits
+    inr (has_run_threads g.W.World g.W.Link.Link g.T.Talk c.args.shape.now c.setup_of-setup.result _ c.args.world c.args.log c.in-Ok-run_threads.drained c.in-Ok-run_threads.parts c.conclude.result (rules_are c.setup_of-setup.result c.args.shape.now setup.shape setup.rows setup.pinned) (omega (arith, count, made, same)) c.in-Ok-run_threads.ensures.kept c.in-Ok-run_threads.ensures.fits
     (subst (λ n. IsConcluded g.T.Talk n c.args.log c.in-Ok-run_threads.drained c.in-Ok-run_threads.parts c.conclude.result) same c.conclude.ensures.concluded) c.conclude.ensures.tell c.ended_is_unkept.ensures)
 
 pub returns-then-shape-eq1-clause-crew : goal.returns-then-shape-eq1-clause-crew
@@ -39,9 +38,13 @@ returns-then-shape-eq1-clause-crew g c = λ several. absurd (several c.if-shape-
 pub returns-in-Ok-run_threads-clause-crew : goal.returns-in-Ok-run_threads-clause-crew
 returns-in-Ok-run_threads-clause-crew g c = λ several.
     let same = c.total-total.ensures in
-    let setup = c.in-Ok-new.ensures in
-    let from = c.from.ensures in
+    let setup = c.setup_of-setup.ensures in
     let made = c.colour_count-colours.ensures in
     let count = setup.colours in
-    inr (has_run_crew g.W.World g.W.Link.Link g.T.Talk c.args.shape.now c.in-Ok-new.setup _ c.args.world c.args.log c.in-Ok-run_threads.drained c.in-Ok-run_threads.parts c.conclude.result (rules_are c.in-Ok-new.setup c.args.shape.now setup.shape (ap (λ handlers. rows_of handlers) setup.handlers ∙ c.handler_table.ensures.rows) setup.pinned) (omega (arith, count, from, made, same)) c.in-Ok-run_threads.ensures.kept c.in-Ok-run_threads.ensures.fits
+    inr (has_run_crew g.W.World g.W.Link.Link g.T.Talk c.args.shape.now c.setup_of-setup.result _ c.args.world c.args.log c.in-Ok-run_threads.drained c.in-Ok-run_threads.parts c.conclude.result (rules_are c.setup_of-setup.result c.args.shape.now setup.shape setup.rows setup.pinned) (omega (arith, count, made, same)) c.in-Ok-run_threads.ensures.kept c.in-Ok-run_threads.ensures.fits
     (subst (λ n. IsConcluded g.T.Talk n c.args.log c.in-Ok-run_threads.drained c.in-Ok-run_threads.parts c.conclude.result) same c.conclude.ensures.concluded) c.conclude.ensures.tell c.ended_is_unkept.ensures c.in-Ok-run_threads.ensures.handled)
+
+pub returns-in-Ok-run_threads-clause-listed : goal.returns-in-Ok-run_threads-clause-listed
+returns-in-Ok-run_threads-clause-listed g c =
+    subst (λ histories. AllByRecursion (λ history. history.listed ≡ c.args.listed) histories.items) (sym c.conclude.ensures.concluded.histories)
+    (subst (λ (listed : Bool). AllByRecursion (λ history. history.listed ≡ listed) c.in-Ok-run_threads.parts.histories.items) c.setup_of-setup.ensures.listed c.in-Ok-run_threads.ensures.listed)

@@ -1,4 +1,7 @@
-use Rattle.std.proofs.Common.{refl}
+use Rattle.std.proofs.Common.{◌≡◌, refl, subst}
+use Rattle.std.specs.List.{AllByRecursion}
+use Rattle.mely_history.specs.Setup.{is_listed}
+use Rattle.mely_history.specs.declared.setup.Setup.{Setup}
 use Rattle.sws_engine.specs.LogStream.{log_stream}
 use Rattle.sws_engine.proofs.Ends.PartedLemmas.{as_many_histories, run_parts, run_fits}
 use Rattle.sws_engine.proofs.Model.EngineLemmas.{engine_run}
@@ -23,5 +26,9 @@ returns-clause-fits g c =
 
 pub returns-clause-model : goal.returns-clause-model
 returns-clause-model g c = λ shape paths ruled tells opened empty fine.
-    engine_run g.W.World g.W.Link.Link g.T.Talk _ c.args.world paths _ _ _ _ _ (λ p q alike. alike) (λ s. refl) (λ s. refl) (λ frame k event carried fit. fit.0) (λ app s event carried after puts ran. ran)
+    engine_run g.W.World g.W.Link.Link g.T.Talk _ c.args.world paths _ _ _ _ _ (λ s. refl) (λ s. refl) (λ frame k event carried fit. fit.0) (λ app s event carried after puts ran. ran)
     c.args.log c.args.setup.now c.args.schedule.now c.in_ok-weave.weave _ _ c.a_run_serves.ensures.steps (c.in_ok-weave.ensures.out empty) c.into_parts.ensures.histories c.into_parts.ensures.states tells opened fine shape ruled
+
+pub returns-clause-listed : goal.returns-clause-listed
+returns-clause-listed g c =
+    subst (λ (setup : Setup). AllByRecursion (λ history. history.listed ≡ is_listed setup) c.into_parts.result.histories.items) c.in_ok-weave.ensures.rests.of_setup c.into_parts.ensures.listed

@@ -20,3 +20,6 @@ returns-clause-scheduled g c = given_well _ _ _ c.given.ensures (λ well.
 
 pub returns-clause-refused : goal.returns-clause-refused
 returns-clause-refused g c = given_refused _ _ c.given.ensures
+
+pub returns-clause-listed : goal.returns-clause-listed
+returns-clause-listed g c = given_well _ _ _ c.given.ensures (λ well. c.serve_steps.ensures.listed)

@@ -6,19 +6,18 @@ ghost use Rattle.mely_tally.specs.Tallies.{carried_by};
 
 use mely_event::{Colour, Event, Logged, TrailLog};
 use mely_worker::{App, Outs};
-use std::alloc::Global;
 use std::mem;
 
 /// A trail, and coins.
 pub(super) type Purse = Logged<u64>;
 
 /// A purse of a colour, on which nothing was run.
-pub(super) fn purse_of(alloc: Global, colour: u16, coins: u64) -> Purse
-    ensures log { result.log ≡ record { colour = record { 0 = colour }; events = []; spare = 0 } }
+pub(super) fn purse_of(colour: u16, coins: u64) -> Purse
+    ensures log { result.log ≡ record { colour = record { 0 = colour }; events = [] } }
     ensures coins { result.value ≡ coins }
 {
     Logged {
-        log: TrailLog::new(alloc, Colour(colour)),
+        log: TrailLog::new(Colour(colour)),
         value: coins,
     }
 }
@@ -47,14 +46,12 @@ impl App for Paying {
 
     fn run(&self, state: &mut Purse, event: Event, load: Option<u64>, outs: &mut Outs<u64>)
         requires serves { 0 < self.now.colours }
-        requires room { 1 ≤ state.old.log.spare }
         requires empty { outs.old ≡ [] }
         ensures ran { state.new.value + sum_by (λ way. unwrap_or way.1 0) (carried_by outs.new)
             ≡ state.old.value + unwrap_or load 0 }
         ensures colour { state.new.log.colour ≡ state.old.log.colour }
         ensures frame { Unit {0} }
         ensures trail { state.new.log.events ≡ state.old.log.events ++ event ∷ [] }
-        ensures spare { state.old.log.spare ≡ state.new.log.spare + 1 }
         ensures puts { AllByRecursion
             (FitsIn self.now.colours 1 (λ colour event load. Unit {0})) outs.new }
         ensures few { length outs.new ≤ 2 }

@@ -1,14 +1,21 @@
-//! A state that adds up loads, and an app over it that is its own gate.
-ghost use Rattle.std.specs.Prelude.{◌≡◌, ◌≤◌, ◌+◌, ◌++◌, ◌∷◌, [], length};
+//! A state that adds up what was run, and an app over it that is its own gate.
+ghost use Rattle.std.specs.Prelude.{◌≡◌, ◌≤◌, ◌++◌, ◌∷◌, [], length};
 ghost use Rattle.std.specs.List.{AllByRecursion};
 ghost use Rattle.mely_worker.specs.Access.{FitsIn};
 
-use mely_event::{Colour, Event, Logged, Trail};
+use mely_event::{Colour, Event, Logged};
 use mely_worker::{App, Gate, Outs};
 use std::cell::Cell;
 
-/// A state that adds up the loads.
-pub(super) type Ledger = Logged<u64>;
+/// How many events were run, and the sum of their loads.
+#[derive(Clone, Copy, Drop)]
+pub(super) struct Sums {
+    pub(super) events: usize,
+    pub(super) loads: u64,
+}
+
+/// A state that adds up what was run.
+pub(super) type Ledger = Logged<Sums>;
 
 /// What handler 1 registers.
 pub(super) const NOTE: Event = Event { handler: 0, arg: 9 };
@@ -60,19 +67,19 @@ impl App for Forwarding {
     ghost runs = { λ app before event load after puts. Unit {0} };
 
     fn run(&self, state: &mut Ledger, event: Event, load: Option<u8>, outs: &mut Outs<u8>)
-        requires room { 1 ≤ state.old.log.spare }
         requires empty { outs.old ≡ [] }
         ensures ran { Unit {0} }
         ensures colour { state.new.log.colour ≡ state.old.log.colour }
         ensures frame { Unit {0} }
         ensures trail { state.new.log.events ≡ state.old.log.events ++ event ∷ [] }
-        ensures spare { state.old.log.spare ≡ state.new.log.spare + 1 }
         ensures puts { AllByRecursion (FitsIn 2 2 (λ colour event load. Unit {0})) outs.new }
         ensures few { length outs.new ≤ 2 }
     {
         state.log.push(event);
-        state.value = state.value.wrapping_add(u64::from(load.unwrap_or(0)));
-        self.ran.set(state.log.trail().len());
+        let sums = &mut state.value;
+        sums.events = sums.events.wrapping_add(1);
+        sums.loads = sums.loads.wrapping_add(u64::from(load.unwrap_or(0)));
+        self.ran.set(sums.events);
         if event.handler == 1 {
             outs.put(Colour(0), NOTE, load);
             outs.put(Colour(1), NOTE, None);

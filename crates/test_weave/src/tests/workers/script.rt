@@ -2,7 +2,7 @@
 ghost use Rattle.std.specs.Prelude.{◌≡◌, ◌≤◌, ◌<◌, ◌-◌, ◌∷◌, [], Some, None, Result, Option, MatchResult, IfOk, IfSome, IsTrue, length, vec_len, vec_capacity};
 ghost use Rattle.mely_history.specs.Setup.{shape_of, colours_of};
 
-use super::ledger::Ledger;
+use super::ledger::{Ledger, Sums};
 use mely_event::{Colour, Event, Logged, Mark, There, Trail, TrailLog, Unregistered};
 use mely_history::{After, NoSteal, NoTake, Registered, Setup, Stolen};
 use mely_queue::Turn;
@@ -79,14 +79,15 @@ fn turn_of(alloc: Global, colour: Colour) -> Option<Turn<Ledger, u8>>
     ensures events { IfSome result (λ turn. turn.events ≡ (record { handler = 1; arg = 5 }, Some 7)
         ∷ (record { handler = 0; arg = 6 }, None) ∷ []) }
     ensures of_colour { IfSome result (λ turn. turn.state.log.colour ≡ colour) }
-    ensures room { IfSome result (λ turn. 2 ≤ turn.state.log.spare) }
 {
-    let mut state = Logged {
-        log: TrailLog::new(alloc, colour),
-        value: 0,
+    let state = Logged {
+        log: TrailLog::new(colour),
+        value: Sums {
+            events: 0,
+            loads: 0,
+        },
     };
     let mut events = Vec::new(alloc);
-    state.reserve(2).ok()?;
     events.push((Event { handler: 1, arg: 5 }, Some(7))).ok()?;
     events.push((Event { handler: 0, arg: 6 }, None)).ok()?;
     Some(Turn::new(colour, 0, state, events))
@@ -177,8 +178,8 @@ impl Access<Ledger, u8> for Script {
         match self.next() {
             Some(Call::Finish(c, total, after))
                 if c == state.log.colour()
-                    && total == state.value
-                    && state.log.trail().len() == 2 => { after }
+                    && total == state.value.loads
+                    && state.value.events == 2 => { after }
             _ => {
                 self.astray = true;
                 After::Idle

@@ -24,7 +24,7 @@ step g c well =
 
 pub invariant_of-self : goal.invariant_of-self
 invariant_of-self g c = subst (λ log. IsKept g.A.Actor c.self.inside.plan.value log.colour log.events c.self.inside.count c.self.inside.failed c.send_all.new.waiting.items c.self.inside.value) (sym c.push.ensures) (record {
-  counted = c.self.invariant.counted ∙ ap length (sym (behind_post c.self.inside.log.events c.args.event (ap (λ e. e.handler) c.requires.fits.first)));
+  counted = λ well. c.self.invariant.counted well ∙ ap length (sym (behind_post c.self.inside.log.events c.args.event (ap (λ e. e.handler) c.requires.fits.first)));
   stands = λ well. (step g c well).stands;
 })
 

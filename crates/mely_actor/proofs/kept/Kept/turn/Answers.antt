@@ -20,7 +20,7 @@ again g c =
 
 pub invariant_of-self-then-is_empty : goal.invariant_of-self-then-is_empty
 invariant_of-self-then-is_empty g c = subst (λ log. IsKept g.A.Actor c.self.inside.plan.value log.colour log.events c.self.inside.count c.self.inside.failed c.self.inside.waiting.items c.self.inside.value) (sym c.push.ensures) (record {
-  counted = c.self.invariant.counted ∙ ap length (sym (behind_post c.self.inside.log.events c.args.event c.requires.fits.library));
+  counted = λ well. c.self.invariant.counted well ∙ ap length (sym (behind_post c.self.inside.log.events c.args.event c.requires.fits.library));
   stands = λ well. (again g c).stands;
 })
 
@@ -39,6 +39,6 @@ some g c =
 
 pub invariant_of-self-else-is_empty : goal.invariant_of-self-else-is_empty
 invariant_of-self-else-is_empty g c = subst (λ log. IsKept g.A.Actor c.self.inside.plan.value log.colour log.events c.self.inside.count c.self.inside.failed c.send_some.new.waiting.items c.self.inside.value) (sym c.push.ensures) (record {
-  counted = c.self.invariant.counted ∙ ap length (sym (behind_post c.self.inside.log.events c.args.event c.requires.fits.library));
+  counted = λ well. c.self.invariant.counted well ∙ ap length (sym (behind_post c.self.inside.log.events c.args.event c.requires.fits.library));
   stands = λ well. (some g c).stands;
 })

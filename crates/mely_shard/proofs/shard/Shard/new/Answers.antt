@@ -1,4 +1,5 @@
-use Rattle.std.proofs.Common.{refl, arith}
+use Rattle.std.proofs.Common.{◌≤◌, refl, ◌∙◌, subst, arith}
+use Rattle.mely_history.specs.Kept.{limit_of}
 use Rattle.mely_shard.proofs.InitialSlotLemmas.{kept_initial, lanes_initial}
 use Rattle.mely_shard.proofs.ExposeLemmas.{kept_contents}
 use Rattle.mely_shard.proofs.shard.Shard.new.Goals as goal
@@ -7,18 +8,19 @@ pub invariant_of-result : goal.invariant_of-result
 invariant_of-result g c =
     let slots = c.in_ok-slots.slots.items in
     let kept = kept_initial g.S.Trail g.S.Fits.fits_under c.args.setup.now c.args.shard c.args.states.items slots c.requires.numbered c.requires.first c.in_ok-slots.ensures.many c.in_ok-slots.ensures.first in
+    let listed = c.new.ensures.listed ∙ c.is_listed.ensures in
     let many = c.in_ok-slots.slots.ok.0 in
     let states = c.in_ok-states.ensures in
     let queues = c.in_ok-queues.ensures in
     let states_room = states.capacity in
     let queues_room = queues.capacity in
-    (rw c.new.ensures.items (kept _ (omega arith)), record { no_state = states.len; no_queue = queues.len; room_for_states = omega (arith, many, states_room, c.len.ensures); room_for_queues = omega (arith, many, queues_room, c.len-2.ensures) }, c.new-2.ensures.items)
+    (rw c.new.ensures.none (kept c.new.result.most (subst (λ b. c.new.result.most ≤ limit_of b) c.is_listed.ensures c.new.ensures.within)), record { no_state = states.len; no_queue = queues.len; room_for_states = omega (arith, many, states_room, c.len.ensures); room_for_queues = omega (arith, many, queues_room, c.len-2.ensures) }, c.new-2.ensures.items, listed)
 
 pub returns-clause-made : goal.returns-clause-made
 returns-clause-made g c = record {
   of_setup = refl;
   of_shard = refl;
-  no_entry = c.new.ensures.items;
+  no_entry = c.new.ensures.none;
   lanes = lanes_initial g.S.Trail g.S.Fits.fits_under c.args.setup.now c.args.shard c.args.states.items c.in_ok-slots.slots.items c.requires.numbered c.requires.first c.in_ok-slots.ensures.many c.in_ok-slots.ensures.first;
 }
 

@@ -1,4 +1,4 @@
-use Rattle.std.proofs.Common.{◌≡◌, ◌≤◌, ◌<◌, ◌/◌, ◌%◌, ◌+◌, ◌++◌, ◌∷◌, [], Some, map, length, arith, ap, ◌∙◌, get_or, refl, vec_capacity}
+use Rattle.std.proofs.Common.{◌≡◌, ◌≤◌, ◌<◌, ◌/◌, ◌%◌, ◌+◌, ◌++◌, ◌∷◌, [], Some, map, length, arith, ap, ◌∙◌, get_or, refl}
 use Rattle.std.specs.Prelude.{slice_get, Result, Ok, Err, OnErr}
 use Rattle.std.proofs.Math.ListN.{set}
 use Rattle.std.proofs.lemmas.List.{set-get_or, map-set}
@@ -7,12 +7,12 @@ use Rattle.mely_history.specs.Setup.{shape_of, colours_of}
 use Rattle.mely_history.specs.History.{weight}
 use Rattle.mely_history.specs.ColourAccount.{account_of}
 use Rattle.mely_history.specs.declared.entry.Entry.TheVariants.{Reg}
-use Rattle.mely_shard.specs.Invariant.{SlotStands, lane_of, most_of}
-use Rattle.mely_shard.proofs.RegisterLemmas.{kept_with_room, slot_there, registered_few, kept_registered, lane_there, told_registered}
+use Rattle.mely_shard.specs.Invariant.{SlotStands, lane_of}
+use Rattle.mely_shard.proofs.RegisterLemmas.{entries_fit, grown_within, kept_with_room, slot_there, registered_few, kept_registered, lane_there, told_registered}
 use Rattle.mely_shard.proofs.SlotLemmas.{has_room_set}
 use Rattle.mely_shard.proofs.ExposeLemmas.{kept_contents, givens_set}
 use Rattle.mely_shard.proofs.shard.Shard.register.Goals as goal
-use Rattle.mely_shard.proofs.shard.Shard.register.Goals.{After-index_mut, After-push_reserved, In_err-reply}
+use Rattle.mely_shard.proofs.shard.Shard.register.Goals.{After-index_mut, After-push, In_err-reply}
 
 -- what is known of the colour's slot before the event joins it
 record Found (g : _) (c : After-index_mut g) : Type 0 where
@@ -43,17 +43,17 @@ found g c =
     }
 
 -- what is known once the entry was pushed
-record Pushed (g : _) (c : After-push_reserved g) : Type 0 where
-  pub history : c.push_reserved.new.self.items ≡ c.self.inside.history.items ++ Reg c.args.colour c.args.event c.args.by ∷ []
-  pub room : length c.self.inside.history.items + 1 + c.self.inside.running ≤ most_of (vec_capacity c.push_reserved.new.self)
+record Pushed (g : _) (c : After-push g) : Type 0 where
+  pub history : c.push.new.self.items ≡ c.self.inside.history.items ++ Reg c.args.colour c.args.event c.args.by ∷ []
+  pub room : length c.self.inside.history.items + 1 + c.self.inside.running ≤ c.reserve.new.self.most
 
-pushed : (g : _) (c : After-push_reserved g) → Pushed g c
+pushed : (g : _) (c : After-push g) → Pushed g c
 pushed g c =
-    let same = ap length c.make_room.ensures.same in
+    let same = ap (λ h. length h.items) c.reserve.ensures.same in
     let room = c.in-Ok.ensures.room in
     record {
-      history = c.push_reserved.ensures.items ∙ ap (λ es. es ++ Reg c.args.colour c.args.event c.args.by ∷ []) c.make_room.ensures.same;
-      room = rw c.push_reserved.ensures.capacity (omega (arith, same, room));
+      history = ap (λ h. h.items) c.push.ensures ∙ ap (λ h. h.items ++ Reg c.args.colour c.args.event c.args.by ∷ []) c.reserve.ensures.same;
+      room = omega (arith, same, room);
     }
 
 pub index_mut-requires : goal.index_mut-requires
@@ -66,12 +66,12 @@ pub register-requires : goal.register-requires
 register-requires g c =
     let f = found g (goal.at.register-requires g c).After-index_mut in
     let few = registered_few c.self.invariant.0 c.args.colour c.index_mut.result.now f.stands in
-    omega (arith, few, c.self.inside.history.ok.0, c.self.inside.history.ok.1, c.self.inside.history.small)
+    let fit = entries_fit c.self.invariant.0 in omega (arith, few, fit)
 
 pub invariant_of-self : goal.invariant_of-self
 invariant_of-self g c =
-    let more = c.make_room.ensures.not_lower in
-    rw c.make_room.ensures.same (kept_with_room c.self.invariant.0 (most_of (vec_capacity c.make_room.new.history)) (omega (arith, more)) (omega arith), c.self.invariant.1, c.self.invariant.2)
+    let more = c.reserve.ensures.not_lower in
+    rw c.reserve.ensures.same (kept_with_room c.self.invariant.0 c.reserve.new.self.most (omega (arith, more)) (grown_within c.self.inside.setup c.self.inside.history c.reserve.new.self c.self.invariant.3 c.reserve.ensures.same c.reserve.ensures.within), c.self.invariant.1, c.self.invariant.2, c.self.invariant.3)
 
 -- a refused push leaves the slots as they were
 same_slots : (g : _) (c : In_err-reply g) → set c.self.inside.slots.items c.place_of-place.result c.register.new.self ≡ c.self.inside.slots.items
@@ -82,8 +82,8 @@ same_slots g c =
 
 pub invariant_of-self-in_err-reply : goal.invariant_of-self-in_err-reply
 invariant_of-self-in_err-reply g c =
-    let more = c.make_room.ensures.not_lower in
-    rw (c.make_room.ensures.same, same_slots g (goal.at.invariant_of-self-in_err-reply g c).In_err-reply) (kept_with_room c.self.invariant.0 (most_of (vec_capacity c.make_room.new.history)) (omega (arith, more)) (omega arith), c.self.invariant.1, c.self.invariant.2)
+    let more = c.reserve.ensures.not_lower in
+    rw (c.reserve.ensures.same, same_slots g (goal.at.invariant_of-self-in_err-reply g c).In_err-reply) (kept_with_room c.self.invariant.0 c.reserve.new.self.most (omega (arith, more)) (grown_within c.self.inside.setup c.self.inside.history c.reserve.new.self c.self.invariant.3 c.reserve.ensures.same c.reserve.ensures.within), c.self.invariant.1, c.self.invariant.2, c.self.invariant.3)
 
 -- what holds anyway holds where there is an error
 on_err : {T E P : Type 0} (r : Result T E) → P → OnErr r P
@@ -96,7 +96,7 @@ returns-in_err-reply-clause-err g c =
     rw (← c.self.view_is) (on_err c.from_residual.result (record {
       same_setup = refl;
       same_shard = refl;
-      history = c.make_room.ensures.same;
+      history = ap (λ h. h.items) c.reserve.ensures.same;
       lanes = ap (map lane_of) same;
     }))
 
@@ -105,10 +105,11 @@ invariant_of-self-2 g c =
     let f = found g (goal.at.invariant_of-self-2 g c).After-index_mut in
     let p = pushed g c in
     let may = rw (← c.self.view_is) at c.requires.may in
-    rw (p.history, c.in_ok-reply.ensures.ok, f.weighed, c.place_of-place.ensures) (
-      kept_registered c.self.invariant.0 c.args.colour c.args.event c.args.load c.args.by (most_of (vec_capacity c.push_reserved.new.self)) c.index_mut.result.now f.there f.here f.is may f.fit p.room (omega arith),
+    rw (c.push.ensures, c.reserve.ensures.same, c.in_ok-reply.ensures.ok, f.weighed, c.place_of-place.ensures) (
+      kept_registered c.self.invariant.0 c.args.colour c.args.event c.args.load c.args.by c.reserve.new.self.most c.index_mut.result.now f.there f.here f.is may f.fit p.room (grown_within c.self.inside.setup c.self.inside.history c.reserve.new.self c.self.invariant.3 c.reserve.ensures.same c.reserve.ensures.within),
       has_room_set _ _ _ _ _ _ _ c.self.invariant.1,
       c.self.invariant.2,
+      c.self.invariant.3,
     )
 
 pub returns-clause-ok : goal.returns-clause-ok

@@ -1,4 +1,4 @@
-use Rattle.std.proofs.Common.{◌≡◌, ◌≤◌, ◌<◌, ◌/◌, ◌%◌, ◌+◌, ◌++◌, ◌∷◌, [], length, arith, sym, ap, ◌∙◌, get_or, refl, vec_capacity, drop, sum}
+use Rattle.std.proofs.Common.{◌≡◌, ◌≤◌, ◌<◌, ◌/◌, ◌%◌, ◌+◌, ◌++◌, ◌∷◌, [], length, arith, sym, ap, ◌∙◌, get_or, refl, drop, sum}
 use Rattle.std.proofs.Math.Seq.{map-set_same}
 use Rattle.std.proofs.Math.ListN.{set}
 use Rattle.std.proofs.lemmas.List.{set-get_or}
@@ -9,13 +9,13 @@ use Rattle.mely_history.specs.History.{weight, queued_of}
 use Rattle.mely_history.specs.ColourAccount.{ColourAccount, account_of}
 use Rattle.mely_history.specs.declared.entry.Entry.TheVariants.{Steal}
 use Rattle.mely_history.proofs.ColourAccountLemmas.{account-own}
-use Rattle.mely_shard.specs.Invariant.{SlotStands, lane_of, most_of}
-use Rattle.mely_shard.proofs.RegisterLemmas.{slot_there, kept_with_room}
+use Rattle.mely_shard.specs.Invariant.{SlotStands, lane_of}
+use Rattle.mely_shard.proofs.RegisterLemmas.{slot_there, grown_within, kept_with_room}
 use Rattle.mely_shard.proofs.StealLemmas.{Refuses, slot_refuses, kept_stolen}
 use Rattle.mely_shard.proofs.SlotLemmas.{has_room_set}
 use Rattle.mely_shard.proofs.ExposeLemmas.{kept_contents, givens_set}
 use Rattle.mely_shard.proofs.shard.Shard.steal.Goals as goal
-use Rattle.mely_shard.proofs.shard.Shard.steal.Goals.{After-no_steal, After-push_reserved}
+use Rattle.mely_shard.proofs.shard.Shard.steal.Goals.{After-no_steal, After-push}
 
 -- what is known once the colour's slot was asked
 record Asked (g : _) (c : After-no_steal g) : Type 0 where
@@ -65,38 +65,38 @@ returns-in-Some-clause-refusal g c =
 pub returns-in-Some-clause-kept : goal.returns-in-Some-clause-kept
 returns-in-Some-clause-kept g c = kept_contents (invariant_of-self g c).0
 
-pub invariant_of-self-in_default-make_room : goal.invariant_of-self-in_default-make_room
-invariant_of-self-in_default-make_room g c =
-    let a = asked g (goal.at.invariant_of-self-in_default-make_room g c).After-no_steal in
-    let more = c.make_room.ensures.not_lower in
-    rw (c.make_room.ensures.same, a.same) (kept_with_room c.self.invariant.0 (most_of (vec_capacity c.make_room.new.history)) (omega (arith, more)) (omega arith), c.self.invariant.1, c.self.invariant.2)
+pub invariant_of-self-in_default-reserve : goal.invariant_of-self-in_default-reserve
+invariant_of-self-in_default-reserve g c =
+    let a = asked g (goal.at.invariant_of-self-in_default-reserve g c).After-no_steal in
+    let more = c.reserve.ensures.not_lower in
+    rw (c.reserve.ensures.same, a.same) (kept_with_room c.self.invariant.0 c.reserve.new.self.most (omega (arith, more)) (grown_within c.self.inside.setup c.self.inside.history c.reserve.new.self c.self.invariant.3 c.reserve.ensures.same c.reserve.ensures.within), c.self.invariant.1, c.self.invariant.2, c.self.invariant.3)
 
-pub returns-in_default-make_room-clause-refusal : goal.returns-in_default-make_room-clause-refusal
-returns-in_default-make_room-clause-refusal g c =
-    let a = asked g (goal.at.returns-in_default-make_room-clause-refusal g c).After-no_steal in
+pub returns-in_default-reserve-clause-refusal : goal.returns-in_default-reserve-clause-refusal
+returns-in_default-reserve-clause-refusal g c =
+    let a = asked g (goal.at.returns-in_default-reserve-clause-refusal g c).After-no_steal in
     let ready = rw c.in_default.is at a.refuses in
     rw (← c.self.view_is) (a.free, ready.0, ready.1, ready.2)
 
-pub returns-in_default-make_room-clause-kept : goal.returns-in_default-make_room-clause-kept
-returns-in_default-make_room-clause-kept g c = kept_contents (invariant_of-self-in_default-make_room g c).0
+pub returns-in_default-reserve-clause-kept : goal.returns-in_default-reserve-clause-kept
+returns-in_default-reserve-clause-kept g c = kept_contents (invariant_of-self-in_default-reserve g c).0
 
-pub returns-in_default-make_room-clause-spare : goal.returns-in_default-make_room-clause-spare
-returns-in_default-make_room-clause-spare g c =
-    let spare : most_of (vec_capacity c.self.inside.history) ≤ length c.self.inside.history.items + c.self.inside.running = let full = c.in_default-make_room.ensures.full in omega (arith, full) in
+pub returns-in_default-reserve-clause-spare : goal.returns-in_default-reserve-clause-spare
+returns-in_default-reserve-clause-spare g c =
+    let spare : c.self.inside.history.most ≤ length c.self.inside.history.items + c.self.inside.running = let full = c.in_default-reserve.ensures.full in omega (arith, full) in
     rw (← c.self.view_is) (λ some same. omega (arith, some, spare))
 
 -- what is known once the entry was pushed
-record Pushed (g : _) (c : After-push_reserved g) : Type 0 where
-  pub history : c.push_reserved.new.self.items ≡ c.self.inside.history.items ++ Steal c.args.colour c.index_mut-slot.result.now.owner c.args.to ∷ []
-  pub room : length c.self.inside.history.items + 1 + c.self.inside.running ≤ most_of (vec_capacity c.push_reserved.new.self)
+record Pushed (g : _) (c : After-push g) : Type 0 where
+  pub history : c.push.new.self.items ≡ c.self.inside.history.items ++ Steal c.args.colour c.index_mut-slot.result.now.owner c.args.to ∷ []
+  pub room : length c.self.inside.history.items + 1 + c.self.inside.running ≤ c.reserve.new.self.most
 
-pushed : (g : _) (c : After-push_reserved g) → Pushed g c
+pushed : (g : _) (c : After-push g) → Pushed g c
 pushed g c =
-    let same = ap length c.make_room.ensures.same in
+    let same = ap (λ h. length h.items) c.reserve.ensures.same in
     let room = c.in-Ok.ensures.room in
     record {
-      history = rw (c.push_reserved.ensures.items, c.steal-stolen.ensures.reply, c.make_room.ensures.same) refl;
-      room = rw c.push_reserved.ensures.capacity (omega (arith, same, room));
+      history = rw (c.push.ensures, c.steal-stolen.ensures.reply, c.reserve.ensures.same) refl;
+      room = omega (arith, same, room);
     }
 
 pub invariant_of-self-2 : goal.invariant_of-self-2
@@ -105,8 +105,8 @@ invariant_of-self-2 g c =
     let p = pushed g c in
     let core = rw (← c.self.view_is) at c.requires.core in
     let ready = rw c.in_default.is at a.refuses in
-    rw (p.history, c.steal-stolen.ensures.slot, c.place_of-place.ensures)
-    ((kept_stolen c.self.invariant.0 c.args.colour a.free c.args.to (most_of (vec_capacity c.push_reserved.new.self)) c.index_mut-slot.result.now a.there a.here a.is core ready p.room (omega arith)).1, has_room_set _ _ _ _ _ _ _ c.self.invariant.1, c.self.invariant.2)
+    rw (c.push.ensures, c.reserve.ensures.same, c.steal-stolen.ensures.reply, c.steal-stolen.ensures.slot, c.place_of-place.ensures)
+    ((kept_stolen c.self.invariant.0 c.args.colour a.free c.args.to c.reserve.new.self.most c.index_mut-slot.result.now a.there a.here a.is core ready p.room (grown_within c.self.inside.setup c.self.inside.history c.reserve.new.self c.self.invariant.3 c.reserve.ensures.same c.reserve.ensures.within)).1, has_room_set _ _ _ _ _ _ _ c.self.invariant.1, c.self.invariant.2, c.self.invariant.3)
 
 pub returns-clause-ok : goal.returns-clause-ok
 returns-clause-ok g c =
@@ -116,7 +116,7 @@ returns-clause-ok g c =
     let slot = c.index_mut-slot.result.now in
     let core = rw (← c.self.view_is) at c.requires.core in
     let ready = rw c.in_default.is at a.refuses in
-    let stolen = kept_stolen c.self.invariant.0 c.args.colour a.free c.args.to (most_of (vec_capacity c.push_reserved.new.self)) slot a.there a.here a.is core ready p.room (omega arith) in
+    let stolen = kept_stolen c.self.invariant.0 c.args.colour a.free c.args.to c.reserve.new.self.most slot a.there a.here a.is core ready p.room (grown_within c.self.inside.setup c.self.inside.history c.reserve.new.self c.self.invariant.3 c.reserve.ensures.same c.reserve.ensures.within) in
     let next = account-own c.self.inside.setup c.self.inside.history.items (Steal c.args.colour slot.owner c.args.to) c.args.colour refl in
     rw (← c.self.view_is, c.steal-stolen.ensures.reply) (record {
       allowed = stolen.0;

@@ -1,20 +1,20 @@
-use Rattle.std.proofs.Common.{◌≡◌, ◌≤◌, ◌<◌, ◌/◌, ◌%◌, ◌+◌, ◌++◌, ◌∷◌, [], length, map, take, arith, sym, ap, ◌∙◌, subst, get_or, refl, vec_capacity, Some, None}
+use Rattle.std.proofs.Common.{◌≡◌, ◌≤◌, ◌<◌, ◌/◌, ◌%◌, ◌+◌, ◌++◌, ◌∷◌, [], length, map, take, arith, sym, ap, ◌∙◌, subst, get_or, refl, Some, None}
 use Rattle.std.specs.Prelude.{min, slice_get}
 use Rattle.std.proofs.Math.ListN.{set}
-use Rattle.std.proofs.lemmas.List.{map-set, length-map, length-set, set-get_or, take_min}
+use Rattle.std.proofs.lemmas.List.{map-set, length-map, set-get_or, take_min}
 use Rattle.mely_history.specs.Setup.{shape_of, colours_of}
 use Rattle.mely_history.specs.ColourAccount.{account_of}
 use Rattle.mely_history.specs.Legal.{MayTake}
 use Rattle.mely_history.specs.declared.entry.Entry.TheVariants.{Take}
 use Rattle.mely_queue.specs.ColourQueue.{after_take}
 use Rattle.mely_queue.specs.Turn.{EachFits}
-use Rattle.mely_shard.specs.Invariant.{SlotStands, IsConsistentShard, lane_of, most_of}
-use Rattle.mely_shard.proofs.RegisterLemmas.{kept_with_room, slot_there, lane_there}
-use Rattle.mely_shard.proofs.TakeLemmas.{RoomierLaws, Refuses, slot_refuses, ready_home, kept_taken, kept_alike, each_alike, taken_turn, all_by_recursion-take, lanes_as_they_are}
+use Rattle.mely_shard.specs.Invariant.{SlotStands, IsConsistentShard, lane_of}
+use Rattle.mely_shard.proofs.RegisterLemmas.{grown_within, kept_with_room, slot_there, lane_there}
+use Rattle.mely_shard.proofs.TakeLemmas.{Refuses, slot_refuses, ready_home, kept_taken, taken_turn, all_by_recursion-take}
 use Rattle.mely_shard.proofs.SlotLemmas.{has_room_set}
 use Rattle.mely_shard.proofs.ExposeLemmas.{kept_contents, givens_set, given_frame}
 use Rattle.mely_shard.proofs.shard.Shard.take.Goals as goal
-use Rattle.mely_shard.proofs.shard.Shard.take.Goals.{After-no_take, After-push_reserved}
+use Rattle.mely_shard.proofs.shard.Shard.take.Goals.{After-no_take, After-push}
 
 -- what is known once the colour's slot was asked
 record Asked (g : _) (c : After-no_take g) : Type 0 where
@@ -25,7 +25,6 @@ record Asked (g : _) (c : After-no_take g) : Type 0 where
   pub stands : SlotStands g.S.Trail g.S.Fits.fits_under c.self.inside.setup c.args.colour (account_of c.self.inside.setup c.self.inside.history.items c.args.colour) c.index_mut-slot.result.now
   pub refuses : Refuses c.self.invariant.0 c.args.colour c.args.core c.index_mut-slot.result.now.given.value c.index_mut-slot.result.now.home c.no_take.result
   pub same : set c.self.inside.slots.items c.place_of-place.result c.index_mut-slot.result.now ≡ c.self.inside.slots.items
-  pub laws : RoomierLaws g.S.Trail
 
 asked : (g : _) (c : After-no_take g) → Asked g c
 asked g c =
@@ -42,25 +41,19 @@ asked g c =
       stands = stands;
       refuses = rw c.no_take.ensures (slot_refuses c.self.invariant.0 c.args.colour c.args.core slot stands);
       same = ap (set slots c.place_of-place.result) c.index_mut-slot.ensures.value ∙ set-get_or slots c.place_of-place.result slot;
-      laws = record {
-        itself = λ s. (g.met.S.Trail.alike_itself s, omega arith);
-        trail = λ s u same. g.met.S.Trail.alike_trail s u same.0;
-        colour = λ s u same. g.met.S.Trail.alike_colour s u same.0;
-        frame = λ s u same. g.met.S.Trail.alike_frame s u same.0;
-      };
     }
 
 -- what is known once the entry was pushed
-record Pushed (g : _) (c : After-push_reserved g) : Type 0 where
+record Pushed (g : _) (c : After-push g) : Type 0 where
   pub first : c.count-count.result ≡ min c.batch-batch.result (length c.index_mut-slot.result.now.queue.events)
   pub counted : c.in-Ok-take.turn.count ≡ min c.batch-batch.result (length c.index_mut-slot.result.now.queue.events)
   pub whole : c.count-count.result ≡ min (shape_of c.self.inside.setup).batch (length c.index_mut-slot.result.now.queue.events)
   pub after : c.take.new.self ≡ record c.index_mut-slot.result.now { queue = after_take c.index_mut-slot.result.now.queue c.count-count.result; home = None; core = c.args.core; count = c.count-count.result }
-  pub history : c.push_reserved.new.self.items ≡ c.self.inside.history.items ++ Take c.args.colour c.args.core c.count-count.result ∷ []
+  pub history : c.push.new.self.items ≡ c.self.inside.history.items ++ Take c.args.colour c.args.core c.count-count.result ∷ []
   pub allowed : MayTake c.self.inside.setup c.self.inside.history.items c.args.colour c.args.core c.count-count.result
-  pub kept : IsConsistentShard g.S.Trail g.S.Fits.fits_under c.self.inside.setup c.self.inside.shard (c.self.inside.history.items ++ Take c.args.colour c.args.core c.count-count.result ∷ []) (set c.self.inside.slots.items (c.args.colour.0 / (shape_of c.self.inside.setup).shards) c.take.new.self) (c.self.inside.running + 1) (most_of (vec_capacity c.push_reserved.new.self))
+  pub kept : IsConsistentShard g.S.Trail g.S.Fits.fits_under c.self.inside.setup c.self.inside.shard (c.self.inside.history.items ++ Take c.args.colour c.args.core c.count-count.result ∷ []) (set c.self.inside.slots.items (c.args.colour.0 / (shape_of c.self.inside.setup).shards) c.take.new.self) (c.self.inside.running + 1) c.reserve.new.self.most
 
-pushed : (g : _) (c : After-push_reserved g) → c.args.colour.0 < colours_of c.self.inside.setup → c.args.colour.0 % (shape_of c.self.inside.setup).shards ≡ c.self.inside.shard
+pushed : (g : _) (c : After-push g) → c.args.colour.0 < colours_of c.self.inside.setup → c.args.colour.0 % (shape_of c.self.inside.setup).shards ≡ c.self.inside.shard
     → c.index_mut-slot.result.now ≡ get_or c.self.inside.slots.items (c.args.colour.0 / (shape_of c.self.inside.setup).shards) c.index_mut-slot.result.now
     → Refuses c.self.invariant.0 c.args.colour c.args.core c.index_mut-slot.result.now.given.value c.index_mut-slot.result.now.home None
     → Pushed g c
@@ -71,16 +64,16 @@ pushed g c there here is ready =
     let first : n ≡ min c.batch-batch.result (length slot.queue.events) = c.count-count.ensures ∙ ap (λ t. t.count) takes.made in
     let whole : n ≡ min (shape_of c.self.inside.setup).batch (length slot.queue.events) = first ∙ ap (λ b. min b (length slot.queue.events)) c.batch-batch.ensures.value in
     let after : c.take.new.self ≡ record slot { queue = after_take slot.queue n; home = None; core = c.args.core; count = n } = rw first takes.left in
-    let same = ap length c.make_room.ensures.same in
+    let same = ap (λ h. length h.items) c.reserve.ensures.same in
     let room = c.in-Ok.ensures.room in
-    let roomy : length c.self.inside.history.items + 2 + c.self.inside.running ≤ most_of (vec_capacity c.push_reserved.new.self) = rw c.push_reserved.ensures.capacity (omega (arith, same, room)) in
-    let both = kept_taken c.self.invariant.0 c.args.colour c.args.core (most_of (vec_capacity c.push_reserved.new.self)) slot c.take.new.self there here is ready n whole c.self.inside.setup.batch_in.0 after roomy (omega arith) in
+    let roomy : length c.self.inside.history.items + 2 + c.self.inside.running ≤ c.reserve.new.self.most = omega (arith, same, room) in
+    let both = kept_taken c.self.invariant.0 c.args.colour c.args.core c.reserve.new.self.most slot c.take.new.self there here is ready n whole c.self.inside.setup.batch_in.0 after roomy (grown_within c.self.inside.setup c.self.inside.history c.reserve.new.self c.self.invariant.3 c.reserve.ensures.same c.reserve.ensures.within) in
     record {
       first = first;
       counted = ap (λ t. t.count) takes.made;
       whole = whole;
       after = after;
-      history = c.push_reserved.ensures.items ∙ ap (λ es. es ++ Take c.args.colour c.args.core n ∷ []) c.make_room.ensures.same;
+      history = ap (λ h. h.items) c.push.ensures ∙ ap (λ h. h.items ++ Take c.args.colour c.args.core n ∷ []) c.reserve.ensures.same;
       allowed = both.0;
       kept = both.1;
     }
@@ -100,38 +93,36 @@ returns-in-Some-clause-err g c =
       same_setup = refl;
       same_shard = refl;
       history = refl;
-      many = ap (λ all. length (map lane_of all)) a.same;
-      lanes = λ j d lt. rw a.same (lanes_as_they_are c.self.invariant.0 a.laws (map lane_of c.self.inside.slots.items) j d);
+      lanes = ap (map lane_of) a.same;
     })
 
 pub returns-in-Some-clause-kept : goal.returns-in-Some-clause-kept
 returns-in-Some-clause-kept g c = kept_contents (invariant_of-self g c).0
 
-pub invariant_of-self-in_default-make_room : goal.invariant_of-self-in_default-make_room
-invariant_of-self-in_default-make_room g c =
-    let a = asked g (goal.at.invariant_of-self-in_default-make_room g c).After-no_take in
-    let more = c.make_room.ensures.not_lower in
-    rw (c.make_room.ensures.same, a.same) (kept_with_room c.self.invariant.0 (most_of (vec_capacity c.make_room.new.history)) (omega (arith, more)) (omega arith), c.self.invariant.1, c.self.invariant.2)
+pub invariant_of-self-in_default-reserve : goal.invariant_of-self-in_default-reserve
+invariant_of-self-in_default-reserve g c =
+    let a = asked g (goal.at.invariant_of-self-in_default-reserve g c).After-no_take in
+    let more = c.reserve.ensures.not_lower in
+    rw (c.reserve.ensures.same, a.same) (kept_with_room c.self.invariant.0 c.reserve.new.self.most (omega (arith, more)) (grown_within c.self.inside.setup c.self.inside.history c.reserve.new.self c.self.invariant.3 c.reserve.ensures.same c.reserve.ensures.within), c.self.invariant.1, c.self.invariant.2, c.self.invariant.3)
 
-pub returns-in_default-make_room-clause-err : goal.returns-in_default-make_room-clause-err
-returns-in_default-make_room-clause-err g c =
-    let a = asked g (goal.at.returns-in_default-make_room-clause-err g c).After-no_take in
+pub returns-in_default-reserve-clause-err : goal.returns-in_default-reserve-clause-err
+returns-in_default-reserve-clause-err g c =
+    let a = asked g (goal.at.returns-in_default-reserve-clause-err g c).After-no_take in
     rw (← c.self.view_is) (record {
       same_setup = refl;
       same_shard = refl;
-      history = c.make_room.ensures.same;
-      many = ap (λ all. length (map lane_of all)) a.same;
-      lanes = λ j d lt. rw a.same (lanes_as_they_are c.self.invariant.0 a.laws (map lane_of c.self.inside.slots.items) j d);
+      history = ap (λ h. h.items) c.reserve.ensures.same;
+      lanes = ap (map lane_of) a.same;
     })
 
-pub returns-in_default-make_room-clause-refusal : goal.returns-in_default-make_room-clause-refusal
-returns-in_default-make_room-clause-refusal g c =
-    let a = asked g (goal.at.returns-in_default-make_room-clause-refusal g c).After-no_take in
+pub returns-in_default-reserve-clause-refusal : goal.returns-in_default-reserve-clause-refusal
+returns-in_default-reserve-clause-refusal g c =
+    let a = asked g (goal.at.returns-in_default-reserve-clause-refusal g c).After-no_take in
     let ready = rw c.in_default.is at a.refuses in
     rw (← c.self.view_is) (ready.0, ready.1)
 
-pub returns-in_default-make_room-clause-kept : goal.returns-in_default-make_room-clause-kept
-returns-in_default-make_room-clause-kept g c = kept_contents (invariant_of-self-in_default-make_room g c).0
+pub returns-in_default-reserve-clause-kept : goal.returns-in_default-reserve-clause-kept
+returns-in_default-reserve-clause-kept g c = kept_contents (invariant_of-self-in_default-reserve g c).0
 
 pub take-requires-clause-emptied : goal.take-requires-clause-emptied
 take-requires-clause-emptied g c = c.self.invariant.2
@@ -155,22 +146,17 @@ take-requires-clause-fit g c = (asked g (goal.at.take-requires-clause-fit g c).A
 pub invariant_of-self-in_default-take : goal.invariant_of-self-in_default-take
 invariant_of-self-in_default-take g c =
     let a = asked g (goal.at.invariant_of-self-in_default-take g c).After-no_take in
-    let more = c.make_room.ensures.not_lower in
-    rw (c.make_room.ensures.same, c.place_of-place.ensures)
-    (kept_alike c.self.invariant.0 a.laws c.args.colour c.index_mut-slot.result.now c.take.new.self (most_of (vec_capacity c.make_room.new.history)) a.there a.here a.is c.in_default-take.ensures.err (omega (arith, more)) (omega arith), has_room_set _ _ _ _ _ _ _ c.self.invariant.1, c.take.ensures.emptied)
+    let more = c.reserve.ensures.not_lower in
+    rw (c.reserve.ensures.same, c.in_default-take.ensures.err, a.same) (kept_with_room c.self.invariant.0 c.reserve.new.self.most (omega (arith, more)) (grown_within c.self.inside.setup c.self.inside.history c.reserve.new.self c.self.invariant.3 c.reserve.ensures.same c.reserve.ensures.within), c.self.invariant.1, c.take.ensures.emptied, c.self.invariant.3)
 
 pub returns-in_default-take-clause-err : goal.returns-in_default-take-clause-err
 returns-in_default-take-clause-err g c =
     let a = asked g (goal.at.returns-in_default-take-clause-err g c).After-no_take in
-    let slots = c.self.inside.slots.items in
-    let k = c.place_of-place.result in
-    let place : k < length slots = rw c.place_of-place.ensures a.place in
     rw (← c.self.view_is) (record {
       same_setup = refl;
       same_shard = refl;
-      history = c.make_room.ensures.same;
-      many = length-map (set slots k c.take.new.self) lane_of ∙ length-set slots k c.take.new.self ∙ sym (length-map slots lane_of);
-      lanes = each_alike c.self.invariant.0 a.laws k c.index_mut-slot.result.now c.take.new.self place c.index_mut-slot.ensures.value c.in_default-take.ensures.err;
+      history = ap (λ h. h.items) c.reserve.ensures.same;
+      lanes = rw c.in_default-take.ensures.err (ap (map lane_of) a.same);
     })
 
 pub returns-in_default-take-clause-refusal : goal.returns-in_default-take-clause-refusal
@@ -185,20 +171,20 @@ returns-in_default-take-clause-kept g c = kept_contents (invariant_of-self-in_de
 pub returns-in_default-take-clause-frame : goal.returns-in_default-take-clause-frame
 returns-in_default-take-clause-frame g c =
     let slot = c.index_mut-slot.result.now in
-    rw (← c.self.view_is) (record { same_setup = refl; same_shard = refl; same_givens = givens_set c.self.inside.slots.items _ c.take.new.self slot (ap (λ b. b.given.value) c.in_default-take.ensures.err.left ∙ ap (λ b. b.given.value) c.index_mut-slot.ensures.value) })
+    rw (← c.self.view_is) (record { same_setup = refl; same_shard = refl; same_givens = givens_set c.self.inside.slots.items _ c.take.new.self slot (ap (λ b. b.given.value) c.in_default-take.ensures.err ∙ ap (λ b. b.given.value) c.index_mut-slot.ensures.value) })
 
 pub invariant_of-self-2 : goal.invariant_of-self-2
 invariant_of-self-2 g c =
     let a = asked g (goal.at.invariant_of-self-2 g c).After-no_take in
     let ready = rw c.in_default.is at a.refuses in
-    let p = pushed g (goal.at.invariant_of-self-2 g c).After-push_reserved a.there a.here a.is ready in
-    rw (p.history, c.place_of-place.ensures) (p.kept, has_room_set _ _ _ _ _ _ _ c.self.invariant.1, c.take.ensures.emptied)
+    let p = pushed g (goal.at.invariant_of-self-2 g c).After-push a.there a.here a.is ready in
+    rw (c.push.ensures, c.reserve.ensures.same, c.place_of-place.ensures) (p.kept, has_room_set _ _ _ _ _ _ _ c.self.invariant.1, c.take.ensures.emptied, c.self.invariant.3)
 
 pub returns-clause-ok : goal.returns-clause-ok
 returns-clause-ok g c =
     let a = asked g (goal.at.returns-clause-ok g c).After-no_take in
     let ready = rw c.in_default.is at a.refuses in
-    let p = pushed g (goal.at.returns-clause-ok g c).After-push_reserved a.there a.here a.is ready in
+    let p = pushed g (goal.at.returns-clause-ok g c).After-push a.there a.here a.is ready in
     let slots = c.self.inside.slots.items in
     let slot = c.index_mut-slot.result.now in
     let i = c.args.colour.0 / (shape_of c.self.inside.setup).shards in
@@ -209,8 +195,6 @@ returns-clause-ok g c =
       home = takes.home;
       at_home = takes.was;
       allowed = rw (← c.count-count.ensures) p.allowed;
-      alike = takes.alike;
-      room = rw (← c.count-count.ensures, p.first) takes.room;
       made = takes.made ∙ rw (p.counted, ← take_min c.batch-batch.result slot.queue.events) refl;
       after = record {
         same_setup = refl;
@@ -224,12 +208,12 @@ pub returns-clause-stands : goal.returns-clause-stands
 returns-clause-stands g c =
     let a = asked g (goal.at.returns-clause-stands g c).After-no_take in
     let ready = rw c.in_default.is at a.refuses in
-    let p = pushed g (goal.at.returns-clause-stands g c).After-push_reserved a.there a.here a.is ready in
+    let p = pushed g (goal.at.returns-clause-stands g c).After-push a.there a.here a.is ready in
     let slots = c.self.inside.slots.items in
     let slot = c.index_mut-slot.result.now in
     let takes = c.in-Ok-take.ensures.ok in
     let some : 1 ≤ c.count-count.result = omega (arith, p.whole, c.self.inside.setup.batch_in.0, ready.1.waiting, ap length a.stands.events, length-map slot.queue.events (λ e. e.0)) in
-    let turn = taken_turn c.self.invariant.0 a.laws c.args.colour c.args.core c.count-count.result slot a.stands ready some takes.home c.in-Ok-take.turn.state takes.was takes.alike in
+    let turn = taken_turn c.self.invariant.0 c.args.colour c.args.core c.count-count.result slot a.stands ready some takes.home takes.was in
     let given : c.take.new.self.given.value ≡ slot.given.value = ap (λ b. b.given.value) p.after in
     rw takes.made (record {
       away = rw (p.history, ← p.first) turn.0;

@@ -35,12 +35,12 @@ invariant_of-shared g c =
 pub returns-clause-called : goal.returns-clause-called
 returns-clause-called g c =
     let at = (goal.at.returns-clause-called g c).After-index_mut in
-    rw (← c.shared.view_is) (at_shard (lent g at) c.args.colour c.index_mut.result.now c.take.new.self _ (TakeAs g.S.Trail c.args.colour c.args.self.now.core c.take.result) c.shard_of-place.ensures (there g at) (take_does g.S.Trail _ _ _ _ c.take.result c.take.ensures.ok c.take.ensures.err c.take.ensures.refusal))
+    rw (← c.shared.view_is) (at_shard (lent g at) c.args.colour c.index_mut.result.now c.take.new.self _ (TakeAs c.args.colour c.args.self.now.core c.take.result) c.shard_of-place.ensures (there g at) (take_does _ _ _ _ c.take.result c.take.ensures.ok c.take.ensures.err c.take.ensures.refusal))
 
 pub returns-clause-turn : goal.returns-clause-turn
 returns-clause-turn g c =
     let at = (goal.at.returns-clause-turn g c).After-index_mut in
-    rw (← c.shared.view_is) (taken_shown side_state g.S.Trail (λ s. s.setup) (λ s. g.S.Trail.frame_of s.given) IsOut g.S.Fits.fits_under (λ s. s.core) _ _ c.args.colour c.take.result (turn_of g.S.Trail g.S.Fits.fits_under (lent g at) _ c.args.colour c.shared.invariant c.take.result (at_shard (lent g at) c.args.colour c.index_mut.result.now c.take.new.self _ (TakeAs g.S.Trail c.args.colour c.args.self.now.core c.take.result) c.shard_of-place.ensures (there g at) (take_does g.S.Trail _ _ _ _ c.take.result c.take.ensures.ok c.take.ensures.err c.take.ensures.refusal)) (low g at) (shards_stand g.S.Trail g.S.Fits.fits_under (lent g at) c.shared.invariant c.args.colour c.index_mut.result.now c.take.new.self _ c.shard_of-place.ensures (there g at) c.take.ensures.frame c.take.ensures.kept) c.take.ensures.stands))
+    rw (← c.shared.view_is) (taken_shown side_state g.S.Trail (λ s. s.setup) (λ s. g.S.Trail.frame_of s.given) IsOut g.S.Fits.fits_under (λ s. s.core) _ _ c.args.colour c.take.result (turn_of g.S.Trail g.S.Fits.fits_under (lent g at) _ c.args.colour c.shared.invariant c.take.result (at_shard (lent g at) c.args.colour c.index_mut.result.now c.take.new.self _ (TakeAs c.args.colour c.args.self.now.core c.take.result) c.shard_of-place.ensures (there g at) (take_does _ _ _ _ c.take.result c.take.ensures.ok c.take.ensures.err c.take.ensures.refusal)) (low g at) (shards_stand g.S.Trail g.S.Fits.fits_under (lent g at) c.shared.invariant c.args.colour c.index_mut.result.now c.take.new.self _ c.shard_of-place.ensures (there g at) c.take.ensures.frame c.take.ensures.kept) c.take.ensures.stands))
 
 pub returns-clause-kept : goal.returns-clause-kept
 returns-clause-kept g c =
@@ -50,4 +50,4 @@ returns-clause-kept g c =
 pub returns-clause-owed : goal.returns-clause-owed
 returns-clause-owed g c =
     let at = (goal.at.returns-clause-owed g c).After-index_mut in
-    rw (← c.shared.view_is) (take_owes g.S.Trail g.S.Fits.fits_under (lent g at) _ c.args.colour c.shared.invariant c.args.self.now.core c.take.result (at_shard (lent g at) c.args.colour c.index_mut.result.now c.take.new.self _ (TakeAs g.S.Trail c.args.colour c.args.self.now.core c.take.result) c.shard_of-place.ensures (there g at) (take_does g.S.Trail _ _ _ _ c.take.result c.take.ensures.ok c.take.ensures.err c.take.ensures.refusal)))
+    rw (← c.shared.view_is) (take_owes g.S.Trail g.S.Fits.fits_under (lent g at) _ c.args.colour c.shared.invariant c.args.self.now.core c.take.result (at_shard (lent g at) c.args.colour c.index_mut.result.now c.take.new.self _ (TakeAs c.args.colour c.args.self.now.core c.take.result) c.shard_of-place.ensures (there g at) (take_does _ _ _ _ c.take.result c.take.ensures.ok c.take.ensures.err c.take.ensures.refusal)))

@@ -2,7 +2,7 @@ use Rattle.std.proofs.Common.{◌≡◌, ℕ, Some, length, map, ap, ◌∙◌, 
 use Rattle.std.proofs.lemmas.List.{nil_from_length}
 use Rattle.std.specs.Prelude.{slice_get, flat_map}
 use Rattle.mely_history.specs.declared.setup.Setup.{Setup}
-use Rattle.mely_history.specs.Setup.{shape_of, colours_of}
+use Rattle.mely_history.specs.Setup.{shape_of, colours_of, is_listed}
 use Rattle.mely_shard.specs.Shard.{ShardState, ColourState}
 use Rattle.mely_worker.specs.Worker.{WorkerState}
 use Rattle.mely_weave.specs.Dealing.{AreDealt}
@@ -10,7 +10,7 @@ use Rattle.mely_weave.specs.Shared.{SharedState}
 use Rattle.mely_weave.specs.Spreading.{AreFull}
 use Rattle.mely_weave.specs.StandsWell.{StandsWell}
 use Rattle.mely_weave.specs.Weave.{WeaveState}
-use Rattle.mely_weave.proofs.Wholes.PartsLemmas.{rests_where_free, pile_count, gives_full, spread_by_colour}
+use Rattle.mely_weave.proofs.Wholes.PartsLemmas.{listed_as_setup, rests_where_free, pile_count, gives_full, spread_by_colour}
 use Rattle.mely_weave.proofs.weave.Weave.into_parts.Goals as goal
 use Rattle.mely_weave.proofs.weave.Weave.into_parts.Goals.{After-take_apart}
 
@@ -71,6 +71,12 @@ spread-requires-clause-full g c =
 
 pub spread-requires-clause-empty : goal.spread-requires-clause-empty
 spread-requires-clause-empty g c = nil_from_length c.room.inside.states.items (sym c.room.inside.states.ok.0 ∙ c.room.invariant.no_state)
+
+pub returns-clause-listed : goal.returns-clause-listed
+returns-clause-listed g c =
+    let at = (goal.at.returns-clause-listed g c).After-take_apart in
+    listed_as_setup g.S.Trail g.S.Fits.fits_under c.args.self (well g at) c.take_apart.new.histories.items
+    (c.take_apart.ensures.listed ∙ ap (map (λ (has : ShardState g.row.S.Denot g.row.P.Denot). is_listed has.setup)) (shards_are g at))
 
 pub returns-clause-states : goal.returns-clause-states
 returns-clause-states g c =

@@ -41,7 +41,7 @@ invariant_of-state-in-Talking g c =
     let stands = seat_of g.W.World g.W.Link.Link g.T.Talk _ _ _ _ _ _ _ (sym c.deref_mut.ensures.value ∙ c.in-Talking.is) c.state.invariant in
     let total = first_total g.W.World _ _ c.args.self.now.total c.state.view_is c.requires.serves in
     let after = seat_after_of g.W.World g.W.Link.Link _ c.args.self.now.total total g.T.Talk _ _ c.args.event c.args.load _ _ _ _ c.args.self.now.log stands.0 stands.1 fit.0 c.serve.ensures.runs c.serve.ensures.next c.serve.ensures.answered c.serve.ensures.lines c.serve.ensures.once in
-    seat_back g.W.World g.W.Link.Link g.T.Talk _ _ _ _ _ c.state.inside.lines.items c.args.event _ c.push_reserved.ensures.items stands.0 after.0
+    seat_back g.W.World g.W.Link.Link g.T.Talk _ _ _ _ _ c.state.inside.lines.came c.args.event _ c.push.ensures stands.0 after.0
 
 pub returns-in-Talking-clause-puts : goal.returns-in-Talking-clause-puts
 returns-in-Talking-clause-puts g c =

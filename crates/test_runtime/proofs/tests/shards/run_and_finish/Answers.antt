@@ -8,12 +8,10 @@ loop-event-preserved c =
     let rest = c.in-Some.ensures.rest in
     let colour = ap (λ t. t.colour) rest in
     let state = c.state.ensures.value ∙ ap (λ t. t.state) rest in
-    let shorter : length c.loop-event.turn.events ≡ length c.next.new.self.events + 1 = ap length c.in-Some.ensures.next ∙ omega arith in
     record {
       stands = turn_ran (c.in-Some.event, c.in-Some.load) c.loop-event.invariant.stands c.in-Some.ensures.next colour (ap (λ t. t.core) rest) (ap (λ t. t.count) rest)
           (ap (λ l. l.events) c.run.ensures ∙ ap (λ s. s.log.events ++ c.in-Some.event ∷ []) state) (ap (λ l. l.colour) c.run.ensures ∙ ap (λ s. s.log.colour) state) refl;
       own = subst (IsOwn c.args.shard.now) (sym colour) c.loop-event.invariant.own;
-      room = omega (arith, ap (λ l. l.spare) c.run.ensures, ap (λ s. s.log.spare) state, shorter, c.loop-event.invariant.room);
     }
 
 pub finish-requires-clause-stands : goal.finish-requires-clause-stands

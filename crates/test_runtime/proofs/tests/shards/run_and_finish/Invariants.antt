@@ -1,5 +1,4 @@
-use Rattle.std.proofs.Common.{◌≤◌, length}
-use Rattle.mely_event.specs.TrailLog.{AreAlike}
+use Rattle.std.proofs.Common.{length}
 use Rattle.mely_event.specs.declared.trail.Trail.{Ghosts as TrailWords}
 use Rattle.test_runtime.specs.declared.tests.shards.Tally.{Tally}
 use Rattle.mely_shard.specs.Shard.{TurnStands, IsOwn}
@@ -7,13 +6,12 @@ use Rattle.test_runtime.proofs.tests.shards.run_and_finish.Given as goal
 
 -- what contracts see of the state
 abbrev pub tally_words : TrailWords Tally (Unit {0})
-tally_words = record { trail_of = λ s. s.log.events; colour_of = λ s. s.log.colour; frame_of = λ s. tt; spare_of = λ s. s.log.spare; alike = AreAlike (λ (s : Tally). s.log) (λ (s : Tally). s.total) }
+tally_words = record { trail_of = λ s. s.log.events; colour_of = λ s. s.log.colour; frame_of = λ s. tt }
 
 abbrev pub invariant-loop-event : goal.invariant-loop-event
 invariant-loop-event l = record {
   stands : TurnStands tally_words (λ f c e p. Unit {0}) l.shard l.turn;
   own : IsOwn l.shard l.turn.colour;
-  room : length l.turn.events ≤ l.turn.state.log.spare;
 }
 
 abbrev pub decreases-loop-event : goal.decreases-loop-event

@@ -1,5 +1,5 @@
-//! A state that once finds no room for its trail, and an app over it.
-ghost use Rattle.std.specs.Prelude.{◌≡◌, ◌≤◌, ◌+◌, ◌++◌, ◌∷◌, [], IfOk, length};
+//! A state that lists what was run on it, and an app over it.
+ghost use Rattle.std.specs.Prelude.{◌≡◌, ◌≤◌, ◌++◌, ◌∷◌, [], IfOk, length};
 ghost use Rattle.std.specs.List.{AllByRecursion};
 ghost use Rattle.mely_weave.specs.Making.{AreInitialBelow};
 ghost use Rattle.mely_worker.specs.Access.{FitsIn};
@@ -8,17 +8,17 @@ use mely_event::{Colour, Event, Fits, Memory, Trail, TrailLog};
 use mely_worker::{App, Outs};
 use std::alloc::Global;
 
-/// A state that keeps its trail. Where it refuses, one request for room is answered with want of
-/// memory, after so many that were granted.
+/// How many events a state has room to list.
+const LISTED: usize = 64;
+
+/// A state that lists the events that were run on it, for the tests to read.
 #[derive(Drop)]
-pub(super) struct Grudging {
+pub(super) struct Sown {
     pub(super) log: TrailLog,
-    refuses: Option<u16>,
+    pub(super) ran: Vec<Event>,
 }
 
-impl Trail for Grudging {
-    ghost use Rattle.std.proofs.Common.{refl, ◌∙◌};
-
+impl Trail for Sown {
     type Frame = ();
 
     ghost trail_of = { λ s. s.log.events };
@@ -26,54 +26,24 @@ impl Trail for Grudging {
     ghost colour_of = { λ s. s.log.colour };
 
     ghost frame_of = { λ s. tt };
-
-    ghost spare_of = { λ s. s.log.spare };
-
-    ghost alike = { λ s t. (s.log.events ≡ t.log.events) × (s.log.colour ≡ t.log.colour) };
-
-    fn trail(&self) -> &[Event] {
-        self.log.trail()
-    }
-
-    fn reserve(&mut self, n: usize) -> Result<(), Memory> {
-        match self.refuses {
-            Some(0) => {
-                self.refuses = None;
-                return Err(Memory);
-            }
-            Some(left) => self.refuses = Some(left - 1),
-            None => {}
-        }
-        self.log.reserve(n)
-    }
-
-    ghost alike_itself = { λ s. (refl, refl) };
-
-    ghost alike_onward = { λ r s t one other. (one.0 ∙ other.0, one.1 ∙ other.1) };
-
-    ghost alike_trail = { λ s t same. same.0 };
-
-    ghost alike_colour = { λ s t same. same.1 };
-
-    ghost alike_frame = { λ s t same. refl };
 }
 
 /// Every event fits, with a load or without.
-impl Fits<u8> for Grudging {
+impl Fits<u8> for Sown {
     ghost fits_under = { λ frame colour event load. Unit {0} };
 }
 
-/// A state for each of two colours, of which that of colour 1 refuses once, after so many requests.
-pub(super) fn grudging_states(alloc: Global, granted: u16) -> Result<Vec<Grudging>, Memory>
+/// A state for each of two colours.
+pub(super) fn sown_states(alloc: Global) -> Result<Vec<Sown>, Memory>
     ensures { IfOk result (λ states.
         AreInitialBelow (λ state. state.log.colour) (λ state. state.log.events) 2 states.items) }
 {
     let mut states = Vec::new(alloc);
     'colours: for colour in 0..2u16 {
-        let refuses = if colour == 1 { Some(granted) } else { None };
-        states.push(Grudging {
-            log: TrailLog::new(alloc, Colour(colour)),
-            refuses,
+        let ran = Vec::with_capacity(alloc, LISTED)?;
+        states.push(Sown {
+            log: TrailLog::new(Colour(colour)),
+            ran,
         })?;
     }
     Ok(states)
@@ -87,7 +57,7 @@ pub(super) struct Sowing;
 impl App for Sowing {
     type Load = u8;
 
-    type State = Grudging;
+    type State = Sown;
 
     ghost colours_of = { λ app. 2 };
 
@@ -97,17 +67,17 @@ impl App for Sowing {
 
     ghost runs = { λ app before event load after puts. Unit {0} };
 
-    fn run(&self, state: &mut Grudging, event: Event, load: Option<u8>, outs: &mut Outs<u8>)
-        requires room { 1 ≤ state.old.log.spare }
+    fn run(&self, state: &mut Sown, event: Event, load: Option<u8>, outs: &mut Outs<u8>)
         requires empty { outs.old ≡ [] }
         ensures ran { Unit {0} }
         ensures colour { state.new.log.colour ≡ state.old.log.colour }
         ensures frame { Unit {0} }
         ensures trail { state.new.log.events ≡ state.old.log.events ++ event ∷ [] }
-        ensures spare { state.old.log.spare ≡ state.new.log.spare + 1 }
         ensures puts { AllByRecursion (FitsIn 2 1 (λ colour event load. Unit {0})) outs.new }
         ensures few { length outs.new ≤ 2 }
     {
+        // There is room: a run of these tests has fewer events on a colour.
+        let _ = state.ran.push(event);
         state.log.push(event);
         if event.arg > 0 {
             let left = Event {
