@@ -1,8 +1,7 @@
 -- What an account has and has paid.
-use Rattle.std.specs.Prelude.{◌≡◌, ◌==◌, ◌+◌, ◌-◌, ◌^◌, ◌<◌, ℕ, List, [], ◌∷◌, ◌++◌, Some, fold, if◌then◌else◌, length, map, min, slice_get, sum_by}
+use Rattle.std.specs.Prelude.{◌≡◌, ◌+◌, ◌-◌, ◌^◌, ◌<◌, ◌≤◌, ℕ, List, [], ◌∷◌, ◌++◌, Some, fold, length, min, slice_get, sum, sum_by}
 use Rattle.mely_app.specs.Puts.{sum_colours}
-use Rattle.mely_actor.specs.Received.{count_sent}
-use Rattle.mely_actor.specs.Sending.{as_events}
+use Rattle.mely_actor.specs.Sending.{count_to}
 use Rattle.mely_event.specs.declared.colour.Colour.{Colour}
 use Rattle.mely_event.specs.declared.event.Event.{Event}
 use Rattle.example_bank.specs.declared.bank.TheConstants.{ACCOUNTS}
@@ -18,11 +17,6 @@ event_of (Transfer to amount) = record { handler = 2; arg = to }
 abbrev pub IsSound : Message → Type 0
 IsSound (Deposit amount) = Unit {0}
 IsSound (Transfer to amount) = to < ACCOUNTS
-
--- a transfer sends a deposit
-abbrev pub sends_of : Event → List (Colour × Event)
-sends_of event = if event.handler == 2
-    then (record { 0 = event.arg }, record { handler = 1; arg = 0 }) ∷ [] else []
 
 -- a balance after a message, as far as 64 bits go
 abbrev pub after_one : ℕ → Message → ℕ
@@ -56,9 +50,10 @@ amount_in (Deposit amount) = amount
 amount_in (Transfer to amount) = 0
 
 -- Each account has what the messages make of it that it has received, and paid what they say, no
--- more than it had: where what came in is of 64 bits, it is what is there and what was paid. And
--- what it received is what was posted to it and what was sent to it, no more and no less, counted
--- by the events.
+-- more than it had: where what came in is of 64 bits, it is what is there and what was paid. What it
+-- received is what was posted to it and what was sent to it, with its amounts, no more and no less.
+-- So in all there is never more money than was posted, and exactly as much where no account was
+-- sent more than 64 bits hold.
 pub record AreBalanced (posts : List (Colour × Message)) (balances : List ℕ) : Type 0 where
   pub accounts : length balances ≡ ACCOUNTS
   pub received : Colour → List Message
@@ -69,7 +64,9 @@ pub record AreBalanced (posts : List (Colour × Message)) (balances : List ℕ) 
       → sum_by amount_in (received c) < 2 ^ 64
       → sum_by amount_in (received c)
       ≡ balance + sum_by (λ payment. amount_in payment.1) (sent c)
-  pub counted : (c : Colour) → c.0 < ACCOUNTS → (number : Event → ℕ)
-      → sum_by number (map event_of (received c))
-      ≡ count_sent c number (as_events event_of posts)
-      + sum_colours ACCOUNTS (λ d. count_sent c number (as_events event_of (sent d)))
+  pub arrived : (c : Colour) → c.0 < ACCOUNTS → (number : Message → ℕ)
+      → sum_by number (received c)
+      ≡ count_to c number posts + sum_colours ACCOUNTS (λ d. count_to c number (sent d))
+  pub none_made : sum balances ≤ sum_by (λ post. amount_in post.1) posts
+  pub none_lost : ((c : Colour) → c.0 < ACCOUNTS → sum_by amount_in (received c) < 2 ^ 64)
+      → sum balances ≡ sum_by (λ post. amount_in post.1) posts

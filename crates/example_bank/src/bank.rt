@@ -3,7 +3,7 @@ ghost use Rattle.std.specs.Prelude.{◌≡◌, IfOk};
 ghost use Rattle.std.specs.List.{AllByRecursion};
 ghost use Rattle.mely_actor.specs.Sending.{MaySend};
 ghost use Rattle.example_bank.specs.declared.bank.TheConstants.{ACCOUNTS};
-ghost use Rattle.example_bank.specs.Balances.{AreBalanced, IsAccount, IsSound, event_of, sends_of};
+ghost use Rattle.example_bank.specs.Balances.{AreBalanced, IsAccount, IsSound, event_of};
 
 use crate::message::Message;
 use mely_actor::{Actor, Ended, Place, Sends, run_actors};
@@ -32,8 +32,6 @@ impl Actor for Bank {
     ghost event_of = { event_of };
 
     ghost sound = { λ bank colour message. IsSound message };
-
-    ghost sends_of = { λ bank colour number event. sends_of event };
 
     ghost kept = { λ bank colour received sent balance. IsAccount received sent balance };
 

@@ -6,17 +6,23 @@ use Rattle.std.specs.List.{AllByRecursion}
 use Rattle.std.specs.Global.{Global}
 use Rattle.std.specs.Prelude.{Result, Ok, Err, OnOk, Vec, slice_get}
 use Rattle.mely_event.specs.declared.colour.Colour.{Colour}
-use Rattle.mely_event.specs.declared.event.Event.{Event}
 use Rattle.mely_weave.proofs.Wholes.DealLemmas.{seam_at}
-use Rattle.mely_actor.proofs.AlongLemmas.{along_push}
 use Rattle.mely_actor.proofs.ListLemmas.{one_longer}
-use Rattle.mely_actor.specs.Sending.{MaySend, along, as_events}
+use Rattle.mely_actor.specs.Sending.{MaySend}
 use Rattle.example_chat.specs.declared.message.Message.{Message}
 use Rattle.example_chat.specs.declared.message.Message.TheVariants.{Say, Line}
 use Rattle.example_chat.specs.declared.script.Line.{Line as ScriptLine}
 use Rattle.example_chat.specs.declared.seat.Heard.{Heard}
 use Rattle.example_chat.specs.declared.chat.TheConstants.{CLIENTS}
-use Rattle.example_chat.specs.Chats.{IsByClient, IsSeat, MayHear, Note, Sent, event_of, events_to_clients, note_of, notes, said, says, sends_of, sent_as, to_clients}
+use Rattle.example_chat.specs.Chats.{IsByClient, IsSeat, MayHear, Note, along, event_of, note_of, notes, said, says, sent_as, to_clients}
+
+-- one more gives what it gives behind all others
+along_push : {X Y : Type 0} (f : ℕ → X → List Y) (before : ℕ) (xs : List X) (x : X) → along f before (xs ++ x ∷ []) ≡ along f before xs ++ f (before + length xs) x
+along_push f before [] x = append-nil (f before x) ∙ ap (λ n. f n x) (let none : before ≡ before + 0 = omega arith in none)
+along_push f before (y ∷ xs) x =
+    let at : before + 1 + length xs ≡ before + length (y ∷ xs) = omega arith in
+    ap (λ l. f before y ++ l) (along_push f (before + 1) xs x ∙ ap (λ n. along f (before + 1) xs ++ f n x) at)
+    ∙ sym (append_assoc (f before y) (along f (before + 1) xs) (f (before + length (y ∷ xs)) x))
 
 -- a message more
 pub seat_more : (received : List Message) (sent new : List (Colour × Message)) (heard after : List Heard) (message : Message) (before : ℕ) → length received ≡ before → map sent_as new ≡ says before message → map note_of after ≡ map note_of heard ++ notes before message → IsSeat received sent heard
@@ -42,14 +48,6 @@ seat_kept (Err e) new heard after message before sends keeps = tt
 pub on_ok : {A E P : Type 0} (answer : Result A E) → P → OnOk answer P
 on_ok (Ok a) is = is
 on_ok (Err e) is = tt
-
--- the events of what is sent are what stands in facts, without the texts
-abbrev pub without_text : Sent → Colour × Event
-without_text sent = (sent.0, sent.1)
-
-pub events_of : (sends : List (Colour × Message)) → as_events event_of sends ≡ map without_text (map sent_as sends)
-events_of [] = refl
-events_of (send ∷ sends) = ap (λ l. (send.0, event_of send.1) ∷ l) (events_of sends)
 
 -- one line more has the next number
 pub said_push : (number : ℕ) (lines : List ScriptLine) (line : ScriptLine) → said number (lines ++ line ∷ []) ≡ said number lines ++ (record { 0 = line.client }, Say (number + length lines) line.text) ∷ []
@@ -85,6 +83,3 @@ line_sent before k text low = sym (ap (λ (b : Bool). if b then to_clients (reco
 
 pub line_noted : (before k : ℕ) (text : Vec ℕ Global) → before < 256 → (before, k, text.items) ∷ [] ≡ notes before (Line k text)
 line_noted before k text low = sym (ap (λ (b : Bool). if b then (before, k, text.items) ∷ [] else []) (lt-ltb before 256 low))
-
-pub line_told : {A : Type 0} (chat : A) (colour : Colour) (before k : ℕ) (text : Vec ℕ Global) → before < 256 → events_to_clients (record { handler = 3; arg = before * 256 + k }) ≡ sends_of chat colour before (event_of (Line k text))
-line_told chat colour before k text low = sym (ap (λ (b : Bool). if b then events_to_clients (record { handler = 3; arg = before * 256 + k }) else []) (lt-ltb before 256 low))

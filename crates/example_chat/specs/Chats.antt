@@ -1,7 +1,6 @@
 -- What the room and the clients are sent, send, and keep.
-use Rattle.std.specs.Prelude.{◌≡◌, ◌==◌, ◌+◌, ◌*◌, ◌<◌, ◌≤◌, ℕ, List, [], ◌∷◌, Some, if◌then◌else◌, map, nat_lt, slice_get}
+use Rattle.std.specs.Prelude.{◌≡◌, ◌+◌, ◌*◌, ◌<◌, ◌≤◌, ℕ, List, [], ◌∷◌, ◌++◌, Some, if◌then◌else◌, map, nat_lt, slice_get}
 use Rattle.std.specs.List.{range_with_len}
-use Rattle.mely_actor.specs.Sending.{along}
 use Rattle.mely_event.specs.declared.colour.Colour.{Colour}
 use Rattle.mely_event.specs.declared.event.Event.{Event}
 use Rattle.example_chat.specs.declared.chat.TheConstants.{CLIENTS}
@@ -52,12 +51,15 @@ Sent = Colour × Event × List ℕ
 abbrev pub sent_as : Colour × Message → Sent
 sent_as send = (send.0, event_of send.1, text_of send.1)
 
--- a line goes to each client, with its text, and by its event alone
+-- a line goes to each client, with its text
 abbrev pub to_clients : Event → List ℕ → List Sent
 to_clients event text = map (λ n. (record { 0 = n }, event, text)) (range_with_len 1 CLIENTS)
 
-abbrev pub events_to_clients : Event → List (Colour × Event)
-events_to_clients event = map (λ n. (record { 0 = n }, event)) (range_with_len 1 CLIENTS)
+-- what each of a list gives by how many stand before it, one after another; so many stand before
+-- the first
+abbrev pub along : {X Y : Type 0} → (ℕ → X → List Y) → ℕ → List X → List Y
+along f before [] = []
+along f before (x ∷ xs) = f before x ++ along f (before + 1) xs
 
 -- What a message has a colour send, so many others before it: what a client is to say goes to the
 -- room, which has each client hear it. The number of the room's lines before it is its place.
@@ -67,14 +69,6 @@ says before (Say number text) =
 says before (Line number text) = if nat_lt before 256
     then to_clients (record { handler = 3; arg = before * 256 + number }) text.items else []
 says before (Hear place number text) = []
-
--- the same by the events
-abbrev pub sends_of : {A : Type 0} → A → Colour → ℕ → Event → List (Colour × Event)
-sends_of chat colour before event =
-    if event.handler == 1 then (room, record { handler = 2; arg = event.arg }) ∷ []
-    else if event.handler == 2 then (if nat_lt before 256
-    then events_to_clients (record { handler = 3; arg = before * 256 + event.arg }) else [])
-    else []
 
 -- a line that was heard: its place, its number and its text
 abbrev pub Note : Type 0

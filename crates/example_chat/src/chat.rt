@@ -4,7 +4,7 @@ ghost use Rattle.std.specs.List.{AllByRecursion};
 ghost use Rattle.mely_actor.specs.Sending.{MaySend};
 ghost use Rattle.example_chat.specs.declared.chat.TheConstants.{CLIENTS};
 ghost use Rattle.example_chat.specs.declared.script.Line.{Line as ScriptLine};
-ghost use Rattle.example_chat.specs.Chats.{IsOfScript, IsSeat, MayHear, event_of, note_of, sends_of, sent_as, to_clients};
+ghost use Rattle.example_chat.specs.Chats.{IsOfScript, IsSeat, MayHear, event_of, note_of, sent_as, to_clients};
 
 use crate::message::Message;
 use crate::script::Line;
@@ -39,8 +39,6 @@ impl Actor for Chat {
     ghost event_of = { event_of };
 
     ghost sound = { λ chat colour message. MayHear chat.script.value.items colour message };
-
-    ghost sends_of = { sends_of };
 
     ghost kept = { λ chat colour received sent seat. IsSeat received sent seat.heard.items };
 

@@ -17,7 +17,9 @@
 //! that more than 64 KiB are on their way to it, is dropped, and its [`End`] says so.
 //!
 //! ```text
-//! let ended = run_chat(threads, rt.alloc(), words.workers, world)?;
+//! let Ok(ended) = run_chat(threads, rt.alloc(), words.workers, world) else {
+//!     return Err(Fault::Memory);
+//! };
 //! tell(rt, &ended.states)
 //! ```
 //!
@@ -58,5 +60,6 @@ pub use client::Client;
 pub use desk::Desk;
 pub use end::End;
 pub use line::{LONGEST, Line};
+pub use load::{Held, Load};
 pub use running::{MOST_CLIENTS, MOST_WORKERS, run_chat};
 pub use seat::{Part, Seat};

@@ -9,7 +9,7 @@ use crate::desk::Desk;
 use crate::handlers::{HANDLERS, POLL};
 use crate::load::{Held, Load};
 use crate::seat::{Part, Seat};
-use mely_app::{Ended, run_states};
+use mely_app::{Ended, RunError, run_states};
 use mely_event::{Colour, Event, Fits, Handlers, Memory, Trail, TrailLog};
 use mely_history::{Setup, Shape};
 use std::alloc::Global;
@@ -68,13 +68,14 @@ fn make_seats<W: World + Drop>(alloc: Global, clients: u16) -> Result<Vec<Seat<W
 ///
 /// # Errors
 ///
-/// There was no memory, to begin or for an event on the way: what was done is dropped.
+/// There was no memory, to start or on the way: the world is handed back, in the load of the first
+/// event, or with all that the chat has come to.
 pub fn run_chat<R: Threads + Wait + Sync, W: World + Drop + Send>(
     rt: &R,
     alloc: Global,
     workers: u16,
     world: W,
-) -> Result<Ended<Seat<W, W::Link>>, Memory>
+) -> Result<Ended<Seat<W, W::Link>>, RunError<Seat<W, W::Link>, Load<W, W::Link>>>
 where
     W::Link: Send,
     requires some { 1 ≤ workers }
@@ -99,7 +100,10 @@ where
     let Ok(setup) = Setup::new(&shape, clients as u32 + 2, handlers, 1) else {
         unreachable!()
     };
-    let seats = make_seats::<W>(alloc, clients)?;
+    let held = Held { world, accepted: 0 };
+    let Ok(seats) = make_seats::<W>(alloc, clients) else {
+        return Err(RunError::NotStarted(Some(Load::Poll(held))));
+    };
     let chat = Chat {
         clients,
         of: PhantomData,
@@ -108,7 +112,6 @@ where
         handler: POLL,
         arg: 0,
     };
-    let held = Held { world, accepted: 0 };
     run_states(
         rt,
         alloc,

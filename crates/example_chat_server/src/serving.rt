@@ -86,7 +86,9 @@ pub fn serve<R: Threads + Wait + Sync>(
         Opened::Failed => return Err(Fault::Network),
         Opened::Memory => return Err(Fault::Memory),
     }
-    let ended = run_chat(threads, rt.alloc(), words.workers, world)?;
+    let Ok(ended) = run_chat(threads, rt.alloc(), words.workers, world) else {
+        return Err(Fault::Memory);
+    };
     tell(rt, &ended.states)
 }
 

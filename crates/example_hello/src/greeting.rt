@@ -7,8 +7,8 @@ ghost use Rattle.example_hello.specs.Greetings.{greetings_of};
 ghost use Rattle.example_hello.specs.Counting.{AllCounted, AllGreeted};
 
 use crate::counter::Counter;
-use mely_app::{Ended, run_app};
-use mely_event::{Colour, Event, Handlers, Memory};
+use mely_app::{Ended, RunError, run_app};
+use mely_event::{Colour, Event, Handlers};
 use mely_history::{Setup, Shape};
 use mely_worker::{App, Outs};
 use std::alloc::Global;
@@ -74,12 +74,12 @@ impl App for Greeting {
 ///
 /// # Errors
 ///
-/// There was no memory.
+/// There was no memory: what was counted until then is handed back, and what is still to come.
 pub fn greet<R: Threads + Wait + Sync>(
     rt: &R,
     alloc: Global,
     times: u16,
-) -> Result<Ended<Counter>, Memory>
+) -> Result<Ended<Counter>, RunError<Counter, ()>>
     requires { 1 ≤ times }
     ensures counted { IfOk result AllCounted }
     ensures greeted { IfOk result (AllGreeted times) }

@@ -23,9 +23,12 @@ fn main(rt: HostRuntime) -> io::Result<ExitCode> {
         eprintln!(rt; "usage: example_hello TIMES, from 1 to 65535")?;
         return Ok(ExitCode::from(2));
     };
-    let Ok(ended) = greet(&rt, rt.alloc(), times) else {
-        eprintln!(rt; "example_hello: no memory")?;
-        return Ok(ExitCode::from(7));
+    let ended = match greet(&rt, rt.alloc(), times) {
+        Ok(ended) => ended,
+        Err(error) => {
+            eprintln!(rt; "example_hello: {error}")?;
+            return Ok(ExitCode::from(7));
+        }
     };
     for (colour, state) in ended.states.iter().enumerate() {
         println!(rt; "colour {colour} counted {} events", state.count())?;

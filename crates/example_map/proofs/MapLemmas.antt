@@ -8,14 +8,14 @@ use Rattle.std.specs.List.{AllByRecursion}
 use Rattle.std.specs.Global.{Global}
 use Rattle.std.specs.Prelude.{Result, Ok, Err, IfOk, Vec, slice_get}
 use Rattle.mely_event.specs.declared.colour.Colour.{Colour}
-use Rattle.mely_event.specs.declared.event.Event.{Event}
 use Rattle.mely_history.specs.declared.entry.Entry.{Entry}
 use Rattle.mely_history.specs.declared.setup.Setup.{Setup}
 use Rattle.mely_history.specs.Setup.{colours_of}
 use Rattle.mely_weave.proofs.Wholes.DealLemmas.{seam_at}
+use Rattle.mely_weave.proofs.Wholes.GatherLemmas.{get_there}
 use Rattle.mely_actor.specs.declared.actor.Actor.{Ghosts as ActorWords}
-use Rattle.mely_actor.specs.Received.{AreKept, count_sent}
-use Rattle.mely_actor.specs.Sending.{MaySend, as_events}
+use Rattle.mely_actor.specs.Received.{AreKept}
+use Rattle.mely_actor.specs.Sending.{MaySend, count_to}
 use Rattle.mely_actor.proofs.ListLemmas.{one_longer}
 use Rattle.mely_actor.proofs.SilentLemmas.{silent_many, one_of, is_mapped}
 use Rattle.example_map.specs.Mapped.{IsDone, numbered, one_event}
@@ -48,10 +48,10 @@ abbrev pub of_one : Bool → ℕ
 of_one b = if b then 1 else 0
 
 -- a colour behind is sent nothing, and each of the numbers one
-count_one : {M : Type 0} (c : Colour) (place : ℕ) (x : M) (xs : List M) → count_sent c (λ _. 1) (as_events (λ _. one_event) (numbered place (x ∷ xs))) ≡ of_one (place == c.0) + count_sent c (λ _. 1) (as_events (λ _. one_event) (numbered (place + 1) xs))
-count_one c place x xs = sum_by-cons (λ (s : Colour × Event). of_one (s.0.0 == c.0)) (record { 0 = place }, one_event) (as_events (λ _. one_event) (numbered (place + 1) xs))
+count_one : {M : Type 0} (c : Colour) (place : ℕ) (x : M) (xs : List M) → count_to c (λ _. 1) (numbered place (x ∷ xs)) ≡ of_one (place == c.0) + count_to c (λ _. 1) (numbered (place + 1) xs)
+count_one {M} c place x xs = sum_by-cons (λ (s : Colour × M). of_one (s.0.0 == c.0)) (record { 0 = place }, x) (numbered (place + 1) xs)
 
-sent_none : {M : Type 0} (c : Colour) (place : ℕ) (xs : List M) → c.0 < place → count_sent c (λ _. 1) (as_events (λ _. one_event) (numbered place xs)) ≡ 0
+sent_none : {M : Type 0} (c : Colour) (place : ℕ) (xs : List M) → c.0 < place → count_to c (λ _. 1) (numbered place xs) ≡ 0
 sent_none c place [] low = refl
 sent_none c place (x ∷ xs) low =
     let rest = sent_none c (place + 1) xs (omega (arith, low)) in
@@ -59,7 +59,7 @@ sent_none c place (x ∷ xs) low =
     let all = count_one c place x xs in
     omega (arith, rest, here, all)
 
-sent_one : {M : Type 0} (c : Colour) (place : ℕ) (xs : List M) → place ≤ c.0 → c.0 < place + length xs → count_sent c (λ _. 1) (as_events (λ _. one_event) (numbered place xs)) ≡ 1
+sent_one : {M : Type 0} (c : Colour) (place : ℕ) (xs : List M) → place ≤ c.0 → c.0 < place + length xs → count_to c (λ _. 1) (numbered place xs) ≡ 1
 sent_one c place [] low high = absurd (omega (arith, low, high))
 sent_one c place (x ∷ xs) low high = elim (cases_eq place c.0) [
   | inl same ↦
@@ -74,11 +74,14 @@ sent_one c place (x ∷ xs) low high = elim (cases_eq place c.0) [
       omega (arith, rest, here, all)
 ]
 
-module _ {A U M : Type 0} (a : ActorWords A (Option U) M) (of : M → U) (actor : A) (items : List M) (setup : Setup) (histories : List (List Entry)) (values : List (Option U)) (colours : colours_of setup ≡ length items) (events : (item : M) → a.event_of item ≡ one_event) (silent : (d : Colour) (n : ℕ) (event : Event) → a.sends_of actor d n event ≡ [])
-    (sounds : (c : Colour) (item : M) → a.sound actor c item → slice_get items c.0 ≡ Some item) (keeps : (c : Colour) (received : List M) (sent : List (Colour × M)) (value : Option U) → a.kept actor c received sent value → IsDone of received value) (posts : List (Colour × M)) (posts_are : posts ≡ numbered 0 items) (kept : AreKept a actor setup posts histories values) where
-  all_events : (posts : List (Colour × M)) → as_events a.event_of posts ≡ as_events (λ _. one_event) posts
-  all_events [] = refl
-  all_events (post ∷ posts) = ap (λ e. (post.0, e) ∷ as_events a.event_of posts) (events post.1) ∙ ap (λ (l : List (Colour × Event)). (post.0, one_event) ∷ l) (all_events posts)
+module _ {A U M : Type 0} (a : ActorWords A (Option U) M) (of : M → U) (actor : A) (items : List M) (setup : Setup) (histories : List (List Entry)) (values : List (Option U)) (colours : colours_of setup ≡ length items)
+    (sounds : (c : Colour) (item : M) → a.sound actor c item → slice_get items c.0 ≡ Some item) (keeps : (c : Colour) (received : List M) (sent : List (Colour × M)) (value : Option U) → a.kept actor c received sent value → IsDone of received sent value) (posts : List (Colour × M)) (posts_are : posts ≡ numbered 0 items) (kept : AreKept a actor setup posts histories values) where
+  -- no colour sends anything
+  silent : (d : Colour) → d.0 < colours_of setup → kept.sent d ≡ []
+  silent d low =
+      let many = kept.many in
+      let value = get_there values d.0 (omega (arith, low, many)) in
+      (keeps d (kept.received d) (kept.sent d) value.0 (kept.kept d value.0 value.1)).silent
 
   -- what each colour has is what the task gives for its item
   at_each : (k : ℕ) (item : M) (value : Option U) → slice_get items k ≡ Some item → slice_get values k ≡ Some value → value ≡ Some (of item)
@@ -86,11 +89,11 @@ module _ {A U M : Type 0} (a : ActorWords A (Option U) M) (of : M → U) (actor 
       let c : Colour = record { 0 = k } in
       let within = slice_get_within items k item at in
       let low : c.0 < colours_of setup = omega (arith, within, colours) in
-      let many = silent_many a actor setup posts histories values kept silent c low ∙ ap (λ (l : List (Colour × M)). count_sent c (λ _. 1) (as_events a.event_of l)) posts_are ∙ ap (count_sent c (λ _. 1)) (all_events (numbered 0 items)) ∙ sent_one c 0 items (omega arith) (omega (arith, within)) in
+      let many = silent_many a actor setup posts histories values kept silent c low ∙ ap (λ (l : List (Colour × M)). count_to c (λ _. 1) l) posts_are ∙ sent_one c 0 items (omega arith) (omega (arith, within)) in
       let one = one_of (kept.received c) many in
       let sound = subst (AllByRecursion (a.sound actor c)) one.1 (kept.sound c low) in
       let is : one.0 ≡ item = same_Some one.0 item (sym (sounds c one.0 sound.0) ∙ at) in
-      keeps c (kept.received c) (kept.sent c) value (kept.kept c value there) item (one.1 ∙ ap (λ (x : M). x ∷ []) is)
+      (keeps c (kept.received c) (kept.sent c) value (kept.kept c value there)).done item (one.1 ∙ ap (λ (x : M). x ∷ []) is)
 
   pub all_done : values ≡ map (λ item. Some (of item)) items
   all_done = is_mapped (λ item. Some (of item)) values items (kept.many ∙ colours) at_each

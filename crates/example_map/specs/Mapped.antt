@@ -7,9 +7,11 @@ use Rattle.mely_event.specs.declared.event.Event.{Event}
 abbrev pub one_event : Event
 one_event = record { handler = 1; arg = 0 }
 
--- of one message the value is what the task gives for it
-abbrev pub IsDone : {M U : Type 0} → (M → U) → List M → Option U → Type 0
-IsDone {M} of received value = (item : M) → received ≡ item ∷ [] → value ≡ Some (of item)
+-- of one message the value is what the task gives for it, and nothing is sent
+pub record IsDone {M U : Type 0} (of : M → U) (received : List M) (sent : List (Colour × M))
+    (value : Option U) : Type 0 where
+  pub done : (item : M) → received ≡ item ∷ [] → value ≡ Some (of item)
+  pub silent : sent ≡ []
 
 -- the items, each for the colour of its place
 abbrev pub numbered : {M : Type 0} → ℕ → List M → List (Colour × M)

@@ -1,7 +1,7 @@
 //! A function mapped over items by actors.
 ghost use Rattle.std.specs.Prelude.{◌≡◌, ◌≢◌, ◌<◌, ◌≤◌, ◌+◌, ◌++◌, ◌∷◌, [], IfOk, List, None, OnOk, Some, length, map, slice_get};
 ghost use Rattle.std.specs.List.{AllByRecursion};
-ghost use Rattle.mely_actor.specs.Sending.{MaySend, as_events};
+ghost use Rattle.mely_actor.specs.Sending.{MaySend};
 ghost use Rattle.example_map.specs.Mapped.{IsDone, numbered, one_event};
 
 use crate::task::Task;
@@ -33,9 +33,7 @@ impl<T: Task> Actor for Mapping<T> {
 
     ghost sound = { λ actor colour item. slice_get actor.items.value.items colour.0 ≡ Some item };
 
-    ghost sends_of = { λ actor colour number event. [] };
-
-    ghost kept = { λ actor colour received sent value. IsDone T.of received value };
+    ghost kept = { λ actor colour received sent value. IsDone T.of received sent value };
 
     fn event(_message: &T::Item) -> Event {
         Event { handler: 1, arg: 0 }

@@ -1,42 +1,101 @@
 -- What the actors of the store keep is what it has come to.
-use Rattle.std.proofs.Common.{◌≡◌, ◌<◌, ◌+◌, ◌==◌, ℕ, Bool, true, false, List, [], ◌∷◌, map, if◌then◌else◌, refl, ◌∙◌, ap, subst, arith, ne_eqb}
+use Rattle.std.proofs.Common.{◌≡◌, ◌<◌, ◌≤◌, ◌+◌, ◌==◌, ℕ, zero, suc, List, [], ◌∷◌, ◌++◌, Option, None, Some, map, if◌then◌else◌, refl, sym, ◌∙◌, ap, subst, arith, ne_eqb}
+use Rattle.std.proofs.lemmas.List.Sums.{sum_by-cons}
+use Rattle.std.specs.Global.{Global}
 use Rattle.std.specs.List.{AllByRecursion}
-use Rattle.std.specs.Prelude.{sum_by}
+use Rattle.std.specs.Prelude.{String, slice_get, sum_by}
 use Rattle.mely_event.specs.declared.colour.Colour.{Colour}
-use Rattle.mely_event.specs.declared.event.Event.{Event}
 use Rattle.mely_history.specs.declared.entry.Entry.{Entry}
 use Rattle.mely_history.specs.declared.setup.Setup.{Setup}
 use Rattle.mely_history.specs.Setup.{colours_of}
+use Rattle.mely_weave.proofs.Wholes.GatherLemmas.{get_there}
+use Rattle.mely_app.specs.Puts.{sum_colours}
 use Rattle.mely_actor.specs.declared.actor.Actor.{Ghosts as ActorWords}
-use Rattle.mely_actor.specs.Received.{AreKept, count_sent}
-use Rattle.mely_actor.specs.Sending.{as_events}
-use Rattle.mely_actor.proofs.ListLemmas.{all_so}
+use Rattle.mely_actor.specs.Received.{AreKept}
+use Rattle.mely_actor.specs.Sending.{count_to}
+use Rattle.mely_actor.proofs.ListLemmas.{all_so, arrived_by}
 use Rattle.mely_actor.proofs.SilentLemmas.{quiet_counts}
 use Rattle.example_store.specs.declared.message.Message.{Message}
+use Rattle.example_store.specs.declared.message.Message.TheVariants.{Put, Get, Answer}
 use Rattle.example_store.specs.declared.store.Slot.{Slot}
 use Rattle.example_store.specs.declared.store.TheConstants.{BUCKETS, CLIENTS}
 use Rattle.example_store.specs.Served.{IsServed}
-use Rattle.example_store.specs.Stores.{IsPlaced, IsStored, event_of, replies_of}
+use Rattle.example_store.specs.Stores.{IsPlaced, IsStored, Reply, after_one, replies, reply_in}
 
--- no bucket is answered
-no_reply : (c : Colour) (number : Event → ℕ) (event : Event) → c.0 < BUCKETS → count_sent c number (replies_of event) ≡ 0
-no_reply c number event low = of_two (event.handler == 2)
-  where
-    of_two : (asks : Bool) → count_sent c number (if asks then (record { 0 = BUCKETS + event.arg }, record { handler = 3; arg = 0 }) ∷ [] else []) ≡ 0
-    of_two true =
-        let none : (if BUCKETS + event.arg == c.0 then number (record { handler = 3; arg = 0 }) else 0) ≡ 0 = ap (λ (b : Bool). if b then number (record { handler = 3; arg = 0 }) else 0) (ne_eqb (BUCKETS + event.arg) c.0 (λ e. omega (arith, e, low))) in
-        omega (arith, none)
-    of_two false = refl
+-- a reply goes to a client
+abbrev IsBehind : Option Reply → Type 0
+IsBehind None = ⊥
+IsBehind (Some reply) = BUCKETS ≤ reply.0.0
 
-pub are_served : {A : Type 0} (a : ActorWords A Slot Message) (store : A) (setup : Setup) (posts : List (Colour × Message)) (histories : List (List Entry)) (slots : List Slot) → colours_of setup ≡ BUCKETS + CLIENTS → a.event_of ≡ event_of → ((d : Colour) (n : ℕ) (event : Event) → a.sends_of store d n event ≡ replies_of event)
-    → ((c : Colour) (message : Message) → a.sound store c message → IsPlaced c message) → ((c : Colour) (received : List Message) (sent : List (Colour × Message)) (slot : Slot) → a.kept store c received sent slot → IsStored received sent slot.map.entries slot.answers.items) → AreKept a store setup posts histories slots → IsServed posts slots
-are_served a store setup posts histories slots colours events sends sounds keeps kept = record {
-  colours = kept.many ∙ colours;
-  received = kept.received;
-  sent = kept.sent;
-  placed = λ c low. all_so (a.sound store c) (IsPlaced c) (kept.received c) (sounds c) (kept.sound c (omega (arith, low, colours)));
-  stored = λ c slot at. keeps c (kept.received c) (kept.sent c) slot (kept.kept c slot at);
-  asked = λ c low number.
-      let counts = quiet_counts a store setup posts histories slots kept c number (omega (arith, low, colours)) (λ d n event. ap (count_sent c number) (sends d n event) ∙ no_reply c number event low) in
-      subst (λ (e : Message → Event). sum_by number (map e (kept.received c)) ≡ count_sent c number (as_events e posts)) events counts;
-}
+replies_behind : (entries : List (ℕ × String Global)) (received : List Message) → AllByRecursion IsBehind (replies entries received)
+replies_behind entries [] = tt
+replies_behind entries (Put key value ∷ more) = replies_behind (after_one entries (Put key value)) more
+replies_behind entries (Get key client ∷ more) = (omega arith, replies_behind entries more)
+replies_behind entries (Answer key found ∷ more) = replies_behind entries more
+
+-- so all that is sent goes to clients
+sent_behind : (sent : List (Colour × Message)) → AllByRecursion IsBehind (map (λ send. reply_in send.0 send.1) sent) → AllByRecursion (λ send. BUCKETS ≤ send.0.0) sent
+sent_behind [] all = tt
+sent_behind ((to, Put key value) ∷ sent) all = absurd all.0
+sent_behind ((to, Get key client) ∷ sent) all = absurd all.0
+sent_behind ((to, Answer key found) ∷ sent) all = (all.0, sent_behind sent all.1)
+
+none_to : (c : Colour) (number : Message → ℕ) (sent : List (Colour × Message)) → c.0 < BUCKETS → AllByRecursion (λ send. BUCKETS ≤ send.0.0) sent → count_to c number sent ≡ 0
+none_to c number [] low all = refl
+none_to c number (send ∷ sent) low all =
+    let rest = none_to c number sent low all.1 in
+    let high = all.0 in
+    let here : (if send.0.0 == c.0 then number send.1 else 0) ≡ 0 = ap (λ b. if b then number send.1 else 0) (ne_eqb send.0.0 c.0 (λ e. omega (arith, e, low, high))) in
+    let one = sum_by-cons (λ (s : Colour × Message). if s.0.0 == c.0 then number s.1 else 0) send sent in
+    omega (arith, rest, here, one)
+
+-- a client sends nothing
+nothing_replied : (c : Colour) (entries : List (ℕ × String Global)) (received : List Message) → BUCKETS ≤ c.0 → AllByRecursion (IsPlaced c) received → replies entries received ≡ []
+nothing_replied c entries [] high placed = refl
+nothing_replied c entries (Put key value ∷ more) high placed = absurd (let at = placed.0 in omega (arith, high, at))
+nothing_replied c entries (Get key client ∷ more) high placed = absurd (let at = placed.0.0 in omega (arith, high, at))
+nothing_replied c entries (Answer key found ∷ more) high placed = nothing_replied c entries more high placed.1
+
+nothing_sent : (sent : List (Colour × Message)) → map (λ (send : Colour × Message). reply_in send.0 send.1) sent ≡ [] → sent ≡ []
+nothing_sent [] none = refl
+nothing_sent (send ∷ sent) none = cc
+
+-- a sum in which only the first colours count
+first_colours : (n k : ℕ) (f : Colour → ℕ) → ((d : Colour) → n ≤ d.0 → d.0 < n + k → f d ≡ 0) → sum_colours (n + k) f ≡ sum_colours n f
+first_colours n zero f none = ap (λ m. sum_colours m f) (let same : n + 0 ≡ n = omega arith in same)
+first_colours n (suc k) f none =
+    let rest = first_colours n k f (λ d high low. none d high (omega (arith, low))) in
+    let last = none (record { 0 = n + k }) (omega arith) (omega arith) in
+    let more = ap (λ m. sum_colours m f) (let same : n + suc k ≡ suc (n + k) = omega arith in same) in
+    omega (arith, rest, last, more)
+
+module _ {A : Type 0} (a : ActorWords A Slot Message) (store : A) (setup : Setup) (posts : List (Colour × Message)) (histories : List (List Entry)) (slots : List Slot) (colours : colours_of setup ≡ BUCKETS + CLIENTS)
+    (sounds : (c : Colour) (message : Message) → a.sound store c message → IsPlaced c message) (keeps : (c : Colour) (received : List Message) (sent : List (Colour × Message)) (slot : Slot) → a.kept store c received sent slot → IsStored received sent slot.map.entries slot.answers.items) (kept : AreKept a store setup posts histories slots) where
+  placed : (c : Colour) → c.0 < BUCKETS + CLIENTS → AllByRecursion (IsPlaced c) (kept.received c)
+  placed c low = all_so (a.sound store c) (IsPlaced c) (kept.received c) (sounds c) (kept.sound c (omega (arith, low, colours)))
+
+  replied : (d : Colour) → d.0 < BUCKETS + CLIENTS → map (λ (send : Colour × Message). reply_in send.0 send.1) (kept.sent d) ≡ replies [] (kept.received d)
+  replied d low =
+      let many = kept.many in
+      let slot = get_there slots d.0 (omega (arith, low, many, colours)) in
+      (keeps d (kept.received d) (kept.sent d) slot.0 (kept.kept d slot.0 slot.1)).replied
+
+  to_clients : (d : Colour) → d.0 < BUCKETS + CLIENTS → AllByRecursion (λ send. BUCKETS ≤ send.0.0) (kept.sent d)
+  to_clients d low = sent_behind (kept.sent d) (subst (AllByRecursion IsBehind) (sym (replied d low)) (replies_behind [] (kept.received d)))
+
+  silent : (d : Colour) → BUCKETS ≤ d.0 → d.0 < BUCKETS + CLIENTS → kept.sent d ≡ []
+  silent d high low = nothing_sent (kept.sent d) (replied d low ∙ nothing_replied d [] (kept.received d) high (placed d low))
+
+  pub are_served : IsServed posts slots
+  are_served = record {
+    colours = kept.many ∙ colours;
+    received = kept.received;
+    sent = kept.sent;
+    placed = placed;
+    stored = λ c slot at. keeps c (kept.received c) (kept.sent c) slot (kept.kept c slot at);
+    asked = λ c low number. quiet_counts a store setup posts histories slots kept c number (omega (arith, low, colours)) (λ d below. none_to c number (kept.sent d) low (to_clients d (omega (arith, below, colours))));
+    answered = λ c low number.
+        let counts = arrived_by a store setup posts histories slots kept (BUCKETS + CLIENTS) colours c number low in
+        let first = first_colours BUCKETS CLIENTS (λ d. count_to c number (kept.sent d)) (λ d high below. ap (count_to c number) (silent d high below)) in
+        omega (arith, counts, first);
+  }

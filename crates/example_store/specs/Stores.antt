@@ -1,5 +1,5 @@
 -- What a colour of the store keeps over what it has received.
-use Rattle.std.specs.Prelude.{◌≡◌, ◌==◌, ◌+◌, ◌%◌, ◌<◌, ◌≤◌, ℕ, List, [], ◌∷◌, ◌++◌, Option, None, Some, String, fold, if◌then◌else◌, map, option_map}
+use Rattle.std.specs.Prelude.{◌≡◌, ◌+◌, ◌%◌, ◌<◌, ◌≤◌, ℕ, List, [], ◌∷◌, ◌++◌, Option, None, Some, String, fold, map, option_map}
 use Rattle.std.specs.BTreeMap.{insert_entry, is_at}
 use Rattle.std.specs.String.{string_bytes}
 use Rattle.std.specs.Ordering.{nat_cmp}
@@ -23,11 +23,6 @@ abbrev pub IsPlaced : Colour → Message → Type 0
 IsPlaced colour (Put key value) = colour.0 ≡ key % BUCKETS
 IsPlaced colour (Get key client) = (colour.0 ≡ key % BUCKETS) × (client < CLIENTS)
 IsPlaced colour (Answer key found) = BUCKETS ≤ colour.0
-
--- who asks is answered, and nobody else is sent anything
-abbrev pub replies_of : Event → List (Colour × Event)
-replies_of event = if event.handler == 2
-    then (record { 0 = BUCKETS + event.arg }, record { handler = 3; arg = 0 }) ∷ [] else []
 
 -- the entries of a map after a message
 abbrev pub after_one : List (ℕ × String Global) → Message → List (ℕ × String Global)

@@ -1,7 +1,7 @@
 //! The store, as actors.
 ghost use Rattle.std.specs.Prelude.{◌≡◌, ◌<◌, ◌+◌, OnOk};
 ghost use Rattle.example_store.specs.declared.store.TheConstants.{BUCKETS, CLIENTS};
-ghost use Rattle.example_store.specs.Stores.{IsPlaced, IsStored, event_of, found_in, replies_of, text_of};
+ghost use Rattle.example_store.specs.Stores.{IsPlaced, IsStored, event_of, found_in, text_of};
 
 use crate::message::Message;
 use mely_actor::{Actor, Place, Sends};
@@ -38,8 +38,6 @@ impl Actor for Store {
     ghost event_of = { event_of };
 
     ghost sound = { λ store colour message. IsPlaced colour message };
-
-    ghost sends_of = { λ store colour number event. replies_of event };
 
     ghost kept = { λ store colour received sent slot. IsStored received sent slot.map.entries
         slot.answers.items };

@@ -1,7 +1,7 @@
 //! The workers of a fleet in threads.
 ghost use Rattle.std.specs.Prelude.{◌≡◌, IfOk, IfSome};
 ghost use Rattle.mely_fleet.specs.Fleets.{ArePasses};
-ghost use Rattle.mely_fleet.specs.Frames.{shard_frame};
+ghost use Rattle.mely_kept.specs.Frames.{shard_frame};
 ghost use Rattle.mely_fleet.specs.Seats.{IsSeatOf};
 ghost use Rattle.mely_weave.specs.Dealing.{AtEach};
 ghost use Rattle.measure_fleet.specs.Loops.{IsLoop};

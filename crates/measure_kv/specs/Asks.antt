@@ -1,5 +1,5 @@
 -- What clients and buckets are sent, and what clients send.
-use Rattle.std.specs.Prelude.{◌≡◌, ◌==◌, ◌+◌, ◌-◌, ◌%◌, ◌<◌, ◌≤◌, List, [], ◌∷◌, if◌then◌else◌, nat_lt}
+use Rattle.std.specs.Prelude.{◌≡◌, ◌==◌, ◌+◌, ◌-◌, ◌%◌, ◌<◌, ◌≤◌, List, [], ◌∷◌, if◌then◌else◌, map, nat_lt}
 use Rattle.mely_event.specs.declared.colour.Colour.{Colour}
 use Rattle.mely_event.specs.declared.event.Event.{Event}
 use Rattle.measure_kv.specs.declared.message.Message.{Message}
@@ -17,6 +17,10 @@ abbrev pub IsPlaced : Colour → Message → Type 0
 IsPlaced colour (Next left) = (BUCKETS ≤ colour.0) × (colour.0 < BUCKETS + CLIENTS)
 IsPlaced colour (Put key value) = colour.0 ≡ key % BUCKETS
 IsPlaced colour (Get key) = colour.0 ≡ key % BUCKETS
+
+-- to whom something is sent, and under which events
+abbrev pub as_events : List (Colour × Message) → List (Colour × Event)
+as_events sends = map (λ send. (send.0, event_of send.1)) sends
 
 -- who is to ask asks the bucket of the next key, and then asks on
 abbrev pub asks_of : Colour → Event → List (Colour × Event)

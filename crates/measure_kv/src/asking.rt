@@ -1,10 +1,10 @@
 //! The clients and the buckets, as actors.
 ghost use Rattle.std.specs.Prelude.{◌≡◌, ◌≤◌, ◌+◌, [], IfOk, length};
 ghost use Rattle.std.specs.List.{AllByRecursion};
-ghost use Rattle.mely_actor.specs.Sending.{MaySend, as_events};
+ghost use Rattle.mely_actor.specs.Sending.{MaySend};
 ghost use Rattle.measure_kv.specs.declared.message.Message.TheVariants.{Next};
 ghost use Rattle.measure_kv.specs.declared.asking.TheConstants.{BUCKETS, CLIENTS};
-ghost use Rattle.measure_kv.specs.Asks.{IsPlaced, asks_of, event_of};
+ghost use Rattle.measure_kv.specs.Asks.{IsPlaced, as_events, asks_of, event_of};
 
 use crate::message::Message;
 use mely_actor::{Actor, Place, Sends, run_actors};
@@ -63,8 +63,6 @@ impl Actor for Asking {
 
     ghost sound = { λ asking colour message. IsPlaced colour message };
 
-    ghost sends_of = { λ asking colour number event. asks_of colour event };
-
     ghost kept = { λ asking colour received sent slot. Unit {0} };
 
     fn event(message: &Message) -> Event {
@@ -122,7 +120,7 @@ impl Actor for Asking {
 fn ask(client: Colour, left: u16, sends: &mut Sends<Message>)
     requires client { IsPlaced client (Next left) }
     requires empty { sends.old ≡ [] }
-    ensures sent { as_events event_of sends.new
+    ensures sent { as_events sends.new
         ≡ asks_of client (record { handler = 1; arg = left }) }
     ensures allowed { AllByRecursion (MaySend (BUCKETS + CLIENTS) 3 event_of IsPlaced) sends.new }
 {

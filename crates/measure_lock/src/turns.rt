@@ -3,7 +3,7 @@ ghost use Rattle.std.specs.Prelude.{◌≡◌, ◌<◌, IfSome, length, All};
 ghost use Rattle.mely_history.specs.Setup.{shape_of, colours_of};
 ghost use Rattle.mely_lock.specs.Words.{IsPassOf, IsOutside};
 ghost use Rattle.mely_fleet.specs.Fleets.{ArePasses};
-ghost use Rattle.mely_fleet.specs.Frames.{shard_frame};
+ghost use Rattle.mely_kept.specs.Frames.{shard_frame};
 ghost use Rattle.measure_lock.specs.Callers.{AreAllPasses};
 
 use example_counting::{Tally, initial_states};

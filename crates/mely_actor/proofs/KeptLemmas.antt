@@ -1,151 +1,267 @@
 -- What a run of the app leaves is what a run of actors leaves.
-use Rattle.std.proofs.Common.{◌≡◌, ◌<◌, ◌≤◌, ◌+◌, ℕ, Bool, true, false, List, [], ◌∷◌, Option, Some, map, nat_lt, refl, sym, ◌∙◌, ap, subst, arith, ltb-true, ltb-false}
-use Rattle.std.proofs.lemmas.Option.{slice_get_within, get_or_from_slice_get, same_Some}
-use Rattle.std.specs.List.{AllByRecursion}
-use Rattle.std.specs.Prelude.{slice_get, slice_index_or, sum_by}
+use Rattle.std.proofs.Common.{◌≡◌, ◌<◌, ◌+◌, ◌==◌, ℕ, Bool, true, false, List, [], ◌∷◌, Option, None, Some, if◌then◌else◌, map, nat_lt, refl, sym, ◌∙◌, ap, subst, arith, inl, inr, eq-eqb, ne_eqb, ltb-true, ltb-false}
+use Rattle.std.proofs.lemmas.Bool.{cases_eq, lt-ltb}
+use Rattle.std.proofs.lemmas.List.Sums.{sum_by-cons}
+use Rattle.std.proofs.lemmas.Option.{slice_get_within}
+use Rattle.std.specs.List.{AllByRecursion, filter_map}
+use Rattle.std.specs.Prelude.{slice_get, sum_by}
 use Rattle.mely_event.specs.declared.colour.Colour.{Colour}
 use Rattle.mely_event.specs.declared.event.Event.{Event}
 use Rattle.mely_event.specs.declared.trail.Trail.{Ghosts as TrailWords}
 use Rattle.mely_history.specs.declared.entry.Entry.{Entry}
 use Rattle.mely_history.specs.declared.setup.Setup.{Setup}
 use Rattle.mely_history.specs.History.{registered_of}
-use Rattle.mely_history.specs.Setup.{colours_of, shape_of}
+use Rattle.mely_history.specs.Setup.{colours_of}
+use Rattle.mely_history.proofs.LegalAccountLemmas.{same_colour}
+use Rattle.mely_note.specs.Notes.{loaded_of}
+use Rattle.mely_note.proofs.NoteLemmas.{events-loaded_of}
 use Rattle.mely_tally.specs.Account.{HandlerRun, IsRunOf}
 use Rattle.mely_weave.specs.Making.{AreInitial}
 use Rattle.mely_weave.specs.Side.{shard_of}
 use Rattle.mely_weave.proofs.Wholes.GatherLemmas.{get_there}
 use Rattle.mely_worker.specs.declared.app.App.{Ghosts as AppWords}
-use Rattle.mely_app.specs.Puts.{HasPutAll, sum_colours}
-use Rattle.mely_app.specs.RanAll.{RanAll, AllFramed}
-use Rattle.mely_app.proofs.PutsLemmas.{colours_same}
+use Rattle.mely_chain.specs.Runs.{given_to, puts_on}
+use Rattle.mely_chain.proofs.OrderLemmas.{each_fits, each_on}
+use Rattle.mely_app.specs.InOrder.{RanInOrder}
+use Rattle.mely_app.specs.Puts.{sum_colours}
+use Rattle.mely_app.specs.RanAll.{RanAll}
+use Rattle.mely_app.proofs.PutsLemmas.{colours_both, colours_none, colours_one, colours_same}
 use Rattle.mely_actor.specs.declared.actor.Actor.{Ghosts as ActorWords}
 use Rattle.mely_actor.specs.declared.load.Load.{Load}
+use Rattle.mely_actor.specs.declared.load.Load.TheVariants.{Posts, Message}
 use Rattle.mely_actor.specs.declared.load.Plan.{Plan}
 use Rattle.mely_actor.specs.KeptState.{KeptState}
-use Rattle.mely_actor.specs.Keeping.{Keeps}
-use Rattle.mely_actor.specs.Waiting.{PutsAsTold}
-use Rattle.mely_actor.specs.Received.{AreKept, AreMade, AreValues, count_sent}
-use Rattle.mely_actor.specs.Sending.{MaySend, along, as_events, messages_in, of_want}
-use Rattle.mely_actor.proofs.AccountLemmas.{of_messages, own_messages, received_counts}
+use Rattle.mely_actor.specs.Loads.{FitsLoad, is_turn, message_of, messages_of}
+use Rattle.mely_actor.specs.Received.{AreKept, AreMade, AreValues}
+use Rattle.mely_actor.specs.Running.{Runs}
+use Rattle.mely_actor.specs.Sending.{count_to, messages_in}
+use Rattle.mely_actor.proofs.ChainLemmas.{IsOn, Through, of_message, of_posts, of_turn, posts_of, through}
+use Rattle.mely_actor.proofs.RegisteredLemmas.{found, registered_sum, sum_by-filter_map}
+use Rattle.mely_actor.proofs.WaitingLemmas.{none_there, of_some, of_true}
 
 -- the states that were made are initial
-pub are_initial : {A M V : Type 0} (t : TrailWords (KeptState A M V) (Plan A M)) (trails : (s : KeptState A M V) → t.trail_of s ≡ s.log.events) (colours : (s : KeptState A M V) → t.colour_of s ≡ s.log.colour) (frames : (s : KeptState A M V) → t.frame_of s ≡ s.plan)
-    (plan : Plan A M) (setup : Setup) (states : List (KeptState A M V)) → AreMade plan (colours_of setup) states → AreInitial t setup states
-are_initial t trails colours frames plan setup states made = record {
+pub are_initial : {A M V : Type 0} (a : ActorWords A V M) (t : TrailWords (KeptState A M V) (Plan A M)) (trails : (s : KeptState A M V) → t.trail_of s ≡ s.log.events) (colours : (s : KeptState A M V) → t.colour_of s ≡ s.log.colour) (frames : (s : KeptState A M V) → t.frame_of s ≡ s.plan)
+    (plan : Plan A M) (setup : Setup) (states : List (KeptState A M V)) → AreMade a plan (colours_of setup) states → AreInitial t setup states
+are_initial a t trails colours frames plan setup states made = record {
   all = made.many;
-  coloured = λ i state at. colours state ∙ ap (λ log. log.colour) (made.logs i state at);
-  untouched = λ i state at. trails state ∙ ap (λ log. log.events) (made.logs i state at);
-  one_frame = λ i j a b one other. frames a ∙ made.plans i a one ∙ sym (made.plans j b other) ∙ sym (frames b);
+  coloured = λ i state at. colours state ∙ ap (λ log. log.colour) (made.each i state at).log;
+  untouched = λ i state at. trails state ∙ ap (λ log. log.events) (made.each i state at).log;
+  one_frame = λ i j x y one other. frames x ∙ (made.each i x one).of_plan ∙ sym (made.each j y other).of_plan ∙ sym (frames y);
 }
 
-posts_own : {M : Type 0} (colours rows : ℕ) (event_of : M → Event) (sound : Colour → M → Type 0) (posts : List (Colour × M)) → AllByRecursion (MaySend colours rows event_of sound) posts → AllByRecursion (λ send. 0 < send.1.handler) (as_events event_of posts)
-posts_own colours rows event_of sound [] all = tt
-posts_own colours rows event_of sound (post ∷ posts) all = (all.0.own, posts_own colours rows event_of sound posts all.1)
+-- ---- the messages among loads that fit
 
--- what was sent has events of messages
-sent_own : {M : Type 0} (event_of : M → Event) (sent : List (Colour × M)) → AllByRecursion (λ send. 0 < (event_of send.1).handler) sent → AllByRecursion (λ send. 0 < send.1.handler) (as_events event_of sent)
-sent_own event_of [] all = tt
-sent_own event_of (send ∷ sent) all = (all.0, sent_own event_of sent all.1)
+module _ {M : Type 0} (colours : ℕ) (event_of : M → Event) (sound : Colour → M → Type 0) (posts : List (Colour × M)) (c : Colour) where
+  abbrev Fits : Event × Option (Load M) → Type 0
+  Fits load = FitsLoad colours event_of sound posts c load.0 load.1
 
-module _ {A V M R : Type 0} (a : ActorWords A V M) (plan : Plan A M) (setup : Setup) (t : TrailWords (KeptState A M V) (Plan A M)) (trails : (s : KeptState A M V) → t.trail_of s ≡ s.log.events) (colours : (s : KeptState A M V) → t.colour_of s ≡ s.log.colour) (frames : (s : KeptState A M V) → t.frame_of s ≡ s.plan)
-    (fits : Plan A M → Colour → Event → Option (Load M) → Type 0) (y : AppWords R (Load M) (KeptState A M V) (Plan A M)) (app : R)
-    (runs_are : (before : KeptState A M V) (event : Event) (load : Option (Load M)) (after : KeptState A M V) (puts : List (Colour × Event × Option (Load M))) → y.runs app before event load after puts → PutsAsTold a.event_of (a.sends_of plan.actor) before.plan.posts.items before.log.colour before.log.events event puts)
-    (may : AllByRecursion (MaySend (a.colours_of plan.actor) (a.rows_of plan.actor) a.event_of (a.sound plan.actor)) plan.posts.items) (load : Option (Load M)) (histories : List (List Entry)) (states : List (KeptState A M V)) (values : List V) (ran : RanAll t setup (record { 0 = 0 }) (record { handler = 0; arg = 0 }) histories states) (frame : Plan A M) (of_frame : frame ≡ plan) (framed : AllFramed t frame states)
-    (puts : HasPutAll t fits y app setup frame (record { 0 = 0 }, record { handler = 0; arg = 0 }, load) histories) (taken : AreValues a states values) where
-  pub registered : Colour → List Event
-  registered d = registered_of (slice_index_or histories (shard_of setup d) []) d
+  passed : (event : Event) (events : List Event) → event.handler ≡ 0 → messages_in (event ∷ events) ≡ messages_in events
+  passed event events none = ap (λ (n : ℕ). if nat_lt 0 n then event ∷ messages_in events else messages_in events) none
 
-  registered_is : (c : Colour) (history : List Entry) → slice_get histories (shard_of setup c) ≡ Some history → registered_of history c ≡ registered c
-  unfolding registered
-  registered_is c history there = ap (λ h. registered_of h c) (sym (get_or_from_slice_get histories (shard_of setup c) history [] there))
+  -- their events are those of messages among all
+  events_of_messages : (loads : List (Event × Option (Load M))) → AllByRecursion Fits loads → map event_of (messages_of loads) ≡ messages_in (map (λ load. load.0) loads)
+  events_of_messages [] each = refl
+  events_of_messages ((event, Some (Posts all)) ∷ loads) each =
+      events_of_messages loads each.1 ∙ sym (passed event (map (λ (load : Event × Option (Load M)). load.0) loads) (ap (λ (e : Event). e.handler) each.0.first))
+  events_of_messages ((event, Some (Message message)) ∷ loads) each =
+      let rest : List Event = map (λ (load : Event × Option (Load M)). load.0) loads in
+      ap (λ l. event_of message ∷ l) (events_of_messages loads each.1)
+      ∙ ap (λ (e : Event). e ∷ messages_in rest) (sym each.0.of_message)
+      ∙ sym (ap (λ (b : Bool). if b then event ∷ messages_in rest else messages_in rest) (lt-ltb 0 event.handler each.0.own))
+  events_of_messages ((event, None) ∷ loads) each =
+      events_of_messages loads each.1 ∙ sym (passed event (map (λ (load : Event × Option (Load M)). load.0) loads) (ap (λ (e : Event). e.handler) each.0.turn))
 
-  each_there : (d : Colour) → (history : List Entry) × (slice_get histories (shard_of setup d) ≡ Some history) × (registered_of history d ≡ registered d)
-  each_there d =
-      let some : 1 ≤ (shape_of setup).shards = setup.shards_in.0 in
-      let shards = ran.shards in
-      let there = get_there histories (shard_of setup d) (omega (arith, some, shards)) in
-      (there.0, there.1, registered_is d there.0 there.1)
+  -- and each might be sent there
+  messages_sound : (loads : List (Event × Option (Load M))) → AllByRecursion Fits loads → AllByRecursion (sound c) (messages_of loads)
+  messages_sound [] each = tt
+  messages_sound ((event, Some (Posts all)) ∷ loads) each = messages_sound loads each.1
+  messages_sound ((event, Some (Message message)) ∷ loads) each = (each.0.is_sound, messages_sound loads each.1)
+  messages_sound ((event, None) ∷ loads) each = messages_sound loads each.1
 
-  abbrev pub Kept : Colour → V → Type 0
-  Kept c value = Keeps a plan.actor c (registered c) value
+module _ {A V M R : Type 0} (a : ActorWords A V M) (plan : Plan A M) (setup : Setup) (t : TrailWords (KeptState A M V) (Plan A M)) (colours : (s : KeptState A M V) → t.colour_of s ≡ s.log.colour) (frames : (s : KeptState A M V) → t.frame_of s ≡ s.plan)
+    (fits : Plan A M → Colour → Event → Option (Load M) → Type 0) (fits_are : (c : Colour) (event : Event) (load : Option (Load M)) → fits plan c event load → FitsLoad (a.colours_of plan.actor) a.event_of (a.sound plan.actor) plan.posts.items c event load)
+    (y : AppWords R (Load M) (KeptState A M V) (Plan A M)) (app : R) (runs_are : (before : KeptState A M V) (event : Event) (load : Option (Load M)) (after : KeptState A M V) (puts : List (Colour × Event × Option (Load M))) → y.runs app before event load after puts → Runs a before load after puts)
+    (event : Event) (load : Option (Load M)) (posts : posts_of load ≡ plan.posts.items) (no_message : message_of load ≡ None) (no_turn : is_turn load ≡ false)
+    (firsts : List (KeptState A M V)) (histories : List (List Entry)) (states : List (KeptState A M V)) (values : List V) (made : AreMade a plan (colours_of setup) firsts) (ran : RanAll t setup (record { 0 = 0 }) event histories states)
+    (order : RanInOrder t fits y app setup plan (record { 0 = 0 }, event, load) firsts histories states) (taken : AreValues states values) where
+  abbrev begin : Colour × Event × Option (Load M)
+  begin = (record { 0 = 0 }, event, load)
 
-  keeps_at : (c : Colour) → c.0 < colours_of setup → (value : V) × (slice_get values c.0 ≡ Some value) × Kept c value
-  keeps_at c low =
-      let many = ran.colours in
-      let as_many = taken.many in
-      let state = get_there states c.0 (omega (arith, low, many)) in
-      let value = get_there values c.0 (omega (arith, low, many, as_many)) in
-      let there = each_there c in
-      let keeps = taken.each c.0 state.0 value.0 state.1 value.1 in
-      let of_plan : state.0.plan ≡ plan = sym (frames state.0) ∙ framed c state.0 state.1 ∙ of_frame in
-      let of_colour : state.0.log.colour ≡ c = sym (colours state.0) ∙ ran.coloured c state.0 state.1 in
-      let of_events : state.0.log.events ≡ registered c = sym (trails state.0) ∙ ran.ran c state.0 there.0 state.1 there.1 ∙ there.2 in
-      let one = subst (λ (p : Plan A M). Keeps a p.actor state.0.log.colour state.0.log.events value.0) of_plan keeps in
-      let two = subst (λ d. Keeps a plan.actor d state.0.log.events value.0) of_colour one in
-      (value.0, value.1, subst (λ events. Keeps a plan.actor c events value.0) of_events two)
+  abbrev Run : Type 0
+  Run = HandlerRun (KeptState A M V) (Load M)
 
-  -- what a colour received and sent
-  picked : (c : Colour) (b : Bool) → nat_lt c.0 (colours_of setup) ≡ b → List M × List (Colour × M)
-  picked c true is = let there = keeps_at c (ltb-true c.0 (colours_of setup) is) in (there.2.received, there.2.sent)
-  picked c false is = ([], [])
+  abbrev runs : Colour → List Run
+  runs c = map (λ run. run.1) (order.by_colour c)
 
-  both_of : Colour → List M × List (Colour × M)
-  both_of c = picked c (nat_lt c.0 (colours_of setup)) refl
+  abbrev loads : Colour → List (Event × Option (Load M))
+  loads c = loaded_of (order.notes (shard_of setup c)) c
 
-  both_so : (c : Colour) (Is : List M → List (Colour × M) → Type 0) → c.0 < colours_of setup → ((low : c.0 < colours_of setup) → Is (keeps_at c low).2.received (keeps_at c low).2.sent) → Is (both_of c).0 (both_of c).1
-  unfolding both_of picked
-  both_so c Is low each = go (nat_lt c.0 (colours_of setup)) refl
+  abbrev received : Colour → List M
+  received c = messages_of (loads c)
+
+  all_on : (c : Colour) (some : List Run) → AllByRecursion (λ run. IsRunOf t fits y app setup plan run × (run.colour ≡ c)) some → AllByRecursion (IsOn a plan c) some
+  all_on c [] each = tt
+  all_on c (run ∷ some) each = (
+    record {
+      of_plan = sym (frames run.state) ∙ each.0.0.framed;
+      of_colour = sym (colours run.state) ∙ each.0.0.coloured ∙ each.0.1;
+      does = runs_are run.state run.event run.load run.becomes run.puts each.0.0.ran;
+    },
+    all_on c some each.1,
+  )
+
+  -- the runs of a colour, from the state that was given to the one that is left
+  record Along (c : Colour) : Type 0 where
+    first : KeptState A M V
+    last : KeptState A M V
+    is : slice_get firsts c.0 ≡ Some first
+    end : slice_get states c.0 ≡ Some last
+    on : Through a plan c first last (runs c)
+
+  along : (c : Colour) → c.0 < colours_of setup → Along c
+  along c low =
+      let many = made.many in
+      let left = ran.colours in
+      let first = get_there firsts c.0 (omega (arith, low, many)) in
+      let last = get_there states c.0 (omega (arith, low, left)) in
+      record {
+        first = first.0;
+        last = last.0;
+        is = first.1;
+        end = last.1;
+        on = through a plan c first.0 last.0 (runs c) (all_on c (runs c) (each_on t fits y app setup plan begin (λ d. slice_get firsts d.0) (λ d. slice_get states d.0) (λ d. order.notes (shard_of setup d)) order.by_core order.by_colour order.in_order c))
+            (order.in_order.on_colour c first.0 last.0 first.1 last.1).follow (taken.well c.0 last.0 last.1);
+      }
+
+  given : (c : Colour) → c.0 < colours_of setup → map given_to (runs c) ≡ loads c
+  given c low = let at = along c low in (order.in_order.on_colour c at.first at.last at.is at.end).given
+
+  fit : (c : Colour) → c.0 < colours_of setup → AllByRecursion (Fits (a.colours_of plan.actor) a.event_of (a.sound plan.actor) plan.posts.items c) (loads c)
+  fit c low =
+      let at = along c low in
+      so (loads c) (each_fits t fits y app setup plan begin (λ d. slice_get firsts d.0) (λ d. slice_get states d.0) (λ d. order.notes (shard_of setup d)) order.by_core order.by_colour order.in_order c at.first at.last at.is at.end)
     where
-      go : (b : Bool) (is : nat_lt c.0 (colours_of setup) ≡ b) → Is (picked c b is).0 (picked c b is).1
+      so : (some : List (Event × Option (Load M))) → AllByRecursion (λ one. fits plan c one.0 one.1) some → AllByRecursion (Fits (a.colours_of plan.actor) a.event_of (a.sound plan.actor) plan.posts.items c) some
+      so [] each = tt
+      so (one ∷ some) each = (fits_are c one.0 one.1 each.0, so some each.1)
+
+  -- what was registered on a colour is the first event and what the runs of all colours put there
+  put : (c : Colour) (f : Event × Option (Load M) → ℕ) → sum_by f (loads c) ≡ sum_by f (puts_on c (begin ∷ [])) + sum_colours (colours_of setup) (λ d. sum_by (λ run. sum_by f (puts_on c run.puts)) (runs d))
+  put c f = registered_sum t fits y app setup plan begin (λ d. slice_get firsts d.0) (λ d. slice_get states d.0) (λ d. order.notes (shard_of setup d)) order.by_core order.by_colour order.in_order c f
+
+  begun : (c : Colour) (f : Event × Option (Load M) → ℕ) → sum_by f (puts_on c (begin ∷ [])) ≡ (if 0 == c.0 then f (event, load) else 0)
+  begun c f = for (0 == c.0) where
+    for : (own : Bool) → sum_by f (filter_map (λ (o : Option (Event × Option (Load M))). o) ((if own then Some (event, load) else None) ∷ [])) ≡ (if own then f (event, load) else 0)
+    for true = let one = sum_by-cons f (event, load) [] in omega (arith, one)
+    for false = refl
+
+  begun_none : (c : Colour) (f : Event × Option (Load M) → ℕ) → f (event, load) ≡ 0 → sum_by f (puts_on c (begin ∷ [])) ≡ 0
+  begun_none c f none = begun c f ∙ ap (λ (x : ℕ). if 0 == c.0 then x else 0) none ∙ (for (0 == c.0)) where
+    for : (own : Bool) → (if own then 0 else 0) ≡ (let nothing : ℕ = 0 in nothing)
+    for true = refl
+    for false = refl
+
+  -- in the end nothing waits: as many turns are run as are put
+  nothing_waits : (c : Colour) (low : c.0 < colours_of setup) → (along c low).last.waiting ≡ []
+  nothing_waits c low =
+      let at = along c low in
+      let mine = sum_by (λ run. sum_by of_turn (puts_on c run.puts)) (runs c) in
+      let all = put c of_turn in
+      let none = begun_none c of_turn (ap (λ (b : Bool). of_true b) no_turn) in
+      let alone = colours_same (colours_of setup) (λ d. sum_by (λ run. sum_by of_turn (puts_on c run.puts)) (runs d)) (λ d. if c.0 == d.0 then mine else 0) (λ d below. own d below) in
+      let one = colours_one (colours_of setup) c mine low in
+      let turns = at.on.turns in
+      let are = ap (λ l. sum_by of_turn l) (given c low) in
+      let fresh = ap of_some (made.each c.0 at.first at.is).nothing in
+      none_there at.last.waiting (omega (arith, all, none, alone, one, turns, are, fresh))
+    where
+      own : (d : Colour) → d.0 < colours_of setup → sum_by (λ run. sum_by of_turn (puts_on c run.puts)) (runs d) ≡ (if c.0 == d.0 then sum_by (λ run. sum_by of_turn (puts_on c run.puts)) (runs c) else 0)
+      own d below = elim (cases_eq c.0 d.0) [
+        | inl same ↦ ap (λ (e : Colour). sum_by (λ run. sum_by of_turn (puts_on c run.puts)) (runs e)) (sym (same_colour c d same)) ∙ sym (ap (λ (b : Bool). if b then sum_by (λ run. sum_by of_turn (puts_on c run.puts)) (runs c) else 0) (eq-eqb c.0 d.0 same))
+        | inr apart ↦ (along d below).on.no_turns c (λ e. apart (sym e)) ∙ sym (ap (λ (b : Bool). if b then sum_by (λ run. sum_by of_turn (puts_on c run.puts)) (runs c) else 0) (ne_eqb c.0 d.0 apart))
+      ]
+
+  -- the posts come with the first event, to the first colour
+  posted : (d b : Colour) (number : M → ℕ) → sum_by (of_posts b number) (loads d) ≡ (if 0 == d.0 then count_to b number plan.posts.items else 0)
+  posted d b number =
+      let all = put d (of_posts b number) in
+      let first = begun d (of_posts b number) ∙ ap (λ (l : List (Colour × M)). if 0 == d.0 then count_to b number l else 0) posts in
+      let none = colours_same (colours_of setup) (λ e. sum_by (λ run. sum_by (of_posts b number) (puts_on d run.puts)) (runs e)) (λ _. 0) (λ e below. (along e below).on.no_posts d b number) in
+      let nothing = colours_none (colours_of setup) in
+      omega (arith, all, first, none, nothing)
+
+  -- what a colour sent
+  picked : (c : Colour) (b : Bool) → nat_lt c.0 (colours_of setup) ≡ b → List (Colour × M)
+  picked c true is = (along c (ltb-true c.0 (colours_of setup) is)).on.sent
+  picked c false is = []
+
+  sent : Colour → List (Colour × M)
+  sent c = picked c (nat_lt c.0 (colours_of setup)) refl
+
+  sent_so : (c : Colour) (Is : List (Colour × M) → Type 0) → c.0 < colours_of setup → ((low : c.0 < colours_of setup) → Is (along c low).on.sent) → Is (sent c)
+  unfolding sent picked
+  sent_so c Is low each = go (nat_lt c.0 (colours_of setup)) refl
+    where
+      go : (b : Bool) (is : nat_lt c.0 (colours_of setup) ≡ b) → Is (picked c b is)
       go true is = each (ltb-true c.0 (colours_of setup) is)
       go false is = absurd (let high = ltb-false c.0 (colours_of setup) is in omega (arith, low, high))
 
-  events_are : (c : Colour) → c.0 < colours_of setup → map a.event_of (both_of c).0 ≡ messages_in (registered c)
-  events_are c low = both_so c (λ l sent. map a.event_of l ≡ messages_in (registered c)) low (λ there. (keeps_at c there).2.are)
+  -- what is put for a colour by another is what that sent to it, and the posts by the first
+  put_by : (c d : Colour) (number : M → ℕ) → d.0 < colours_of setup → sum_by (λ run. sum_by (of_message number) (puts_on c run.puts)) (runs d) ≡ (if 0 == d.0 then count_to c number plan.posts.items else 0) + count_to c number (sent d)
+  put_by c d number below = sent_so d (λ l. sum_by (λ run. sum_by (of_message number) (puts_on c run.puts)) (runs d) ≡ (if 0 == d.0 then count_to c number plan.posts.items else 0) + count_to c number l) below (λ low.
+      let at = along d low in
+      let counts = at.on.counts c number in
+      let fresh = ap (count_to c number) (made.each d.0 at.first at.is).nothing in
+      let empty = ap (count_to c number) (nothing_waits d low) in
+      let are = ap (λ l. sum_by (of_posts c number) l) (given d low) ∙ posted d c number in
+      omega (arith, counts, fresh, empty, are))
 
-  sent_are : (c : Colour) → c.0 < colours_of setup → as_events a.event_of (both_of c).1 ≡ along (a.sends_of plan.actor c) 0 (messages_in (registered c))
-  sent_are c low = both_so c (λ l sent. as_events a.event_of sent ≡ along (a.sends_of plan.actor c) 0 (messages_in (registered c))) low (λ there. (keeps_at c there).2.told)
+  arrived : (c : Colour) → c.0 < colours_of setup → (number : M → ℕ) → sum_by number (received c) ≡ count_to c number plan.posts.items + sum_colours (colours_of setup) (λ d. count_to c number (sent d))
+  arrived c low number =
+      let x = count_to c number plan.posts.items in
+      let here = sum_by-filter_map number (λ (one : Event × Option (Load M)). message_of one.1) (loads c) in
+      let all = put c (of_message number) in
+      let none = begun_none c (of_message number) (ap (λ (o : Option M). found number o) no_message) in
+      let each = colours_same (colours_of setup) (λ d. sum_by (λ run. sum_by (of_message number) (puts_on c run.puts)) (runs d)) (λ d. (if 0 == d.0 then x else 0) + count_to c number (sent d)) (λ d below. put_by c d number below) in
+      let both = colours_both (colours_of setup) (λ d. if 0 == d.0 then x else 0) (λ d. count_to c number (sent d)) in
+      let some : 0 < colours_of setup = (let few = setup.colours_in.0 in omega (arith, few)) in
+      let alone = colours_one (colours_of setup) (record { 0 = 0 }) x some in
+      omega (arith, here, all, none, each, both, alone)
 
-  own_at : (c : Colour) → c.0 < colours_of setup → AllByRecursion (λ send. 0 < send.1.handler) (as_events a.event_of (both_of c).1)
-  own_at c low = both_so c (λ l sent. AllByRecursion (λ send. 0 < send.1.handler) (as_events a.event_of sent)) low (λ there. sent_own a.event_of (keeps_at c there).2.sent (keeps_at c there).2.each_own)
+  keeps_at : (c : Colour) (value : V) → slice_get values c.0 ≡ Some value → a.kept plan.actor c (received c) (sent c) value
+  keeps_at c value at =
+      let within = slice_get_within values c.0 value at in
+      let many = ran.colours in
+      let as_many = taken.many in
+      let low : c.0 < colours_of setup = omega (arith, within, many, as_many) in
+      sent_so c (λ l. a.kept plan.actor c (received c) l value) low (λ there.
+      let here = along c there in
+      let fresh = made.each c.0 here.first here.is in
+      let kept = here.on.keeps [] [] (sym fresh.none) fresh.begins in
+      let of_loads = subst (λ l. a.kept plan.actor c (messages_of l) here.on.sent here.last.value) (given c there) kept in
+      subst (λ v. a.kept plan.actor c (received c) here.on.sent v) (sym (taken.each c.0 here.last value here.end at)) of_loads)
 
-  unwanted : (c : Colour) → c.0 < colours_of setup → sum_by of_want (registered c) ≡ 0
-  unwanted c low = (keeps_at c low).2.unwanted
-
-  run_told : (run : HandlerRun (KeptState A M V) (Load M)) → IsRunOf t fits y app setup plan run → PutsAsTold a.event_of (a.sends_of plan.actor) plan.posts.items run.colour (t.trail_of run.state) run.event run.puts
-  run_told run is =
-      let told_there = runs_are run.state run.event run.load run.becomes run.puts is.ran in
-      let one = subst (λ (p : Plan A M). PutsAsTold a.event_of (a.sends_of plan.actor) p.posts.items run.state.log.colour run.state.log.events run.event run.puts) (sym (frames run.state) ∙ is.framed) told_there in
-      let two = subst (λ d. PutsAsTold a.event_of (a.sends_of plan.actor) plan.posts.items d run.state.log.events run.event run.puts) (sym (colours run.state) ∙ is.coloured) one in
-      subst (λ events. PutsAsTold a.event_of (a.sends_of plan.actor) plan.posts.items run.colour events run.event run.puts) (sym (trails run.state)) two
-
-  counts : (c : Colour) (number : Event → ℕ)
-      → sum_by number (messages_in (registered c)) ≡ count_sent c number (as_events a.event_of plan.posts.items) + sum_colours (colours_of setup) (λ d. count_sent c (of_messages number) (along (a.sends_of plan.actor d) 0 (messages_in (registered d))))
-  counts c number = received_counts t fits y app setup plan a.event_of (a.sends_of plan.actor) plan.posts.items (posts_own (a.colours_of plan.actor) (a.rows_of plan.actor) a.event_of (a.sound plan.actor) plan.posts.items may) run_told setup.colours_in.0 load histories
-      (subst (λ f. HasPutAll t fits y app setup f (record { 0 = 0 }, record { handler = 0; arg = 0 }, load) histories) of_frame puts) registered each_there unwanted c number
-
-  pub are_kept : AreKept a plan.actor setup plan.posts.items histories values
+  are_kept : AreKept a plan.actor setup plan.posts.items histories values
   are_kept = record {
     many = taken.many ∙ ran.colours;
     shards = ran.shards;
     legal = ran.legal;
     drained = ran.drained;
-    received = λ c. (both_of c).0;
-    registered = λ c history low there. events_are c low ∙ ap messages_in (sym (registered_is c history there));
-    sound = λ c low. both_so c (λ l sent. AllByRecursion (a.sound plan.actor c) l) low (λ there. (keeps_at c there).2.each_sound);
-    sent = λ c. (both_of c).1;
-    told = λ c low. sent_are c low ∙ ap (along (a.sends_of plan.actor c) 0) (sym (events_are c low));
-    kept = λ c value at.
-        let within = slice_get_within values c.0 value at in
-        let many = ran.colours in
-        let as_many = taken.many in
-        both_so c (λ l sent. a.kept plan.actor c l sent value) (omega (arith, within, many, as_many)) (λ low.
-        let there = keeps_at c low in
-        subst (λ v. a.kept plan.actor c there.2.received there.2.sent v) (same_Some there.0 value (sym there.1 ∙ at)) there.2.keeps);
-    counted = λ c low number.
-        let here = ap (sum_by number) (events_are c low) in
-        let all = counts c number in
-        let same = colours_same (colours_of setup) (λ d. count_sent c number (as_events a.event_of (both_of d).1)) (λ d. count_sent c (of_messages number) (along (a.sends_of plan.actor d) 0 (messages_in (registered d))))
-        (λ d below. sym (own_messages c number (as_events a.event_of (both_of d).1) (own_at d below)) ∙ ap (count_sent c (of_messages number)) (sent_are d below)) in
-        omega (arith, here, all, same);
+    received = received;
+    registered = λ c history low there.
+        events_of_messages (a.colours_of plan.actor) a.event_of (a.sound plan.actor) plan.posts.items c (loads c) (fit c low)
+        ∙ ap messages_in (events-loaded_of (order.notes (shard_of setup c)) c ∙ sym (ap (λ h. registered_of h c) (order.of_histories (shard_of setup c) history there)));
+    sound = λ c low. messages_sound (a.colours_of plan.actor) a.event_of (a.sound plan.actor) plan.posts.items c (loads c) (fit c low);
+    sent = sent;
+    kept = keeps_at;
+    arrived = arrived;
   }
+
+-- the same for a frame that is known to be that of the states
+pub kept_of : {A V M R : Type 0} (a : ActorWords A V M) (plan : Plan A M) (setup : Setup) (t : TrailWords (KeptState A M V) (Plan A M)) (colours : (s : KeptState A M V) → t.colour_of s ≡ s.log.colour) (frames : (s : KeptState A M V) → t.frame_of s ≡ s.plan)
+    (fits : Plan A M → Colour → Event → Option (Load M) → Type 0) (fits_are : (c : Colour) (event : Event) (load : Option (Load M)) → fits plan c event load → FitsLoad (a.colours_of plan.actor) a.event_of (a.sound plan.actor) plan.posts.items c event load)
+    (y : AppWords R (Load M) (KeptState A M V) (Plan A M)) (app : R) (runs_are : (before : KeptState A M V) (event : Event) (load : Option (Load M)) (after : KeptState A M V) (puts : List (Colour × Event × Option (Load M))) → y.runs app before event load after puts → Runs a before load after puts)
+    (event : Event) (load : Option (Load M)) (firsts : List (KeptState A M V)) (histories : List (List Entry)) (states : List (KeptState A M V)) (values : List V) → posts_of load ≡ plan.posts.items → message_of load ≡ None → is_turn load ≡ false → AreMade a plan (colours_of setup) firsts → RanAll t setup (record { 0 = 0 }) event histories states
+    → (frame : Plan A M) → frame ≡ plan → RanInOrder t fits y app setup frame (record { 0 = 0 }, event, load) firsts histories states → AreValues states values → AreKept a plan.actor setup plan.posts.items histories values
+kept_of a plan setup t colours frames fits fits_are y app runs_are event load firsts histories states values posts no_message no_turn made ran frame of_frame order taken =
+    are_kept a plan setup t colours frames fits fits_are y app runs_are event load posts no_message no_turn firsts histories states values made ran (subst (λ f. RanInOrder t fits y app setup f (record { 0 = 0 }, event, load) firsts histories states) of_frame order) taken

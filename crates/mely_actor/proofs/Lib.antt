@@ -1,9 +1,9 @@
-mod MessageLemmas
+mod AnswerLemmas
 mod WaitingLemmas
 mod RunLemmas
-mod AccountLemmas
+mod RegisteredLemmas
+mod ChainLemmas
 mod StatesLemmas
 mod KeptLemmas
 pub mod SilentLemmas
-pub mod AlongLemmas
 pub mod ListLemmas

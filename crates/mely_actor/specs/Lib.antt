@@ -1,6 +1,6 @@
 pub mod Sending
 pub mod Waiting
 pub mod KeptState
-pub mod Keeping
 pub mod Loads
+pub mod Running
 pub mod Received

@@ -1,5 +1,5 @@
 -- Which events and loads may be together.
-use Rattle.std.specs.Prelude.{◌≡◌, ◌<◌, ◌++◌, ℕ, List, [], ◌∷◌, Option, None, Some, Bool, true, false, map}
+use Rattle.std.specs.Prelude.{◌≡◌, ◌<◌, ◌++◌, ℕ, List, [], ◌∷◌, Option, None, Some, Bool, true, false, map, filter_map}
 use Rattle.std.specs.List.{AllByRecursion}
 use Rattle.mely_event.specs.declared.colour.Colour.{Colour}
 use Rattle.mely_event.specs.declared.event.Event.{Event}
@@ -18,11 +18,10 @@ pub record FitsPosts {M : Type 0} (colours : ℕ) (posts all : List (Colour × M
   pub first : event ≡ first_event
   pub are : all ≡ posts
 
--- the library's other events carry nothing
+-- a turn carries nothing
 pub record FitsNothing (colours : ℕ) (colour : Colour) (event : Event) : Type 0 where
   pub there : colour.0 < colours
-  pub library : event.handler ≡ 0
-  pub later : 0 < event.arg
+  pub turn : event ≡ turn_event
 
 -- an event of a message carries it, and the colour may be sent it
 pub record FitsMessage {M : Type 0} (colours : ℕ) (event_of : M → Event)
@@ -46,6 +45,21 @@ pub record Serves {A M : Type 0} (colours rows : ℕ) (event_of : M → Event)
   pub same : plan.actor ≡ actor
   pub library : 0 < rows
   pub may : AllByRecursion (MaySend colours rows event_of sound) plan.posts.items
+
+-- the message of a load
+abbrev pub message_of : {M : Type 0} → Option (Load M) → Option M
+message_of (Some (Posts all)) = None
+message_of (Some (Message message)) = Some message
+message_of None = None
+
+-- the messages that events carry, in order
+abbrev pub messages_of : {M : Type 0} → List (Event × Option (Load M)) → List M
+messages_of loads = filter_map (λ load. message_of load.1) loads
+
+-- whether it is the load of a turn
+abbrev pub is_turn : {M : Type 0} → Option (Load M) → Bool
+is_turn (Some load) = false
+is_turn None = true
 
 -- what is registered for a message that is sent
 abbrev pub as_put : {M : Type 0} → (M → Event) → Colour × M → Colour × Event × Option (Load M)

@@ -3,7 +3,7 @@ ghost use Rattle.std.specs.Prelude.{◌≡◌, ◌≤◌, ◌+◌, ◌++◌, ◌
 ghost use Rattle.std.specs.List.{AllByRecursion};
 ghost use Rattle.mely_worker.specs.Access.{FitsIn};
 ghost use Rattle.mely_actor.specs.Loads.{FitsLoad, Serves};
-ghost use Rattle.mely_actor.specs.Waiting.{PutsAsTold};
+ghost use Rattle.mely_actor.specs.Running.{Runs};
 
 use crate::actor::Actor;
 use crate::kept::Kept;
@@ -32,9 +32,7 @@ impl<A: Actor + Drop> App for Acting<A> {
     ghost serves = { λ app plan. Serves (A.colours_of app.actor) (A.rows_of app.actor) A.event_of
         (A.sound app.actor) app.actor plan };
 
-    ghost runs = { λ app before event load after puts. PutsAsTold A.event_of
-        (A.sends_of app.actor) before.plan.posts.items before.log.colour before.log.events event
-        puts };
+    ghost runs = { λ app before event load after puts. Runs A.Actor before load after puts };
 
     fn run(
         &self,
@@ -49,8 +47,7 @@ impl<A: Actor + Drop> App for Acting<A> {
         requires fits { FitsLoad (A.colours_of state.old.plan.actor) A.event_of
             (A.sound state.old.plan.actor) state.old.plan.posts.items state.old.log.colour event
             load }
-        ensures ran { PutsAsTold A.event_of (A.sends_of self.now.actor)
-            state.old.plan.posts.items state.old.log.colour state.old.log.events event outs.new }
+        ensures ran { Runs A.Actor state.old load state.new outs.new }
         ensures colour { state.new.log.colour ≡ state.old.log.colour }
         ensures frame { state.new.plan ≡ state.old.plan }
         ensures trail { state.new.log.events ≡ state.old.log.events ++ event ∷ [] }

@@ -3,7 +3,7 @@ ghost use Rattle.std.specs.Prelude.{◌≡◌, ◌<◌, ◌∷◌, ◌++◌, [],
 ghost use Rattle.std.specs.List.{AllByRecursion};
 ghost use Rattle.mely_event.specs.declared.colour.Colour.{Colour};
 ghost use Rattle.mely_event.specs.declared.event.Event.{Event};
-ghost use Rattle.mely_actor.specs.Sending.{MaySend, as_events};
+ghost use Rattle.mely_actor.specs.Sending.{MaySend};
 
 use crate::sends::Sends;
 use mely_event::{Colour, Event, Memory};
@@ -22,8 +22,9 @@ pub struct Place {
 /// The actors of a program: a value for each colour, and what a message does to it.
 ///
 /// Contracts learn how many colours and handlers it uses, under which event a message stands in the
-/// histories, which messages a colour may be sent, to whom a message sends, and what a value keeps
-/// over the messages that its colour has received and those that it has sent.
+/// histories, which messages a colour may be sent, and what a value keeps over the messages that its
+/// colour has received and those that it has sent. Whatever is to be known of what a message sends
+/// stands in that fact, `kept`: it may depend on the value and on all that the message has.
 pub trait Actor {
     /// What a colour has.
     type Value: Drop;
@@ -44,10 +45,6 @@ pub trait Actor {
 
     /// What may be sent to a colour.
     ghost sound: { Self → Colour → Self.Message → Type 0 };
-
-    /// To whom a message of this event sends, when the colour receives it and has received so many
-    /// messages before, and under which events.
-    ghost sends_of: { Self → Colour → ℕ → Event → List (Colour × Event) };
 
     /// What the value of a colour keeps over the messages that the colour has received, and those
     /// that it has sent, each in order.
@@ -87,8 +84,6 @@ pub trait Actor {
             (sent : List (Colour × Self.Message)) → length received ≡ place.number
             → kept self.now place.colour received sent value.old
             → kept self.now place.colour (received ++ message ∷ []) (sent ++ sends.new) value.new) }
-        ensures sent { OnOk result (as_events event_of sends.new
-            ≡ sends_of self.now place.colour place.number (event_of message)) }
         ensures allowed { OnOk result (AllByRecursion (MaySend (colours_of self.now)
             (rows_of self.now) event_of (sound self.now)) sends.new) };
 }

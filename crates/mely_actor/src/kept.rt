@@ -1,11 +1,11 @@
 //! The state of a colour.
-ghost use Rattle.std.specs.Prelude.{◌≡◌, ◌≤◌, ◌-◌, ◌++◌, ◌∷◌, [], IfSome, length};
-ghost use Rattle.mely_actor.specs.Keeping.{Keeps};
+ghost use Rattle.std.specs.Prelude.{◌≡◌, ◌≤◌, ◌++◌, ◌∷◌, [], IfSome, None, Some, false, length};
+ghost use Rattle.mely_actor.specs.declared.load.Load.TheVariants.{Message, Posts};
 ghost use Rattle.mely_actor.specs.Loads.{ArePutsFit, FitsLoad, FitsMessage, FitsNothing, FitsPosts, Serves};
-ghost use Rattle.mely_actor.specs.Waiting.{PutsAsTold};
+ghost use Rattle.mely_actor.specs.Running.{Runs};
 
 use crate::actor::{Actor, Place};
-use crate::load::{Load, Plan, TURN, WANT};
+use crate::load::{Load, Plan, TURN};
 use crate::sends::Sends;
 use crate::waiting::{send_all, send_some};
 use mely_event::{Colour, Event, Fits, Trail, TrailLog};
@@ -17,8 +17,8 @@ use std::snapshot::Snapshot;
 
 /// The state of a colour: its trail, with the number of messages in it, what is still to be sent,
 /// and the value that the author's fact is about. Where memory was wanted, or there were more
-/// messages than can be counted, the value has failed: it keeps nothing and sends nothing from then
-/// on, and events say so.
+/// messages than can be counted, it has failed: from then on nothing is sent and nothing is known of
+/// the value, and the run will not end with Ok.
 #[derive(Drop)]
 pub struct Kept<A: Actor> {
     log: TrailLog,
@@ -31,7 +31,7 @@ pub struct Kept<A: Actor> {
 
 impl<A: Actor> Model for Kept<A> {
     ghost use Rattle.mely_actor.specs.KeptState.{KeptState};
-    ghost use Rattle.mely_actor.specs.Keeping.{IsKept};
+    ghost use Rattle.mely_actor.specs.Running.{MayWait};
 
     ghost Value = { KeptState A A.Message A.Value };
 
@@ -44,13 +44,10 @@ impl<A: Actor> Model for Kept<A> {
       failed = kept.failed;
     } };
 
-    ghost invariant = { λ kept. IsKept A.Actor kept.plan.value kept.log.colour kept.log.events
-        kept.count kept.failed kept.waiting.items kept.value };
+    ghost invariant = { λ kept. MayWait A.Actor kept.plan.value kept.failed kept.waiting.items };
 }
 
 impl<A: Actor> Kept<A> {
-    ghost use Rattle.std.specs.Prelude.{false};
-
     /// The state of a colour that has received nothing.
     pub(crate) fn new(
         alloc: Global,
@@ -58,7 +55,6 @@ impl<A: Actor> Kept<A> {
         plan: &Plan<A, A::Message>,
         value: A::Value,
     ) -> Kept<A>
-        requires { A.kept plan.now.actor colour [] [] value }
         ensures { result ≡ record {
           log = record { colour = colour; events = [] };
           plan = plan.now;
@@ -97,8 +93,7 @@ impl<A: Actor> Kept<A> {
           events = self.old.log.events ++ event ∷ [];
         } }
         ensures plan { self.new.plan ≡ self.old.plan }
-        ensures ran { PutsAsTold A.event_of (A.sends_of self.old.plan.actor)
-            self.old.plan.posts.items self.old.log.colour self.old.log.events event outs.new }
+        ensures ran { Runs A.Actor self.old (Some (Message message)) self.new outs.new }
         ensures puts { ArePutsFit A.Actor self.old.plan.actor self.old.plan.posts.items outs.new }
         ensures few { length outs.new ≤ 2 }
     {
@@ -120,7 +115,6 @@ impl<A: Actor> Kept<A> {
             }
         }
         self.failed = true;
-        outs.put(place.colour, WANT, None);
     }
 
     /// What is posted is sent.
@@ -139,23 +133,21 @@ impl<A: Actor> Kept<A> {
           events = self.old.log.events ++ event ∷ [];
         } }
         ensures plan { self.new.plan ≡ self.old.plan }
-        ensures ran { PutsAsTold A.event_of (A.sends_of self.old.plan.actor)
-            self.old.plan.posts.items self.old.log.colour self.old.log.events event outs.new }
+        ensures ran { Runs A.Actor self.old (Some (Posts posts)) self.new outs.new }
         ensures puts { ArePutsFit A.Actor self.old.plan.actor self.old.plan.posts.items outs.new }
         ensures few { length outs.new ≤ 2 }
     {
         let colour = self.log.colour();
         self.log.push(event);
-        if !self.failed {
-            if send_all::<A>(&mut self.waiting, Sends::of(posts), colour, outs).is_ok() {
-                return;
-            }
-            self.failed = true;
+        if !self.failed
+            && send_all::<A>(&mut self.waiting, Sends::of(posts), colour, outs).is_ok()
+        {
+            return;
         }
-        outs.put(colour, WANT, None);
+        self.failed = true;
     }
 
-    /// A later event of the library's own is run: a turn, or one that says that memory was wanted.
+    /// A turn sends of what waits. Where nothing does, it puts itself again.
     pub(crate) fn turn(&mut self, event: Event, outs: &mut Outs<Load<A::Message>>)
         requires serves { Serves (A.colours_of self.old.plan.actor) (A.rows_of self.old.plan.actor)
             A.event_of (A.sound self.old.plan.actor) self.old.plan.actor self.old.plan }
@@ -165,18 +157,16 @@ impl<A: Actor> Kept<A> {
           events = self.old.log.events ++ event ∷ [];
         } }
         ensures plan { self.new.plan ≡ self.old.plan }
-        ensures ran { PutsAsTold A.event_of (A.sends_of self.old.plan.actor)
-            self.old.plan.posts.items self.old.log.colour self.old.log.events event outs.new }
+        ensures ran { Runs A.Actor self.old None self.new outs.new }
         ensures puts { ArePutsFit A.Actor self.old.plan.actor self.old.plan.posts.items outs.new }
         ensures few { length outs.new ≤ 2 }
     {
         let colour = self.log.colour();
         self.log.push(event);
-        if event.arg > TURN.arg {
-            self.failed = true;
-        } else if self.failed {
-            outs.put(colour, WANT, None);
-        } else if self.waiting.is_empty() {
+        if self.failed {
+            return;
+        }
+        if self.waiting.is_empty() {
             outs.put(colour, TURN, None);
         } else {
             send_some::<A>(&mut self.waiting, false, colour, outs);
@@ -185,8 +175,8 @@ impl<A: Actor> Kept<A> {
 
     /// The value, where no memory was wanted.
     pub(crate) fn into_value(self) -> Option<A::Value>
-        ensures { IfSome result (λ value. Keeps A.Actor self.plan.actor self.log.colour
-            self.log.events value) }
+        ensures value { IfSome result (λ value. value ≡ self.value) }
+        ensures well { IfSome result (λ value. self.failed ≡ false) }
     {
         let Kept {
             log: _,

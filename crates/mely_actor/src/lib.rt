@@ -15,9 +15,13 @@
 //!
 //! What is promised is [`AreKept`](../specs/Received.antt): what each colour received is what its
 //! history says was registered, in that order; its value keeps the author's fact over exactly that
-//! and what it sent; and what was received is what was posted and what was sent, no more and no
-//! less, by the events under which messages stand in the histories. The order in which messages of
-//! different senders come to a colour isn't promised.
+//! and what it sent; and what was received is what was posted and what was sent, with all that each
+//! message carries, no more and no less. So what a message sends may depend on the value of its
+//! colour and on the whole message: all that is to be known of it stands in the author's fact.
+//!
+//! Not promised is in which order messages come to a colour that different runs sent, be it of one
+//! colour, as its turns go from core to core; nor that a message has a cause: received and sent are
+//! counted over the whole run, which alone doesn't rule out two messages that send one another.
 #![tactic(auto)]
 
 mod acting;

@@ -9,9 +9,6 @@ pub(crate) const FIRST: Event = Event { handler: 0, arg: 0 };
 /// A turn, by which a colour sends more of what waits there.
 pub(crate) const TURN: Event = Event { handler: 0, arg: 1 };
 
-/// It says that memory was wanted on the colour.
-pub(crate) const WANT: Event = Event { handler: 0, arg: 2 };
-
 /// What stays the same over a run: the actor, and what is posted to begin with. It
 /// is for contracts alone.
 #[derive(Drop)]
@@ -20,7 +17,7 @@ pub struct Plan<A, M> {
     pub posts: Vec<(Colour, M)>,
 }
 
-/// What an event carries, but for the library's later ones, which carry nothing.
+/// What an event carries, but for a turn, which carries nothing.
 #[derive(Drop)]
 pub enum Load<M> {
     /// All that is posted.

@@ -40,7 +40,8 @@ fn make_states<A: Actor>(
     plan: &Plan<A, A::Message>,
 ) -> Result<Vec<Kept<A>>, Memory>
     requires { colours_of setup.now ≡ A.colours_of plan.now.actor }
-    ensures { IfOk result (λ states. AreMade plan.now (colours_of setup.now) states.items) }
+    ensures { IfOk result (λ states. AreMade A.Actor plan.now (colours_of setup.now)
+        states.items) }
 {
     let mut states = Vec::new(alloc);
     'colours: for number in 0..setup.colours() {
@@ -60,7 +61,7 @@ fn take_values<A: Actor + Drop>(
     alloc: Global,
     states: Vec<Kept<A>>,
 ) -> Result<Vec<A::Value>, Memory>
-    ensures { IfOk result (λ values. AreValues A.Actor states.items values.items) }
+    ensures { IfOk result (λ values. AreValues states.items values.items) }
 {
     let mut values = Vec::new(alloc);
     'states: for state in states {
@@ -107,7 +108,7 @@ where
     let Plan { actor, posts } = plan;
     let load = Load::Posts(VecDeque::from(posts));
     let acting = Acting { alloc, actor };
-    let mely_app::Ended { states, histories } = run_states(
+    let Ok(ended) = run_states(
         rt,
         alloc,
         setup,
@@ -116,7 +117,10 @@ where
         Colour(0),
         FIRST,
         Some(load),
-    )?;
+    ) else {
+        return Err(Memory);
+    };
+    let mely_app::Ended { states, histories } = ended;
     let values = take_values(alloc, states)?;
     Ok(Ended { values, histories })
 }

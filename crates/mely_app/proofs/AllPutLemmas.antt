@@ -23,7 +23,7 @@ use Rattle.mely_tally.specs.Account.{IsAccounted, count_put, count_puts, count_d
 use Rattle.mely_app.proofs.RanLemmas.{front_whole}
 use Rattle.mely_app.specs.Puts.{HasPutAll}
 
-free_left : {S P : Type 0} (phase : Phase S P) → is_free phase ≡ true → puts_left phase ≡ []
+pub free_left : {S P : Type 0} (phase : Phase S P) → is_free phase ≡ true → puts_left phase ≡ []
 free_left (Free place) free = refl
 free_left (Popped mark) free = cc
 free_left (Picked mark victim) free = cc
@@ -45,7 +45,7 @@ none_of [] is = refl
 none_of (x ∷ xs) is = absurd (omega (arith, is))
 
 -- nothing is in either of two lists that are nothing together
-both_none : {A : Type 0} (xs ys : List A) → xs ++ ys ≡ [] → (xs ≡ []) × (ys ≡ [])
+pub both_none : {A : Type 0} (xs ys : List A) → xs ++ ys ≡ [] → (xs ≡ []) × (ys ≡ [])
 both_none [] ys none = (refl, none)
 both_none (x ∷ xs) ys none = cc
 
@@ -60,7 +60,7 @@ module _ {S P F : Type 0} (t : TrailWords S F) (c : Colour) where
       let first = sum_by-cons (λ (v : WorkerState S P). count_due c number v) w ws in
       omega (arith, left, lost, rest, first)
 
-  left_none : (number : List Event → Event → ℕ) (ws : List (WorkerState S P)) → ((i : ℕ) (w : WorkerState S P) → slice_get ws i ≡ Some w → is_free w.phase ≡ true) → sum_by (λ (w : WorkerState S P). count_left t c number w.phase) ws ≡ 0
+  pub left_none : (number : List Event → Event → ℕ) (ws : List (WorkerState S P)) → ((i : ℕ) (w : WorkerState S P) → slice_get ws i ≡ Some w → is_free w.phase ≡ true) → sum_by (λ (w : WorkerState S P). count_left t c number w.phase) ws ≡ 0
   left_none number [] free = refl
   left_none number (w ∷ ws) free =
       let here = free_count t c number w.phase (free 0 w refl) in
@@ -69,7 +69,7 @@ module _ {S P F : Type 0} (t : TrailWords S F) (c : Colour) where
       omega (arith, here, rest, first)
 
 -- the history that comes out is the one of the colour's shard
-shard_history : {S P : Type 0} (o : Option (ShardState S P)) (history : List Entry) → option_map (λ (has : ShardState S P). has.history) o ≡ Some history → history_in o ≡ history
+pub shard_history : {S P : Type 0} (o : Option (ShardState S P)) (history : List Entry) → option_map (λ (has : ShardState S P). has.history) o ≡ Some history → history_in o ≡ history
 shard_history None history is = cc
 shard_history (Some has) history is = same_Some has.history history is
 

@@ -17,7 +17,7 @@ use Rattle.mely_weave.specs.Side.{shard_of}
 use Rattle.mely_weave.specs.Weave.{WeaveState}
 use Rattle.mely_tally.specs.Tallies.{Carried}
 use Rattle.mely_tally.specs.Tells.{IsTakenApart}
-use Rattle.mely_fleet.specs.Crew.{IsRegistered, IsRegisteredIn}
+use Rattle.mely_crew.specs.Crew.{IsRegistered, IsRegisteredIn}
 use Rattle.mely_app.specs.RanAll.{RanAll}
 
 -- where nothing is left behind a front, that is the whole
@@ -28,20 +28,25 @@ front_whole n xs none = sym (append-nil (take n xs)) ∙ ap (λ l. take n xs ++ 
 all_ran : (history : List Entry) (c : Colour) → IsDrainedOf history c → ran_of history c ≡ registered_of history c
 all_ran history c drained = ap (λ n. take n (registered_of history c)) (sym drained.at_rest) ∙ front_whole (begun_of history c) (registered_of history c) drained.none_queued
 
+-- the history of its shard has the registration of the first event
+pub registered_in : {S P : Type 0} (colour : Colour) (event : Event) (weave : WeaveState S P) (histories : List (List Entry)) → histories ≡ map (λ (has : ShardState S P). has.history) weave.shards → IsRegistered colour event weave
+    → (history : List Entry) → slice_get histories (shard_of weave.setup colour) ≡ Some history → IsRegisteredIn weave.setup colour event history
+registered_in {S} {P} colour event weave histories are registered history there =
+    let shard = shard_of weave.setup colour in
+    let at : slice_get histories shard ≡ Some registered.has.history =
+    ap (λ hs. slice_get hs shard) are
+    ∙ slice_get-map (λ (has : ShardState S P). has.history) weave.shards shard
+    ∙ ap (option_map (λ (has : ShardState S P). has.history)) registered.there in
+    let both : Some history ≡ Some registered.has.history = sym there ∙ at in
+    let same : history ≡ registered.has.history = cc in
+    subst (λ h. IsRegisteredIn weave.setup colour event h) (sym same) registered.registered
+
 pub ran_all : {S P F : Type 0} (t : TrailWords S F) (setup : Setup) (colour : Colour) (event : Event) (weave : WeaveState S P) (histories : List (List Entry)) (states : List S) (queued : List (List (Carried P))) (lost : List (Colour × Event × Option P))
     → weave.setup ≡ setup → length weave.shards ≡ (shape_of weave.setup).shards → histories ≡ map (λ (has : ShardState S P). has.history) weave.shards
     → IsRegistered colour event weave → HistoriesAreDrained weave → IsTakenApart t weave histories states queued lost → RanAll t setup colour event histories states
 ran_all {S} {P} t setup colour event weave histories states queued lost of_setup shards are registered drained apart =
     let whole : RanAll t weave.setup colour event histories states = record {
-      begun = λ history there.
-          let shard = shard_of weave.setup colour in
-          let at : slice_get histories shard ≡ Some registered.has.history =
-          ap (λ hs. slice_get hs shard) are
-          ∙ slice_get-map (λ (has : ShardState S P). has.history) weave.shards shard
-          ∙ ap (option_map (λ (has : ShardState S P). has.history)) registered.there in
-          let both : Some history ≡ Some registered.has.history = sym there ∙ at in
-          let same : history ≡ registered.has.history = cc in
-          subst (λ h. IsRegisteredIn weave.setup colour event h) (sym same) registered.registered;
+      begun = registered_in colour event weave histories are registered;
       legal = apart.legal;
       shards = ap length are ∙ length-map weave.shards (λ (has : ShardState S P). has.history) ∙ shards;
       drained = apart.drained drained;

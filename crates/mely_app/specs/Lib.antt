@@ -1,2 +1,4 @@
 pub mod RanAll
 pub mod Puts
+pub mod InOrder
+pub mod Unfinished

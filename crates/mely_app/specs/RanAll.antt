@@ -9,7 +9,7 @@ use Rattle.mely_history.specs.Setup.{shape_of, colours_of}
 use Rattle.mely_history.specs.declared.entry.Entry.{Entry}
 use Rattle.mely_history.specs.declared.setup.Setup.{Setup}
 use Rattle.mely_weave.specs.Side.{shard_of}
-use Rattle.mely_fleet.specs.Crew.{IsRegisteredIn}
+use Rattle.mely_crew.specs.Crew.{IsRegisteredIn}
 
 -- The first event was registered, and every event that was registered was run. There is a legal
 -- history for each shard, in which nothing runs or waits, and a state for each colour, of that

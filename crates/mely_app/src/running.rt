@@ -5,14 +5,17 @@ ghost use Rattle.mely_history.specs.Setup.{is_listed};
 ghost use Rattle.mely_weave.specs.Making.{AreInitial};
 ghost use Rattle.mely_worker.specs.Access.{FitsSetup};
 ghost use Rattle.mely_worker.specs.Conditions.{AppServes};
+ghost use Rattle.mely_app.specs.InOrder.{RanInOrder, RanFromInitial};
 ghost use Rattle.mely_app.specs.Puts.{HasPutAll};
 ghost use Rattle.mely_app.specs.RanAll.{AllFramed, RanAll};
+ghost use Rattle.mely_app.specs.Unfinished.{IfNotStarted, IfCutShort, RanInPart, HasPutInPart, RanInOrderSoFar, RanFromInitialSoFar, histories_left, waiting_left};
 
 use crate::initial::{Initial, initial_states};
-use mely_event::{Colour, Event, Fits, Memory, Trail};
-use mely_fleet::run_crew;
+use crate::run_error::{RunError, Unfinished};
+use mely_crew::run_crew;
+use mely_event::{Colour, Event, Fits, Trail};
 use mely_history::{History, Setup};
-use mely_tally::the_parts_are_what_the_weave_had;
+use mely_tally::{the_parts_are_what_the_weave_had, what_is_left_in_the_parts_fits};
 use mely_weave::{Drained, WeaveParts};
 use mely_worker::{App, OpenGate};
 use std::alloc::Global;
@@ -35,7 +38,7 @@ pub struct Ended<S> {
 ///
 /// # Errors
 ///
-/// There was no memory, to begin or for an event on the way: what was done is dropped.
+/// There was no memory, to start or on the way: see [`RunError`], which hands back all that there is.
 pub fn run_app<
     R: Threads + Wait + Sync,
     S: Initial<P> + Drop + Send,
@@ -49,7 +52,7 @@ pub fn run_app<
     colour: Colour,
     event: Event,
     load: Option<P>,
-) -> Result<Ended<S>, Memory>
+) -> Result<Ended<S>, RunError<S, P>>
     requires served { AppServes A.App setup.now S.initial_frame app.now }
     requires fits { FitsSetup S.fits_under setup.now S.initial_frame (colour, event, load) }
     ensures ran { IfOk result (λ ended. RanAll S.Trail setup.now colour event
@@ -61,8 +64,23 @@ pub fn run_app<
     ensures puts { IfOk result (λ ended. HasPutAll S.Trail S.fits_under A.App app.now
         setup.now S.initial_frame (colour, event, load)
         (map (λ history. history.items) ended.histories.items)) }
+    ensures in_order { IfOk result (λ ended. RanFromInitial S.Trail S.fits_under A.App app.now
+        setup.now S.initial_frame (colour, event, load)
+        (map (λ history. history.items) ended.histories.items) ended.states.items) }
+    ensures not_started { IfNotStarted result (λ back. back ≡ load) }
+    ensures in_part { IfCutShort result (λ left. RanInPart S.Trail S.fits_under setup.now
+        S.initial_frame colour event (histories_left left) left.states.items (waiting_left left)
+        left.refused.items) }
+    ensures puts_in_part { IfCutShort result (λ left. HasPutInPart S.Trail S.fits_under A.App
+        app.now setup.now S.initial_frame (colour, event, load) (histories_left left)
+        left.refused.items) }
+    ensures order_so_far { IfCutShort result (λ left. RanFromInitialSoFar S.Trail S.fits_under
+        A.App app.now setup.now S.initial_frame (colour, event, load) (histories_left left)
+        left.states.items (waiting_left left) left.refused.items) }
 {
-    let states = initial_states::<S, P>(alloc, setup)?;
+    let Ok(states) = initial_states::<S, P>(alloc, setup) else {
+        return Err(RunError::NotStarted(load));
+    };
     run_states(rt, alloc, setup, states, app, colour, event, load)
 }
 
@@ -71,7 +89,8 @@ pub fn run_app<
 ///
 /// # Errors
 ///
-/// There was no memory, to begin or for an event on the way: what was done is dropped.
+/// There was no memory, to start or on the way: see [`RunError`], which hands back all that there is
+/// but the states of a run that didn't start.
 pub fn run_states<
     R: Threads + Wait + Sync,
     S: Fits<P> + Drop + Send,
@@ -86,7 +105,7 @@ pub fn run_states<
     colour: Colour,
     event: Event,
     load: Option<P>,
-) -> Result<Ended<S>, Memory>
+) -> Result<Ended<S>, RunError<S, P>>
     requires first { AreInitial S.Trail setup.now states.items }
     requires served { (state : _) → slice_get states.items 0 ≡ Some state
         → AppServes A.App setup.now (S.frame_of state) app.now }
@@ -102,8 +121,26 @@ pub fn run_states<
         → HasPutAll S.Trail S.fits_under A.App app.now
         setup.now (S.frame_of first) (colour, event, load)
         (map (λ history. history.items) ended.histories.items)) }
+    ensures in_order { IfOk result (λ ended. (first : _) → slice_get states.items 0 ≡ Some first
+        → RanInOrder S.Trail S.fits_under A.App app.now
+        setup.now (S.frame_of first) (colour, event, load) states.items
+        (map (λ history. history.items) ended.histories.items) ended.states.items) }
+    ensures not_started { IfNotStarted result (λ back. back ≡ load) }
+    ensures in_part { IfCutShort result (λ left. (first : _)
+        → slice_get states.items 0 ≡ Some first
+        → RanInPart S.Trail S.fits_under setup.now (S.frame_of first) colour event
+        (histories_left left) left.states.items (waiting_left left) left.refused.items) }
+    ensures puts_in_part { IfCutShort result (λ left. (first : _)
+        → slice_get states.items 0 ≡ Some first
+        → HasPutInPart S.Trail S.fits_under A.App app.now setup.now (S.frame_of first)
+        (colour, event, load) (histories_left left) left.refused.items) }
+    ensures order_so_far { IfCutShort result (λ left. (first : _)
+        → slice_get states.items 0 ≡ Some first
+        → RanInOrderSoFar S.Trail S.fits_under A.App app.now setup.now (S.frame_of first)
+        (colour, event, load) states.items (histories_left left) left.states.items
+        (waiting_left left) left.refused.items) }
 {
-    let Ok((weave, drained)) = run_crew(
+    let ran = run_crew(
         rt,
         alloc,
         setup,
@@ -111,19 +148,27 @@ pub fn run_states<
         (colour, event, load),
         app,
         &OpenGate,
-    ) else {
-        return Err(Memory);
+    );
+    let (weave, drained) = match ran {
+        Ok(ran) => ran,
+        Err(back) => return Err(RunError::NotStarted(back.load)),
     };
     weave.stands_well();
     the_parts_are_what_the_weave_had::<S, P>();
+    what_is_left_in_the_parts_fits::<S, P>();
     let WeaveParts {
         histories,
         states,
-        queued: _,
-        lost,
+        queued: waiting,
+        lost: refused,
     } = weave.into_parts();
     match drained {
-        Drained::Empty if lost.is_empty() => Ok(Ended { states, histories }),
-        _ => Err(Memory),
+        Drained::Empty if refused.is_empty() => Ok(Ended { states, histories }),
+        _ => Err(RunError::CutShort(Unfinished {
+            states,
+            histories,
+            waiting,
+            refused,
+        })),
     }
 }

@@ -1,7 +1,7 @@
 -- A call on one chain or one shard of a fleet, with the passes of a caller.
-use Rattle.std.proofs.Common.{◌≡◌, ℕ, ◌<◌, List, length, get_or, arith}
+use Rattle.std.proofs.Common.{◌≡◌, ℕ, ◌<◌, List, Option, length, get_or, ap, ◌∙◌, subst, arith}
 use Rattle.std.specs.Prelude.{slice_set}
-use Rattle.mely_history.specs.declared.entry.Entry.{Entry}
+use Rattle.mely_note.specs.declared.note.Note.{Note}
 use Rattle.mely_event.specs.declared.colour.Colour.{Colour}
 use Rattle.mely_history.specs.Setup.{shape_of, colours_of}
 use Rattle.mely_lock.specs.declared.pass.Pass.{Pass}
@@ -11,17 +11,20 @@ use Rattle.mely_lock.specs.Words.{initial_value, front}
 use Rattle.mely_fleet.specs.declared.chain_note.ChainNote.{ChainNote}
 use Rattle.mely_fleet.specs.declared.fleet.FleetOf.{FleetOf}
 use Rattle.mely_fleet.specs.declared.kept_chain.ChainFrame.{ChainFrame}
-use Rattle.mely_fleet.specs.declared.kept_shard.ShardFrame.{ShardFrame}
+use Rattle.mely_kept.specs.declared.kept_shard.ShardFrame.{ShardFrame}
 use Rattle.mely_fleet.specs.declared.passes.PassesOf.{PassesOf}
-use Rattle.mely_fleet.specs.Calls.{IsSeen, SeesAt}
+use Rattle.mely_kept.specs.Calls.{IsSeen}
+use Rattle.mely_fleet.specs.Calls.{SeesAt}
 use Rattle.mely_fleet.specs.Chains.{IsOnChain, ReachesChain}
-use Rattle.mely_fleet.specs.Fleets.{ArePasses, chain_frame_for, frame_for, frame_in}
-use Rattle.mely_fleet.specs.Frames.{IsColourOf, chain_frame}
+use Rattle.mely_fleet.specs.Fleets.{ArePasses, chain_frame_for, frame_for, frame_in, given_in, givens_in}
+use Rattle.mely_kept.specs.Frames.{IsColourOf, given_at}
+use Rattle.mely_fleet.specs.Frames.{chain_frame}
 use Rattle.mely_fleet.specs.KeptChain.{KeptChainState}
-use Rattle.mely_fleet.specs.Rows.{ArePassesOf, HasLeft, IsPassAt, MayEnter, fronts}
+use Rattle.mely_kept.specs.Passing.{HasLeft, MayEnter}
+use Rattle.mely_fleet.specs.Rows.{ArePassesOf, IsPassAt, fronts}
 use Rattle.mely_fleet.proofs.Rows.{colour_of_shard, row_pass, row_frame, row_set, pass_low, reaches_row, sees_row}
 
-module _ {V F : Type 0} {g : _} (kept_frame : V → ShardFrame F) (fleet : FleetOf V Entry (ShardFrame F)) (own : PassesOf V Entry (ShardFrame F) g) (are : ArePasses kept_frame fleet own) (core : ℕ) (there : core < (shape_of fleet.setup).cores)
+module _ {S P V F : Type 0} {g : _} (kept_frame : V → ShardFrame S F) (fleet : FleetOf V (Note S P) (ShardFrame S F)) (own : PassesOf V (Note S P) (ShardFrame S F) g) (are : ArePasses kept_frame fleet own) (core : ℕ) (there : core < (shape_of fleet.setup).cores)
     (lock : Ticketed KeptChainState (ℕ × ChainNote) ChainFrame) (lock_is : lock ≡ get_or fleet.chains.items core lock) (pass : _) (pass_is : pass ≡ get_or own.chains.items core pass) where
   low : core < length fleet.chains.items
   low = let many = fleet.a_lock_for_each_core in omega (arith, many, there)
@@ -45,11 +48,11 @@ module _ {V F : Type 0} {g : _} (kept_frame : V → ShardFrame F) (fleet : Fleet
       (pass_low chain_frame fleet.chains.items own.number own.chains.items are.of_chains core lock pass low lock_is pass_is) pass_is reached
 
 -- the place of a shard of the setup is one of a lock
-pub shard_low : {V F : Type 0} (fleet : FleetOf V Entry (ShardFrame F)) (shard : ℕ) → shard < (shape_of fleet.setup).shards → shard < length fleet.shards.items
+pub shard_low : {S P V F : Type 0} (fleet : FleetOf V (Note S P) (ShardFrame S F)) (shard : ℕ) → shard < (shape_of fleet.setup).shards → shard < length fleet.shards.items
 shard_low fleet shard there = let many = fleet.a_lock_for_each_shard in omega (arith, many, there)
 
-module _ {V F : Type 0} {g : _} (kept_frame : V → ShardFrame F) (fleet : FleetOf V Entry (ShardFrame F)) (own : PassesOf V Entry (ShardFrame F) g) (are : ArePasses kept_frame fleet own) (place : ℕ) (there : place < length fleet.shards.items)
-    (lock : Ticketed V Entry (ShardFrame F)) (lock_is : lock ≡ get_or fleet.shards.items place lock) (pass : Pass V Entry (ShardFrame F) g) (pass_is : pass ≡ get_or own.shards.items place pass) where
+module _ {S P V F : Type 0} {g : _} (kept_frame : V → ShardFrame S F) (fleet : FleetOf V (Note S P) (ShardFrame S F)) (own : PassesOf V (Note S P) (ShardFrame S F) g) (are : ArePasses kept_frame fleet own) (place : ℕ) (there : place < length fleet.shards.items)
+    (lock : Ticketed V (Note S P) (ShardFrame S F)) (lock_is : lock ≡ get_or fleet.shards.items place lock) (pass : Pass V (Note S P) (ShardFrame S F) g) (pass_is : pass ≡ get_or own.shards.items place pass) where
   own_pass : IsPassAt kept_frame lock own.number pass
   own_pass = row_pass kept_frame fleet.shards.items own.number own.shards.items are.of_shards place lock pass there lock_is pass_is
 
@@ -65,18 +68,30 @@ module _ {V F : Type 0} {g : _} (kept_frame : V → ShardFrame F) (fleet : Fleet
   shard_pass_low = pass_low kept_frame fleet.shards.items own.number own.shards.items are.of_shards place lock pass there lock_is pass_is
 
   -- the shard has the frame of its place
-  pub frame_is : kept_frame (initial_value lock) ≡ frame_for fleet.setup (frame_in kept_frame fleet) place
-  frame_is = row_frame kept_frame fleet.shards.items own.number own.shards.items are.of_shards place lock pass there lock_is pass_is (frame_for fleet.setup (frame_in kept_frame fleet)) are.shards_framed
+  pub frame_is : kept_frame (initial_value lock) ≡ frame_for fleet.setup (frame_in kept_frame fleet) (givens_in kept_frame fleet) place
+  frame_is = row_frame kept_frame fleet.shards.items own.number own.shards.items are.of_shards place lock pass there lock_is pass_is (frame_for fleet.setup (frame_in kept_frame fleet) (givens_in kept_frame fleet)) are.shards_framed
 
   -- a colour whose shard stands there is one of it
   pub colour_here : (c : Colour) → place ≡ shard_of fleet.setup c → c.0 < colours_of fleet.setup → IsColourOf (kept_frame (initial_value lock)) c
-  colour_here c place_is low = colour_of_shard fleet.setup (frame_in kept_frame fleet) c place (kept_frame (initial_value lock)) frame_is place_is low
+  colour_here c place_is low = colour_of_shard fleet.setup (frame_in kept_frame fleet) (givens_in kept_frame fleet) c place (kept_frame (initial_value lock)) frame_is place_is low
 
   -- afterwards they are passes of the shards still
-  pub shards_still : (new : Pass V Entry (ShardFrame F) g) → HasLeft kept_frame lock pass new → ArePassesOf kept_frame fleet.shards.items own.number (slice_set own.shards.items place new)
+  pub shards_still : (new : Pass V (Note S P) (ShardFrame S F) g) → HasLeft kept_frame lock pass new → ArePassesOf kept_frame fleet.shards.items own.number (slice_set own.shards.items place new)
   shards_still new left = row_set kept_frame fleet.shards.items own.number own.shards.items are.of_shards place lock pass there lock_is pass_is new left
 
   -- and the call was on this shard alone
-  pub sees_shard : (D : ShardFrame F → ℕ → List Entry → List Entry → Type 0) (new : Pass V Entry (ShardFrame F) g) (shard : ℕ) → place ≡ shard → IsSeen (kept_frame (initial_value lock)).setup pass.number (front pass) (front new) (D (kept_frame (initial_value lock)) pass.number)
-      → SeesAt fleet.setup own.number shard (fronts own.shards.items) (fronts (slice_set own.shards.items place new)) (D (frame_for fleet.setup (frame_in kept_frame fleet) place) own.number)
-  sees_shard D new shard place_is seen = sees_row D (kept_frame (initial_value lock)) (frame_for fleet.setup (frame_in kept_frame fleet) place) own.number pass.number place shard own.shards.items pass new frame_is shard_numbered place_is shard_pass_low pass_is seen
+  pub sees_shard : (D : ShardFrame S F → ℕ → List (Note S P) → List (Note S P) → Type 0) (new : Pass V (Note S P) (ShardFrame S F) g) (shard : ℕ) → place ≡ shard → IsSeen (kept_frame (initial_value lock)).setup pass.number (front pass) (front new) (D (kept_frame (initial_value lock)) pass.number)
+      → SeesAt fleet.setup own.number shard (fronts own.shards.items) (fronts (slice_set own.shards.items place new)) (D (frame_for fleet.setup (frame_in kept_frame fleet) (givens_in kept_frame fleet) place) own.number)
+  sees_shard D new shard place_is seen = sees_row D (kept_frame (initial_value lock)) (frame_for fleet.setup (frame_in kept_frame fleet) (givens_in kept_frame fleet) place) own.number pass.number place shard own.shards.items pass new frame_is shard_numbered place_is shard_pass_low pass_is seen
+
+  -- the state that a colour was given is the fleet's
+  given_is : (c : Colour) → place ≡ shard_of fleet.setup c → given_at (kept_frame (initial_value lock)) c ≡ given_in kept_frame fleet c
+  given_is c place_is = ap (λ (f : ShardFrame S F). given_at f c) frame_is ∙ ap (λ k. given_at (frame_for fleet.setup (frame_in kept_frame fleet) (givens_in kept_frame fleet) k) c) place_is
+
+  -- so it is with a call that hands it out
+  pub sees_given : (D : ShardFrame S F → Option S → ℕ → List (Note S P) → List (Note S P) → Type 0) (new : Pass V (Note S P) (ShardFrame S F) g) (c : Colour) → place ≡ shard_of fleet.setup c
+      → IsSeen (kept_frame (initial_value lock)).setup pass.number (front pass) (front new) (D (kept_frame (initial_value lock)) (given_at (kept_frame (initial_value lock)) c) pass.number)
+      → SeesAt fleet.setup own.number (shard_of fleet.setup c) (fronts own.shards.items) (fronts (slice_set own.shards.items place new)) (D (frame_for fleet.setup (frame_in kept_frame fleet) (givens_in kept_frame fleet) place) (given_in kept_frame fleet c) own.number)
+  sees_given D new c place_is seen =
+      sees_shard (λ of n. D of (given_in kept_frame fleet c) n) new (shard_of fleet.setup c) place_is
+      (subst (λ first. IsSeen (kept_frame (initial_value lock)).setup pass.number (front pass) (front new) (D (kept_frame (initial_value lock)) first pass.number)) (given_is c place_is) seen)

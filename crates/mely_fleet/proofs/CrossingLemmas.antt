@@ -6,7 +6,7 @@ use Rattle.mely_event.specs.declared.fits.Fits.{Ghosts as FitsWords}
 use Rattle.mely_event.specs.declared.trail.Trail.{Ghosts as TrailWords}
 use Rattle.mely_history.proofs.history.History.TheSendSync as history
 use Rattle.mely_shard.specs.contracts.shard.Shard as shard
-use Rattle.mely_fleet.specs.contracts.kept_shard.KeptShard as kept
+use Rattle.mely_kept.specs.contracts.kept_shard.KeptShard as kept
 
 module _ (S P F : RattleType) (fits : FitsWords S.Denot P.Denot F.Denot) (t : TrailWords S.Denot F.Denot) where
   shard_crosses : IsSend S → IsSend P → IsSend (shard.the_row S P F fits t)

@@ -1,16 +1,18 @@
 -- What locks gave back for all their passes may be gathered into a weave.
 use Rattle.std.proofs.Common.{◌≡◌, ℕ, zero, suc, ◌<◌, ◌≤◌, List, [], ◌∷◌, Option, Some, None, length, map, get_or, refl, sym, ◌∙◌, ap, subst, arith}
 use Rattle.std.specs.Prelude.{slice_get, option_map}
-use Rattle.std.proofs.lemmas.List.{length-map}
+use Rattle.std.proofs.lemmas.List.{length-map, drop-map, take-map}
 use Rattle.std.proofs.lemmas.Option.{slice_get-get_or, slice_get_within, get_or_from_slice_get, slice_get-map}
+use Rattle.mely_note.specs.declared.note.Note.{Note}
 use Rattle.mely_event.specs.declared.colour.Colour.{Colour}
 use Rattle.mely_event.specs.declared.trail.Trail.{Ghosts as TrailWords}
 use Rattle.mely_history.specs.declared.setup.Setup.{Setup}
-use Rattle.mely_history.specs.declared.entry.Entry.{Entry}
 use Rattle.mely_history.specs.Setup.{shape_of}
-use Rattle.mely_history.specs.Entries.{pass_of, entries_by}
+use Rattle.mely_history.specs.Entries.{entries_by}
 use Rattle.mely_history.specs.Legal.{IsLegal, IsDrained}
-use Rattle.mely_shard.specs.Shard.{ShardState}
+use Rattle.mely_shard.specs.Shard.{ShardState, givens}
+use Rattle.mely_note.specs.Notes.{entry_of, entries_of, noted_by, notes_by}
+use Rattle.mely_note.proofs.NoteLemmas.{no_entries_by}
 use Rattle.mely_core.specs.CoreQueue.{CoreQueueState}
 use Rattle.mely_lock.specs.declared.ticketed.Ticketed.{Ticketed}
 use Rattle.mely_lock.specs.declared.pass.Pass.{Pass}
@@ -18,7 +20,7 @@ use Rattle.mely_lock.specs.Seen.{notes_of, OthersSince}
 use Rattle.mely_lock.specs.Words.{initial_value, front, IsPassOf, IsOutside}
 use Rattle.mely_weave.specs.Gathering.{MayGatherShard, MayGatherChain}
 use Rattle.mely_weave.specs.Side.{shard_of}
-use Rattle.mely_fleet.specs.declared.kept_shard.ShardFrame.{ShardFrame}
+use Rattle.mely_kept.specs.declared.kept_shard.ShardFrame.{ShardFrame}
 use Rattle.mely_fleet.specs.declared.passes.PassesOf.{PassesOf}
 use Rattle.mely_fleet.specs.declared.kept_chain.ChainFrame.{ChainFrame}
 use Rattle.mely_fleet.specs.Calls.{front_in, front_for}
@@ -26,15 +28,17 @@ use Rattle.mely_fleet.specs.Closed.{IsClosed, IsTakenOut, IsColumn, AreColumns, 
 use Rattle.mely_fleet.specs.Closing.{HasFinishedOf}
 use Rattle.mely_fleet.specs.Fleets.{frame_for, chain_frame_for}
 use Rattle.mely_fleet.specs.declared.chain_note.ChainNote.{ChainNote}
-use Rattle.mely_fleet.specs.Frames.{shard_frame, chain_frame, numbers_of}
+use Rattle.mely_kept.specs.Frames.{shard_frame}
+use Rattle.mely_fleet.specs.Frames.{chain_frame, numbers_of}
 use Rattle.mely_fleet.specs.KeptChain.{KeptChainState}
-use Rattle.mely_fleet.specs.KeptShard.{KeptShardState}
+use Rattle.mely_kept.specs.KeptShard.{KeptShardState}
 use Rattle.mely_fleet.specs.Rows.{ArePassesOf, HavePasses, fronts}
 use Rattle.mely_history.specs.declared.entry.Entry.TheVariants.{Take}
 use Rattle.mely_history.specs.Owing.{last_change}
 use Rattle.mely_weave.proofs.Wholes.GatherLemmas.{get_there}
 use Rattle.mely_fleet.proofs.OpeningLemmas.{all_here}
 use Rattle.mely_fleet.proofs.ClosingLemmas.{rests_where_finished}
+use Rattle.mely_fleet.proofs.FrontLemmas.{others_of_entries}
 use Rattle.std.proofs.Common.{◌⊎◌, inl, inr, drop, take}
 use Rattle.mely_history.specs.LeftOver.{HaveDrainedFronts, HasSeenMost, IsLeftOver}
 use Rattle.mely_history.proofs.LeftOverLemmas.{left_over}
@@ -64,15 +68,15 @@ all_there outs kept locks columns taken closed handed k out at =
 front_at : {V N F : Type 0} {g : _} (row : List (Pass V N F g)) (k : ℕ) (pass : Pass V N F g) → slice_get row k ≡ Some pass → get_or (fronts row) k [] ≡ front pass
 front_at row k pass is = get_or_from_slice_get (fronts row) k (front pass) [] (slice_get-map (λ p. front p) row k ∙ ap (option_map (λ p. front p)) is)
 
-module _ {S P F : Type 0} {g : _} (t : TrailWords S F) (setup : Setup) (frame : F) (k : ℕ) (lock : Ticketed (KeptShardState S P) Entry (ShardFrame F)) (column : List (Pass (KeptShardState S P) Entry (ShardFrame F) g)) (kept : KeptShardState S P) (has : ShardState S P) where
+module _ {S P F : Type 0} {g : _} (t : TrailWords S F) (setup : Setup) (frame : F) (told : ℕ → List S) (k : ℕ) (lock : Ticketed (KeptShardState S P) (Note S P) (ShardFrame S F)) (column : List (Pass (KeptShardState S P) (Note S P) (ShardFrame S F) g)) (kept : KeptShardState S P) (has : ShardState S P) where
   -- a shard that was closed over all its passes, where each core's pass has finished what it took
-  pub shard_gathers : IsClosed (λ (v : KeptShardState S P). v.has.history) pass_of (shard_frame t.frame_of) lock column kept → IsTakenOut t.frame_of kept has → shard_frame t.frame_of (initial_value lock) ≡ frame_for setup frame k → (shape_of setup).cores ≤ lock.passes
-      → ((j : ℕ) (pass : Pass (KeptShardState S P) Entry (ShardFrame F) g) → slice_get column j ≡ Some pass → pass.number < (shape_of setup).cores → (c : Colour) → shard_of setup c ≡ k → HasFinishedOf pass.number c (front pass))
+  pub shard_gathers : IsClosed (λ (v : KeptShardState S P). v.notes) noted_by (shard_frame t.frame_of) lock column kept → IsTakenOut t.frame_of kept has → shard_frame t.frame_of (initial_value lock) ≡ frame_for setup frame told k → (shape_of setup).cores ≤ lock.passes
+      → ((j : ℕ) (pass : Pass (KeptShardState S P) (Note S P) (ShardFrame S F) g) → slice_get column j ≡ Some pass → pass.number < (shape_of setup).cores → (c : Colour) → shard_of setup c ≡ k → HasFinishedOf pass.number c (entries_of (front pass)))
       → MayGatherShard t setup frame k has
   shard_gathers closed out lock_frame enough finished =
-      let frame_is : shard_frame t.frame_of kept ≡ frame_for setup frame k = closed.framed ∙ lock_frame in
-      let of_setup : has.setup ≡ setup = ap (λ (h : ShardState S P). h.setup) out.is ∙ ap (λ (f : ShardFrame F). f.setup) frame_is in
-      let numbered : has.shard ≡ k = ap (λ (h : ShardState S P). h.shard) out.is ∙ ap (λ (f : ShardFrame F). f.shard) frame_is in
+      let frame_is : shard_frame t.frame_of kept ≡ frame_for setup frame told k = closed.framed ∙ lock_frame in
+      let of_setup : has.setup ≡ setup = ap (λ (h : ShardState S P). h.setup) out.is ∙ ap (λ (f : ShardFrame S F). f.setup) frame_is in
+      let numbered : has.shard ≡ k = ap (λ (h : ShardState S P). h.shard) out.is ∙ ap (λ (f : ShardFrame S F). f.shard) frame_is in
       record {
         of_setup = of_setup;
         numbered = numbered;
@@ -81,16 +85,21 @@ module _ {S P F : Type 0} {g : _} (t : TrailWords S F) (setup : Setup) (frame : 
             rests_where_finished setup has.history c (subst (λ s. IsLegal s has.history) of_setup out.legal)
             (λ core low.
             let some = closed.numbers core (omega (arith, low, enough)) in
-            let pass : Pass (KeptShardState S P) Entry (ShardFrame F) g = some.1 in
+            let pass : Pass (KeptShardState S P) (Note S P) (ShardFrame S F) g = some.1 in
             let there : slice_get column some.0 ≡ Some pass = slice_get-get_or column some.0 pass some.2 ∙ ap (λ p. Some p) some.3 in
-            let since : OthersSince pass_of pass.number (front pass) kept.has.history = subst (λ (p : Pass (KeptShardState S P) Entry (ShardFrame F) g). OthersSince pass_of p.number (front p) kept.has.history) some.3 (closed.fronts some.0 pass some.2) in
+            let noted : OthersSince noted_by pass.number (front pass) kept.notes = subst (λ (p : Pass (KeptShardState S P) (Note S P) (ShardFrame S F) g). OthersSince noted_by p.number (front p) kept.notes) some.3 (closed.fronts some.0 pass some.2) in
+            let since = others_of_entries pass.number (front pass) kept.notes noted in
             let number_is : pass.number ≡ core = some.4 in (
-              front pass,
-              record { later = since.0; goes_on = ap (λ (h : ShardState S P). h.history) out.is ∙ since.1; of_others = subst (λ n. entries_by n since.0 ≡ []) number_is since.2 },
-              subst (λ n. HasFinishedOf n c (front pass)) number_is (finished some.0 pass there (subst (λ n. n < (shape_of setup).cores) (sym number_is) low) c here),
+              entries_of (front pass),
+              record { later = since.0; goes_on = out.shows.entries ∙ since.1; of_others = subst (λ n. entries_by n since.0 ≡ []) number_is since.2 },
+              subst (λ n. HasFinishedOf n c (entries_of (front pass))) number_is (finished some.0 pass there (subst (λ n. n < (shape_of setup).cores) (sym number_is) low) c here),
             ));
-        framed = λ i given is. out.framed i given is ∙ ap (λ (f : ShardFrame F). f.states) frame_is;
+        framed = λ i given is. out.framed i given is ∙ ap (λ (f : ShardFrame S F). f.states) frame_is;
       }
+
+  -- the states that it was given at first are those that its lock was told
+  pub givens_kept : IsClosed (λ (v : KeptShardState S P). v.notes) noted_by (shard_frame t.frame_of) lock column kept → IsTakenOut t.frame_of kept has → shard_frame t.frame_of (initial_value lock) ≡ frame_for setup frame told k → givens has ≡ told k
+  givens_kept closed out lock_frame = ap (λ (h : ShardState S P). givens h) out.is ∙ ap (λ (f : ShardFrame S F). f.givens.items) (closed.framed ∙ lock_frame)
 
 -- a chain that was closed
 pub chain_gathers : {g : _} (setup : Setup) (lock : Ticketed KeptChainState (ℕ × ChainNote) ChainFrame) (column : List (Pass KeptChainState (ℕ × ChainNote) ChainFrame g)) (kept : KeptChainState) (queue : CoreQueueState) → IsClosed (λ k. k.changes) (λ change. change.0) chain_frame lock column kept → queue ≡ kept.has → chain_frame (initial_value lock) ≡ chain_frame_for setup → MayGatherChain setup queue
@@ -124,13 +133,13 @@ module _ {V N F : Type 0} {g : _} (frame_of : V → F) (locks : List (Ticketed V
   }
 
 -- a pass of a row whose caller has finished what it took
-pub finished_at : {V F : Type 0} {g : _} (setup : Setup) (number : ℕ) (row : List (Pass V Entry (ShardFrame F) g)) (k : ℕ) (pass : Pass V Entry (ShardFrame F) g) → slice_get row k ≡ Some pass → pass.number ≡ number
-    → ((c : Colour) (core count : ℕ) → last_change number c (front_for setup (fronts row) c) ≡ Some (Take c core count) → ◌≡◌ {A = Option Colour} None (Some c))
-    → (c : Colour) → shard_of setup c ≡ k → HasFinishedOf pass.number c (front pass)
+pub finished_at : {S P V F : Type 0} {g : _} (setup : Setup) (number : ℕ) (row : List (Pass V (Note S P) (ShardFrame S F) g)) (k : ℕ) (pass : Pass V (Note S P) (ShardFrame S F) g) → slice_get row k ≡ Some pass → pass.number ≡ number
+    → ((c : Colour) (core count : ℕ) → last_change number c (entries_of (front_for setup (fronts row) c)) ≡ Some (Take c core count) → ◌≡◌ {A = Option Colour} None (Some c))
+    → (c : Colour) → shard_of setup c ≡ k → HasFinishedOf pass.number c (entries_of (front pass))
 finished_at setup number row k pass is number_is finished c here core count taken =
     let seen : get_or (fronts row) (shard_of setup c) [] ≡ front pass = ap (λ i. get_or (fronts row) i []) here ∙ front_at row k pass is in
-    let by_number : last_change number c (front pass) ≡ Some (Take c core count) = ap (λ n. last_change n c (front pass)) (sym number_is) ∙ taken in
-    let wrong : ◌≡◌ {A = Option Colour} None (Some c) = finished c core count (ap (last_change number c) seen ∙ by_number) in
+    let by_number : last_change number c (entries_of (front pass)) ≡ Some (Take c core count) = ap (λ n. last_change n c (entries_of (front pass))) (sym number_is) ∙ taken in
+    let wrong : ◌≡◌ {A = Option Colour} None (Some c) = finished c core count (ap (λ h. last_change number c (entries_of h)) seen ∙ by_number) in
     cc
 
 module _ {V N F O C : Type 0} {g : _} (frame_of : V → F) (items : C → List (Pass V N F g)) (row : O → List (Pass V N F g)) (number : O → ℕ) (locks : List (Ticketed V N F)) (owns : List O) (columns : List C) (passes : ℕ)
@@ -154,13 +163,13 @@ module _ {V N F O C : Type 0} {g : _} (frame_of : V → F) (items : C → List (
       let here : slice_get (row own.0) k ≡ Some pass = ap (λ xs. slice_get xs k) own.2 ∙ found.2 in
       (own.0, own.1, here, ((each j own.0 own.1).each k lock pass at here).numbered)
 
-module _ {S P F : Type 0} {g : _} (frame_of : KeptShardState S P → ShardFrame F) (setup : Setup) {C : Type 0} (items : C → List (Pass (KeptShardState S P) Entry (ShardFrame F) g)) (locks : List (Ticketed (KeptShardState S P) Entry (ShardFrame F))) (owns : List (PassesOf (KeptShardState S P) Entry (ShardFrame F) g)) (columns : List C) (count : ℕ)
-    (each : (n : ℕ) (own : PassesOf (KeptShardState S P) Entry (ShardFrame F) g) → slice_get owns n ≡ Some own → ArePassesOf frame_of locks own.number own.shards.items) (are : AreColumns items (map (λ (own : PassesOf (KeptShardState S P) Entry (ShardFrame F) g). own.shards.items) owns) columns) where
-  -- what a closed shard's history is to the callers
-  pub closed_over : (k : ℕ) (lock : Ticketed (KeptShardState S P) Entry (ShardFrame F)) (column : C) (kept : KeptShardState S P) (history : List Entry) → slice_get locks k ≡ Some lock → slice_get columns k ≡ Some column → lock.passes ≡ count → history ≡ kept.has.history
-      → IsClosed (λ (v : KeptShardState S P). v.has.history) pass_of frame_of lock (items column) kept → IsClosedOver count k owns history
-  closed_over k lock column kept history at there many same closed =
-      let shards_of : PassesOf (KeptShardState S P) Entry (ShardFrame F) g → List (Pass (KeptShardState S P) Entry (ShardFrame F) g) = λ own. own.shards.items in
+module _ {S P F : Type 0} {g : _} (frame_of : KeptShardState S P → ShardFrame S F) (setup : Setup) {C : Type 0} (items : C → List (Pass (KeptShardState S P) (Note S P) (ShardFrame S F) g)) (locks : List (Ticketed (KeptShardState S P) (Note S P) (ShardFrame S F))) (owns : List (PassesOf (KeptShardState S P) (Note S P) (ShardFrame S F) g)) (columns : List C) (count : ℕ)
+    (each : (n : ℕ) (own : PassesOf (KeptShardState S P) (Note S P) (ShardFrame S F) g) → slice_get owns n ≡ Some own → ArePassesOf frame_of locks own.number own.shards.items) (are : AreColumns items (map (λ (own : PassesOf (KeptShardState S P) (Note S P) (ShardFrame S F) g). own.shards.items) owns) columns) where
+  -- what a closed shard's notes are to the callers
+  pub closed_over : (k : ℕ) (lock : Ticketed (KeptShardState S P) (Note S P) (ShardFrame S F)) (column : C) (kept : KeptShardState S P) (notes : List (Note S P)) → slice_get locks k ≡ Some lock → slice_get columns k ≡ Some column → lock.passes ≡ count → notes ≡ kept.notes
+      → IsClosed (λ (v : KeptShardState S P). v.notes) noted_by frame_of lock (items column) kept → IsClosedOver count k owns notes
+  closed_over k lock column kept notes at there many same closed =
+      let shards_of : PassesOf (KeptShardState S P) (Note S P) (ShardFrame S F) g → List (Pass (KeptShardState S P) (Note S P) (ShardFrame S F) g) = λ own. own.shards.items in
       let is = column_at frame_of items shards_of (λ own. own.number) locks owns columns count each are k column there in
       let long = is.many in
       let rows_many = length-map owns shards_of in
@@ -170,32 +179,32 @@ module _ {S P F : Type 0} {g : _} (frame_of : KeptShardState S P → ShardFrame 
             let pass = get_there (items column) n (omega (arith, low, long, rows_many)) in
             let place : slice_get own.shards.items k ≡ Some pass.0 = is.each n own.shards.items pass.0 (slice_get-map shards_of owns n ∙ ap (option_map shards_of) here) pass.1 in
             let read : get_or (items column) n pass.0 ≡ pass.0 = get_or_from_slice_get (items column) n pass.0 pass.0 pass.1 in
-            let since : OthersSince pass_of pass.0.number (front pass.0) kept.has.history = subst (λ (p : Pass (KeptShardState S P) Entry (ShardFrame F) g). OthersSince pass_of p.number (front p) kept.has.history) read (closed.fronts n pass.0 (slice_get_within (items column) n pass.0 pass.1)) in
+            let since : OthersSince noted_by pass.0.number (front pass.0) kept.notes = subst (λ (p : Pass (KeptShardState S P) (Note S P) (ShardFrame S F) g). OthersSince noted_by p.number (front p) kept.notes) read (closed.fronts n pass.0 (slice_get_within (items column) n pass.0 pass.1)) in
             let numbered : pass.0.number ≡ own.number = ((each n own here).each k lock pass.0 at place).numbered in
-            subst (λ h. OthersSince pass_of own.number (get_or (fronts own.shards.items) k []) h) (sym same)
-            (subst (λ f. OthersSince pass_of own.number f kept.has.history) (sym (front_at own.shards.items k pass.0 place))
-            (subst (λ m. OthersSince pass_of m (front pass.0) kept.has.history) numbered since));
+            subst (λ h. OthersSince noted_by own.number (get_or (fronts own.shards.items) k []) h) (sym same)
+            (subst (λ f. OthersSince noted_by own.number f kept.notes) (sym (front_at own.shards.items k pass.0 place))
+            (subst (λ m. OthersSince noted_by m (front pass.0) kept.notes) numbered since));
         numbers = λ m low.
             let some = closed.numbers m (subst (λ p. m < p) (sym many) low) in
             let own = owner_of_pass frame_of items shards_of (λ own. own.number) locks owns columns count each are k lock column at there some.0 some.1 (slice_get-get_or (items column) some.0 some.1 some.2 ∙ ap (λ p. Some p) some.3) in
             (some.0, own.0, own.1, sym own.3 ∙ some.4);
-        strangers = λ m high. ap (λ h. notes_of pass_of m h) same ∙ closed.strangers m (subst (λ p. p ≤ m) (sym many) high);
+        strangers = λ m high. ap (λ h. notes_of noted_by m h) same ∙ closed.strangers m (subst (λ p. p ≤ m) (sym many) high);
       }
 
-module _ {V F : Type 0} {g : _} (setup : Setup) (count k : ℕ) (passes : List (PassesOf V Entry (ShardFrame F) g)) (history : List Entry) (enough : (shape_of setup).cores ≤ count) (closed : IsClosedOver count k passes history) where
-  abbrev seen_of : PassesOf V Entry (ShardFrame F) g → List Entry
+module _ {S P V F : Type 0} {g : _} (setup : Setup) (count k : ℕ) (passes : List (PassesOf V (Note S P) (ShardFrame S F) g)) (notes : List (Note S P)) (enough : (shape_of setup).cores ≤ count) (closed : IsClosedOver count k passes notes) where
+  abbrev seen_of : PassesOf V (Note S P) (ShardFrame S F) g → List (Note S P)
   seen_of own = front_in (fronts own.shards.items) k
 
   -- how much passes of a number had seen
   record HasSeen (core : ℕ) : Type 0 where
     seen : ℕ
     place : ℕ
-    own : PassesOf V Entry (ShardFrame F) g
+    own : PassesOf V (Note S P) (ShardFrame S F) g
     there : slice_get passes place ≡ Some own
     numbered : own.number ≡ core
     is : seen ≡ length (seen_of own)
 
-  module _ (n : ℕ) (own : PassesOf V Entry (ShardFrame F) g) (there : slice_get passes n ≡ Some own) where
+  module _ (n : ℕ) (own : PassesOf V (Note S P) (ShardFrame S F) g) (there : slice_get passes n ≡ Some own) where
     -- of the number of these passes it is what these had seen, of another one
     -- what some of that number had
     abbrev seen_by : (core : ℕ) → (core ≡ own.number) ⊎ (core ≡ own.number → ⊥) → (core < count) ⊎ (count ≤ core) → ℕ
@@ -225,17 +234,17 @@ module _ {V F : Type 0} {g : _} (setup : Setup) (count k : ℕ) (passes : List (
 
     -- the fronts that are drained are first parts of the history, behind
     -- which the core made nothing
-    fronts_drained : AreDrainedWithin setup k passes (seen_of own) → HaveDrainedFronts setup history seen_at
+    fronts_drained : AreDrainedWithin setup k passes (seen_of own) → HaveDrainedFronts setup (entries_of notes) seen_at
     fronts_drained drained = record {
       own = λ core low.
           let it = has_seen core (omega (arith, low, enough)) in
           let since = closed.seen it.0.place it.0.own it.0.there in
-          let behind : drop (seen_at core) history ≡ since.0 = ap (λ m. drop m history) (sym it.1 ∙ it.0.is) ∙ ap (drop (length (seen_of it.0.own))) since.1 ∙ drop-append_seam (seen_of it.0.own) since.0 in
-          subst (λ es. entries_by core es ≡ []) (sym behind) (subst (λ m. entries_by m since.0 ≡ []) it.0.numbered since.2);
+          let behind : drop (seen_at core) (entries_of notes) ≡ entries_of since.0 = ap (λ m. drop m (entries_of notes)) (sym it.1 ∙ it.0.is) ∙ drop-map (λ note. entry_of note) (length (seen_of it.0.own)) notes ∙ ap (λ ns. entries_of ns) (ap (drop (length (seen_of it.0.own))) since.1 ∙ drop-append_seam (seen_of it.0.own) since.0) in
+          subst (λ es. entries_by core es ≡ []) (sym behind) (no_entries_by core since.0 (subst (λ m. notes_by m since.0 ≡ []) it.0.numbered since.2));
       drained = λ core low.
           let it = has_seen core (omega (arith, low, enough)) in
           let since = closed.seen it.0.place it.0.own it.0.there in
-          let front : take (seen_at core) history ≡ seen_of it.0.own = ap (λ m. take m history) (sym it.1 ∙ it.0.is) ∙ ap (take (length (seen_of it.0.own))) since.1 ∙ take-append_seam (seen_of it.0.own) since.0 in
+          let front : take (seen_at core) (entries_of notes) ≡ entries_of (seen_of it.0.own) = ap (λ m. take m (entries_of notes)) (sym it.1 ∙ it.0.is) ∙ take-map (λ note. entry_of note) (length (seen_of it.0.own)) notes ∙ ap (λ ns. entries_of ns) (ap (take (length (seen_of it.0.own))) since.1 ∙ take-append_seam (seen_of it.0.own) since.0) in
           subst IsDrained (sym front) (drained.drained it.0.place it.0.own it.0.there (subst (λ m. m < (shape_of setup).cores) (sym it.0.numbered) low));
     }
 
@@ -253,7 +262,7 @@ module _ {V F : Type 0} {g : _} (setup : Setup) (count k : ℕ) (passes : List (
 
   -- where the fronts of all cores are drained, what waits was registered by others
   -- behind the longest of them
-  pub left_by_others : IsLegal setup history → IsLeftByOthers setup k passes history
+  pub left_by_others : IsLegal setup (entries_of notes) → IsLeftByOthers setup k passes (entries_of notes)
   left_by_others legal n own there low drained =
-      subst (λ place. IsLeftOver setup history place) (own_seen n own there (cases_eq own.number own.number) (cases_lt own.number count))
-      (left_over setup history (seen_at n own there) own.number legal (fronts_drained n own there drained) (seen_most n own there low drained))
+      subst (λ place. IsLeftOver setup (entries_of notes) place) (own_seen n own there (cases_eq own.number own.number) (cases_lt own.number count))
+      (left_over setup (entries_of notes) (seen_at n own there) own.number legal (fronts_drained n own there drained) (seen_most n own there low drained))

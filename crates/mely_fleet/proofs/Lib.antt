@@ -1,9 +1,9 @@
-mod KeepLemmas
+pub mod FrontLemmas
 mod Rows
 pub mod SideLemmas
-mod WorkLemmas
+pub mod WorkLemmas
 mod WorkedLemmas
-mod MakesLemmas
+pub mod MakesLemmas
 mod LossLemmas
 pub mod OpeningLemmas
 mod ClosingRows
@@ -11,10 +11,4 @@ mod ClosingLemmas
 mod GatherClosedLemmas
 pub mod SeatLemmas
 mod CallLemmas
-mod CrewLemmas
 pub mod CrossingLemmas
-mod BegunLemmas
-mod OwnLemmas
-mod WorkerAccountLemmas
-mod CrewAccountLemmas
-mod SettlingLemmas

@@ -114,6 +114,6 @@ module _ {A R S P F : Type 0} (x : AccessWords A S P F) (y : AppWords R P S F) (
 
 module _ {R S P F : Type 0} (t : TrailWords S F) (fits : F → Colour → Event → Option P → Type 0) (y : AppWords R P S F) (app : R) where
   -- and so over all steps that a worker makes
-  pub steps_keep : (steps : List Made) (a b : Standpoint F) (w v : WorkerState S P) → MakesSteps t fits y app steps a w b v → KeepsLosses w v
+  pub steps_keep : (steps : List Made) (a b : Standpoint S P F) (w v : WorkerState S P) → MakesSteps t fits y app steps a w b v → KeepsLosses w v
   steps_keep [] a b w v made = subst (λ z. KeepsLosses w z) (sym made.1) (keeps_itself w)
   steps_keep (step ∷ later) a b w v (c, d, u, looked, one, rest) = keeps_onward w u v (step_keeps (words t fits) y app c d w step u one.steps) (steps_keep later d b u v rest)

@@ -1,12 +1,18 @@
 -- A fleet as it is made.
 use Rattle.std.proofs.Common.{◌≡◌, ℕ, ◌+◌, ◌*◌, ◌%◌, ◌<◌, ◌≤◌, List, [], ◌∷◌, ◌++◌, length-append, Some, length, map, refl, sym, ◌∙◌, ap, arith, zero, suc, All}
-use Rattle.std.specs.Prelude.{slice_get, slice_index_or}
-use Rattle.std.proofs.lemmas.Option.{slice_get-get_or, slice_get_within, unwrap_or-slice_get}
+use Rattle.std.specs.Prelude.{slice_get, slice_index_or, option_map}
+use Rattle.std.proofs.lemmas.Option.{slice_get-get_or, slice_get_within, slice_get-map, get_or_from_slice_get, unwrap_or-slice_get}
 use Rattle.std.proofs.lemmas.List.Elements.{All-from_recursion}
 use Rattle.std.proofs.Math.Seq.{get_or-append_seam}
+use Rattle.mely_note.specs.declared.note.Note.{Note}
 use Rattle.mely_event.specs.declared.trail.Trail.{Ghosts as TrailWords}
 use Rattle.mely_history.specs.declared.setup.Setup.{Setup}
-use Rattle.mely_history.specs.Setup.{shape_of}
+use Rattle.mely_history.specs.Setup.{shape_of, place}
+use Rattle.mely_event.specs.declared.colour.Colour.{Colour}
+use Rattle.std.proofs.lemmas.Nat.{div-add-mod'}
+use Rattle.mely_weave.specs.Side.{shard_of}
+use Rattle.mely_note.specs.ShowsNotes.{IsUntouched}
+use Rattle.mely_kept.proofs.MadeLemmas.{untouched_initial}
 use Rattle.mely_shard.specs.Shard.{ShardState, ColourState, IsInitialShard, givens, initial_lane}
 use Rattle.mely_weave.specs.Dealing.{AreDealt}
 use Rattle.mely_weave.proofs.Wholes.MakeLemmas.{dealt_to}
@@ -14,19 +20,19 @@ use Rattle.mely_weave.proofs.Wholes.DealLemmas.{each_push, both_push}
 use Rattle.mely_lock.specs.declared.ticketed.Ticketed.{Ticketed}
 use Rattle.mely_lock.specs.declared.pass.Pass.{Pass}
 use Rattle.mely_lock.specs.Words.{initial_value, IsPassOf, IsOutside, front}
-use Rattle.mely_history.specs.declared.entry.Entry.{Entry}
 use Rattle.mely_core.specs.CoreQueue.{CoreQueueState}
 use Rattle.mely_weave.specs.Making.{AreInitial, empty_chain}
 use Rattle.mely_weave.proofs.Wholes.GatherLemmas.{get_there}
 use Rattle.std.specs.List.{AllByRecursion}
-use Rattle.mely_fleet.specs.declared.kept_shard.ShardFrame.{ShardFrame}
+use Rattle.mely_kept.specs.declared.kept_shard.ShardFrame.{ShardFrame}
 use Rattle.mely_fleet.specs.declared.kept_chain.ChainFrame.{ChainFrame}
 use Rattle.mely_fleet.specs.Fleets.{frame_for, chain_frame_for, first_of_some}
 use Rattle.mely_fleet.specs.Rows.{IsPassAt, AreFramed, fronts}
 use Rattle.mely_fleet.specs.Dealing.{IsInitialRow}
-use Rattle.mely_fleet.specs.Frames.{HaveFrame, shard_frame, chain_frame, numbers_of}
+use Rattle.mely_kept.specs.Frames.{HaveFrame, shard_frame}
+use Rattle.mely_fleet.specs.Frames.{chain_frame, numbers_of}
 use Rattle.mely_fleet.specs.KeptChain.{KeptChainState}
-use Rattle.mely_fleet.specs.KeptShard.{KeptShardState}
+use Rattle.mely_kept.specs.KeptShard.{KeptShardState}
 
 givens_first : {S : Type 0} (P : Type 0) (states : List S) → map (λ (lane : ColourState S P). lane.given) (map (λ state. initial_lane {S = S} {P = P} state) states) ≡ states
 givens_first P [] = refl
@@ -41,11 +47,31 @@ module _ {S P F Y : Type 0} (t : TrailWords S F) (setup : Setup) (states : List 
       let there : slice_get (items to.pile) i ≡ Some state = ap (λ xs. slice_get xs i) (sym (ap (λ lanes. map (λ (lane : ColourState S P). lane.given) lanes) to.is.lanes ∙ givens_first P (items to.pile))) ∙ is in
       first.one_frame (i * (shape_of setup).shards + k) 0 state given (sym (dealt.each k to.pile to.there i) ∙ there) at
 
-  -- each shard is the setup's of its number, and nothing was registered there
-  pub shard_is_first : (k : ℕ) (has : ShardState S P) → slice_get shards k ≡ Some has → ((has.setup ≡ setup) × (has.shard ≡ k)) × (has.history ≡ [])
-  shard_is_first k has here =
+  -- each shard is the setup's of its number
+  pub shard_is_own : (k : ℕ) (has : ShardState S P) → slice_get shards k ≡ Some has → (has.setup ≡ setup) × (has.shard ≡ k)
+  shard_is_own k has here =
       let to = dealt_to t (λ f c e l. Unit {0}) setup states first items piles dealt shards many are k has here in
-      ((to.is.of_setup, to.is.of_shard), to.is.no_entry)
+      (to.is.of_setup, to.is.of_shard)
+
+  -- and nothing was registered there
+  pub shard_untouched : (k : ℕ) (has : ShardState S P) → slice_get shards k ≡ Some has → IsUntouched has
+  shard_untouched k has here =
+      let to = dealt_to t (λ f c e l. Unit {0}) setup states first items piles dealt shards many are k has here in
+      untouched_initial setup k (items to.pile) has to.is
+
+  -- the states that it was given are those of its colours
+  given_to : (c : Colour) (has : ShardState S P) → slice_get shards (shard_of setup c) ≡ Some has → slice_get (givens has) (place setup c) ≡ slice_get states c.0
+  given_to c has here =
+      let to = dealt_to t (λ f d e l. Unit {0}) setup states first items piles dealt shards many are (shard_of setup c) has here in
+      ap (λ xs. slice_get xs (place setup c)) (ap (λ lanes. map (λ (lane : ColourState S P). lane.given) lanes) to.is.lanes ∙ givens_first P (items to.pile))
+      ∙ dealt.each (shard_of setup c) to.pile to.there (place setup c)
+      ∙ ap (slice_get states) (div-add-mod' c.0 (shape_of setup).shards)
+
+  -- so it is where these are the shards' givens
+  pub states_given : (at : ℕ → List S) → ((k : ℕ) (has : ShardState S P) → slice_get shards k ≡ Some has → at k ≡ givens has) → (c : Colour) → slice_get (at (shard_of setup c)) (place setup c) ≡ slice_get states c.0
+  states_given at is c =
+      let has = get_there shards (shard_of setup c) (let some : 1 ≤ (shape_of setup).shards = setup.shards_in.0 in omega (arith, some, many)) in
+      ap (λ xs. slice_get xs (place setup c)) (is (shard_of setup c) has.0 has.1) ∙ given_to c has.0 has.1
 
 first_of : {A B C : Type 0} → A × B × C → A
 first_of (a, b, c) = a
@@ -85,30 +111,59 @@ all_unseen [] none k = sym (unwrap_or-slice_get [] k [])
 all_unseen (pass ∷ row) none zero = none 0 pass refl
 all_unseen (pass ∷ row) none (suc k) = all_unseen row (λ j. none (suc j)) k
 
+-- what a shard's lock was told of the states that were given at first stands at its place
+givens_here : {V N S F : Type 0} (kept_frame : V → ShardFrame S F) (locks : List (Ticketed V N (ShardFrame S F))) (k : ℕ) (lock : Ticketed V N (ShardFrame S F)) → slice_get locks k ≡ Some lock → slice_index_or (map (λ (l : Ticketed V N (ShardFrame S F)). (kept_frame (initial_value l)).givens.items) locks) k [] ≡ (kept_frame (initial_value lock)).givens.items
+givens_here {V} {N} {S} {F} kept_frame locks k lock at =
+    get_or_from_slice_get (map (λ (l : Ticketed V N (ShardFrame S F)). (kept_frame (initial_value l)).givens.items) locks) k (kept_frame (initial_value lock)).givens.items []
+    (slice_get-map (λ (l : Ticketed V N (ShardFrame S F)). (kept_frame (initial_value l)).givens.items) locks k ∙ ap (option_map (λ (l : Ticketed V N (ShardFrame S F)). (kept_frame (initial_value l)).givens.items)) at)
+
 module _ {S P F : Type 0} (frame_of : S → F) (setup : Setup) (sample : S) (shards : List (ShardState S P)) (kept : List (KeptShardState S P)) (kept_many : length kept ≡ length shards)
-    (are : (k : ℕ) (has : ShardState S P) (one : KeptShardState S P) → slice_get shards k ≡ Some has → slice_get kept k ≡ Some one → one ≡ record { has = has; sample = sample }) where
-  -- shards behind their locks have the frames of their places
-  pub shards_framed : (own : (k : ℕ) (has : ShardState S P) → slice_get shards k ≡ Some has → (has.setup ≡ setup) × (has.shard ≡ k)) (locks : List (Ticketed (KeptShardState S P) Entry (ShardFrame F))) → length locks ≡ length kept
-      → ((k : ℕ) (lock : _) (value : KeptShardState S P) → slice_get locks k ≡ Some lock → slice_get kept k ≡ Some value → shard_frame frame_of (initial_value lock) ≡ shard_frame frame_of value)
-      → AreFramed (shard_frame frame_of) (frame_for setup (frame_of sample)) locks
-  shards_framed own locks many frames k lock at =
-      let low = slice_get_within locks k lock at in
-      let one = get_there kept k (omega (arith, low, many)) in
-      let has = get_there shards k (omega (arith, low, many, kept_many)) in
-      let is = own k has.0 has.1 in
-      frames k lock one.0 at one.1 ∙ ap (shard_frame frame_of) (are k has.0 one.0 has.1 one.1) ∙ (λ i. record { setup = is.0 i; shard = is.1 i; states = frame_of sample })
+    (are : (k : ℕ) (has : ShardState S P) (one : KeptShardState S P) → slice_get shards k ≡ Some has → slice_get kept k ≡ Some one → one ≡ record { has = has; notes = []; sample = sample }) where
+  module _ (locks : List (Ticketed (KeptShardState S P) (Note S P) (ShardFrame S F))) (many : length locks ≡ length kept)
+      (frames : (k : ℕ) (lock : _) (value : KeptShardState S P) → slice_get locks k ≡ Some lock → slice_get kept k ≡ Some value → shard_frame frame_of (initial_value lock) ≡ shard_frame frame_of value) where
+    abbrev frame_at : Ticketed (KeptShardState S P) (Note S P) (ShardFrame S F) → ShardFrame S F
+    frame_at lock = shard_frame frame_of (initial_value lock)
+
+    abbrev pub told : ℕ → List S
+    told k = slice_index_or (map (λ lock. (frame_at lock).givens.items) locks) k []
+
+    lock_frame : (k : ℕ) (lock : _) (has : ShardState S P) → slice_get locks k ≡ Some lock → slice_get shards k ≡ Some has → frame_at lock ≡ shard_frame frame_of (record { has = has; notes = []; sample = sample })
+    lock_frame k lock has at here =
+        let low = slice_get_within locks k lock at in
+        let one = get_there kept k (omega (arith, low, many)) in
+        frames k lock one.0 at one.1 ∙ ap (shard_frame frame_of) (are k has one.0 here one.1)
+
+    -- shards behind their locks have the frames of their places
+    pub shards_framed : ((k : ℕ) (has : ShardState S P) → slice_get shards k ≡ Some has → (has.setup ≡ setup) × (has.shard ≡ k)) → AreFramed (shard_frame frame_of) (frame_for setup (frame_of sample) told) locks
+    shards_framed own k lock at =
+        let low = slice_get_within locks k lock at in
+        let has = get_there shards k (omega (arith, low, many, kept_many)) in
+        let is = own k has.0 has.1 in
+        let same = lock_frame k lock has.0 at has.1 in
+        let of_setup : (frame_at lock).setup ≡ setup = ap (λ (f : ShardFrame S F). f.setup) same ∙ is.0 in
+        let of_shard : (frame_at lock).shard ≡ k = ap (λ (f : ShardFrame S F). f.shard) same ∙ is.1 in
+        let of_states : (frame_at lock).states ≡ frame_of sample = ap (λ (f : ShardFrame S F). f.states) same in
+        let of_givens : (frame_at lock).givens.items ≡ told k = sym (givens_here (shard_frame frame_of) locks k lock at) in
+        λ i. record { setup = of_setup i; shard = of_shard i; states = of_states i; givens = record { of = record {}; items = of_givens i } }
+
+    -- and were told what their colours were given
+    pub told_givens : (k : ℕ) (has : ShardState S P) → slice_get shards k ≡ Some has → told k ≡ givens has
+    told_givens k has here =
+        let low = slice_get_within shards k has here in
+        let lock = get_there locks k (omega (arith, low, many, kept_many)) in
+        givens_here (shard_frame frame_of) locks k lock.0 lock.1 ∙ ap (λ (f : ShardFrame S F). f.givens.items) (lock_frame k lock.0 has lock.1 here)
 
   -- whose histories are empty
-  pub kept_empty : ((k : ℕ) (has : ShardState S P) → slice_get shards k ≡ Some has → has.history ≡ []) → (k : ℕ) (one : KeptShardState S P) → slice_get kept k ≡ Some one → one.has.history ≡ []
-  kept_empty empty k one at =
+  pub kept_empty : (k : ℕ) (one : KeptShardState S P) → slice_get kept k ≡ Some one → one.notes ≡ []
+  kept_empty k one at =
       let low = slice_get_within kept k one at in
       let has = get_there shards k (omega (arith, low, kept_many)) in
-      ap (λ (c : KeptShardState S P). c.has.history) (are k has.0 one has.1 at) ∙ empty k has.0 has.1
+      ap (λ (c : KeptShardState S P). c.notes) (are k has.0 one has.1 at)
 
 -- the frame of the first of them
-pub first_frame : {V N F : Type 0} (kept_frame : V → ShardFrame F) (setup : Setup) (f : F) (locks : List (Ticketed V N (ShardFrame F))) (some : 0 < length locks) → AreFramed kept_frame (frame_for setup f) locks → (kept_frame (initial_value (first_of_some locks some))).states ≡ f
-first_frame kept_frame setup f [] some framed = absurd (omega (arith, some))
-first_frame kept_frame setup f (lock ∷ locks) some framed = ap (λ frame. frame.states) (framed 0 lock refl)
+pub first_frame : {V N S F : Type 0} (kept_frame : V → ShardFrame S F) (setup : Setup) (f : F) (at : ℕ → List S) (locks : List (Ticketed V N (ShardFrame S F))) (some : 0 < length locks) → AreFramed kept_frame (frame_for setup f at) locks → (kept_frame (initial_value (first_of_some locks some))).states ≡ f
+first_frame kept_frame setup f at [] some framed = absurd (omega (arith, some))
+first_frame kept_frame setup f at (lock ∷ locks) some framed = ap (λ frame. frame.states) (framed 0 lock refl)
 
 -- the same of chains
 pub chains_framed : (setup : Setup) (chains : List CoreQueueState) (kept : List KeptChainState) → length kept ≡ length chains → ((k : ℕ) (queue : CoreQueueState) (one : KeptChainState) → slice_get chains k ≡ Some queue → slice_get kept k ≡ Some one → one ≡ record { has = queue; changes = [] }) → ((k : ℕ) (queue : CoreQueueState) → slice_get chains k ≡ Some queue → queue ≡ empty_chain setup)

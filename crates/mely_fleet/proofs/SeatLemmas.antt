@@ -6,11 +6,12 @@ use Rattle.std.proofs.Math.ListN.{get_or-append}
 use Rattle.std.proofs.lemmas.List.{length-map}
 use Rattle.std.proofs.lemmas.Option.{slice_get_within, slice_get-map, get_or_from_slice_get}
 use Rattle.std.specs.List.{AllByRecursion}
+use Rattle.mely_note.specs.declared.note.Note.{Note}
 use Rattle.mely_event.specs.declared.colour.Colour.{Colour}
 use Rattle.mely_event.specs.declared.event.Event.{Event}
 use Rattle.mely_event.specs.declared.trail.Trail.{Ghosts as TrailWords}
 use Rattle.mely_history.specs.declared.setup.Setup.{Setup}
-use Rattle.mely_history.specs.declared.entry.Entry.{Entry}
+use Rattle.mely_note.specs.Notes.{entries_of}
 use Rattle.mely_history.specs.declared.entry.Entry.TheVariants.{Take}
 use Rattle.mely_history.specs.Owing.{last_change}
 use Rattle.mely_history.specs.Setup.{shape_of}
@@ -31,9 +32,9 @@ use Rattle.mely_fleet.proofs.OpeningLemmas.{all_from_places}
 use Rattle.mely_fleet.proofs.GatherClosedLemmas.{from_map}
 use Rattle.mely_fleet.specs.declared.fleet.FleetOf.{FleetOf}
 use Rattle.mely_fleet.specs.declared.passes.PassesOf.{PassesOf}
-use Rattle.mely_fleet.specs.declared.kept_shard.ShardFrame.{ShardFrame}
-use Rattle.mely_fleet.specs.Frames.{shard_frame}
-use Rattle.mely_fleet.specs.KeptShard.{KeptShardState}
+use Rattle.mely_kept.specs.declared.kept_shard.ShardFrame.{ShardFrame}
+use Rattle.mely_kept.specs.Frames.{shard_frame}
+use Rattle.mely_kept.specs.KeptShard.{KeptShardState}
 use Rattle.mely_fleet.specs.Fleets.{frame_in}
 use Rattle.mely_fleet.specs.Opening.{AreInitialPasses}
 use Rattle.mely_fleet.specs.Work.{HasFinishedBut, standpoint}
@@ -45,9 +46,9 @@ victims_are_cores : (setup : Setup) (core : ℕ) (victims : List ℕ) → AllByR
 victims_are_cores setup core [] all = tt
 victims_are_cores setup core (victim ∷ victims) all = (all.0.1, victims_are_cores setup core victims all.1)
 
-module _ {S P F : Type 0} {g : _} (t : TrailWords S F) (fits : F → Colour → Event → Option P → Type 0) (fleet : FleetOf (KeptShardState S P) Entry (ShardFrame F)) where
+module _ {S P F : Type 0} {g : _} (t : TrailWords S F) (fits : F → Colour → Event → Option P → Type 0) (fleet : FleetOf (KeptShardState S P) (Note S P) (ShardFrame S F)) where
   -- its worker may work with its passes
-  pub seat_may : (own : PassesOf (KeptShardState S P) Entry (ShardFrame F) g) (worker : Option (IdleWorkerState P)) (rested : IdleWorkerState P) (w : WorkerState S P) → MaySit t.frame_of fits fleet own worker → worker ≡ Some rested → w ≡ resumed_worker rested → MayWorkOn t fits fleet own w
+  pub seat_may : (own : PassesOf (KeptShardState S P) (Note S P) (ShardFrame S F) g) (worker : Option (IdleWorkerState P)) (rested : IdleWorkerState P) (w : WorkerState S P) → MaySit t.frame_of fits fleet own worker → worker ≡ Some rested → w ≡ resumed_worker rested → MayWorkOn t fits fleet own w
   seat_may own worker rested w sits taken is =
       let both : Some sits.rest ≡ Some rested = sym sits.rested ∙ taken in
       let same : sits.rest ≡ rested = cc in
@@ -65,7 +66,7 @@ module _ {S P F : Type 0} {g : _} (t : TrailWords S F) (fits : F → Colour → 
       })
 
   -- it may sit again after its work
-  pub seat_back : (own back : PassesOf (KeptShardState S P) Entry (ShardFrame F) g) (worker : Option (IdleWorkerState P)) (rested rest : IdleWorkerState P) (w v : WorkerState S P) → MaySit t.frame_of fits fleet own worker → worker ≡ Some rested → w ≡ resumed_worker rested
+  pub seat_back : (own back : PassesOf (KeptShardState S P) (Note S P) (ShardFrame S F) g) (worker : Option (IdleWorkerState P)) (rested rest : IdleWorkerState P) (w v : WorkerState S P) → MaySit t.frame_of fits fleet own worker → worker ≡ Some rested → w ≡ resumed_worker rested
       → HasWorked t fits fleet own w back v → IsTrue (is_free v.phase) → resumed_worker rest ≡ v → MaySit t.frame_of fits fleet back (Some rest)
   seat_back own back worker rested rest w v sits taken is worked free rests =
       let number = worked.number in
@@ -91,13 +92,13 @@ module _ {S P F : Type 0} {g : _} (t : TrailWords S F) (fits : F → Colour → 
       }
 
   -- a seat at first
-  pub first_seat : (n : ℕ) (own : PassesOf (KeptShardState S P) Entry (ShardFrame F) g) (worker : Option (IdleWorkerState P)) → n < (shape_of fleet.setup).cores → AreInitialPasses (shard_frame t.frame_of) fleet n own → worker ≡ Some (initial_idle_worker fleet.setup n) → IsSeatOf t.frame_of fits fleet n own worker
+  pub first_seat : (n : ℕ) (own : PassesOf (KeptShardState S P) (Note S P) (ShardFrame S F) g) (worker : Option (IdleWorkerState P)) → n < (shape_of fleet.setup).cores → AreInitialPasses (shard_frame t.frame_of) fleet n own → worker ≡ Some (initial_idle_worker fleet.setup n) → IsSeatOf t.frame_of fits fleet n own worker
   first_seat n own worker low first is = record {
     sits = record {
       passes = first.are;
       core = subst (λ k. k < (shape_of fleet.setup).cores) (sym first.numbered) low;
       finished = λ c core count taken.
-          let none : None ≡ Some (Take c core count) = ap (last_change own.number c) (sym (first.unseen (shard_of fleet.setup c))) ∙ taken in
+          let none : None ≡ Some (Take c core count) = ap (λ h. last_change own.number c (entries_of h)) (sym (first.unseen (shard_of fleet.setup c))) ∙ taken in
           cc;
       rest = initial_idle_worker fleet.setup n;
       rested = is;
@@ -124,7 +125,7 @@ each_append Has xs ys first second i x is = all_at Has (xs ++ ys) i x (all_appen
 pub each_mapped : {A B : Type 0} (Has : B → Type 0) (f : A → B) (xs : List A) → ((i : ℕ) (x : A) → slice_get xs i ≡ Some x → Has (f x)) → (i : ℕ) (y : B) → slice_get (map f xs) i ≡ Some y → Has y
 each_mapped Has f xs each i y is = let from = from_map f xs i y is in subst Has from.2 (each i from.0 from.1)
 
-module _ {S P F : Type 0} {g : _} (t : TrailWords S F) (fits : F → Colour → Event → Option P → Type 0) (fleet : FleetOf (KeptShardState S P) Entry (ShardFrame F)) {X : Type 0} (passes_of : X → PassesOf (KeptShardState S P) Entry (ShardFrame F) g) (worker_of : X → Option (IdleWorkerState P)) (seats : List X)
+module _ {S P F : Type 0} {g : _} (t : TrailWords S F) (fits : F → Colour → Event → Option P → Type 0) (fleet : FleetOf (KeptShardState S P) (Note S P) (ShardFrame S F)) {X : Type 0} (passes_of : X → PassesOf (KeptShardState S P) (Note S P) (ShardFrame S F) g) (worker_of : X → Option (IdleWorkerState P)) (seats : List X)
     (sit : (n : ℕ) (seat : X) → slice_get seats n ≡ Some seat → IsSeatOf t.frame_of fits fleet n (passes_of seat) (worker_of seat)) where
   -- a worker of the seats may be gathered
   pub seated_worker : (rested : List (IdleWorkerState P)) → map (λ rest. Some rest) rested ≡ map worker_of seats → (n : ℕ) (w : WorkerState S P) → slice_get (map (λ (rest : IdleWorkerState P). resumed_worker rest) rested) n ≡ Some w → MayGatherWorker {S = S} fits fleet.setup (frame_in (shard_frame t.frame_of) fleet) n w

@@ -1,29 +1,13 @@
--- A shard and a chain as their locks keep them.
-use Rattle.std.specs.Prelude.{◌≡◌, ◌<◌, ◌%◌, ℕ, List, [], ◌∷◌, ◌++◌, Option, None, Some, drop, fold, slice_get}
+-- A chain as its lock keeps it.
+use Rattle.std.specs.Prelude.{ℕ, List, [], ◌∷◌, ◌++◌, Option, None, Some, drop, fold}
 use Rattle.mely_event.specs.declared.mark.Mark.{Mark}
 use Rattle.mely_steal.specs.Marks.{without, after_replacement}
 use Rattle.mely_steal.specs.StealQueue.{after_entry, after_mark_change}
-use Rattle.mely_event.specs.declared.colour.Colour.{Colour}
-use Rattle.mely_history.specs.Setup.{shape_of, colours_of}
 use Rattle.mely_core.specs.CoreQueue.{CoreQueueState, empty_core, told_of}
 use Rattle.mely_fleet.specs.declared.chain_note.ChainNote.{ChainNote}
 use Rattle.mely_fleet.specs.declared.chain_note.ChainNote.TheVariants.{Pushed, Popped, Retold, Picked}
-use Rattle.mely_fleet.specs.declared.kept_shard.ShardFrame.{ShardFrame}
 use Rattle.mely_fleet.specs.declared.kept_chain.ChainFrame.{ChainFrame}
-use Rattle.mely_fleet.specs.KeptShard.{KeptShardState}
 use Rattle.mely_fleet.specs.KeptChain.{KeptChainState}
-
--- all these states have one frame
-abbrev pub HaveFrame : {S F : Type 0} → (S → F) → F → List S → Type 0
-HaveFrame frame f states = (i : ℕ) (state : _) → slice_get states i ≡ Some state → frame state ≡ f
-
--- what stays the same of a shard behind its lock
-abbrev pub shard_frame : {S P F : Type 0} → (S → F) → KeptShardState S P → ShardFrame F
-shard_frame frame kept = record {
-  setup = kept.has.setup;
-  shard = kept.has.shard;
-  states = frame kept.sample;
-}
 
 -- the numbers with which a chain was made
 abbrev pub numbers_of : CoreQueueState → ChainFrame
@@ -61,8 +45,3 @@ abbrev pub chain_after : ChainFrame → List (ℕ × ChainNote) → CoreQueueSta
 chain_after of changes =
     fold (λ queue change. after_change queue change.1)
     (empty_core of.colours of.cost of.pinned) changes
-
--- the colour is one of the shard with this frame
-pub record IsColourOf {F : Type 0} (of : ShardFrame F) (c : Colour) : Type 0 where
-  pub there : c.0 < colours_of of.setup
-  pub here : c.0 % (shape_of of.setup).shards ≡ of.shard

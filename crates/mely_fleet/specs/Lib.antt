@@ -1,4 +1,3 @@
-pub mod KeptShard
 pub mod KeptChain
 pub mod Frames
 pub mod Calls
@@ -14,5 +13,3 @@ pub mod Closing
 pub mod Closed
 pub mod Seats
 pub mod ClosesHome
-pub mod Crew
-pub mod Settling

@@ -11,16 +11,6 @@ pub record IsPassAt {V N F : Type 0} {g : _} (frame_of : V → F) (lock : Ticket
   pub outside : IsOutside pass
   pub numbered : pass.number ≡ n
 
--- the pass may go into this lock
-abbrev pub MayEnter : {V N F : Type 0} {g : _} → (V → F) → Ticketed V N F → Pass V N F g → Type 0
-MayEnter frame_of lock pass = IsPassOf frame_of lock pass × IsOutside pass
-
--- the pass went in and came out again
-abbrev pub HasLeft : {V N F : Type 0} {g : _} → (V → F) → Ticketed V N F → Pass V N F g
-    → Pass V N F g → Type 0
-HasLeft frame_of lock before after = IsPassOf frame_of lock after × IsOutside after
-    × (after.number ≡ before.number)
-
 -- one pass for each lock, in order, all of one number
 pub record ArePassesOf {V N F : Type 0} {g : _} (frame_of : V → F) (locks : List (Ticketed V N F))
     (n : ℕ) (passes : List (Pass V N F g)) : Type 0 where

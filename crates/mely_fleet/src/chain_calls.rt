@@ -2,7 +2,7 @@
 ghost use Rattle.std.specs.Prelude.{◌<◌, ◌+◌, ◌^◌, IfSome, length};
 ghost use Rattle.mely_lock.specs.Words.{initial_value, front};
 ghost use Rattle.mely_fleet.specs.Chains.{IsOnChain, PushesAt, PopsAt, RetellsAt, PicksAt};
-ghost use Rattle.mely_fleet.specs.Rows.{MayEnter, HasLeft};
+ghost use Rattle.mely_kept.specs.Passing.{MayEnter, HasLeft};
 ghost use Rattle.mely_fleet.specs.Frames.{chain_frame};
 
 use crate::hint::Hint;

@@ -4,15 +4,15 @@ ghost use Rattle.mely_history.specs.Setup.{shape_of};
 ghost use Rattle.mely_weave.specs.Dealing.{AtEach};
 ghost use Rattle.mely_weave.specs.Gathering.{MayGatherWorker};
 ghost use Rattle.mely_fleet.specs.Fleets.{ArePasses, frame_in};
-ghost use Rattle.mely_fleet.specs.Frames.{shard_frame};
+ghost use Rattle.mely_kept.specs.Frames.{shard_frame};
 ghost use Rattle.mely_fleet.specs.Work.{HasFinishedBut, standpoint};
 
 use crate::closing::{chains_out, close_all, hand_in_all, shards_out};
 use crate::fleet::FleetOf;
-use crate::kept_shard::KeptShard;
 use crate::passes::Passes;
 use crate::room::{Room, RoomOf};
 use mely_event::{Fits, Kept, Trail};
+use mely_kept::KeptShard;
 use mely_weave::Weave;
 use mely_worker::Worker;
 
@@ -24,7 +24,8 @@ impl<S: Fits<P> + Drop, P: Drop> FleetOf<KeptShard<S, P>> {
     /// setup and number of passes.
     ///
     /// No colour runs, and every state is at home. Each history begins with what each caller had
-    /// seen of it, and the entries of a number are those of that caller. Each colour that is ready
+    /// seen of it, and the entries of a number are those of that caller. Its notes say with which
+    /// load each event waits, and which state each colour has. Each colour that is ready
     /// is chained anew on its owner. The workers are the weave's, with what they lost; one that was
     /// halted stays so. Where the cores' passes have seen a shard drained, what waits there was
     /// registered since, by others. It takes no memory.

@@ -3,10 +3,10 @@ ghost use Rattle.std.specs.Prelude.{◌≡◌, ◌≤◌, ◌<◌, ◌+◌, ◌+
 ghost use Rattle.mely_fleet.specs.Closed.{AreAllPasses, AreColumns, AreFilled, IsClosed, IsTakenOut};
 
 use crate::kept_chain::KeptChain;
-use crate::kept_shard::KeptShard;
 use crate::passes::PassesOf;
 use mely_core::CoreQueue;
 use mely_event::{Fits, Kept, Trail};
+use mely_kept::KeptShard;
 use mely_lock::{Pass, Ticketed};
 use mely_shard::Shard;
 

@@ -6,12 +6,11 @@ ghost use Rattle.mely_fleet.specs.Rows.{HavePasses};
 use crate::bell::Bell;
 use crate::chain_calls::{pick_at, pop_at, push_at, retell_at};
 use crate::kept_chain::KeptChain;
-use crate::kept_shard::KeptShard;
 use crate::passes::Passes;
-use crate::shard_calls::{finish_at, look_at, register_at, reserve_at, steal_at, take_at};
 use crate::side::Side;
 use mely_event::{Colour, Event, Fits, Kept, Mark, Memory, There, Trail, Unregistered};
 use mely_history::{After, NoSteal, NoTake, Registered, Setup, Stolen};
+use mely_kept::{KeptShard, finish_at, look_at, register_at, reserve_at, steal_at, take_at};
 use mely_lock::Ticketed;
 use mely_queue::Turn;
 use mely_worker::Delivery;
@@ -49,14 +48,16 @@ fn is_woken<P>(answer: &Result<Registered, Unregistered<P>>) -> bool {
 
 impl<S: Fits<P> + Drop, P: Drop> FleetOf<KeptShard<S, P>> {
     ghost use Rattle.mely_history.specs.Legal.{IsDrained};
+    ghost use Rattle.mely_note.specs.Notes.{entries_of};
     ghost use Rattle.mely_worker.specs.Access.{IsColour, IsCore, FitsSetup};
     ghost use Rattle.mely_worker.specs.Delivery.{MayDeliver};
     ghost use Rattle.mely_weave.specs.Side.{shard_of};
-    ghost use Rattle.mely_fleet.specs.Calls.{RegistersAt, TakesAt, FinishesAt, StealsAt, LooksAt, front_in};
+    ghost use Rattle.mely_kept.specs.Calls.{RegistersAt, TakesAt, FinishesAt, StealsAt, LooksAt};
+    ghost use Rattle.mely_fleet.specs.Calls.{front_in};
     ghost use Rattle.mely_fleet.specs.Chains.{PushesAt, PopsAt, RetellsAt, PicksAt};
-    ghost use Rattle.mely_fleet.specs.Frames.{shard_frame};
+    ghost use Rattle.mely_kept.specs.Frames.{shard_frame};
     ghost use Rattle.mely_fleet.specs.Rows.{fronts};
-    ghost use Rattle.mely_fleet.specs.Fleets.{ArePasses, frame_in, KeepChains, KeepShards, ReachesOn, SeesOn, owed_by};
+    ghost use Rattle.mely_fleet.specs.Fleets.{ArePasses, frame_in, given_in, KeepChains, KeepShards, ReachesOn, SeesOn, owed_by};
     ghost use Rattle.mely_fleet.specs.Posted.{HasDelivered, IsPosted};
 
     /// The place of the shard of a colour.
@@ -103,8 +104,9 @@ impl<S: Fits<P> + Drop, P: Drop> FleetOf<KeptShard<S, P>> {
         answer
     }
 
-    /// Moves the state of a colour and its first events out, for the core of
-    /// these passes to run them.
+    /// Moves the state of a colour and its first events out, for the core of these passes to run
+    /// them: the events with the loads that they were registered with, and the state that the last
+    /// finish brought home, or at first the one that was given.
     ///
     /// # Errors
     ///
@@ -121,8 +123,9 @@ impl<S: Fits<P> + Drop, P: Drop> FleetOf<KeptShard<S, P>> {
         ensures passes { ArePasses (shard_frame S.frame_of) self.now passes.new }
         ensures same { KeepChains passes.old passes.new }
         ensures sees { let frame = frame_in (shard_frame S.frame_of) self.now in
+            let given = given_in (shard_frame S.frame_of) self.now colour in
             SeesOn self.now (shard_of self.now.setup colour) passes.old passes.new
-            (λ setup n. TakesAt S.Trail S.fits_under setup frame n colour result) }
+            (λ setup n. TakesAt S.Trail S.fits_under setup frame given n colour result) }
     {
         let place = self.place(colour);
         take_at(rt, &self.shards[place], &mut passes.shards[place], colour)
@@ -143,7 +146,7 @@ impl<S: Fits<P> + Drop, P: Drop> FleetOf<KeptShard<S, P>> {
         ensures passes { ArePasses (shard_frame S.frame_of) self.now passes.new }
         ensures same { KeepChains passes.old passes.new }
         ensures sees { SeesOn self.now (shard_of self.now.setup turn.colour) passes.old passes.new
-            (λ setup n. FinishesAt setup n turn.colour turn.count result) }
+            (λ setup n. FinishesAt setup n turn result) }
     {
         let place = self.place(turn.colour());
         let answer = finish_at(rt, &self.shards[place], &mut passes.shards[place], turn);
@@ -277,7 +280,7 @@ impl<S: Fits<P> + Drop, P: Drop> FleetOf<KeptShard<S, P>> {
         ensures same { KeepChains passes.old passes.new }
         ensures sees { SeesOn self.now shard passes.old passes.new (λ setup n. LooksAt) }
         ensures drained { IsTrue result
-            ↔ IsDrained (front_in (fronts passes.new.shards.items) shard) }
+            ↔ IsDrained (entries_of (front_in (fronts passes.new.shards.items) shard)) }
     {
         let place = shard as usize;
         look_at(rt, &self.shards[place], &mut passes.shards[place])

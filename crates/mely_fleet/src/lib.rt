@@ -10,19 +10,17 @@
 //! stand in each shard's one legal history, each once, in the order in which it made them,
 //! whatever other threads do.
 //!
+//! Contracts see a history as [`Note`](mely_note::Note)s, which have the load of each registration
+//! and the state of each finish. So a take hands out the events with the loads that they were
+//! registered with, and the state that the last finish brought home.
+//!
 //! A shard's history is there for contracts, and takes no memory, however many calls are made. Where
 //! the setup asks for it ([`Setup::listed`](mely_history::Setup::listed)) its entries are also kept
 //! as a list, which can be read once the fleet is closed.
 //!
 //! [`Fleet::new`](FleetOf::new) deals out the passes of each core and of other callers, one of whom
 //! posts the first event. A thread for each core then works until nothing is left to do, and once
-//! all are back the fleet is closed. [`run_crew`] is the whole of that:
-//!
-//! ```text
-//! let begin = (colour, event, load);
-//! let (weave, drained) = run_crew(&rt, alloc, &setup, states, begin, &app, &gate)?;
-//! let parts = weave.into_parts(); // the histories and the states of all colours
-//! ```
+//! all are back the fleet is closed. `run_crew` of `mely_crew` is the whole of that.
 //!
 //! Where a mark lies in a running fleet isn't promised, nor that `work` returns, that two threads
 //! run at once, or any order between shards. The weave that [`close`](FleetOf::close) gives stands
@@ -35,26 +33,21 @@ mod chain_calls;
 mod chain_note;
 mod close;
 mod closing;
-mod crew;
 mod dealing;
 mod fleet;
 mod hint;
 mod kept_chain;
-mod kept_shard;
 mod opening;
 mod passes;
 mod room;
 mod seat;
-mod settling;
-mod shard_calls;
 mod side;
 mod working;
 
 pub use chain_note::ChainNote;
-pub use crew::run_crew;
 pub use fleet::{Fleet, FleetOf};
 pub use kept_chain::{ChainFrame, KeptChain};
-pub use kept_shard::{KeptShard, ShardFrame};
+pub use mely_kept::{KeptShard, ShardFrame};
 pub use passes::{Passes, PassesOf};
 pub use room::{Room, RoomOf};
 pub use seat::{Seat, SeatOf};

@@ -3,17 +3,18 @@ ghost use Rattle.std.specs.Prelude.{◌≡◌, ◌<◌, ◌≤◌, ℕ, [], Some
 ghost use Rattle.mely_core.specs.CoreQueue.{empty_core};
 ghost use Rattle.mely_shard.specs.Shard.{givens};
 ghost use Rattle.mely_weave.specs.Dealing.{AtEach};
-ghost use Rattle.mely_fleet.specs.Frames.{HaveFrame};
+ghost use Rattle.mely_kept.specs.Frames.{HaveFrame};
+ghost use Rattle.mely_note.specs.ShowsNotes.{IsUntouched};
 
 use crate::bell::Bell;
 use crate::dealing::lock_all;
 use crate::fleet::{Fleet, FleetOf};
 use crate::kept_chain::KeptChain;
-use crate::kept_shard::KeptShard;
 use crate::passes::{Passes, PassesOf};
 use mely_core::CoreQueue;
 use mely_event::{Fits, Kept, Memory, Trail};
 use mely_history::Setup;
+use mely_kept::KeptShard;
 use mely_lock::Pass;
 use mely_shard::Shard;
 use mely_weave::{chains_of, deal, shards_of};
@@ -26,13 +27,14 @@ fn keep_shards<S: Fits<P> + Drop, P: Drop>(
     shards: Vec<Shard<S, P>>,
     given: &Snapshot<S>,
 ) -> Result<Vec<KeptShard<S, P>>, Memory>
-    requires { let frame = S.frame_of given.now.value in
+    requires framed { let frame = S.frame_of given.now.value in
         AtEach (λ k has. HaveFrame S.frame_of frame (givens has)) shards.items }
+    requires untouched { AtEach (λ k has. IsUntouched has) shards.items }
     ensures many { IfOk result (λ kept. length kept.items ≡ length shards.items) }
     ensures each { IfOk result (λ kept. (k : ℕ) (has : _) (one : _)
         → slice_get shards.items k ≡ Some has
         → slice_get kept.items k ≡ Some one
-        → one ≡ record { has = has; sample = given.now.value }) }
+        → one ≡ record { has = has; notes = []; sample = given.now.value }) }
 {
     let mut kept = Vec::with_capacity(alloc, shards.len())?;
     'shards: for shard in shards {
@@ -106,7 +108,7 @@ impl<S: Fits<P> + Drop, P: Drop> FleetOf<KeptShard<S, P>> {
     ghost use Rattle.std.specs.Prelude.{◌≡◌, ◌≤◌, ◌+◌, IfOk};
     ghost use Rattle.mely_history.specs.Setup.{shape_of};
     ghost use Rattle.mely_weave.specs.Making.{AreInitial};
-    ghost use Rattle.mely_fleet.specs.Frames.{shard_frame};
+    ghost use Rattle.mely_kept.specs.Frames.{shard_frame};
     ghost use Rattle.mely_fleet.specs.Opening.{IsOpened};
 
     /// A fleet at first, and the passes of its callers by number: those of the

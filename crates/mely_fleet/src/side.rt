@@ -2,17 +2,18 @@
 ghost use Rattle.std.specs.Prelude.{◌≡◌, MatchResult};
 ghost use Rattle.mely_worker.specs.Access.{Stays, FitsSetup, IsSpent, StillOwes, NamesCore, GivesBack};
 ghost use Rattle.mely_weave.specs.Side.{shard_of};
-ghost use Rattle.mely_fleet.specs.Calls.{RegistersAt, TakesAt, FinishesAt, StealsAt};
+ghost use Rattle.mely_kept.specs.Calls.{RegistersAt, TakesAt, FinishesAt, StealsAt};
 ghost use Rattle.mely_fleet.specs.Chains.{PushesAt, PopsAt, RetellsAt, PicksAt};
 ghost use Rattle.mely_fleet.specs.Rows.{fronts};
-ghost use Rattle.mely_fleet.specs.Frames.{shard_frame};
-ghost use Rattle.mely_fleet.specs.Fleets.{ArePasses, frame_in, ReachesOn, SeesOn, owed_by};
+ghost use Rattle.mely_kept.specs.Frames.{shard_frame};
+ghost use Rattle.mely_fleet.specs.Fleets.{ArePasses, frame_in, given_in, ReachesOn, SeesOn, owed_by};
 
 use crate::fleet::Fleet;
-use crate::kept_shard::{KeptShard, ShardFrame};
 use crate::passes::Passes;
 use mely_event::{Colour, Event, Fits, Kept, Mark, There, Trail, Unregistered};
-use mely_history::{After, Entry, NoSteal, NoTake, Registered, Stolen};
+use mely_history::{After, NoSteal, NoTake, Registered, Stolen};
+use mely_kept::{KeptShard, ShardFrame};
+use mely_note::Note;
 use mely_queue::Turn;
 use mely_worker::Access;
 use std::sync::Wait;
@@ -22,7 +23,7 @@ use std::sync::Wait;
 #[derive(Drop)]
 pub(crate) struct Side<'a, S: Fits<P>, P, R: Wait>
 where
-    KeptShard<S, P>: Kept<Note = Entry, Frame = ShardFrame<S::Frame>>,
+    KeptShard<S, P>: Kept<Note = Note<S, P>, Frame = ShardFrame<S, S::Frame>>,
 {
     pub(crate) rt: &'a R,
     pub(crate) fleet: &'a Fleet<S, P>,
@@ -49,11 +50,12 @@ impl<'a, S: Fits<P> + Drop, P: Drop, R: Wait> Access<S, P> for Side<'a, S, P, R>
     ghost takes = { λ a c answer b.
         SeesOn a.fleet.now (shard_of a.fleet.now.setup c) a.passes.now b.passes.now
         (λ setup n. TakesAt S.Trail S.fits_under setup
-        (frame_in (shard_frame S.frame_of) a.fleet.now) n c answer) };
+        (frame_in (shard_frame S.frame_of) a.fleet.now)
+        (given_in (shard_frame S.frame_of) a.fleet.now c) n c answer) };
 
     ghost finishes = { λ a turn answer b.
         SeesOn a.fleet.now (shard_of a.fleet.now.setup turn.colour) a.passes.now b.passes.now
-        (λ setup n. FinishesAt setup n turn.colour turn.count answer) };
+        (λ setup n. FinishesAt setup n turn answer) };
 
     ghost steals = { λ a c answer b.
         SeesOn a.fleet.now (shard_of a.fleet.now.setup c) a.passes.now b.passes.now
@@ -120,7 +122,7 @@ impl<'a, S: Fits<P> + Drop, P: Drop, R: Wait> Access<S, P> for Side<'a, S, P, R>
         ensures called { let before = self.old in
             SeesOn before.fleet.now (shard_of before.fleet.now.setup turn.colour) before.passes.now
             self.new.passes.now
-            (λ setup n. FinishesAt setup n turn.colour turn.count result) }
+            (λ setup n. FinishesAt setup n turn result) }
         ensures stays { Stays (λ a. a.fleet.now.setup) (λ a. a.passes.now.number)
             (λ a. frame_in (shard_frame S.frame_of) a.fleet.now) self.old self.new }
         ensures kept { (self.new.passes.ghost_name ≡ self.old.passes.ghost_name)

@@ -2,7 +2,7 @@
 ghost use Rattle.std.specs.Prelude.{◌≡◌, ◌↔◌, None, true, IsTrue, IfSome};
 ghost use Rattle.mely_worker.specs.Conditions.{AppServes};
 ghost use Rattle.mely_worker.specs.Phase.{is_free};
-ghost use Rattle.mely_fleet.specs.Frames.{shard_frame};
+ghost use Rattle.mely_kept.specs.Frames.{shard_frame};
 ghost use Rattle.mely_fleet.specs.Fleets.{ArePasses, frame_in};
 ghost use Rattle.mely_worker.specs.Step.{Steps};
 ghost use Rattle.mely_fleet.specs.Work.{standpoint, words, HasLooked, MakesOn, SeesMore, SeesAllDrained, HasFinishedBut};
@@ -10,10 +10,10 @@ ghost use Rattle.mely_fleet.specs.Working.{MayWorkOn, HasWorked, KeepsLosses};
 
 use crate::bell::Watch;
 use crate::fleet::FleetOf;
-use crate::kept_shard::KeptShard;
 use crate::passes::Passes;
 use crate::side::Side;
 use mely_event::{Fits, Kept, Trail};
+use mely_kept::KeptShard;
 use mely_worker::{App, Gate, Made, Worker};
 use std::sync::Wait;
 

@@ -2,7 +2,7 @@
 //! One worker needs no thread: it runs over a weave.
 ghost use Rattle.std.specs.Prelude.{◌≡◌, ◌≢◌, ◌≤◌, ◌+◌, [], ◌∷◌, Some, false, IfOk, IfErr, IsSome, map, slice_get};
 ghost use Rattle.std.specs.List.{AllByRecursion};
-ghost use Rattle.mely_fleet.specs.Crew.{IsRegistered};
+ghost use Rattle.mely_crew.specs.Crew.{IsRegistered};
 ghost use Rattle.mely_history.specs.Setup.{is_listed};
 ghost use Rattle.mely_tally.specs.Account.{IsAccounted};
 ghost use Rattle.mely_weave.specs.Dealing.{AtEach};
@@ -31,8 +31,8 @@ use crate::load::{Load, WorldLoad};
 use crate::place::Place;
 use crate::starting::{colour_count, first_event, initial_places};
 use crate::steps::{setup_of, talk_gated, unbegun};
+use mely_crew::run_crew;
 use mely_event::{Colour, Event, Fits, Trail, Unregistered};
-use mely_fleet::run_crew;
 use mely_history::{Setup, Shape};
 use mely_tally::{the_parts_are_what_the_weave_had, what_is_left_in_the_parts_fits};
 use mely_weave::{Drained, Weave, WeaveParts};

@@ -6,7 +6,7 @@ use Rattle.std.specs.Prelude.{sum_by, slice_get, option_map, flat_map, if◌then
 use Rattle.mely_event.specs.declared.colour.Colour.{Colour}
 use Rattle.mely_event.specs.declared.event.Event.{Event}
 use Rattle.mely_event.specs.declared.trail.Trail.{Ghosts as TrailWords}
-use Rattle.mely_fleet.specs.Crew.{IsRegistered, IsRegisteredIn}
+use Rattle.mely_crew.specs.Crew.{IsRegistered, IsRegisteredIn}
 use Rattle.mely_history.specs.History.{registered_of}
 use Rattle.mely_history.specs.Setup.{colours_of}
 use Rattle.mely_history.specs.declared.entry.Entry.{Entry}

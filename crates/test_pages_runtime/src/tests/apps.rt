@@ -4,8 +4,8 @@ ghost use Rattle.std.specs.List.{AllByRecursion};
 ghost use Rattle.mely_weave.specs.Making.{AreInitialBelow};
 ghost use Rattle.mely_worker.specs.Access.{FitsIn};
 
+use mely_crew::run_crew;
 use mely_event::{Colour, Event, Handlers, Memory, TrailLog};
-use mely_fleet::run_crew;
 use mely_history::{Setup, Shape};
 use mely_weave::{Drained, Weave};
 use mely_worker::{App, OpenGate, Outs};

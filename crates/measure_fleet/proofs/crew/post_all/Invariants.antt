@@ -1,5 +1,5 @@
 use Rattle.std.specs.Prelude.{◌≡◌}
-use Rattle.mely_fleet.specs.Frames.{shard_frame}
+use Rattle.mely_kept.specs.Frames.{shard_frame}
 use Rattle.mely_fleet.specs.Fleets.{ArePasses}
 use Rattle.measure_fleet.proofs.crew.post_all.Given as goal
 

@@ -1,9 +1,9 @@
-use Rattle.std.proofs.Common.{◌≡◌, ◌≤◌, ◌++◌, ◌∷◌, [], Some, length, take, drop, ap, ◌∙◌, sym, subst, arith, length-append}
+use Rattle.std.proofs.Common.{◌++◌, ◌∷◌, [], length, ap, ◌∙◌, sym, subst, arith, length-append}
 use Rattle.std.specs.Prelude.{slice_get}
 use Rattle.std.proofs.lemmas.Option.{slice_get_within}
 use Rattle.mely_history.specs.Setup.{shape_of}
 use Rattle.mely_weave.proofs.Wholes.DealLemmas.{push_at, push_other}
-use Rattle.mely_fleet.specs.Frames.{shard_frame}
+use Rattle.mely_kept.specs.Frames.{shard_frame}
 use Rattle.mely_fleet.specs.Seats.{IsOutsider}
 use Rattle.measure_fleet.proofs.LoopLemmas.{refilled, the_only}
 use Rattle.measure_fleet.proofs.crew.run.Goals as goal

@@ -4,7 +4,6 @@ use Rattle.mely_event.proofs.trail_log.TrailLog.TheSendSync as trail
 use Rattle.mely_fleet.proofs.fleet.FleetOf.TheSendSync as fleet
 use Rattle.mely_fleet.proofs.passes.PassesOf.TheSendSync as passes
 use Rattle.mely_fleet.proofs.CrossingLemmas.{kept_crosses}
-use Rattle.mely_fleet.proofs.passes.PassesOf.TheSendSync as passes
 use Rattle.std.proofs.Common.{◌∙◌, Some, ap, sym}
 use Rattle.std.proofs.lemmas.Option.{slice_get-get_or}
 use Rattle.measure_lock.proofs.turns.reserve_from_threads.Goals as goal

@@ -1,5 +1,5 @@
 use Rattle.mely_fleet.specs.Fleets.{ArePasses}
-use Rattle.mely_fleet.specs.Frames.{shard_frame}
+use Rattle.mely_kept.specs.Frames.{shard_frame}
 use Rattle.measure_lock.proofs.turns.reserve_often.Given as goal
 
 abbrev pub invariant-turns : goal.invariant-turns

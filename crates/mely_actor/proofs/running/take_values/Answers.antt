@@ -15,5 +15,5 @@ states-preserved g c =
     record {
       split = append_assoc c.states.yielded (state ∷ []) _ ∙ rw (← steps) at.split;
       left = omega (arith, left, short, gone);
-      values = subst (AreValues g.A.Actor (c.states.yielded ++ state ∷ [])) (sym c.in_ok-push.ensures.items) (more_taken g.A.Actor c.states.yielded c.states.values.items state c.in-Some-into_value.value at.values c.in-Some-into_value.ensures);
+      values = subst (AreValues (c.states.yielded ++ state ∷ [])) (sym c.in_ok-push.ensures.items) (more_taken c.states.yielded c.states.values.items state c.in-Some-into_value.value at.values c.in-Some-into_value.ensures.value c.in-Some-into_value.ensures.well);
     }

@@ -7,5 +7,5 @@ abbrev pub invariant-states : goal.invariant-states
 invariant-states g l = record {
   split : l.yielded ++ into_iter_items l.state-iterator ≡ l.fn.states.items;
   left : into_iter_len l.state-iterator ≡ length (into_iter_items l.state-iterator);
-  values : AreValues g.A.Actor l.yielded l.values.items;
+  values : AreValues l.yielded l.values.items;
 }

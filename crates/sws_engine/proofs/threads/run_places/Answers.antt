@@ -3,7 +3,7 @@ use Rattle.std.proofs.Crossing.{crosses}
 use Rattle.sws_engine.specs.Counting.{bit}
 use Rattle.std.proofs.Common.{◌∙◌, sym, ap, refl, subst, arith}
 use Rattle.mely_event.specs.declared.event.Event.{Event}
-use Rattle.mely_fleet.specs.Crew.{IsRegistered}
+use Rattle.mely_crew.specs.Crew.{IsRegistered}
 use Rattle.mely_weave.proofs.Wholes.GatherLemmas.{get_there}
 use Rattle.sws_engine.specs.declared.place.Frame.{Frame}
 use Rattle.sws_engine.proofs.Ends.HandledLemmas.{accounted_by}

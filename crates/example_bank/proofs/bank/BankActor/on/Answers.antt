@@ -1,6 +1,4 @@
-use Rattle.std.proofs.Common.{◌≡◌, ◌+◌, ◌-◌, ◌^◌, ◌∷◌, ◌++◌, [], min, ap, sym, ◌∙◌, arith, rules}
-use Rattle.mely_event.specs.declared.colour.Colour.{Colour}
-use Rattle.example_bank.specs.declared.message.Message.{Message}
+use Rattle.std.proofs.Common.{◌≡◌, ◌-◌, ◌∷◌, ◌++◌, [], min, ap, sym, ◌∙◌, arith}
 use Rattle.example_bank.specs.declared.message.Message.TheVariants.{Deposit, Transfer}
 use Rattle.example_bank.specs.Balances.{after_one, paid_by}
 use Rattle.example_bank.proofs.PaymentLemmas.{one_more}

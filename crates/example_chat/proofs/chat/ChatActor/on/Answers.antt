@@ -1,8 +1,8 @@
 use Rattle.std.proofs.Common.{◌≡◌, ◌<◌, ◌≤◌, ◌+◌, ◌*◌, ◌++◌, map, ap, sym, ◌∙◌, subst, arith}
 use Rattle.std.specs.Prelude.{OnOk}
-use Rattle.example_chat.specs.Chats.{IsOfScript, MayHear, event_of, note_of, notes, says, sends_of, sent_as, to_clients}
+use Rattle.example_chat.specs.Chats.{IsOfScript, MayHear, event_of, note_of, notes, says, sent_as, to_clients}
 use Rattle.mely_actor.proofs.ListLemmas.{one_sent}
-use Rattle.example_chat.proofs.SeatLemmas.{events_of, late_noted, late_sent, line_noted, line_sent, line_told, none_more, on_ok, seat_kept, seat_more, without_text}
+use Rattle.example_chat.proofs.SeatLemmas.{late_noted, late_sent, line_noted, line_sent, none_more, on_ok, seat_kept, seat_more}
 use Rattle.example_chat.proofs.chat.ChatActor.on.Goals as goal
 
 pub returns-then-at-ge-LINES-clause-kept : goal.returns-then-at-ge-LINES-clause-kept
@@ -34,14 +34,6 @@ returns-in_ok-send_to_all-in-Line-clause-kept c =
     seat_kept c.keep.result c.send_to_all.new.sends heard after c.args.message n
     (c.in_ok-send_to_all-in-Line.ensures.sent ∙ ap (to_clients (record { handler = 3; arg = n * 256 + k })) c.deref.ensures.value ∙ line_sent n k c.in-Line.text low ∙ ap (says n) (sym c.in-Line.is))
     (subst (λ l. OnOk c.keep.result (map note_of after ≡ map note_of heard ++ l)) (line_noted n k c.in-Line.text low ∙ ap (notes n) (sym c.in-Line.is)) c.keep.ensures)
-
-pub returns-in_ok-send_to_all-in-Line-clause-sent : goal.returns-in_ok-send_to_all-in-Line-clause-sent
-returns-in_ok-send_to_all-in-Line-clause-sent c =
-    let n = c.args.at.number in
-    let is = c.if-at-ge-LINES.false in
-    let low : n < 256 = omega (arith, is) in
-    on_ok c.keep.result (events_of c.send_to_all.new.sends ∙ ap (map without_text) c.in_ok-send_to_all-in-Line.ensures.sent
-    ∙ line_told c.args.self.now c.args.at.colour n c.in-Line.number c.in-Line.text low ∙ ap (λ m. sends_of c.args.self.now c.args.at.colour n (event_of m)) (sym c.in-Line.is))
 
 pub returns-in_ok-send_to_all-in-Line-clause-allowed : goal.returns-in_ok-send_to_all-in-Line-clause-allowed
 returns-in_ok-send_to_all-in-Line-clause-allowed c =

@@ -1,7 +1,7 @@
 use Rattle.std.proofs.Common.{◌<◌, sym, ap, subst}
 use Rattle.mely_fleet.specs.declared.kept_chain.ChainFrame.{ChainFrame}
 use Rattle.mely_fleet.specs.Chains.{RetellsAt}
-use Rattle.mely_fleet.specs.Frames.{shard_frame}
+use Rattle.mely_kept.specs.Frames.{shard_frame}
 use Rattle.mely_fleet.proofs.CallLemmas.{may_enter, numbers_are, are_still, reaches}
 use Rattle.mely_fleet.proofs.fleet.FleetOf+KeptShard+S+P.retell.Goals as goal
 

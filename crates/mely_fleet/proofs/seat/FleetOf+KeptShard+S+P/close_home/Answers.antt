@@ -6,7 +6,7 @@ use Rattle.mely_worker.specs.IdleWorker.{resumed_worker}
 use Rattle.mely_worker.specs.Phase.{is_free}
 use Rattle.mely_weave.specs.Dealing.{AtEach}
 use Rattle.mely_fleet.specs.ClosesHome.{IsClosedInto}
-use Rattle.mely_fleet.specs.Frames.{shard_frame}
+use Rattle.mely_kept.specs.Frames.{shard_frame}
 use Rattle.mely_fleet.specs.Fleets.{ArePasses}
 use Rattle.mely_fleet.specs.Work.{HasFinishedBut, standpoint}
 use Rattle.mely_fleet.proofs.SeatLemmas.{each_append, each_mapped, seated_worker, some_mapped}

@@ -2,7 +2,7 @@ use Rattle.std.proofs.Common.{◌≡◌, ◌∙◌, Some, ap, refl, sym, subst, 
 use Rattle.std.proofs.lemmas.Option.{slice_get_within}
 use Rattle.mely_weave.proofs.Wholes.GatherLemmas.{get_there}
 use Rattle.mely_weave.specs.Making.{initial_idle_worker}
-use Rattle.mely_fleet.specs.Frames.{shard_frame}
+use Rattle.mely_kept.specs.Frames.{shard_frame}
 use Rattle.mely_fleet.specs.Opening.{AreInitialPasses}
 use Rattle.mely_fleet.proofs.SeatLemmas.{first_seat}
 use Rattle.mely_fleet.proofs.seat.FleetOf+KeptShard+S+P.seats.Goals as goal

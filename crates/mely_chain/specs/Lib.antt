@@ -1,0 +1,5 @@
+pub mod Runs
+pub mod Told
+pub mod InOrder
+pub mod WeaveTold
+pub mod Ended

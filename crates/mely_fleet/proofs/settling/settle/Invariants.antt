@@ -1,5 +1,0 @@
-use Rattle.mely_fleet.specs.Settling.{MakesSome}
-use Rattle.mely_fleet.proofs.settling.settle.Given as goal
-
-abbrev pub invariant-rounds : goal.invariant-rounds
-invariant-rounds g l = MakesSome g.S.Trail g.S.Fits.fits_under g.A.App l.app l.fn.weave l.weave

@@ -1,7 +1,0 @@
--- What a contract sees of a shard behind its lock.
-use Rattle.mely_shard.specs.Shard.{ShardState}
-
--- what a shard behind its lock has, and a state whose frame all its states have
-pub record KeptShardState (S P : Type 0) : Type 0 where
-  pub has : ShardState S P
-  pub sample : S

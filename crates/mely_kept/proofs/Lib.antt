@@ -1,0 +1,3 @@
+mod KeepLemmas
+mod PointLemmas
+pub mod MadeLemmas

@@ -1,0 +1,4 @@
+pub mod KeptShard
+pub mod Frames
+pub mod Calls
+pub mod Passing
