@@ -8,14 +8,17 @@ It wants the program built (`./swsd --version`). With `--quick`, as `bench/hosti
 takes some three minutes. The status is 1 where a case went otherwise.
 """
 import argparse
+import calendar
 import contextlib
 import errno
 import os
+import re
 import resource
 import select
 import shutil
 import socket
 import sys
+import tempfile
 import threading
 import time
 
@@ -237,9 +240,40 @@ def unread_files(_):
     yield is_right, f"beside what can't be read the others are served; said of it: {', '.join(named) or 'nothing'} (status {status}, {told})"
 
 
-CASES = [bursts, after_the_stop, tricklers, moving_downloads, held_lanes, unread_files, bytes_in_turn]
+def dates(is_quick):
+    """A page that changes several times a second while it is loaded anew as often as somebody asks: no date is that of two states of it, none goes
+    back or is to come, and who has the newest is told so."""
+    seen, faults, unchanged = {}, [], 0
+    with site() as folder, tempfile.TemporaryDirectory() as room:
+        reload_file = os.path.join(room, "reload")
+        with Server(folder, "--connections", "50", "--look", "0", "--reload-file", reload_file) as server:
+            last, until, number = 0, time.monotonic() + (8 if is_quick else 40), 0
+            while time.monotonic() < until:
+                number += 1
+                put(folder, "a.txt", b"%010d" % number)
+                open(reload_file, "w").close()
+                time.sleep(0.15)
+                answer = server.ask()
+                named = re.search(rb"\r\nLast-Modified: ([^\r]*)", answer)
+                if not named:
+                    faults.append(f"no date: {answer[:60]}")
+                    continue
+                date = calendar.timegm(time.strptime(named[1].decode(), "%a, %d %b %Y %H:%M:%S GMT"))
+                body = answer[-10:]
+                if seen.setdefault(date, body) != body or date < last or date > time.time():
+                    faults.append(f"{date} behind {last}: {body} and {seen[date]}")
+                last = date
+                again = server.ask(HEAD[:-2] + b"If-Modified-Since: " + named[1] + b"\r\n\r\n")
+                unchanged += again.startswith(b"HTTP/1.1 304 ")
+                if not again.startswith(b"HTTP/1.1 304 ") and again[-10:] == body:
+                    faults.append("the same page was sent again")
+            status, told = server.end()
+    yield status == 0 and not faults and unchanged > 0 and len(seen) > 3, f"{number} states of a page: {len(seen)} dates, {unchanged} times unchanged, faults {faults[:3]} ({told})"
 
-QUICK = [bursts, after_the_stop, tricklers, unread_files]
+
+CASES = [bursts, after_the_stop, dates, tricklers, moving_downloads, held_lanes, unread_files, bytes_in_turn]
+
+QUICK = [bursts, after_the_stop, dates, tricklers, unread_files]
 
 
 def run(only="", is_quick=False):

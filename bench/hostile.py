@@ -13,6 +13,7 @@ import argparse
 import concurrent.futures
 import contextlib
 import os
+import re
 import resource
 import select
 import shutil
@@ -650,6 +651,11 @@ def thread_refuser(folder):
     return None
 
 
+def undated(response):
+    """A response of `swsd` as `sws` makes it, which has no date."""
+    return re.sub(rb"\r\nLast-Modified: [^\r]*", b"", response, count=1)
+
+
 def answered_in(port, count, seconds, owed):
     """How many of so many clients at once got what is owed before the time was over, and how long that took."""
     began = time.monotonic()
@@ -662,7 +668,7 @@ def answered_in(port, count, seconds, owed):
     for client in clients:
         client.settimeout(max(0.01, began + seconds - time.monotonic()))
         with contextlib.suppress(OSError), client:
-            right += read_all(client)[0] == owed
+            right += undated(read_all(client)[0]) == owed
     return right, time.monotonic() - began
 
 

@@ -10,7 +10,7 @@ const VERSION: &str = "1.0";
 /// What is said of the program above its options.
 const ABOUT: &str = "Serves the files below a folder by HTTP until it is told to stop.";
 
-/// How many seconds an age or a grace may have, a day.
+/// How many seconds an age, a grace or the time between two looks may have, a day.
 const LONGEST: i64 = 86_400;
 
 /// What the words order.
@@ -38,8 +38,15 @@ pub struct Order {
     /// How many seconds later the connections that it still has are cut.
     pub grace: u64,
 
+    /// After how many seconds it is looked again whether the folder has changed; 0 where only the
+    /// reload file lets it be looked at.
+    pub look: u64,
+
     /// The file that tells all to stop, once it is there.
     pub stop_file: Option<String>,
+
+    /// The file that lets the folder be loaded anew, each time that it is made or written.
+    pub reload_file: Option<String>,
 
     /// Whether a line is written of each answer.
     pub log: bool,
@@ -47,7 +54,7 @@ pub struct Order {
     /// Whether only faults are said.
     pub quiet: bool,
 
-    /// Whether names that begin with a dot are served.
+    /// Whether names that begin with a dot are served too, beside `.well-known`.
     pub hidden: bool,
 }
 
@@ -130,7 +137,11 @@ fn places<'a>(alloc: Global) -> Result<Command<'a>, AllocError> {
         .about(ABOUT)
         .arg(folder)?
         .arg(listen)?
-        .arg(flag(alloc, "hidden", "Serve names that begin with a dot too"))
+        .arg(flag(
+            alloc,
+            "hidden",
+            "Serve all names that begin with a dot, not .well-known alone",
+        ))
 }
 
 /// The options that say by how many threads, and for how long a generation takes connections.
@@ -190,10 +201,30 @@ fn with_numbers<'a>(alloc: Global, command: Command<'a>) -> Result<Command<'a>, 
         .arg(grace)
 }
 
+/// The options that say when the folder is looked at, and by which files the server is told to load
+/// it anew and to stop.
+fn with_files<'a>(alloc: Global, command: Command<'a>) -> Result<Command<'a>, AllocError> {
+    let look = option(
+        alloc,
+        "look",
+        "SECONDS",
+        "How often it is looked whether the folder has changed; 0: only where the reload file asks",
+    )
+    .value_parser(value_parser!(u64).range(0..=LONGEST))
+    .default_value("1");
+    let reload = option(
+        alloc,
+        "reload-file",
+        "PATH",
+        "Load the folder anew each time that this file is made or written",
+    );
+    let stop = option(alloc, "stop-file", "PATH", "Stop once this file is there");
+    command.arg(look)?.arg(reload)?.arg(stop)
+}
+
 /// All words.
 fn whole<'a>(alloc: Global) -> Result<Command<'a>, AllocError> {
-    with_numbers(alloc, places(alloc)?)?
-        .arg(option(alloc, "stop-file", "PATH", "Stop once this file is there"))?
+    with_files(alloc, with_numbers(alloc, places(alloc)?)?)?
         .arg(flag(
             alloc,
             "log",
@@ -247,7 +278,9 @@ fn order_of(
         connections: matches.get_one::<u16>("connections").unwrap_or(1024),
         age: matches.get_one::<u64>("age").unwrap_or(600),
         grace: matches.get_one::<u64>("grace").unwrap_or(30),
+        look: matches.get_one::<u64>("look").unwrap_or(1),
         stop_file: text(alloc, matches.get_str("stop-file"))?,
+        reload_file: text(alloc, matches.get_str("reload-file"))?,
         log: matches.get_flag("log"),
         quiet: matches.get_flag("quiet"),
         hidden: matches.get_flag("hidden"),

@@ -94,9 +94,18 @@ impl<'d, T: Wait> Voice<'d, T> {
         ));
     }
 
+    /// Says that the folder was loaded anew, since it has changed or since somebody has asked.
+    pub fn tell_of_site(&self, is_asked: bool) {
+        if is_asked {
+            self.tell("the folder was loaded anew, as the reload file asks");
+        } else {
+            self.tell("the folder has changed and was loaded anew");
+        }
+    }
+
     /// Says why the folder was not loaded anew.
     pub fn warn_of_site(&self, fault: LoadFault) {
-        self.warn(format_args!("the folder has changed, and the old files stay: {fault}"));
+        self.warn(format_args!("the folder isn't loaded anew, and the old files stay: {fault}"));
     }
 
     /// Says what of a folder can't be read.

@@ -19,7 +19,7 @@ use std::sync::Wait;
 use std::thread::{self, Threads};
 use std::{fmt, io};
 use sws_lane::{Lane, Terms, Totals, keep_serving};
-use sws_net::{Door, Entrance, LaneWorld, StopFile, listen};
+use sws_net::{Door, Entrance, LaneWorld, ReloadFile, StopFile, listen};
 
 /// Why a folder can't be served.
 #[derive(Debug, Drop)]
@@ -143,13 +143,16 @@ pub fn serve_folder<T: AllocGlobal + Threads + Wait + Sync + Clock>(
     serve_at(rt, threads, order, &listener, outbox)
 }
 
-/// What all lanes share: the site, the door, the file that tells them to stop, what they count, and
-/// what tells the watch that they have ended.
+/// What all lanes share: the site, the door, the file that tells them to stop, the one that lets the
+/// folder be loaded anew, how often it is looked at, what they count, and what tells the watch that
+/// they have ended.
 #[derive(Drop)]
 struct House {
     shelf: Shelf,
     door: Door,
     stop: Option<StopFile>,
+    reload: Option<ReloadFile>,
+    look: u64,
     common: Common,
     curfew: Curfew,
 }
@@ -165,6 +168,8 @@ impl House {
         order: Order,
         voice: &Voice<'_, T>,
     ) -> Result<House, ServeFault> {
+        // Whoever asks from now on sees what the folder has then.
+        let reload = order.reload_file.map(|path| ReloadFile::new(rt, path));
         let mut notes = Notes::new(rt.alloc());
         let shelf = Shelf::new(rt, order.folder, order.hidden, &mut notes);
         voice.warn_of_notes(&notes);
@@ -175,6 +180,8 @@ impl House {
             shelf,
             door,
             stop: order.stop_file.map(StopFile::new),
+            reload,
+            look: order.look,
             common: Common::new(order.lanes, order.accepting),
             curfew: Curfew::new(),
         })
@@ -250,9 +257,10 @@ fn run_house<'d, T: AllocGlobal + Threads + Wait + Sync + Clock>(
     voice: &Voice<'d, T>,
     jobs: &mut [Job<'d, T>],
 ) {
-    let stop = house.stop.as_ref();
+    let (stop, reload) = (house.stop.as_ref(), house.reload.as_ref());
     let (shelf, door, common) = (&house.shelf, &house.door, &house.common);
-    let watch = Watch::new(rt, threads, shelf, door, stop, common, voice.again());
+    let (look, voice) = (house.look, voice.again());
+    let watch = Watch::new(rt, threads, shelf, door, stop, reload, look, common, voice);
     let curfew = &house.curfew;
     thread::join(
         threads,

@@ -1,8 +1,15 @@
 //! The site that generations begin with.
+ghost use Rattle.std.specs.Arc.{arc_value};
+ghost use Rattle.std.specs.Prelude.{◌≡◌, ◌≤◌, None, IfOk, IfSome, OnErr};
+ghost use Rattle.sws_site.specs.Site.{last_second};
+ghost use Rattle.sws_daemon.specs.Dates.{date_of, latest, IsLater, IsLoaded};
+
+use crate::dating::{next_date, rest_of_second, time_of};
 use crate::notes::Notes;
 use std::alloc::AllocError;
-use std::fmt;
 use std::sync::{Arc, Mutex, Wait};
+use std::time::Duration;
+use std::{fmt, thread};
 use sws_link::{Folder, Opened};
 use sws_net::{FileFolder, FolderMark};
 use sws_site::{Site, SiteFault};
@@ -87,17 +94,21 @@ fn mark_of(rt: &HostRuntime, path: &str, hidden: bool) -> Result<FolderMark, Loa
     }
 }
 
-/// Loads the files of a folder, those whose names begin with a dot only where these are asked for.
-/// What can't be read is noted.
+/// Loads the files of a folder, the hidden ones only where these are asked for, as a site of this
+/// date. What can't be read is noted.
 fn load(
     rt: &HostRuntime,
     path: &str,
     hidden: bool,
+    date: Option<u64>,
     notes: &mut Notes,
-) -> Result<Arc<Site>, LoadFault> {
+) -> Result<Arc<Site>, LoadFault>
+    requires { IfSome date (λ secs. secs ≤ last_second) }
+    ensures { IfOk result (λ site. date_of (arc_value site) ≡ date) }
+{
     *notes = Notes::new(rt.alloc());
     let mut folder = FileFolder::lenient(rt, hidden);
-    let site = load_from(rt, path, &mut folder);
+    let site = load_from(rt, path, date, &mut folder);
     notes.take(&folder);
     match Arc::new(rt.alloc(), site?) {
         Ok(site) => Ok(site),
@@ -105,10 +116,18 @@ fn load(
     }
 }
 
-/// Opens the folder, and loads its files.
-fn load_from(rt: &HostRuntime, path: &str, folder: &mut FileFolder<'_>) -> Result<Site, LoadFault> {
+/// Opens the folder, and loads its files as a site of this date.
+fn load_from(
+    rt: &HostRuntime,
+    path: &str,
+    date: Option<u64>,
+    folder: &mut FileFolder<'_>,
+) -> Result<Site, LoadFault>
+    requires { IfSome date (λ secs. secs ≤ last_second) }
+    ensures { IfOk result (λ site. date_of site ≡ date) }
+{
     match folder.open(path) {
-        Opened::Ready => Ok(Site::load(rt.alloc(), folder, None)?),
+        Opened::Ready => Ok(Site::load(rt.alloc(), folder, date)?),
         Opened::Failed => Err(LoadFault::Folder),
         Opened::Memory => Err(LoadFault::Memory),
     }
@@ -119,6 +138,65 @@ const LOADS: u32 = 3;
 
 /// How many looks go by before a folder that was refused, and hasn't changed since, is tried again.
 const LOOKS: u32 = 10;
+
+/// A site, its date, and what its folder looked like before it was loaded.
+#[derive(Drop)]
+struct Loaded {
+    mark: FolderMark,
+    date: Option<u64>,
+    site: Arc<Site>,
+}
+
+/// Loads a folder, as a site whose date is later than the one before, if it has one.
+fn load_once(
+    rt: &HostRuntime,
+    path: &str,
+    hidden: bool,
+    before: Option<u64>,
+    notes: &mut Notes,
+) -> Result<Loaded, LoadFault>
+    ensures { IfOk result (IsLoaded before) }
+{
+    let now = time_of(rt);
+    let mark = mark_of(rt, path, hidden)?;
+    let date = match now {
+        Some(now) => next_date(before, mark.newest(), now.as_secs()),
+        None => None,
+    };
+    let site = load(rt, path, hidden, date, notes)?;
+    Ok(Loaded { mark, date, site })
+}
+
+/// Loads a folder likewise. Where it changes meanwhile, it is loaded again, a few times at most.
+fn load_anew(
+    rt: &HostRuntime,
+    path: &str,
+    hidden: bool,
+    before: Option<u64>,
+    notes: &mut Notes,
+) -> Result<Loaded, LoadFault>
+    ensures { IfOk result (IsLoaded before) }
+{
+    let mut loaded = load_once(rt, path, hidden, before, notes)?;
+    'loads: for _ in 1..LOADS {
+        if mark_of(rt, path, hidden)? == loaded.mark {
+            break;
+        }
+        loaded = load_once(rt, path, hidden, before, notes)?;
+    }
+    Ok(loaded)
+}
+
+/// Waits until the clock shows a later second than that of this date, if it shows that one, so that
+/// what is loaded then can have a later date.
+fn wait_past(rt: &HostRuntime, date: Option<u64>) {
+    if let Some(now) = time_of(rt) {
+        let rest = rest_of_second(date, now);
+        if rest > 0 {
+            thread::sleep(rt, Duration::from_millis(rest));
+        }
+    }
+}
 
 /// A look of the folder that was refused, why, and how often it was seen since.
 #[derive(Clone, Copy, Drop)]
@@ -133,6 +211,9 @@ struct Refused {
 struct Marks {
     loaded: FolderMark,
     refused: Option<Refused>,
+
+    /// The date that a site had last.
+    date: Option<u64>,
 }
 
 impl Marks {
@@ -146,6 +227,43 @@ impl Marks {
         }
         refused.looks = refused.looks.saturating_add(1);
         Some(refused.fault)
+    }
+
+    /// Loads the folder anew, as a site whose date is later than that of each site before. Where it
+    /// is refused, that is noted, with what the folder looked like.
+    fn load_anew(
+        &mut self,
+        rt: &HostRuntime,
+        path: &str,
+        hidden: bool,
+        now: FolderMark,
+        notes: &mut Notes,
+    ) -> Result<Arc<Site>, LoadFault>
+        ensures later { IfOk result (λ site. IfSome (date_of (arc_value site))
+            (IsLater self.old.date)) }
+        ensures date { IfOk result (λ site. self.new.date
+            ≡ latest self.old.date (date_of (arc_value site))) }
+        ensures refused { OnErr result (self.new.date ≡ self.old.date) }
+    {
+        wait_past(rt, self.date);
+        match load_anew(rt, path, hidden, self.date, notes) {
+            Ok(Loaded { mark, date, site }) => {
+                self.loaded = mark;
+                self.refused = None;
+                if date.is_some() {
+                    self.date = date;
+                }
+                Ok(site)
+            }
+            Err(fault) => {
+                self.refused = Some(Refused {
+                    mark: now,
+                    fault,
+                    looks: 0,
+                });
+                Err(fault)
+            }
+        }
     }
 }
 
@@ -175,11 +293,11 @@ impl Shelf {
         hidden: bool,
         notes: &mut Notes,
     ) -> Result<Shelf, LoadFault> {
-        let loaded = mark_of(rt, path.as_str(), hidden)?;
-        let site = load(rt, path.as_str(), hidden, notes)?;
+        let Loaded { mark, date, site } = load_once(rt, path.as_str(), hidden, None, notes)?;
         let marks = Marks {
-            loaded,
+            loaded: mark,
             refused: None,
+            date,
         };
         Ok(Shelf {
             path,
@@ -205,8 +323,9 @@ impl Shelf {
         }
     }
 
-    /// Looks whether the folder has changed, and loads it anew then; what can't be read is noted.
-    /// True where that was done; false too where somebody else does it just now.
+    /// Looks whether the folder has changed, and loads it anew then, or where that is asked for;
+    /// what can't be read is noted. True where that was done; false too where somebody else does it
+    /// just now.
     ///
     /// # Errors
     ///
@@ -216,58 +335,26 @@ impl Shelf {
         &self,
         rt: &HostRuntime,
         threads: &R,
+        is_asked: bool,
         notes: &mut Notes,
     ) -> Result<bool, LoadFault> {
         let Some(mut marks) = self.marks.try_lock() else {
             return Ok(false);
         };
         let marks = &mut *marks;
-        let now = mark_of(rt, self.path.as_str(), self.hidden)?;
-        if now == marks.loaded {
-            marks.refused = None;
-            return Ok(false);
-        }
-        if let Some(fault) = marks.refusal(now) {
-            return Err(fault);
-        }
-        match self.load_anew(rt, notes) {
-            Ok((mark, site)) => {
-                *self.site.lock(threads) = site;
-                *marks = Marks {
-                    loaded: mark,
-                    refused: None,
-                };
-                Ok(true)
-            }
-            Err(fault) => {
-                marks.refused = Some(Refused {
-                    mark: now,
-                    fault,
-                    looks: 0,
-                });
-                Err(fault)
-            }
-        }
-    }
-
-    /// The site that the folder has now, and what the folder looked like before it was loaded. Where
-    /// it changes meanwhile, it is loaded again, a few times at most.
-    fn load_anew(
-        &self,
-        rt: &HostRuntime,
-        notes: &mut Notes,
-    ) -> Result<(FolderMark, Arc<Site>), LoadFault> {
         let path = self.path.as_str();
-        let mut mark = mark_of(rt, path, self.hidden)?;
-        let mut site = load(rt, path, self.hidden, notes)?;
-        for _ in 1..LOADS {
-            let now = mark_of(rt, path, self.hidden)?;
-            if now == mark {
-                break;
+        let now = mark_of(rt, path, self.hidden)?;
+        if !is_asked {
+            if now == marks.loaded {
+                marks.refused = None;
+                return Ok(false);
             }
-            mark = now;
-            site = load(rt, path, self.hidden, notes)?;
+            if let Some(fault) = marks.refusal(now) {
+                return Err(fault);
+            }
         }
-        Ok((mark, site))
+        let site = marks.load_anew(rt, path, self.hidden, now, notes)?;
+        *self.site.lock(threads) = site;
+        Ok(true)
     }
 }

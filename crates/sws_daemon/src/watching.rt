@@ -2,18 +2,20 @@
 
 use crate::keeper::Common;
 use crate::notes::Notes;
+use crate::rounds::Rounds;
 use crate::saying::Voice;
 use crate::shelf::{LoadFault, Shelf};
+use std::mem;
 use std::rt::Clock;
 use std::sync::{Condvar, Mutex, Wait};
 use std::time::Duration;
-use sws_net::{Door, StopFile};
+use sws_net::{Door, FileMark, ReloadFile, StopFile, is_asking};
 
-/// In how many milliseconds it is looked again whether the stop file is there.
+/// In how many milliseconds it is looked again for the stop file and the reload file.
 const TICK: u64 = 250;
 
-/// After how many of these looks the folder is looked at.
-const TICKS: u32 = 4;
+/// How many of these looks there are in a second.
+const TICKS: u64 = 4;
 
 /// How often in succession a changed folder waits for a lane that is free to serve it.
 const PATIENCE: u32 = 30;
@@ -53,6 +55,13 @@ impl Curfew {
     }
 }
 
+/// When the folder is looked at where that is to be every so many seconds, or, where they are 0,
+/// only where somebody asks.
+fn rounds_of(seconds: u64) -> Rounds {
+    let ticks = u32::try_from(seconds.saturating_mul(TICKS)).unwrap_or(u32::MAX);
+    Rounds::new(if ticks == 0 { None } else { Some(ticks) })
+}
+
 /// What the watch looks at, and whom it tells.
 #[derive(Drop)]
 pub struct Watch<'d, T: Wait> {
@@ -61,8 +70,18 @@ pub struct Watch<'d, T: Wait> {
     shelf: &'d Shelf,
     door: &'d Door,
     stop: Option<&'d StopFile>,
+    reload: Option<&'d ReloadFile>,
     common: &'d Common,
     voice: Voice<'d, T>,
+
+    /// What the reload file looked like when it was seen last.
+    seen: Option<FileMark>,
+
+    /// Whether somebody has asked by it for the folder to be loaded anew.
+    is_asked: bool,
+
+    /// When the folder is looked at.
+    rounds: Rounds,
 
     /// Why the folder wasn't loaded at the last look, where it wasn't.
     told: Option<LoadFault>,
@@ -72,42 +91,52 @@ pub struct Watch<'d, T: Wait> {
 }
 
 impl<'d, T: Wait + Clock> Watch<'d, T> {
-    /// A watch that has seen nothing yet.
+    /// A watch that has seen nothing yet, and looks at the folder every so many seconds, or, where
+    /// they are 0, only where the reload file asks for that.
     pub fn new(
         rt: &'d HostRuntime,
         threads: &'d T,
         shelf: &'d Shelf,
         door: &'d Door,
         stop: Option<&'d StopFile>,
+        reload: Option<&'d ReloadFile>,
+        seconds: u64,
         common: &'d Common,
         voice: Voice<'d, T>,
     ) -> Watch<'d, T> {
+        let seen = match reload {
+            Some(file) => file.first(),
+            None => None,
+        };
         Watch {
             rt,
             threads,
             shelf,
             door,
             stop,
+            reload,
             common,
             voice,
+            seen,
+            is_asked: false,
+            rounds: rounds_of(seconds),
             told: None,
             waited: 0,
         }
     }
 
-    /// Looks for the stop file and at the folder until the curfew rings.
+    /// Looks for the stop file and the reload file, and at the folder, until the curfew rings.
     pub fn keep(self, curfew: &Curfew) {
         let mut watch = self;
-        let mut ticks: u32 = 0;
         for _ in watch.threads.forever() {
             if curfew.wait(watch.threads) {
                 return;
             }
             watch.look_for_stop();
-            ticks = ticks.saturating_add(1);
-            if ticks >= TICKS {
-                ticks = 0;
-                watch.look();
+            watch.look_for_reload();
+            if watch.rounds.tick() {
+                let is_open = watch.look();
+                watch.rounds.begin(is_open);
             }
         }
     }
@@ -121,30 +150,53 @@ impl<'d, T: Wait + Clock> Watch<'d, T> {
         }
     }
 
+    /// Looks whether the reload file was made or written since it was seen last. Then the folder is
+    /// to be looked at now, and loaded whatever it looks like.
+    fn look_for_reload(&mut self) {
+        let Some(reload) = self.reload else {
+            return;
+        };
+        let now = reload.mark(self.rt);
+        if is_asking(self.seen, now) {
+            self.is_asked = true;
+            self.rounds.hurry();
+            // It is said again why the folder isn't loaded, where it isn't.
+            self.told = None;
+        }
+        self.seen = now;
+    }
+
     /// Looks whether the folder has changed, and whether a lane is free to serve it then. Those that
-    /// serve the old files leave the door for it.
-    fn look(&mut self) {
-        if self.door.is_closed() || self.shelf.is_as_loaded(self.rt) {
+    /// serve the old files leave the door for it. True where something is still to be done.
+    fn look(&mut self) -> bool {
+        if self.door.is_closed() || (!self.is_asked && self.shelf.is_as_loaded(self.rt)) {
             self.told = None;
             self.waited = 0;
-            return;
+            return false;
         }
         if !self.common.can_renew() && self.waited < PATIENCE {
             self.waited += 1;
-            return;
+            return true;
         }
         self.waited = 0;
+        let is_asked = mem::replace(&mut self.is_asked, false);
         let mut notes = Notes::new(self.rt.alloc());
-        match self.shelf.look(self.rt, self.threads, &mut notes) {
+        match self.shelf.look(self.rt, self.threads, is_asked, &mut notes) {
             Ok(true) => {
                 self.door.renew();
                 self.told = None;
-                self.voice
-                    .tell("the folder has changed and was loaded anew");
+                self.voice.tell_of_site(is_asked);
                 self.voice.warn_of_notes(&notes);
+                false
             }
-            Ok(false) => self.told = None,
-            Err(fault) => self.warn(fault, &notes),
+            Ok(false) => {
+                self.told = None;
+                false
+            }
+            Err(fault) => {
+                self.warn(fault, &notes);
+                true
+            }
         }
     }
 

@@ -18,6 +18,10 @@ const ENOPROTOOPT: i32 = 92;
 
 const EOPNOTSUPP: i32 = 95;
 
+const EAFNOSUPPORT: i32 = 97;
+
+const EADDRNOTAVAIL: i32 = 99;
+
 const ENOBUFS: i32 = 105;
 
 const EHOSTDOWN: i32 = 112;
@@ -38,6 +42,11 @@ pub fn has_no_room(error: &io::Error) -> bool {
         error.raw_os_error(),
         Some(ENFILE | EMFILE | ENOMEM | ENOBUFS)
     )
+}
+
+/// Whether the machine has no addresses of this kind, as one without IPv6.
+pub fn has_no_such_address(error: &io::Error) -> bool {
+    matches!(error.raw_os_error(), Some(EAFNOSUPPORT | EADDRNOTAVAIL))
 }
 
 /// The errors that a listening socket hands on from a connection that broke before it was accepted

@@ -29,7 +29,7 @@ pub struct FileFolder<'r> {
     /// The current file.
     file: Option<File>,
     faults: u64,
-    /// Whether entries are given whose names begin with a dot.
+    /// Whether hidden entries are given.
     hidden: bool,
     /// What was left out, in a lenient folder.
     left_out: Option<LeftOut>,
@@ -70,8 +70,8 @@ impl<'r> FileFolder<'r> {
         }
     }
 
-    /// A folder that was not opened yet, which leaves out what can't be read. What has a name that
-    /// begins with a dot is given only where it is asked for.
+    /// A folder that was not opened yet, which leaves out what can't be read. What is hidden
+    /// ([`is_hidden`](crate::is_hidden)) is given only where it is asked for.
     pub fn lenient(rt: &'r HostRuntime, hidden: bool) -> Self {
         let left_out = LeftOut {
             first: Vec::new(rt.alloc()),

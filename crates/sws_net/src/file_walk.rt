@@ -1,5 +1,6 @@
 //! A walk over the regular files below a folder.
 
+use crate::hidden::is_hidden;
 use crate::unread::Cause;
 use std::fs::{self, DirEntry, File, Metadata, ReadDir};
 use std::io::{self, ErrorKind};
@@ -111,13 +112,13 @@ pub struct FileWalk<'r> {
     levels: Vec<Level>,
     /// The name of what was looked at last.
     name: String,
-    /// Whether entries are given whose names begin with a dot.
+    /// Whether hidden entries are given.
     hidden: bool,
 }
 
 impl<'r> FileWalk<'r> {
-    /// A walk that begins in the folder of this path. Entries whose names begin with a dot, and
-    /// what is below them, are given only where these are asked for.
+    /// A walk that begins in the folder of this path. Hidden entries ([`is_hidden`]), and what is
+    /// below them, are given only where these are asked for.
     pub fn new(rt: &'r HostRuntime, path: &str, hidden: bool) -> io::Result<FileWalk<'r>> {
         let folder = open_folder(rt, path)?;
         let mut levels = Vec::new(rt.alloc());
@@ -164,7 +165,7 @@ impl<'r> FileWalk<'r> {
                 return Err(cause_of(error));
             }
         };
-        if !self.hidden && entry.file_name().starts_with('.') {
+        if !self.hidden && is_hidden(entry.file_name(), self.levels.len() == 1) {
             return Ok(None);
         }
         self.name = level.name_of(self.rt, &entry)?;

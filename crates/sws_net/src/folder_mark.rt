@@ -1,5 +1,6 @@
 //! What a folder looks like, to tell whether it has changed.
 
+use crate::hidden::is_hidden;
 use std::fs::{self, DirEntry, Metadata, ReadDir};
 use std::io::{self, ErrorKind};
 use std::os::unix::fs::MetadataExt;
@@ -38,8 +39,8 @@ pub struct FolderMark {
 }
 
 impl FolderMark {
-    /// What the folder of this path looks like. Entries whose names begin with a dot, and what is
-    /// below them, count only where these are asked for. What a lenient
+    /// What the folder of this path looks like. Hidden entries ([`is_hidden`]), and what is below
+    /// them, count only where these are asked for. What a lenient
     /// [`FileFolder`](crate::FileFolder) leaves out counts as far as it is seen.
     ///
     /// # Errors
@@ -57,11 +58,13 @@ impl FolderMark {
         let mut levels = Vec::new(alloc);
         levels.push(fs::read_dir(rt, path)?)?;
         for _ in 0..MOST {
+            let is_top = levels.len() == 1;
             let Some(level) = levels.last_mut() else {
                 return Ok(mark);
             };
             let below = match level.next() {
-                Some(Ok(entry)) => mark.look(rt, &entry, hidden)?,
+                Some(Ok(entry)) if !hidden && is_hidden(entry.file_name(), is_top) => None,
+                Some(Ok(entry)) => mark.look(rt, &entry)?,
                 Some(Err(error)) if error.kind() == ErrorKind::InvalidFilename => {
                     mark.entries = mark.entries.wrapping_add(1);
                     continue;
@@ -81,16 +84,14 @@ impl FolderMark {
         Err(io::Error::from(ErrorKind::Other))
     }
 
+    /// In which second after the beginning of 1970 the last change was; 0 where there is nothing, or
+    /// it was before.
+    pub fn newest(&self) -> u64 {
+        u64::try_from(self.newest.0).unwrap_or(0)
+    }
+
     /// Looks at an entry, and lists it where it is a folder that can be listed.
-    fn look(
-        &mut self,
-        rt: &HostRuntime,
-        entry: &DirEntry,
-        hidden: bool,
-    ) -> io::Result<Option<ReadDir>> {
-        if !hidden && entry.file_name().starts_with('.') {
-            return Ok(None);
-        }
+    fn look(&mut self, rt: &HostRuntime, entry: &DirEntry) -> io::Result<Option<ReadDir>> {
         let found = entry.metadata()?;
         if found.is_file() {
             self.bytes = self.bytes.wrapping_add(found.len());

@@ -1,4 +1,6 @@
+mod dates;
 mod lanes;
 mod lines;
+mod reloads;
 mod shelves;
 mod words;

@@ -11,8 +11,18 @@ const CLIENTS: u64 = 40;
 
 const REQUEST: &[u8] = b"GET / HTTP/1.1\r\nHost: x\r\nConnection: close\r\n\r\n";
 
-const RESPONSE: &[u8] =
-    b"HTTP/1.1 200 OK\r\nServer: sws\r\nConnection: close\r\nContent-Type: text/html\r\nContent-Length: 3\r\n\r\nhi\n";
+/// The response but for the date of the site, which is between the two.
+const HEAD: &[u8] = b"HTTP/1.1 200 OK\r\nServer: sws\r\nConnection: close\r\nLast-Modified: ";
+
+const REST: &[u8] = b" GMT\r\nContent-Type: text/html\r\nContent-Length: 3\r\n\r\nhi\n";
+
+/// How many bytes both have, and the date between them.
+const LENGTH: usize = 144;
+
+/// Whether this is the response, with a date.
+fn is_response(back: &[u8]) -> bool {
+    back.starts_with(HEAD) && back.ends_with(REST) && back.len() == LENGTH
+}
 
 /// Asks for the index, and reads what comes back to the end. A client that is refused has an error.
 fn ask(rt: &HostRuntime, address: SocketAddr) -> io::Result<Vec<u8>> {
@@ -28,7 +38,7 @@ fn ask_all(rt: &HostRuntime, address: SocketAddr, clients: u64) -> u64 {
     let mut answered = 0u64;
     for _ in 0..clients {
         if let Ok(back) = ask(rt, address) {
-            if back.as_slice() == RESPONSE {
+            if is_response(back.as_slice()) {
                 answered = answered.saturating_add(1);
             }
         }
@@ -88,7 +98,9 @@ fn order_of(
         connections: 2,
         age: 600,
         grace,
+        look: 1,
         stop_file: Some(String::from_str(alloc, stop)?),
+        reload_file: None,
         log: false,
         quiet: true,
         hidden: false,

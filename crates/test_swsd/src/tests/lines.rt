@@ -44,7 +44,9 @@ fn the_log_has_a_line_of_each_answer(rt: HostRuntime) -> Result<(), Fail> {
         connections: 16,
         age: 600,
         grace: 5,
+        look: 1,
         stop_file: Some(String::from_str(alloc, "swsd_lines_stop")?),
+        reload_file: None,
         log: true,
         quiet: false,
         hidden: false,
@@ -67,7 +69,7 @@ fn the_log_has_a_line_of_each_answer(rt: HostRuntime) -> Result<(), Fail> {
     let mut lines = 0u64;
     for line in output.as_str().lines() {
         assert!(rt;
-            line.starts_with("log ") && line.ends_with(" 200 98 /"),
+            line.starts_with("log ") && line.ends_with(" 200 144 /"),
             "{line}"
         );
         lines = lines.saturating_add(1);

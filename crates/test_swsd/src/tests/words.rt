@@ -38,7 +38,8 @@ fn a_folder_alone_is_served_by_the_machines_processors(rt: HostRuntime) -> Resul
         (order.connections, order.age, order.grace),
         (1024, 600, 30)
     );
-    assert!(rt; order.stop_file.is_none());
+    assert_eq!(rt; order.look, 1);
+    assert!(rt; order.stop_file.is_none() && order.reload_file.is_none());
     assert!(rt; !order.log && !order.quiet && !order.hidden);
     Ok(())
 }
@@ -56,6 +57,9 @@ fn words_stand_in_any_order(rt: HostRuntime) -> Result<(), Fail> {
         "site",
         "--stop-file",
         "stop",
+        "--look",
+        "0",
+        "--reload-file=again",
         "--hidden",
         "--quiet",
         "--grace=0",
@@ -69,6 +73,8 @@ fn words_stand_in_any_order(rt: HostRuntime) -> Result<(), Fail> {
     assert_eq!(rt; (order.workers, order.lanes, order.accepting), (64, 2, 2));
     assert_eq!(rt; (order.age, order.grace), (10, 0));
     assert_eq!(rt; order.stop_file.as_deref(), Some("stop"));
+    assert_eq!(rt; order.reload_file.as_deref(), Some("again"));
+    assert_eq!(rt; order.look, 0);
     assert!(rt; order.log && order.quiet && order.hidden);
     Ok(())
 }
@@ -89,6 +95,14 @@ fn a_fault_names_the_word_and_what_was_expected(rt: HostRuntime) -> Result<(), F
     assert!(rt;
         said.as_str().starts_with(
             "error: invalid value '65' for '--workers <N>': 65 is not in 1..=64"
+        )
+    );
+    let Some(said) = fault(alloc, &["swsd", "site", "--look", "86401"]) else {
+        panic!(rt; "the words are taken");
+    };
+    assert!(rt;
+        said.as_str().starts_with(
+            "error: invalid value '86401' for '--look <SECONDS>': 86401 is not in 0..=86400"
         )
     );
     assert!(rt; fault(alloc, &["swsd"]).is_some());

@@ -1,0 +1,30 @@
+-- When sites were last modified.
+use Rattle.std.specs.Prelude.{◌≡◌, ℕ, ◌+◌, ◌<◌, min, max, Option, None, Some, IfSome, option_map}
+use Rattle.std.specs.Option.{option_map_or}
+use Rattle.std.specs.Arc.{arc_value}
+use Rattle.httpdate.specs.Date.{unix_secs}
+use Rattle.sws_site.specs.Site.{SiteState}
+use Rattle.sws_daemon.specs.declared.shelf.Loaded.{Loaded}
+
+-- the date is later than the one before, if there was one
+abbrev pub IsLater : Option ℕ → ℕ → Type 0
+IsLater before date = IfSome before (λ earlier. earlier < date)
+
+-- the first second after the newest change and after the date before, and none that is to come
+abbrev pub date_after : Option ℕ → ℕ → ℕ → ℕ
+date_after before newest now =
+    min (max (option_map_or (λ earlier. earlier + 1) before 0) (newest + 1)) now
+
+-- when the site was last modified, in seconds after the beginning of 1970, where it has a date
+abbrev pub date_of : SiteState → Option ℕ
+date_of site = option_map unix_secs site.date
+
+-- the last date that a site had, once one has this date or none
+abbrev pub latest : Option ℕ → Option ℕ → Option ℕ
+latest before None = before
+latest before (Some date) = Some date
+
+-- the site has the date that is kept beside it, and none that isn't later than the one before
+pub record IsLoaded (before : Option ℕ) (loaded : Loaded) : Type 0 where
+  pub dated : date_of (arc_value loaded.site) ≡ loaded.date
+  pub later : IfSome loaded.date (IsLater before)
