@@ -132,11 +132,11 @@ fn has_come(
     guests: &[(End, &[u8])],
 ) {
     let (got, came) = talked;
-    assert_eq!(rt; *got, lines);
-    assert_eq!(rt; came.len(), guests.len());
+    assert!(rt; *got == lines);
+    assert!(rt; came.len() == guests.len());
     for ((end, written), (ended, shown)) in came.iter().zip(guests) {
-        assert_eq!(rt; *end, Some(*ended));
-        assert_eq!(rt; written.as_slice(), *shown);
+        assert!(rt; *end == Some(*ended));
+        assert!(rt; written.as_slice() == *shown);
     }
 }
 
@@ -148,11 +148,11 @@ fn is_left(
     shown: &[&[u8]],
 ) {
     let (got, came) = talked;
-    assert_eq!(rt; *got, lines);
-    assert_eq!(rt; came.len(), shown.len());
+    assert!(rt; *got == lines);
+    assert!(rt; came.len() == shown.len());
     for ((end, written), expected) in came.iter().zip(shown) {
-        assert_eq!(rt; *end, Some(End::Left));
-        assert_eq!(rt; written.as_slice(), *expected);
+        assert!(rt; *end == Some(End::Left));
+        assert!(rt; written.as_slice() == *expected);
     }
 }
 
@@ -267,10 +267,10 @@ fn a_link_that_fails_ends_its_client_alone(rt: HostRuntime) {
 #[test]
 fn a_world_that_fails_ends_all(rt: HostRuntime) {
     let (lines, came) = talked(&rt, 1, &[LISTENER, LISTENER], &[20]);
-    assert_eq!(rt; lines, 0);
+    assert!(rt; lines == 0);
     for (end, shown) in &came {
-        assert_eq!(rt; *end, Some(End::Fault));
-        assert_eq!(rt; shown.len(), 0);
+        assert!(rt; *end == Some(End::Fault));
+        assert!(rt; shown.len() == 0);
     }
 }
 
@@ -280,15 +280,15 @@ fn nobody_is_shown_a_line_of_its_own(rt: HostRuntime) {
     let guest = speaker(5, b"a\nb\nc\n");
     for workers in 1..=4 {
         let (lines, came) = talked(&rt, workers, &[guest; 8], &[]);
-        assert_eq!(rt; lines, 24);
+        assert!(rt; lines == 24);
         for (number, (end, shown)) in (b'1'..).zip(&came) {
-            assert_eq!(rt; *end, Some(End::Left));
-            assert_eq!(rt; shown.len() % 5, 0);
+            assert!(rt; *end == Some(End::Left));
+            assert!(rt; shown.len() % 5 == 0);
             for line in shown.chunks(5) {
                 assert!(rt; line[0] != number && (b'1'..=b'8').contains(&line[0]));
-                assert_eq!(rt; line[1..3], b": "[..]);
+                assert!(rt; line[1..3] == b": "[..]);
                 assert!(rt; (b'a'..=b'c').contains(&line[3]));
-                assert_eq!(rt; line[4], b'\n');
+                assert!(rt; line[4] == b'\n');
             }
         }
     }

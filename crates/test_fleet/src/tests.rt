@@ -2,7 +2,7 @@
 ghost use Rattle.std.specs.Prelude.{◌≡◌, ◌<◌, ◌≤◌, ◌+◌, IfOk};
 ghost use Rattle.mely_history.specs.Setup.{shape_of, colours_of};
 ghost use Rattle.mely_fleet.specs.Fleets.{ArePasses};
-ghost use Rattle.mely_fleet.specs.Frames.{shard_frame};
+ghost use Rattle.mely_kept.specs.Frames.{shard_frame};
 ghost use Rattle.test_fleet.specs.Callers.{AreCallers, IsRow};
 
 mod calls;

@@ -100,10 +100,10 @@ fn two_clients_are_served_over_sockets(rt: HostRuntime) -> Result<(), Fail> {
         || sws(&rt, &words, &mut folder, &mut source, world, &mut sink),
         || (ask(&rt, port), ask(&rt, port)),
     );
-    assert_eq!(rt; answers.0?.as_slice(), RESPONSE);
-    assert_eq!(rt; answers.1?.as_slice(), RESPONSE);
-    assert_eq!(rt; outcome.status, 0);
+    assert!(rt; answers.0?.as_slice() == RESPONSE);
+    assert!(rt; answers.1?.as_slice() == RESPONSE);
+    assert!(rt; outcome.status == 0);
     let wanted: &[u8] = b"connections 2 done 2 idle 0 fault 0\nread 54 written 158\n";
-    assert_eq!(rt; sink.written(), wanted);
+    assert!(rt; sink.written() == wanted);
     Ok(())
 }

@@ -5,17 +5,17 @@ ghost use Rattle.mely_weave.specs.Dealing.{AtEach};
 ghost use Rattle.mely_weave.specs.Making.{initial_idle_worker};
 ghost use Rattle.mely_worker.specs.Phase.{is_free};
 ghost use Rattle.mely_fleet.specs.Fleets.{ArePasses};
-ghost use Rattle.mely_fleet.specs.Frames.{shard_frame};
+ghost use Rattle.mely_kept.specs.Frames.{shard_frame};
 ghost use Rattle.mely_fleet.specs.Seats.{IsOutsider};
-ghost use Rattle.test_fleet.specs.Callers.{AreCallers, IsCaller, IsRow};
+ghost use Rattle.test_fleet.specs.Callers.{AreCallers, IsCaller, IsOpen, IsRow};
 
 use super::{fleet_of, listed_setup_of, setup_of};
 use example_counting::{Passing, Tally};
 use mely_event::{Colour, Event, Fits, Kept, Memory, Trail};
 use mely_fleet::{Fleet, Passes, Room, Seat, SeatOf, Worked};
-use mely_history::{Entry, Judged, Setup, Shape, judge};
+use mely_history::{Entry, History, Judged, Setup, Shape, judge};
 use mely_steal::victims;
-use mely_weave::{Drained, Weave};
+use mely_weave::{Drained, Weave, WeaveParts};
 use mely_worker::{IdleWorker, OpenGate, Worker};
 use std::alloc::Global;
 use std::process::Abort;
@@ -75,7 +75,7 @@ fn worker_for(alloc: Global, setup: &Setup, number: u16) -> Result<Option<IdleWo
 }
 
 /// The callers of a fleet: each with its passes, and a core's with its worker.
-pub(super) fn callers_of(
+fn callers_of(
     alloc: Global,
     fleet: &Fleet<Tally, u8>,
     setup: &Setup,
@@ -169,7 +169,7 @@ fn act<R: Wait>(
 }
 
 /// All of some callers at once, each in a thread of its own.
-pub(super) fn act_all<R: Threads + Wait + Sync>(
+fn act_all<R: Threads + Wait + Sync>(
     rt: &R,
     fleet: &Fleet<Tally, u8>,
     setup: &Setup,
@@ -209,7 +209,7 @@ pub(super) fn act_all<R: Threads + Wait + Sync>(
 }
 
 /// Takes the callers that are no cores off the end, and gives their passes.
-pub(super) fn part(
+fn part(
     alloc: Global,
     fleet: &Fleet<Tally, u8>,
     setup: &Setup,
@@ -243,44 +243,157 @@ pub(super) fn part(
     Ok(outside)
 }
 
-/// What a run left: the weave, how many workers answered that all is quiet, and how many posts were
-/// refused.
-struct Left {
-    weave: Weave<Tally, u8>,
-    quiet: u64,
-    refused: u64,
+/// A fleet with all its callers, and room to close it.
+#[derive(Drop)]
+pub(super) struct Opened {
+    room: Room<Tally, u8>,
+    fleet: Fleet<Tally, u8>,
+    callers: Vec<Seat<Tally, u8>>,
 }
 
-/// Lets these callers of a new fleet act at once, and the cores once more, and closes the fleet.
-fn run_once<R: Threads + Wait + Sync>(
+/// A new fleet of so many colours, with the callers of its cores and so many others.
+pub(super) fn open_fleet(
+    alloc: Global,
+    setup: &Setup,
+    colours: u16,
+    outsiders: u16,
+) -> Result<Opened, Fail>
+    requires colours { colours_of setup.now ≡ colours }
+    requires few { (shape_of setup.now).cores + outsiders ≤ 65535 }
+    ensures { IfOk result (λ opened.
+        IsOpen ⟦<Tally as Trail>⟧.frame_of ⟦<Tally as Fits<u8>>⟧.fits_under setup.now
+        opened.room opened.fleet opened.callers.items) }
+{
+    let room = Room::new(alloc, setup, outsiders)?;
+    let (fleet, passes) = fleet_of(alloc, setup, colours, outsiders)?;
+    let callers = callers_of(alloc, &fleet, setup, passes)?;
+    Ok(Opened {
+        room,
+        fleet,
+        callers,
+    })
+}
+
+/// All of some callers at once, each in a thread of its own.
+pub(super) fn act_in<R: Threads + Wait + Sync>(
+    rt: &R,
+    setup: &Setup,
+    opened: &mut Opened,
+    run: &Run,
+    who: Who,
+)
+    requires colours { run.now.app.colours ≡ colours_of setup.now }
+    requires row { IsRow (shape_of setup.now).cores (colours_of setup.now) setup.now }
+    requires opened { IsOpen ⟦<Tally as Trail>⟧.frame_of ⟦<Tally as Fits<u8>>⟧.fits_under setup.now
+        opened.old.room opened.old.fleet opened.old.callers.items }
+    ensures { IsOpen ⟦<Tally as Trail>⟧.frame_of ⟦<Tally as Fits<u8>>⟧.fits_under setup.now
+        opened.new.room opened.new.fleet opened.new.callers.items }
+{
+    act_all(rt, &opened.fleet, setup, &mut opened.callers, run, who);
+}
+
+/// The weave that a fleet leaves.
+pub(super) fn close_fleet(
+    alloc: Global,
+    setup: &Setup,
+    opened: Opened,
+) -> Result<Weave<Tally, u8>, Memory>
+    requires { IsOpen ⟦<Tally as Trail>⟧.frame_of ⟦<Tally as Fits<u8>>⟧.fits_under setup.now
+        opened.room opened.fleet opened.callers.items }
+    ensures free { IfOk result (λ weave.
+        AtEach (λ core w. IsTrue (is_free w.phase)) weave.workers) }
+    ensures setup { IfOk result (λ weave. weave.setup ≡ setup.now) }
+{
+    let Opened {
+        room,
+        fleet,
+        mut callers,
+    } = opened;
+    let outside = part(alloc, &fleet, setup, &mut callers)?;
+    fleet.close_seats(alloc, room, callers, outside)
+}
+
+/// Who act at once, and how many handlers have run when they are back, where that is known.
+type Stage = (Who, Option<u64>);
+
+/// One stage after another; whether as many handlers had run after each.
+fn act_out<R: Threads + Wait + Sync>(
+    rt: &R,
+    setup: &Setup,
+    opened: &mut Opened,
+    run: &Run,
+    stages: &[Stage],
+) -> bool
+    requires colours { run.now.app.colours ≡ colours_of setup.now }
+    requires row { IsRow (shape_of setup.now).cores (colours_of setup.now) setup.now }
+    requires opened { IsOpen ⟦<Tally as Trail>⟧.frame_of ⟦<Tally as Fits<u8>>⟧.fits_under setup.now
+        opened.old.room opened.old.fleet opened.old.callers.items }
+    ensures { IsOpen ⟦<Tally as Trail>⟧.frame_of ⟦<Tally as Fits<u8>>⟧.fits_under setup.now
+        opened.new.room opened.new.fleet opened.new.callers.items }
+{
+    let mut is_right = true;
+    'stages: for &(who, ran) in stages {
+        act_in(rt, setup, opened, run, who);
+        if let Some(count) = ran {
+            is_right = is_right && run.app.ran.load(Ordering::SeqCst) == count;
+        }
+    }
+    is_right
+}
+
+/// What came of a run: whether as many handlers had run after each stage, how many workers answered
+/// that all is quiet, and how many posts were refused.
+type Ran = (bool, u64, u64);
+
+/// Lets callers of a new fleet act, one stage after another, and closes the fleet.
+pub(super) fn run_stages<R: Threads + Wait + Sync>(
     rt: &R,
     alloc: Global,
     setup: &Setup,
     colours: u16,
     outsiders: u16,
     run: &Run,
-    who: Who,
-) -> Result<Left, Fail>
+    stages: &[Stage],
+) -> Result<(Weave<Tally, u8>, Ran), Fail>
     requires colours { colours_of setup.now ≡ colours }
     requires app { run.now.app.colours ≡ colours }
     requires row { IsRow (shape_of setup.now).cores colours setup.now }
     requires few { (shape_of setup.now).cores + outsiders ≤ 65535 }
     ensures free { IfOk result (λ left.
-        AtEach (λ core w. IsTrue (is_free w.phase)) left.weave.workers) }
-    ensures setup { IfOk result (λ left. left.weave.setup ≡ setup.now) }
+        AtEach (λ core w. IsTrue (is_free w.phase)) left.0.workers) }
+    ensures setup { IfOk result (λ left. left.0.setup ≡ setup.now) }
 {
-    let room = Room::new(alloc, setup, outsiders)?;
-    let (fleet, passes) = fleet_of(alloc, setup, colours, outsiders)?;
-    let mut callers = callers_of(alloc, &fleet, setup, passes)?;
-    act_all(rt, &fleet, setup, &mut callers, run, who);
-    act_all(rt, &fleet, setup, &mut callers, run, Who::Cores);
-    let outside = part(alloc, &fleet, setup, &mut callers)?;
-    let weave = fleet.close_seats(alloc, room, callers, outside)?;
-    Ok(Left {
-        weave,
-        quiet: run.quiet.load(Ordering::SeqCst),
-        refused: run.refused.load(Ordering::SeqCst),
-    })
+    let mut opened = open_fleet(alloc, setup, colours, outsiders)?;
+    let is_right = act_out(rt, setup, &mut opened, run, stages);
+    let weave = close_fleet(alloc, setup, opened)?;
+    let quiet = run.quiet.load(Ordering::SeqCst);
+    let refused = run.refused.load(Ordering::SeqCst);
+    Ok((weave, (is_right, quiet, refused)))
+}
+
+/// The same, where what is left is run behind the workers: what that came to, and what is left then.
+fn run_out<R: Threads + Wait + Sync>(
+    rt: &R,
+    alloc: Global,
+    setup: &Setup,
+    colours: u16,
+    outsiders: u16,
+    run: &Run,
+    stages: &[Stage],
+) -> Result<(WeaveParts<Tally, u8>, Ran, Drained), Fail>
+    requires colours { colours_of setup.now ≡ colours }
+    requires app { run.now.app.colours ≡ colours }
+    requires row { IsRow (shape_of setup.now).cores colours setup.now }
+    requires few { (shape_of setup.now).cores + outsiders ≤ 65535 }
+{
+    let (mut weave, ran) = run_stages(rt, alloc, setup, colours, outsiders, run, stages)?;
+    let drained = weave.drain(rt, &run.app);
+    Ok((weave.into_parts(), ran, drained))
+}
+
+/// Whether no event waits on any colour.
+pub(super) fn none_waits(queued: &[Vec<(Event, Option<u8>)>]) -> bool {
+    queued.iter().all(|events| events.is_empty())
 }
 
 /// How many registrations and how many finished events a history has.
@@ -310,6 +423,16 @@ fn draws_of(state: &Tally) -> u64 {
     u64::MAX
 }
 
+/// Whether so many handlers ran on each of the states.
+fn drew(states: &[Tally], draws: &[u64]) -> bool {
+    for (state, count) in states.iter().zip(draws) {
+        if draws_of(state) != *count {
+            return false;
+        }
+    }
+    states.len() == draws.len()
+}
+
 #[test]
 fn two_workers_run_what_one_outsider_posted(rt: HostRuntime) -> Result<(), Fail> {
     let shape = Shape {
@@ -321,21 +444,12 @@ fn two_workers_run_what_one_outsider_posted(rt: HostRuntime) -> Result<(), Fail>
     };
     let setup = setup_of(&shape, 3, 10)?;
     let run = Run::new(3, 30, 0, Some(1));
-    let left = run_once(&rt, rt.alloc(), &setup, 3, 1, &run, Who::Others)?;
-    let Left {
-        weave,
-        quiet,
-        refused,
-    } = left;
+    let stages = [(Who::Others, Some(0)), (Who::Cores, Some(20))];
+    let (weave, ran) = run_stages(&rt, rt.alloc(), &setup, 3, 1, &run, &stages)?;
     let parts = weave.into_parts();
-    assert_eq!(rt; quiet, 2);
-    assert_eq!(rt; refused, 0);
-    assert!(rt; parts.queued.iter().all(|events| events.is_empty()));
-    let mut lengths = Vec::new(rt.alloc());
-    for state in &parts.states {
-        lengths.push(draws_of(state))?;
-    }
-    assert_eq!(rt; lengths.as_slice(), [10, 0, 10].as_slice());
+    assert!(rt; ran == (true, 2, 0));
+    assert!(rt; none_waits(&parts.queued));
+    assert!(rt; drew(&parts.states, &[10, 0, 10]));
     Ok(())
 }
 
@@ -353,19 +467,38 @@ fn a_worker_whose_fellow_never_begins_gives_up_and_nothing_is_lost(
     };
     let setup = setup_of(&shape, 3, 10)?;
     let run = Run::new(3, 30, 0, None);
-    let room = Room::new(rt.alloc(), &setup, 1)?;
-    let (fleet, passes) = fleet_of(rt.alloc(), &setup, 3, 1)?;
-    let mut callers = callers_of(rt.alloc(), &fleet, &setup, passes)?;
-    act_all(&rt, &fleet, &setup, &mut callers, &run, Who::Others);
-    act_all(&rt, &fleet, &setup, &mut callers, &run, Who::FirstCore);
-    assert_eq!(rt; run.app.ran.load(Ordering::SeqCst), 20);
-    assert_eq!(rt; run.quiet.load(Ordering::SeqCst), 0);
-    let outside = part(rt.alloc(), &fleet, &setup, &mut callers)?;
-    let mut weave = fleet.close_seats(rt.alloc(), room, callers, outside)?;
-    assert_eq!(rt; weave.drain(&rt, &run.app), Drained::Empty);
-    assert_eq!(rt; run.app.ran.load(Ordering::SeqCst), 30);
-    drop(weave.into_parts());
+    let stages = [(Who::Others, Some(0)), (Who::FirstCore, Some(20))];
+    let (parts, ran, drained) = run_out(&rt, rt.alloc(), &setup, 3, 1, &run, &stages)?;
+    drop(parts);
+    assert!(rt; ran == (true, 0, 0));
+    assert!(rt; drained == Drained::Empty);
+    assert!(rt; run.app.ran.load(Ordering::SeqCst) == 30);
     Ok(())
+}
+
+/// How many events the histories of a run have registered and finished, each of which is legal.
+fn counted(rt: &impl Abort, setup: &Setup, histories: &[History]) -> Result<(u64, u64), Fail> {
+    let mut registered = 0u64;
+    let mut finished = 0u64;
+    for history in histories {
+        let Some(entries) = history.entries() else {
+            return Err(Fail::from("no list"));
+        };
+        assert!(rt; judge(setup, entries) == Judged::Legal);
+        let (here, ended) = counts(entries);
+        registered = registered.wrapping_add(here);
+        finished = finished.wrapping_add(ended);
+    }
+    Ok((registered, finished))
+}
+
+/// How many handlers ran on all of the states.
+fn drawn(states: &[Tally]) -> u64 {
+    let mut ran = 0u64;
+    for state in states {
+        ran = ran.wrapping_add(draws_of(state));
+    }
+    ran
 }
 
 /// Eight workers and three outsiders at once: whether each history is legal, and each of so many
@@ -384,36 +517,13 @@ fn crowd_is_right<R: Threads + Wait + Sync + Abort>(
     };
     let setup = listed_setup_of(&shape, 12, 10)?;
     let run = Run::new(12, 24, 4, None);
-    let left = run_once(rt, alloc, &setup, 12, 3, &run, Who::All)?;
-    let Left {
-        mut weave,
-        quiet,
-        refused,
-    } = left;
-    let drained = weave.drain(rt, &run.app);
-    let parts = weave.into_parts();
-    assert_eq!(rt; quiet, 16);
-    assert_eq!(rt; refused, 0);
-    assert_eq!(rt; drained, Drained::Empty);
-    let mut registered = 0u64;
-    let mut finished = 0u64;
-    for history in &parts.histories {
-        let Some(entries) = history.entries() else {
-            return Err(Fail::from("no list"));
-        };
-        assert_eq!(rt; judge(&setup, entries), Judged::Legal);
-        let (here, ended) = counts(entries);
-        registered = registered.wrapping_add(here);
-        finished = finished.wrapping_add(ended);
-    }
-    let mut ran = 0u64;
-    for state in &parts.states {
-        ran = ran.wrapping_add(draws_of(state));
-    }
-    assert_eq!(rt; registered, 360);
-    assert_eq!(rt; finished, 360);
-    assert_eq!(rt; ran, 360);
-    assert_eq!(rt; run.app.ran.load(Ordering::SeqCst), 360);
+    let stages = [(Who::All, None), (Who::Cores, None)];
+    let (parts, ran, drained) = run_out(rt, alloc, &setup, 12, 3, &run, &stages)?;
+    assert!(rt; ran == (true, 16, 0));
+    assert!(rt; drained == Drained::Empty);
+    assert!(rt; counted(rt, &setup, &parts.histories)? == (360, 360));
+    assert!(rt; drawn(&parts.states) == 360);
+    assert!(rt; run.app.ran.load(Ordering::SeqCst) == 360);
     Ok(())
 }
 

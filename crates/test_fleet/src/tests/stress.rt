@@ -1,15 +1,14 @@
 //! Round after round over one fleet, with many more workers than processors.
-ghost use Rattle.std.specs.Prelude.{◌≡◌, IfOk, length};
+ghost use Rattle.std.specs.Prelude.{◌≡◌, IfOk};
 ghost use Rattle.mely_history.specs.Setup.{shape_of, colours_of};
-ghost use Rattle.mely_weave.specs.Dealing.{AtEach};
-ghost use Rattle.test_fleet.specs.Callers.{IsCaller, IsRow};
+ghost use Rattle.test_fleet.specs.Callers.{IsOpen, IsRow};
 
-use super::crowd::{Run, Who, act_all, callers_of, part};
-use super::{fleet_of, setup_of};
+use super::crowd::{Opened, Run, Who, act_in, close_fleet, none_waits, open_fleet, run_stages};
+use super::setup_of;
 use example_counting::Tally;
 use mely_event::{Fits, Handlers, Kept, Trail};
-use mely_fleet::{Fleet, Room, Seat};
 use mely_history::{Setup, Shape};
+use std::alloc::Global;
 use std::rt::Clock;
 use std::sync::Wait;
 use std::sync::atomic::Ordering;
@@ -45,22 +44,17 @@ fn crowded_setup() -> Result<Setup, Fail>
 /// post before the workers begin, and while they work.
 fn work_rounds<R: Threads + Wait + Sync + Clock>(
     rt: &R,
-    fleet: &Fleet<Tally, u8>,
     setup: &Setup,
-    callers: &mut Vec<Seat<Tally, u8>>,
+    opened: &mut Opened,
     run: &Run,
     rounds: u64,
 ) -> u64
-    requires of_setup { fleet.now.setup ≡ setup.now }
     requires colours { run.now.app.colours ≡ colours_of setup.now }
     requires row { IsRow (shape_of setup.now).cores (colours_of setup.now) setup.now }
-    requires callers { AtEach (λ n caller. IsCaller ⟦<Tally as Trail>⟧.frame_of
-        ⟦<Tally as Fits<u8>>⟧.fits_under fleet.now n caller.passes caller.worker)
-        callers.old.items }
-    ensures many { length callers.new.items ≡ length callers.old.items }
-    ensures callers { AtEach (λ n caller. IsCaller ⟦<Tally as Trail>⟧.frame_of
-        ⟦<Tally as Fits<u8>>⟧.fits_under fleet.now n caller.passes caller.worker)
-        callers.new.items }
+    requires opened { IsOpen ⟦<Tally as Trail>⟧.frame_of ⟦<Tally as Fits<u8>>⟧.fits_under setup.now
+        opened.old.room opened.old.fleet opened.old.callers.items }
+    ensures { IsOpen ⟦<Tally as Trail>⟧.frame_of ⟦<Tally as Fits<u8>>⟧.fits_under setup.now
+        opened.new.room opened.new.fleet opened.new.callers.items }
 {
     let Ok(begun) = Instant::now(rt) else {
         return 0;
@@ -70,10 +64,29 @@ fn work_rounds<R: Threads + Wait + Sync + Clock>(
             Ok(past) if past.as_secs() < SECONDS => {}
             _ => return round,
         }
-        act_all(rt, fleet, setup, callers, run, Who::Others);
-        act_all(rt, fleet, setup, callers, run, Who::All);
+        act_in(rt, setup, opened, run, Who::Others);
+        act_in(rt, setup, opened, run, Who::All);
     }
     rounds
+}
+
+/// The rounds over a new fleet, and what its workers still do once all is posted: how many rounds,
+/// and whether nothing waits then.
+fn all_rounds<R: Threads + Wait + Sync + Clock>(
+    rt: &R,
+    alloc: Global,
+    setup: &Setup,
+    run: &Run,
+) -> Result<(u64, bool), Fail>
+    requires colours { run.now.app.colours ≡ 192 }
+    requires row { IsRow 64 192 setup.now }
+{
+    let mut opened = open_fleet(alloc, setup, 192, 1)?;
+    let rounds = work_rounds(rt, setup, &mut opened, run, 200);
+    run.quiet.store(0, Ordering::SeqCst);
+    act_in(rt, setup, &mut opened, run, Who::Cores);
+    let parts = close_fleet(alloc, setup, opened)?.into_parts();
+    Ok((rounds, none_waits(&parts.queued)))
 }
 
 #[test]
@@ -82,23 +95,12 @@ fn workers_of_64_cores_end_round_after_round_and_run_every_event(
 ) -> Result<(), Fail> {
     let setup = crowded_setup()?;
     let run = Run::new(192, 192, 1, None);
-    let room = Room::new(rt.alloc(), &setup, 1)?;
-    let (fleet, passes) = fleet_of(rt.alloc(), &setup, 192, 1)?;
-    let mut callers = callers_of(rt.alloc(), &fleet, &setup, passes)?;
-    let rounds = work_rounds(&rt, &fleet, &setup, &mut callers, &run, 200);
-    run.quiet.store(0, Ordering::SeqCst);
-    act_all(&rt, &fleet, &setup, &mut callers, &run, Who::Cores);
-    let outside = part(rt.alloc(), &fleet, &setup, &mut callers)?;
-    let weave = fleet.close_seats(rt.alloc(), room, callers, outside)?;
-    let parts = weave.into_parts();
-    assert_eq!(rt; run.quiet.load(Ordering::SeqCst), 64);
-    assert_eq!(rt; run.refused.load(Ordering::SeqCst), 0);
+    let (rounds, is_empty) = all_rounds(&rt, rt.alloc(), &setup, &run)?;
+    assert!(rt; run.quiet.load(Ordering::SeqCst) == 64);
+    assert!(rt; run.refused.load(Ordering::SeqCst) == 0);
     assert!(rt; rounds > 0);
-    assert_eq!(rt;
-        run.app.ran.load(Ordering::SeqCst),
-        rounds.wrapping_mul(768)
-    );
-    assert!(rt; parts.queued.iter().all(|events| events.is_empty()));
+    assert!(rt; run.app.ran.load(Ordering::SeqCst) == rounds.wrapping_mul(768));
+    assert!(rt; is_empty);
     Ok(())
 }
 
@@ -113,17 +115,13 @@ fn a_worker_that_gave_up_works_on_once_its_fellow_does(rt: HostRuntime) -> Resul
     };
     let setup = setup_of(&shape, 3, 10)?;
     let run = Run::new(3, 30, 0, None);
-    let room = Room::new(rt.alloc(), &setup, 1)?;
-    let (fleet, passes) = fleet_of(rt.alloc(), &setup, 3, 1)?;
-    let mut callers = callers_of(rt.alloc(), &fleet, &setup, passes)?;
-    act_all(&rt, &fleet, &setup, &mut callers, &run, Who::Others);
-    act_all(&rt, &fleet, &setup, &mut callers, &run, Who::FirstCore);
-    assert_eq!(rt; run.app.ran.load(Ordering::SeqCst), 20);
-    act_all(&rt, &fleet, &setup, &mut callers, &run, Who::Cores);
-    assert_eq!(rt; run.app.ran.load(Ordering::SeqCst), 30);
-    assert_eq!(rt; run.quiet.load(Ordering::SeqCst), 2);
-    let outside = part(rt.alloc(), &fleet, &setup, &mut callers)?;
-    let weave = fleet.close_seats(rt.alloc(), room, callers, outside)?;
+    let stages = [
+        (Who::Others, Some(0)),
+        (Who::FirstCore, Some(20)),
+        (Who::Cores, Some(30)),
+    ];
+    let (weave, ran) = run_stages(&rt, rt.alloc(), &setup, 3, 1, &run, &stages)?;
     drop(weave.into_parts());
+    assert!(rt; ran == (true, 2, 0));
     Ok(())
 }

@@ -5,8 +5,8 @@ ghost use Rattle.test_fleet.specs.Callers.{IsRow};
 
 use super::listed_setup_of;
 use super::sowing::{Sowing, Sown, sown_states};
+use mely_crew::run_crew;
 use mely_event::{Colour, Event, Fits, Trail};
-use mely_fleet::run_crew;
 use mely_history::{Entry, History, Judged, Setup, Shape, judge};
 use mely_weave::{Drained, Weave, WeaveParts};
 use mely_worker::OpenGate;
@@ -78,38 +78,75 @@ fn sown_by(ran: &[Event]) -> usize {
     count
 }
 
-/// Whatever a run was refused, each history is legal; the events that were registered
-/// on a colour are those that ran and then those that wait; and those that wait or
-/// were lost have their loads.
+/// The events of a colour that the histories of a run registered. Whatever the run was refused, each
+/// history is legal.
+fn known_of(
+    rt: &impl Abort,
+    alloc: Global,
+    setup: &Setup,
+    histories: &[History],
+    colour: Colour,
+) -> Result<Vec<Event>, Fail> {
+    let mut known = Vec::new(alloc);
+    for history in histories {
+        let Some(entries) = history.entries() else {
+            return Err(Fail::from("no list"));
+        };
+        assert!(rt; judge(setup, entries) == Judged::Legal);
+        let here = registered(alloc, history, colour)?;
+        known.extend_from_slice(&here)?;
+    }
+    Ok(known)
+}
+
+/// The events that ran on a state, and then those that wait on its colour, which have their loads.
+fn handed_of(
+    rt: &impl Abort,
+    alloc: Global,
+    state: &Sown,
+    queued: &[(Event, Option<u8>)],
+) -> Result<Vec<Event>, Fail> {
+    let mut handed = state.ran.to_vec(alloc)?;
+    for (event, load) in queued {
+        assert!(rt; *load == Some(7));
+        handed.push(*event)?;
+    }
+    Ok(handed)
+}
+
+/// Whatever a run was refused, the events that were registered on a colour are those that ran and
+/// then those that wait; how many these are.
+fn waiting_on(
+    rt: &impl Abort,
+    alloc: Global,
+    setup: &Setup,
+    histories: &[History],
+    colour: Colour,
+    state: &Sown,
+    queued: &[(Event, Option<u8>)],
+) -> Result<usize, Fail> {
+    let known = known_of(rt, alloc, setup, histories, colour)?;
+    let handed = handed_of(rt, alloc, state, queued)?;
+    assert!(rt; handed == known);
+    Ok(queued.len())
+}
+
+/// What remains of a run, whatever it was refused; those that were lost have their loads.
 fn remains_of(
     rt: &impl Abort,
     alloc: Global,
     setup: &Setup,
     parts: &WeaveParts<Sown, u8>,
 ) -> Result<Remains, Fail> {
-    assert_eq!(rt; (parts.states.len(), parts.queued.len()), (2, 2));
+    assert!(rt; (parts.states.len(), parts.queued.len()) == (2, 2));
     let mut waiting = 0;
     for (number, (state, queued)) in parts.states.iter().zip(&parts.queued).enumerate() {
-        let mut known = Vec::new(alloc);
-        for history in &parts.histories {
-            let Some(entries) = history.entries() else {
-                return Err(Fail::from("no list"));
-            };
-            assert_eq!(rt; judge(setup, entries), Judged::Legal);
-            let here = registered(alloc, history, Colour((number % 2) as u16))?;
-            known.extend_from_slice(&here)?;
-        }
-        let mut handed = state.ran.to_vec(alloc)?;
-        for (event, load) in queued {
-            assert_eq!(rt; *load, Some(7));
-            handed.push(*event)?;
-        }
-        assert_eq!(rt; handed, known);
+        let colour = Colour((number % 2) as u16);
         // In the end that of the last, which is colour 1.
-        waiting = queued.len();
+        waiting = waiting_on(rt, alloc, setup, &parts.histories, colour, state, queued)?;
     }
     for (_colour, _event, load) in &parts.lost {
-        assert_eq!(rt; *load, Some(7));
+        assert!(rt; *load == Some(7));
     }
     let lost = parts.lost.len();
     Ok(Remains { waiting, lost })
@@ -140,7 +177,7 @@ fn harvest(
             known = known.wrapping_add(registered(alloc, history, colour)?.len());
         }
     }
-    assert_eq!(rt; known, sown_in(&parts.states));
+    assert!(rt; known == sown_in(&parts.states));
     Ok(left)
 }
 
@@ -159,7 +196,7 @@ fn sow<R: AllocGlobal + Threads + Wait + Sync + Abort>(
     let (weave, drained) = match run_crew(rt, alloc, setup, states, begin, &Sowing, &OpenGate) {
         Ok(ran) => ran,
         Err(refused) => {
-            assert_eq!(rt; (refused.event, refused.load), (sowing(20), Some(7)));
+            assert!(rt; (refused.event, refused.load) == (sowing(20), Some(7)));
             return Ok(None);
         }
     };

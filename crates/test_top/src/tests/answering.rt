@@ -138,8 +138,8 @@ fn hostile_bytes_are_answered_as_any_others(rt: HostRuntime) -> Result<(), Fail>
         let said = say(&rt, "answer S", input)?;
         said.is_done(&rt, row.as_str(), &bytes_of(rt.alloc(), wanted)?);
     }
-    assert_eq!(rt; bytes_of(rt.alloc(), BAD_REQUEST)?.len(), 122);
-    assert_eq!(rt; bytes_of(rt.alloc(), TOO_LARGE)?.len(), 162);
+    assert!(rt; bytes_of(rt.alloc(), BAD_REQUEST)?.len() == 122);
+    assert!(rt; bytes_of(rt.alloc(), TOO_LARGE)?.len() == 162);
     Ok(())
 }
 
@@ -189,8 +189,8 @@ fn what_was_read_is_answered_before_a_fault(rt: HostRuntime) -> Result<(), Fail>
         ..NO_CALL
     };
     let said = say_failing(&rt, "answer S", bytes_of(rt.alloc(), INDEX)?, reading)?;
-    assert_eq!(rt; said.status, 4);
-    assert_eq!(rt; said.written, bytes_of(rt.alloc(), INDEX_SENT)?);
+    assert!(rt; said.status == 4);
+    assert!(rt; said.written == bytes_of(rt.alloc(), INDEX_SENT)?);
 
     let writing = Failing { sink: 1, ..NO_CALL };
     let said = say_failing(&rt, "answer S", bytes_of(rt.alloc(), INDEX)?, writing)?;
@@ -241,7 +241,7 @@ fn a_sink_that_fails_at_any_call_has_a_front_of_the_answer(rt: HostRuntime) -> R
             said.is_done(&rt, row.as_str(), &sent);
             break;
         }
-        assert_eq!(rt; said.status, 5, "{row}");
+        assert!(rt; said.status == 5, "{row}");
         assert!(rt; sent.starts_with(&said.written), "{row}");
         assert!(rt; said.written.len() < sent.len(), "{row}");
         failed = number;

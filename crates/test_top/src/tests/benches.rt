@@ -31,17 +31,17 @@ const EIGHT_WORKERS: Shape = Shape {
 #[test]
 fn one_connection(rt: HostRuntime) -> Result<(), Fail> {
     let conns = bench_script(rt.alloc(), 1, 1)?;
-    assert_eq!(rt; conns.len(), 1);
+    assert!(rt; conns.len() == 1);
     let items = conns[0].items.as_slice();
-    assert_eq!(rt; items.len(), 2);
+    assert!(rt; items.len() == 2);
     let Item::Send(first) = &items[0] else {
         panic!(rt; "the first item is no piece");
     };
     let Item::Send(second) = &items[1] else {
         panic!(rt; "the second item is no piece");
     };
-    assert_eq!(rt; first.bytes(), b"GET /f0.txt HTTP/1.1\r\nH".as_slice());
-    assert_eq!(rt; second.bytes(), b"ost: b\r\n\r\n".as_slice());
+    assert!(rt; first.bytes() == b"GET /f0.txt HTTP/1.1\r\nH".as_slice());
+    assert!(rt; second.bytes() == b"ost: b\r\n\r\n".as_slice());
     Ok(())
 }
 
@@ -65,9 +65,8 @@ fn summary_of<R: Threads + Wait + Sync>(
 #[test]
 fn one_request_is_counted(rt: HostRuntime) -> Result<(), Fail> {
     let sink = summary_of(&rt, rt.alloc(), 1, 1, &ONE_WORKER)?;
-    assert_eq!(rt;
-        sink.written(),
-        b"connections 1 done 1 idle 0 fault 0\nread 33 written 142\n".as_slice()
+    assert!(rt;
+        sink.written() == b"connections 1 done 1 idle 0 fault 0\nread 33 written 142\n".as_slice()
     );
     Ok(())
 }
@@ -76,9 +75,9 @@ fn one_request_is_counted(rt: HostRuntime) -> Result<(), Fail> {
 #[test]
 fn many_connections_are_counted(rt: HostRuntime) -> Result<(), Fail> {
     let sink = summary_of(&rt, rt.alloc(), 1024, 7, &EIGHT_WORKERS)?;
-    assert_eq!(rt;
-        sink.written(),
-        b"connections 1024 done 1024 idle 0 fault 0\nread 152988 written 2382941\n".as_slice()
+    assert!(rt;
+        sink.written()
+            == b"connections 1024 done 1024 idle 0 fault 0\nread 152988 written 2382941\n".as_slice()
     );
     Ok(())
 }

@@ -24,10 +24,10 @@ fn logged<T: AllocGlobal + Abort + Threads + Wait + Sync>(
     script: &[u8],
 ) -> Result<Vec<u8>, AllocError> {
     let alone = say(rt, line, script.to_vec(rt.alloc())?)?;
-    assert_eq!(rt; alone.status, 0, "{line}");
+    assert!(rt; alone.status == 0, "{line}");
     let line = format!(in rt.alloc(); "{line} --log")?;
     let both = say(rt, line.as_str(), script.to_vec(rt.alloc())?)?;
-    assert_eq!(rt; both.status, 0, "{line}");
+    assert!(rt; both.status == 0, "{line}");
     let Some(log) = both.written.strip_prefix(alone.written.as_slice()) else {
         panic!(rt; "{line}");
     };
@@ -77,7 +77,7 @@ fn each_answer_that_was_written_whole_has_a_line(rt: HostRuntime) -> Result<(), 
     ];
     for (script, wanted) in rows {
         let log = logged(&rt, "replay S", script.as_bytes())?;
-        assert_eq!(rt; log.as_slice(), wanted.as_bytes(), "{script}");
+        assert!(rt; log.as_slice() == wanted.as_bytes(), "{script}");
     }
     Ok(())
 }
@@ -95,7 +95,7 @@ fn turns_go_up_to_the_last_answer(rt: HostRuntime) -> Result<(), Fail> {
     }
     wanted.extend_from_slice(b"log 0 64 200 98 /\n")?;
     let log = logged(&rt, "replay S --workers 2", &script)?;
-    assert_eq!(rt; log, wanted);
+    assert!(rt; log == wanted);
     Ok(())
 }
 
@@ -108,21 +108,19 @@ fn three_are_logged<T: AllocGlobal + Abort + Threads + Wait + Sync>(
     let alloc = rt.alloc();
     let line = format!(in alloc; "replay S {shape}")?;
     let log = logged(rt, line.as_str(), THREE)?;
-    assert_eq!(rt;
-        lines_with(alloc, &log, b"log 0 ")?.as_slice(),
-        OF_FIRST,
+    assert!(rt;
+        lines_with(alloc, &log, b"log 0 ")?.as_slice() == OF_FIRST,
         "{shape}"
     );
-    assert_eq!(rt;
-        lines_with(alloc, &log, b"log 1 ")?.as_slice(),
-        OF_SECOND,
+    assert!(rt;
+        lines_with(alloc, &log, b"log 1 ")?.as_slice() == OF_SECOND,
         "{shape}"
     );
-    assert_eq!(rt; log.len(), 102, "{shape}");
+    assert!(rt; log.len() == 102, "{shape}");
 
     let line = format!(in alloc; "replay S {shape} --log --journal")?;
     let both = say(rt, line.as_str(), THREE.to_vec(alloc)?)?;
-    assert_eq!(rt; both.status, 0, "{shape}");
+    assert!(rt; both.status == 0, "{shape}");
     let alone = say(rt, "replay S", THREE.to_vec(alloc)?)?;
     let Some(behind) = both.written.strip_prefix(alone.written.as_slice()) else {
         panic!(rt; "{shape}");
@@ -132,11 +130,11 @@ fn three_are_logged<T: AllocGlobal + Abort + Threads + Wait + Sync>(
 
     let line = format!(in alloc; "check --connections 3 {shape} --log")?;
     let said = say(rt, line.as_str(), journal.to_vec(alloc)?)?;
-    assert_eq!(rt; said.fault, None, "{shape}");
+    assert!(rt; said.fault == None, "{shape}");
     assert!(rt; said.written.starts_with(b"accepted "), "{shape}");
     let line = format!(in alloc; "check --connections 3 {shape}")?;
     let said = say(rt, line.as_str(), journal.to_vec(alloc)?)?;
-    assert_eq!(rt; said.status, 11, "{shape}");
+    assert!(rt; said.status == 11, "{shape}");
     Ok(())
 }
 
@@ -158,9 +156,9 @@ fn a_journal_has_the_events_of_the_log_in_the_order_of_its_lines(
     let line = "replay S --schedule --log";
     let input = b"sws-schedule 1\nend\nsws-script 1\nconn\nsend GET / HTTP/1.1~Host: x~~\n";
     let said = say(&rt, line, input.to_vec(rt.alloc())?)?;
-    assert_eq!(rt; said.status, 0);
+    assert!(rt; said.status == 0);
     let log = lines_with(rt.alloc(), &said.written, b"log ")?;
-    assert_eq!(rt; log.as_slice(), b"log 0 1 200 79 /\n".as_slice());
+    assert!(rt; log.as_slice() == b"log 0 1 200 79 /\n".as_slice());
     // the next step is registered first
     let lines = b"reg 2 5 0 0\nreg 3 10 0 0\n".as_slice();
     assert!(rt; said.written.windows(25).any(|part| part == lines));
@@ -172,24 +170,18 @@ fn the_log_stands_before_the_summary(rt: HostRuntime) -> Result<(), Fail> {
     let alloc = rt.alloc();
     let line = "serve S --port 8080 --connections 2 --log";
     let (outcome, written) = serve(&rt, line, two_clients(alloc, INDEX, 0)?)?;
-    assert_eq!(rt; outcome.status, 0);
+    assert!(rt; outcome.status == 0);
     let Some(log) = written.strip_suffix(SUMMARY) else {
         panic!(&rt; "the summary");
     };
-    assert_eq!(rt;
-        lines_with(alloc, log, b"log 0 ")?.as_slice(),
-        b"log 0 1 200 79 /\n".as_slice()
-    );
-    assert_eq!(rt;
-        lines_with(alloc, log, b"log 1 ")?.as_slice(),
-        b"log 1 1 200 79 /\n".as_slice()
-    );
-    assert_eq!(rt; log.len(), 34);
+    assert!(rt; lines_with(alloc, log, b"log 0 ")?.as_slice() == b"log 0 1 200 79 /\n".as_slice());
+    assert!(rt; lines_with(alloc, log, b"log 1 ")?.as_slice() == b"log 1 1 200 79 /\n".as_slice());
+    assert!(rt; log.len() == 34);
 
     // the second accept fails
     let (outcome, written) = serve(&rt, line, two_clients(alloc, INDEX, 4)?)?;
-    assert_eq!(rt; outcome.status, 6);
-    assert_eq!(rt; written.len(), 0);
+    assert!(rt; outcome.status == 6);
+    assert!(rt; written.len() == 0);
     Ok(())
 }
 
@@ -202,7 +194,7 @@ fn a_sink_that_fails_at_the_log_is_told(rt: HostRuntime) -> Result<(), Fail> {
         "sws-script 1\nconn\nsend GET / HTTP/1.1\\r\\nHost: x\\r\\n\\r\\n\n",
     )?;
     let said = say_failing(&rt, "replay S --log", script, writing)?;
-    assert_eq!(rt; said.fault, Some(TopFault::WriteFault));
+    assert!(rt; said.fault == Some(TopFault::WriteFault));
     assert!(rt; said.written.starts_with(b"conn 0 done 79\n"));
     assert!(rt; lines_with(rt.alloc(), &said.written, b"log ")?.is_empty());
     Ok(())

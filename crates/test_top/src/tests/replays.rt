@@ -119,8 +119,8 @@ fn scheduled(rt: &(impl AllocGlobal + Abort + Wait), text: &[u8], expected: &[u8
     let input = read(rt, text, true, &TWO);
     let mut sink = SureSink::new(rt.alloc());
     let wrote = replay_by_schedule(rt, rt.alloc(), &site(rt), &TWO, &input, false, &mut sink);
-    assert_eq!(rt; wrote, Ok(()));
-    assert_eq!(rt; sink.written(), expected);
+    assert!(rt; wrote == Ok(()));
+    assert!(rt; sink.written() == expected);
 }
 
 /// The script of three connections is written so on this shape: without its journal, and behind that
@@ -132,10 +132,10 @@ fn three_are_written(
 ) {
     let mut sink = SureSink::new(rt.alloc());
     let wrote = replayed(rt, THREE, shape, false, &mut sink);
-    assert_eq!(rt; wrote, Ok(()), "{row}");
-    assert_eq!(rt; sink.written(), THREE_SHOWN, "{row}");
+    assert!(rt; wrote == Ok(()), "{row}");
+    assert!(rt; sink.written() == THREE_SHOWN, "{row}");
     let wrote = replayed(rt, THREE, shape, true, &mut sink);
-    assert_eq!(rt; wrote, Ok(()), "{row}");
+    assert!(rt; wrote == Ok(()), "{row}");
     let Some(again) = sink.written().strip_prefix(THREE_SHOWN) else {
         panic!(rt; "the first text on {row}");
     };
@@ -168,7 +168,7 @@ fn a_run_leaves_what_was_served(rt: HostRuntime) {
         (Some(End::Done), 36, 75),
         (Some(End::Done), 0, 0),
     ];
-    assert_eq!(rt; ran(&rt, THREE).as_slice(), rows.as_slice());
+    assert!(rt; ran(&rt, THREE).as_slice() == rows.as_slice());
 }
 
 #[test]
@@ -182,9 +182,9 @@ fn a_sink_that_fails_is_told(rt: HostRuntime) {
     let failing = Vec::from_slice(rt.alloc(), &[2]).expect(&rt, "memory");
     let mut sink = MemSink::new(rt.alloc(), failing);
     let wrote = replayed(&rt, THREE, &TWO, true, &mut sink);
-    assert_eq!(rt; wrote, Err(RunFault::Write));
+    assert!(rt; wrote == Err(RunFault::Write));
     assert!(rt; sink.written().starts_with(b"conn 0 done 79\n"));
-    assert_eq!(rt; THREE_SHOWN.strip_prefix(sink.written()).is_some(), true);
+    assert!(rt; THREE_SHOWN.strip_prefix(sink.written()).is_some() == true);
 }
 
 /// Two connections of one byte each.
@@ -209,10 +209,7 @@ fn two_workers_replay_at_once(rt: HostRuntime) {
         false,
         &mut sink,
     );
-    assert_eq!(rt; wrote, Ok(()));
+    assert!(rt; wrote == Ok(()));
     assert!(rt; !room.was_missed());
-    assert_eq!(rt;
-        sink.written(),
-        b"conn 0 done 0\nconn 1 done 0\n".as_slice()
-    );
+    assert!(rt; sink.written() == b"conn 0 done 0\nconn 1 done 0\n".as_slice());
 }

@@ -1,6 +1,6 @@
 use Rattle.std.proofs.Common.{◌∙◌, ap}
 use Rattle.std.specs.Prelude.{slice_get}
-use Rattle.mely_fleet.specs.Frames.{shard_frame}
+use Rattle.mely_kept.specs.Frames.{shard_frame}
 use Rattle.mely_fleet.specs.Opening.{AreInitialPasses}
 use Rattle.test_fleet.proofs.RowLemmas.{each_but_last}
 use Rattle.test_fleet.proofs.tests.calls.last_of.Goals as goal

@@ -2,7 +2,7 @@ use Rattle.std.proofs.Common.{◌≡◌, ◌+◌, ◌≤◌, ◌++◌, ◌∷◌
 use Rattle.std.specs.Prelude.{slice_get}
 use Rattle.mely_history.specs.Setup.{shape_of}
 use Rattle.mely_weave.proofs.Wholes.DealLemmas.{each_push}
-use Rattle.mely_fleet.specs.Frames.{shard_frame}
+use Rattle.mely_kept.specs.Frames.{shard_frame}
 use Rattle.mely_fleet.specs.Seats.{IsOutsider}
 use Rattle.test_fleet.specs.Callers.{IsCaller}
 use Rattle.test_fleet.proofs.RowLemmas.{caller_outside, each_but_last}

@@ -1,7 +1,7 @@
 use Rattle.std.proofs.Common.{◌≡◌, ◌+◌, ◌≤◌, length, vec_capacity, vec_len}
 use Rattle.mely_history.specs.Setup.{shape_of}
 use Rattle.mely_weave.specs.Dealing.{AtEach}
-use Rattle.mely_fleet.specs.Frames.{shard_frame}
+use Rattle.mely_kept.specs.Frames.{shard_frame}
 use Rattle.mely_fleet.specs.Seats.{IsOutsider}
 use Rattle.test_fleet.specs.Callers.{IsCaller}
 use Rattle.test_fleet.proofs.tests.crowd.part.Given as goal

@@ -1,6 +1,6 @@
 use Rattle.std.proofs.Common.{◌≡◌}
 use Rattle.mely_fleet.specs.Fleets.{ArePasses}
-use Rattle.mely_fleet.specs.Frames.{shard_frame}
+use Rattle.mely_kept.specs.Frames.{shard_frame}
 use Rattle.test_fleet.proofs.tests.crowd.post_all.Given as goal
 
 abbrev pub invariant-posts : goal.invariant-posts
