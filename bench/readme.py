@@ -14,7 +14,7 @@ there is no curl, its lines are skipped.
 
 `&` at the end leaves a command running: then comes what it prints so far, behind the lines of a later command what it printed since, as far
 as it is shown there, and behind `wait` the rest. At the end of its block what still runs is ended. Each port of a block (`--port N`,
-`127.0.0.1:N`) is replaced by a free one, also in what is to be printed.
+`127.0.0.1:N`) is replaced by a free one, also in what is to be printed. One date of HTTP is as good as another.
 
 It prints a line for each example, with the differences where there are any, and ends with status 0 if there are none, 1 if there are, and 2
 where the program isn't built. The commands run at the top of the repository, each within the time of --seconds.
@@ -37,6 +37,7 @@ TOP = os.path.dirname(os.path.dirname(os.path.abspath(__file__)))
 PROGRAM = os.path.join(TOP, "crates", "sws_main", "out", "sws_main")
 DAEMON = os.path.join(TOP, "crates", "swsd", "out", "swsd")
 PAGES = ["README.md", "docs/*.md"]
+DATE = re.compile(r"\w{3}, \d{2} \w{3} \d{4} \d{2}:\d{2}:\d{2} GMT")
 FILTERS = {"cat", "grep", "head", "sed", "sort", "tail", "wc"}
 MARK = re.compile(r"<<-?\s*(['\"]?)(\w+)\1")
 
@@ -195,8 +196,8 @@ class Job:
 
 
 def is_as(expected, actual):
-    """Whether these lines are those that are expected, where `...` stands for any number of them."""
-    expected, actual = [line.rstrip() for line in expected], [line.rstrip() for line in actual]
+    """Whether these lines are those that are expected, where `...` stands for any number of them, and a date for any date."""
+    expected, actual = ([DATE.sub("DATE", line.rstrip()) for line in lines] for lines in (expected, actual))
     pattern = "".join("(?:.*\n)*?" if line.strip() in ("...", "…") else re.escape(line) + "\n" for line in expected)
     return re.fullmatch(pattern, "".join(line + "\n" for line in actual)) is not None
 
