@@ -1,9 +1,9 @@
 -- What a shard behind its lock does and keeps.
-use Rattle.std.proofs.Common.{◌≡◌, ℕ, zero, suc, List, [], ◌∷◌, ◌++◌, Option, Some, None, Result, Ok, Err, map, take, sym, ◌∙◌, ap, subst, arith}
+use Rattle.std.proofs.Common.{◌≡◌, ◌<◌, ℕ, zero, suc, List, [], ◌∷◌, ◌++◌, Option, Some, None, Result, Ok, Err, map, take, length, sym, ◌∙◌, ap, subst, arith, length-append}
 use Rattle.std.specs.List.{slice_get, AllByRecursion}
-use Rattle.std.specs.Prelude.{option_map, IsErrAnd}
+use Rattle.std.specs.Prelude.{option_map, IsErrAnd, max}
 use Rattle.std.proofs.lemmas.Option.{slice_get-map}
-use Rattle.std.proofs.lemmas.List.{append-nil}
+use Rattle.std.proofs.lemmas.List.{append-nil, append_cancel_left}
 use Rattle.mely_event.specs.declared.colour.Colour.{Colour}
 use Rattle.mely_event.specs.declared.event.Event.{Event}
 use Rattle.mely_event.specs.declared.trail.Trail.{Ghosts as TrailWords}
@@ -15,8 +15,9 @@ use Rattle.mely_history.specs.Legal.{IsLegal, MayTake}
 use Rattle.mely_history.specs.Owing.{IsOwed}
 use Rattle.mely_history.proofs.OwingLemmas.{running_on, owed_at_point}
 use Rattle.mely_note.specs.declared.note.Note.{Note}
-use Rattle.mely_note.specs.Notes.{entries_of, noted_by, home_of}
+use Rattle.mely_note.specs.Notes.{Rise, entries_of, noted_by, stamp_of, latest, home_of}
 use Rattle.mely_note.proofs.NoteLemmas.{entries_of-append, no_entries_by}
+use Rattle.mely_note.proofs.StampLemmas.{rise-push}
 use Rattle.mely_queue.specs.Turn.{TurnState, EachFits}
 use Rattle.mely_shard.specs.Shard.{ShardState, ColourState, lane_at, givens, IsOwn, KeepsFrame, Takes, TurnStands, IsConsistent, HomeStands}
 use Rattle.mely_lock.specs.Seen.{OthersSince}
@@ -29,6 +30,22 @@ use Rattle.mely_note.proofs.ShowLemmas.{if_home}
 pub at_err : {T E : Type 0} (Holds : Result T E → Type 0) (answer : Result T E) (e : E) → IsErrAnd answer (λ x. x ≡ e) → Holds (Err e) → Holds answer
 at_err Holds (Err x) e is holds = subst (λ y. Holds (Err y)) (sym is) holds
 at_err Holds (Ok x) e is holds = absurd is
+
+module _ {S P : Type 0} where
+  -- notes that are as they were have no note more
+  pub above_same : (notes : List (Note S P)) (known : ℕ) (note : Note S P) → notes ≡ notes ++ note ∷ [] → known < stamp_of note
+  above_same notes known note is = absurd (omega (arith, ap length is, length-append notes (note ∷ [])))
+
+  -- a note whose stamp is after those of the notes and after what was known
+  module _ (notes after : List (Note S P)) (made : Note S P) (known : ℕ) (pushed : after ≡ notes ++ made ∷ []) (stamped : stamp_of made ≡ suc (max (latest notes) known)) where
+    pub rise_pushed : Rise notes → Rise after
+    rise_pushed rise = subst Rise (sym pushed) (rise-push notes made rise (omega (arith, stamped)))
+
+    pub above_pushed : (note : Note S P) → after ≡ notes ++ note ∷ [] → known < stamp_of note
+    above_pushed note is =
+        let same : made ∷ [] ≡ note ∷ [] = append_cancel_left notes (made ∷ []) (note ∷ []) (sym pushed ∙ is) in
+        let one : made ≡ note = cc in
+        subst (λ m. known < stamp_of m) one (omega (arith, stamped))
 
 -- the state that was given at first, where its lane stands
 given_there : {S P : Type 0} (lanes : List (ColourState S P)) (i : ℕ) (lane : ColourState S P) → slice_get lanes i ≡ Some lane → slice_get (map (λ (l : ColourState S P). l.given) lanes) i ≡ Some lane.given

@@ -1,10 +1,10 @@
 //! What the lock of a shard keeps.
-ghost use Rattle.std.specs.Prelude.{◌≡◌, ◌<◌, ◌≤◌, [], List, IfOk, OnOk, slice_get};
+ghost use Rattle.std.specs.Prelude.{◌≡◌, ◌<◌, ◌≤◌, [], ◌∷◌, ◌++◌, List, IfOk, OnOk, slice_get};
 
 use mely_event::{Colour, Event, Fits, Kept, Memory, Trail, Unregistered};
 use mely_history::{After, NoSteal, NoTake, Registered, Setup, Stolen};
 use mely_log::Log;
-use mely_note::Note;
+use mely_note::{Note, Stamp};
 use mely_queue::Turn;
 use mely_shard::Shard;
 use std::alloc::Global;
@@ -42,6 +42,7 @@ impl<S: Fits<P>, P> Model for KeptShard<S, P> {
     ghost use Rattle.mely_shard.specs.Shard.{givens};
     ghost use Rattle.mely_kept.specs.Frames.{HaveFrame};
     ghost use Rattle.mely_kept.specs.KeptShard.{KeptShardState};
+    ghost use Rattle.mely_note.specs.Notes.{Rise};
     ghost use Rattle.mely_note.specs.ShowsNotes.{ShowsNotes};
 
     ghost Value = { KeptShardState S P };
@@ -54,7 +55,7 @@ impl<S: Fits<P>, P> Model for KeptShard<S, P> {
 
     ghost invariant = { λ k.
         HaveFrame S.frame_of (S.frame_of k.sample.value.value) (givens k.shard.value)
-        × ShowsNotes k.shard.value k.notes.items };
+        × ShowsNotes k.shard.value k.notes.items × Rise k.notes.items };
 }
 
 impl<S: Fits<P>, P> Kept for KeptShard<S, P> {
@@ -81,7 +82,7 @@ impl<S: Fits<P>, P> KeptShard<S, P> {
     ghost use Rattle.mely_history.specs.Owing.{IsOwed};
     ghost use Rattle.mely_history.specs.Setup.{shape_of};
     ghost use Rattle.mely_lock.specs.Seen.{OthersSince};
-    ghost use Rattle.mely_note.specs.Notes.{entries_of, noted_by};
+    ghost use Rattle.mely_note.specs.Notes.{Rise, entries_of, noted_by, stamp_of};
     ghost use Rattle.mely_note.specs.declared.note.Note.{Note};
     ghost use Rattle.mely_shard.specs.Shard.{givens};
     ghost use Rattle.mely_kept.specs.Frames.{HaveFrame, IsColourOf, given_at, shard_frame};
@@ -120,6 +121,7 @@ impl<S: Fits<P>, P> KeptShard<S, P> {
         ensures framed { HaveFrame S.frame_of (S.frame_of self.sample) (givens result) }
         ensures legal { IsLegal result.setup result.history }
         ensures shown { ShowsNotes result self.notes }
+        ensures rise { Rise self.notes }
     {
         let KeptShard {
             shard,
@@ -130,8 +132,9 @@ impl<S: Fits<P>, P> KeptShard<S, P> {
         Box::into_inner(shard)
     }
 
-    /// Registers an event behind the others of its colour, by the pass of the number `by`. The
-    /// colour is one of the shard, and the event fits its load.
+    /// Registers an event behind the others of its colour, by the pass of the number `by`,
+    /// which knows of stamps up to this one. The colour is one of the shard, and the event fits its
+    /// load.
     ///
     /// # Errors
     ///
@@ -142,6 +145,7 @@ impl<S: Fits<P>, P> KeptShard<S, P> {
         event: Event,
         load: Option<P>,
         by: u16,
+        known: &Stamp,
     ) -> Result<Registered, Unregistered<P>>
         requires own { IsColourOf (shard_frame S.frame_of self.old) colour }
         requires may { MayRegister self.old.has.setup colour event }
@@ -150,12 +154,17 @@ impl<S: Fits<P>, P> KeptShard<S, P> {
         ensures does { RegistersAt self.old.has.setup by colour event load result
             self.old.notes self.new.notes }
         ensures legal { IsLegal self.old.has.setup (entries_of self.new.notes) }
+        ensures rise { Rise self.new.notes }
+        ensures above { (note : _) → self.new.notes ≡ self.old.notes ++ note ∷ []
+            → known.now.number < stamp_of note }
     {
+        let at = known.after(&self.notes);
         let note = Note::Reg {
             colour,
             event,
             load: Snapshot::of(&load),
             by,
+            at: Snapshot::of(&at),
         };
         let reply = self.shard.register(colour, event, load, by)?;
         self.notes.push(&note);
@@ -168,26 +177,31 @@ impl<S: Fits<P>, P> KeptShard<S, P> {
     /// # Errors
     ///
     /// Those of [`Shard::take`].
-    pub fn take(&mut self, colour: Colour, core: u16) -> Result<Turn<S, P>, NoTake>
+    pub fn take(&mut self, colour: Colour, core: u16, known: &Stamp) -> Result<Turn<S, P>, NoTake>
         requires own { IsColourOf (shard_frame S.frame_of self.old) colour }
         ensures frame { shard_frame S.frame_of self.new ≡ shard_frame S.frame_of self.old }
         ensures does { TakesAt S.Trail S.fits_under self.old.has.setup (S.frame_of self.old.sample)
             (given_at (shard_frame S.frame_of self.old) colour) core colour result
             self.old.notes self.new.notes }
         ensures legal { IsLegal self.old.has.setup (entries_of self.new.notes) }
+        ensures rise { Rise self.new.notes }
+        ensures above { (note : _) → self.new.notes ≡ self.old.notes ++ note ∷ []
+            → known.now.number < stamp_of note }
     {
         let _entries = self.shard.history();
         let turn = self.shard.take(colour, core)?;
+        let at = known.after(&self.notes);
         self.notes.push(&Note::Take {
             colour,
             core,
             count: turn.count(),
+            at: Snapshot::of(&at),
         });
         Ok(turn)
     }
 
     /// Takes the state of a turn home, whose finish is owed by what the core had seen.
-    pub fn finish(&mut self, turn: Turn<S, P>) -> After
+    pub fn finish(&mut self, turn: Turn<S, P>, known: &Stamp) -> After
     where
         S: Drop,
         P: Drop,
@@ -203,13 +217,18 @@ impl<S: Fits<P>, P> KeptShard<S, P> {
         ensures does { FinishesAt self.old.has.setup turn.core turn result
             self.old.notes self.new.notes }
         ensures legal { IsLegal self.old.has.setup (entries_of self.new.notes) }
+        ensures rise { Rise self.new.notes }
+        ensures above { (note : _) → self.new.notes ≡ self.old.notes ++ note ∷ []
+            → known.now.number < stamp_of note }
     {
         let mut turn = turn;
+        let at = known.after(&self.notes);
         let note = Note::Fin {
             colour: turn.colour(),
             core: turn.core(),
             count: turn.count(),
             state: Snapshot::of(turn.state()),
+            at: Snapshot::of(&at),
         };
         let _entries = self.shard.history();
         let after = self.shard.finish(turn);
@@ -222,19 +241,24 @@ impl<S: Fits<P>, P> KeptShard<S, P> {
     /// # Errors
     ///
     /// Those of [`Shard::steal`].
-    pub fn steal(&mut self, colour: Colour, to: u16) -> Result<Stolen, NoSteal>
+    pub fn steal(&mut self, colour: Colour, to: u16, known: &Stamp) -> Result<Stolen, NoSteal>
         requires own { IsColourOf (shard_frame S.frame_of self.old) colour }
         requires core { to < (shape_of self.old.has.setup).cores }
         ensures frame { shard_frame S.frame_of self.new ≡ shard_frame S.frame_of self.old }
         ensures does { StealsAt self.old.has.setup to colour result
             self.old.notes self.new.notes }
         ensures legal { IsLegal self.old.has.setup (entries_of self.new.notes) }
+        ensures rise { Rise self.new.notes }
+        ensures above { (note : _) → self.new.notes ≡ self.old.notes ++ note ∷ []
+            → known.now.number < stamp_of note }
     {
         let stolen = self.shard.steal(colour, to)?;
+        let at = known.after(&self.notes);
         self.notes.push(&Note::Steal {
             colour,
             from: stolen.from,
             to,
+            at: Snapshot::of(&at),
         });
         Ok(stolen)
     }
@@ -249,6 +273,7 @@ impl<S: Fits<P>, P> KeptShard<S, P> {
         ensures notes { self.new.notes ≡ self.old.notes }
         ensures ok { OnOk result (entries ≤ self.new.has.spare) }
         ensures legal { IsLegal self.old.has.setup (entries_of self.new.notes) }
+        ensures rise { Rise self.new.notes }
     {
         self.shard.reserve(entries)
     }
@@ -257,6 +282,7 @@ impl<S: Fits<P>, P> KeptShard<S, P> {
     pub fn is_drained(&self) -> bool
         ensures drained { IsDrainedAs result (entries_of self.now.notes) }
         ensures legal { IsLegal self.now.has.setup (entries_of self.now.notes) }
+        ensures rise { Rise self.now.notes }
     {
         let _entries = self.shard.history();
         self.shard.is_drained()

@@ -1,5 +1,5 @@
 //! One call on the shard behind a lock.
-ghost use Rattle.std.specs.Prelude.{◌≡◌, ◌<◌, []};
+ghost use Rattle.std.specs.Prelude.{◌≡◌, ◌<◌, ℕ, []};
 ghost use Rattle.mely_history.specs.Legal.{MayRegister};
 ghost use Rattle.mely_history.specs.Owing.{IsOwed};
 ghost use Rattle.mely_history.specs.Setup.{shape_of};
@@ -13,6 +13,7 @@ use crate::kept_shard::KeptShard;
 use mely_event::{Colour, Event, Fits, Kept, Memory, Unregistered};
 use mely_history::{After, NoSteal, NoTake, Registered, Stolen};
 use mely_lock::{Pass, Ticketed};
+use mely_note::Stamp;
 use mely_queue::Turn;
 use std::sync::Wait;
 
@@ -21,6 +22,7 @@ pub fn register_at<S: Fits<P>, P, R: Wait>(
     rt: &R,
     lock: &Ticketed<KeptShard<S, P>>,
     pass: &mut Pass<KeptShard<S, P>>,
+    known: &Stamp,
     colour: Colour,
     event: Event,
     load: Option<P>,
@@ -30,7 +32,7 @@ pub fn register_at<S: Fits<P>, P, R: Wait>(
     requires may { MayRegister (initial_value lock.now).has.setup colour event }
     requires fit { S.fits_under (S.frame_of (initial_value lock.now).sample) colour event load }
     ensures pass { HasLeft (shard_frame S.frame_of) lock.now pass.old pass.new }
-    ensures seen { IsSeen (initial_value lock.now).has.setup pass.old.number
+    ensures seen { IsSeen (initial_value lock.now).has.setup pass.old.number known.now.number
         (front pass.old) (front pass.new)
         (RegistersAt (initial_value lock.now).has.setup pass.old.number colour event load result) }
 {
@@ -38,7 +40,7 @@ pub fn register_at<S: Fits<P>, P, R: Wait>(
         rt,
         pass,
         load,
-        |shard, load, by| shard.register(colour, event, load, by),
+        |shard, load, by| shard.register(colour, event, load, by, known),
     )
 }
 
@@ -47,12 +49,13 @@ pub fn take_at<S: Fits<P>, P, R: Wait>(
     rt: &R,
     lock: &Ticketed<KeptShard<S, P>>,
     pass: &mut Pass<KeptShard<S, P>>,
+    known: &Stamp,
     colour: Colour,
 ) -> Result<Turn<S, P>, NoTake>
     requires pass { MayEnter (shard_frame S.frame_of) lock.now pass.old }
     requires own { IsColourOf (shard_frame S.frame_of (initial_value lock.now)) colour }
     ensures pass { HasLeft (shard_frame S.frame_of) lock.now pass.old pass.new }
-    ensures seen { IsSeen (initial_value lock.now).has.setup pass.old.number
+    ensures seen { IsSeen (initial_value lock.now).has.setup pass.old.number known.now.number
         (front pass.old) (front pass.new)
         (TakesAt S.Trail S.fits_under (initial_value lock.now).has.setup
         (S.frame_of (initial_value lock.now).sample)
@@ -63,7 +66,7 @@ pub fn take_at<S: Fits<P>, P, R: Wait>(
         rt,
         pass,
         colour,
-        |shard, colour, core| shard.take(colour, core),
+        |shard, colour, core| shard.take(colour, core, known),
     )
 }
 
@@ -72,6 +75,7 @@ pub fn finish_at<S: Fits<P> + Drop, P: Drop, R: Wait>(
     rt: &R,
     lock: &Ticketed<KeptShard<S, P>>,
     pass: &mut Pass<KeptShard<S, P>>,
+    known: &Stamp,
     turn: Turn<S, P>,
 ) -> After
     requires pass { MayEnter (shard_frame S.frame_of) lock.now pass.old }
@@ -82,11 +86,11 @@ pub fn finish_at<S: Fits<P> + Drop, P: Drop, R: Wait>(
     requires coloured { S.colour_of turn.state ≡ turn.colour }
     requires framed { S.frame_of turn.state ≡ S.frame_of (initial_value lock.now).sample }
     ensures pass { HasLeft (shard_frame S.frame_of) lock.now pass.old pass.new }
-    ensures seen { IsSeen (initial_value lock.now).has.setup pass.old.number
+    ensures seen { IsSeen (initial_value lock.now).has.setup pass.old.number known.now.number
         (front pass.old) (front pass.new)
         (FinishesAt (initial_value lock.now).has.setup pass.old.number turn result) }
 {
-    lock.call(rt, pass, turn, |shard, turn, _| shard.finish(turn))
+    lock.call(rt, pass, turn, |shard, turn, _| shard.finish(turn, known))
 }
 
 /// Moves a colour with all that is queued to the core of the pass.
@@ -94,13 +98,14 @@ pub fn steal_at<S: Fits<P>, P, R: Wait>(
     rt: &R,
     lock: &Ticketed<KeptShard<S, P>>,
     pass: &mut Pass<KeptShard<S, P>>,
+    known: &Stamp,
     colour: Colour,
 ) -> Result<Stolen, NoSteal>
     requires pass { MayEnter (shard_frame S.frame_of) lock.now pass.old }
     requires own { IsColourOf (shard_frame S.frame_of (initial_value lock.now)) colour }
     requires core { pass.old.number < (shape_of (initial_value lock.now).has.setup).cores }
     ensures pass { HasLeft (shard_frame S.frame_of) lock.now pass.old pass.new }
-    ensures seen { IsSeen (initial_value lock.now).has.setup pass.old.number
+    ensures seen { IsSeen (initial_value lock.now).has.setup pass.old.number known.now.number
         (front pass.old) (front pass.new)
         (StealsAt (initial_value lock.now).has.setup pass.old.number colour result) }
 {
@@ -108,7 +113,7 @@ pub fn steal_at<S: Fits<P>, P, R: Wait>(
         rt,
         pass,
         colour,
-        |shard, colour, to| shard.steal(colour, to),
+        |shard, colour, to| shard.steal(colour, to, known),
     )
 }
 
@@ -121,7 +126,7 @@ pub fn reserve_at<S: Fits<P>, P, R: Wait>(
 ) -> Result<(), Memory>
     requires pass { MayEnter (shard_frame S.frame_of) lock.now pass.old }
     ensures pass { HasLeft (shard_frame S.frame_of) lock.now pass.old pass.new }
-    ensures seen { IsSeen (initial_value lock.now).has.setup pass.old.number
+    ensures seen { (known : ℕ) → IsSeen (initial_value lock.now).has.setup pass.old.number known
         (front pass.old) (front pass.new)
         LooksAt }
 {
@@ -141,7 +146,7 @@ pub fn look_at<S: Fits<P>, P, R: Wait>(
 ) -> bool
     requires pass { MayEnter (shard_frame S.frame_of) lock.now pass.old }
     ensures pass { HasLeft (shard_frame S.frame_of) lock.now pass.old pass.new }
-    ensures seen { IsSeen (initial_value lock.now).has.setup pass.old.number
+    ensures seen { (known : ℕ) → IsSeen (initial_value lock.now).has.setup pass.old.number known
         (front pass.old) (front pass.new)
         LooksAt }
     ensures drained { IsDrainedAs result (entries_of (front pass.new)) }

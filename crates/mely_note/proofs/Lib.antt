@@ -1,2 +1,4 @@
+mod MadeLemmas
 pub mod NoteLemmas
 pub mod ShowLemmas
+pub mod StampLemmas

@@ -43,13 +43,13 @@ module _ {S P : Type 0} where
 
   -- the event of a load is the one that the entry registers
   pub loads_entry : (c : Colour) (note : Note S P) → map (λ e. e.0) (cons_option (load_on c note) []) ≡ cons_option (registration_on c (entry_of note)) []
-  loads_entry c (Reg colour event load by) = one (colour.0 == c.0) where
+  loads_entry c (Reg colour event load by at) = one (colour.0 == c.0) where
     one : (own : Bool) → map (λ (e : Event × Option P). e.0) (cons_option (if own then Some (event, load.value) else None) []) ≡ cons_option (if own then Some event else None) []
     one true = refl
     one false = refl
-  loads_entry c (Take colour core count) = refl
-  loads_entry c (Fin colour core count state) = refl
-  loads_entry c (Steal colour from to) = refl
+  loads_entry c (Take colour core count at) = refl
+  loads_entry c (Fin colour core count state at) = refl
+  loads_entry c (Steal colour from to at) = refl
 
   -- the loads of two lists
   pub loaded_of-append : (a b : List (Note S P)) (c : Colour) → loaded_of (a ++ b) c ≡ loaded_of a c ++ loaded_of b c
@@ -100,51 +100,51 @@ module _ {S P : Type 0} where
       ∙ ap (drop (begun_of (entries_of notes) c)) (append-nil (loaded_of notes c))
 
   -- a registration is behind what waits
-  pub waiting_of-reg : (notes : List (Note S P)) (c : Colour) (event : Event) (load : _) (by : ℕ) → begun_of (entries_of notes) c ≤ length (registered_of (entries_of notes) c) → waiting_of (notes ++ Reg c event load by ∷ []) c ≡ waiting_of notes c ++ (event, load.value) ∷ []
-  waiting_of-reg notes c event load by within =
-      let note : Note S P = Reg c event load by in
+  pub waiting_of-reg : (notes : List (Note S P)) (c : Colour) (event : Event) (load : _) (by : ℕ) (at : _) → begun_of (entries_of notes) c ≤ length (registered_of (entries_of notes) c) → waiting_of (notes ++ Reg c event load by at ∷ []) c ≡ waiting_of notes c ++ (event, load.value) ∷ []
+  waiting_of-reg notes c event load by at within =
+      let note : Note S P = Reg c event load by at in
       waiting_more notes note c
       ∙ ap (λ k. drop k (loaded_of notes c ++ cons_option (load_on c note) [])) (add-zero (begun_of (entries_of notes) c))
       ∙ ap (λ own. drop (begun_of (entries_of notes) c) (loaded_of notes c ++ cons_option (if own then Some (event, load.value) else None) [])) (eq-eqb c.0 c.0 refl)
       ∙ drop-append-le (begun_of (entries_of notes) c) (loaded_of notes c) ((event, load.value) ∷ []) (omega (arith, length-loaded_of notes c))
 
   -- a take takes the first of what waits
-  pub waiting_of-take : (notes : List (Note S P)) (c : Colour) (core count : ℕ) → waiting_of (notes ++ Take c core count ∷ []) c ≡ drop count (waiting_of notes c)
-  waiting_of-take notes c core count =
-      let note : Note S P = Take c core count in
+  pub waiting_of-take : (notes : List (Note S P)) (c : Colour) (core count : ℕ) (at : _) → waiting_of (notes ++ Take c core count at ∷ []) c ≡ drop count (waiting_of notes c)
+  waiting_of-take notes c core count at =
+      let note : Note S P = Take c core count at in
       waiting_more notes note c
       ∙ ap (drop (begun_of (entries_of notes) c + taken_on c (entry_of note))) (append-nil (loaded_of notes c))
       ∙ ap (λ own. drop (begun_of (entries_of notes) c + (if own then count else 0)) (loaded_of notes c)) (eq-eqb c.0 c.0 refl)
       ∙ sym (drop-drop count (begun_of (entries_of notes) c) (loaded_of notes c))
 
   -- a finish changes nothing of what waits
-  pub waiting_of-fin : (notes : List (Note S P)) (c colour : Colour) (core count : ℕ) (state : _) → waiting_of (notes ++ Fin colour core count state ∷ []) c ≡ waiting_of notes c
-  waiting_of-fin notes c colour core count state = waiting_quiet notes (Fin colour core count state) c refl refl
+  pub waiting_of-fin : (notes : List (Note S P)) (c colour : Colour) (core count : ℕ) (state at : _) → waiting_of (notes ++ Fin colour core count state at ∷ []) c ≡ waiting_of notes c
+  waiting_of-fin notes c colour core count state at = waiting_quiet notes (Fin colour core count state at) c refl refl
 
   -- a steal changes nothing of what waits
-  pub waiting_of-steal : (notes : List (Note S P)) (c colour : Colour) (from to : ℕ) → waiting_of (notes ++ Steal colour from to ∷ []) c ≡ waiting_of notes c
-  waiting_of-steal notes c colour from to = waiting_quiet notes (Steal colour from to) c refl refl
+  pub waiting_of-steal : (notes : List (Note S P)) (c colour : Colour) (from to : ℕ) (at : _) → waiting_of (notes ++ Steal colour from to at ∷ []) c ≡ waiting_of notes c
+  waiting_of-steal notes c colour from to at = waiting_quiet notes (Steal colour from to at) c refl refl
 
   -- a note of another colour registers nothing of this one
   no_load-other : (c : Colour) (note : Note S P) → ((colour_of (entry_of note)).0 ≡ c.0 → ⊥) → load_on c note ≡ None
-  no_load-other c (Reg colour event load by) ne = rw (ne_eqb colour.0 c.0 ne) refl
-  no_load-other c (Take colour core count) ne = refl
-  no_load-other c (Fin colour core count state) ne = refl
-  no_load-other c (Steal colour from to) ne = refl
+  no_load-other c (Reg colour event load by at) ne = rw (ne_eqb colour.0 c.0 ne) refl
+  no_load-other c (Take colour core count at) ne = refl
+  no_load-other c (Fin colour core count state at) ne = refl
+  no_load-other c (Steal colour from to at) ne = refl
 
   -- nor does it take anything of it
   none_taken-other : (c : Colour) (note : Note S P) → ((colour_of (entry_of note)).0 ≡ c.0 → ⊥) → taken_on c (entry_of note) ≡ 0
-  none_taken-other c (Reg colour event load by) ne = refl
-  none_taken-other c (Take colour core count) ne = rw (ne_eqb colour.0 c.0 ne) refl
-  none_taken-other c (Fin colour core count state) ne = refl
-  none_taken-other c (Steal colour from to) ne = refl
+  none_taken-other c (Reg colour event load by at) ne = refl
+  none_taken-other c (Take colour core count at) ne = rw (ne_eqb colour.0 c.0 ne) refl
+  none_taken-other c (Fin colour core count state at) ne = refl
+  none_taken-other c (Steal colour from to at) ne = refl
 
   -- and it brings no state home to it
   no_state-other : (c : Colour) (note : Note S P) → ((colour_of (entry_of note)).0 ≡ c.0 → ⊥) → state_on c note ≡ None
-  no_state-other c (Reg colour event load by) ne = refl
-  no_state-other c (Take colour core count) ne = refl
-  no_state-other c (Fin colour core count state) ne = rw (ne_eqb colour.0 c.0 ne) refl
-  no_state-other c (Steal colour from to) ne = refl
+  no_state-other c (Reg colour event load by at) ne = refl
+  no_state-other c (Take colour core count at) ne = refl
+  no_state-other c (Fin colour core count state at) ne = rw (ne_eqb colour.0 c.0 ne) refl
+  no_state-other c (Steal colour from to at) ne = refl
 
   -- a note of another colour changes nothing of what waits
   pub waiting_of-other : (notes : List (Note S P)) (note : Note S P) (c : Colour) → ((colour_of (entry_of note)).0 ≡ c.0 → ⊥) → waiting_of (notes ++ note ∷ []) c ≡ waiting_of notes c
@@ -155,22 +155,22 @@ module _ {S P : Type 0} where
   home_more given notes note c = home_of-append given notes (note ∷ []) c
 
   -- a registration changes nothing of the state at home
-  pub home_of-reg : (given : S) (notes : List (Note S P)) (c colour : Colour) (event : Event) (load : _) (by : ℕ) → home_of given (notes ++ Reg colour event load by ∷ []) c ≡ home_of given notes c
-  home_of-reg given notes c colour event load by = home_more given notes (Reg colour event load by) c
+  pub home_of-reg : (given : S) (notes : List (Note S P)) (c colour : Colour) (event : Event) (load : _) (by : ℕ) (at : _) → home_of given (notes ++ Reg colour event load by at ∷ []) c ≡ home_of given notes c
+  home_of-reg given notes c colour event load by at = home_more given notes (Reg colour event load by at) c
 
   -- a take changes nothing of the state that was at home last
-  pub home_of-take : (given : S) (notes : List (Note S P)) (c colour : Colour) (core count : ℕ) → home_of given (notes ++ Take colour core count ∷ []) c ≡ home_of given notes c
-  home_of-take given notes c colour core count = home_more given notes (Take colour core count) c
+  pub home_of-take : (given : S) (notes : List (Note S P)) (c colour : Colour) (core count : ℕ) (at : _) → home_of given (notes ++ Take colour core count at ∷ []) c ≡ home_of given notes c
+  home_of-take given notes c colour core count at = home_more given notes (Take colour core count at) c
 
   -- a finish brings its state home
-  pub home_of-fin : (given : S) (notes : List (Note S P)) (c : Colour) (core count : ℕ) (state : _) → home_of given (notes ++ Fin c core count state ∷ []) c ≡ state.value
-  home_of-fin given notes c core count state =
-      home_more given notes (Fin c core count state) c
+  pub home_of-fin : (given : S) (notes : List (Note S P)) (c : Colour) (core count : ℕ) (state at : _) → home_of given (notes ++ Fin c core count state at ∷ []) c ≡ state.value
+  home_of-fin given notes c core count state at =
+      home_more given notes (Fin c core count state at) c
       ∙ ap (λ own. unwrap_or (if own then Some state.value else None) (home_of given notes c)) (eq-eqb c.0 c.0 refl)
 
   -- a steal changes nothing of the state at home
-  pub home_of-steal : (given : S) (notes : List (Note S P)) (c colour : Colour) (from to : ℕ) → home_of given (notes ++ Steal colour from to ∷ []) c ≡ home_of given notes c
-  home_of-steal given notes c colour from to = home_more given notes (Steal colour from to) c
+  pub home_of-steal : (given : S) (notes : List (Note S P)) (c colour : Colour) (from to : ℕ) (at : _) → home_of given (notes ++ Steal colour from to at ∷ []) c ≡ home_of given notes c
+  home_of-steal given notes c colour from to at = home_more given notes (Steal colour from to at) c
 
   -- a note of another colour changes nothing of the state at home
   pub home_of-other : (given : S) (notes : List (Note S P)) (note : Note S P) (c : Colour) → ((colour_of (entry_of note)).0 ≡ c.0 → ⊥) → home_of given (notes ++ note ∷ []) c ≡ home_of given notes c

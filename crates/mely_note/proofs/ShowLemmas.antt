@@ -111,48 +111,48 @@ module _ {S P : Type 0} where
         subst (ShowsLane (notes ++ note ∷ []) c) is shown)
 
     -- after a registration
-    pub shows_registered : (c : Colour) (event : Event) (load : Option P) (by : ℕ) → IsOwn old c → IsLegal new.setup new.history → Registers old new c event load by
-        → ShowsNotes new (notes ++ Reg c event (snapshot_of load) by ∷ [])
-    shows_registered c event load by own legal does =
+    pub shows_registered : (c : Colour) (event : Event) (load : Option P) (by : ℕ) (at : _) → IsOwn old c → IsLegal new.setup new.history → Registers old new c event load by
+        → ShowsNotes new (notes ++ Reg c event (snapshot_of load) by at ∷ [])
+    shows_registered c event load by at own legal does =
         let legal_old : IsLegal new.setup old.history = legal_front new.setup old.history (entry.Reg c event by ∷ []) (subst (IsLegal new.setup) does.after.history legal) in
         let within = begun_within new.setup old.history c legal_old in
         let lane = shows.each c does.before own does.was in
         let fits : begun_of (entries_of notes) c ≤ length (registered_of (entries_of notes) c) = subst (λ h. begun_of h c ≤ length (registered_of h c)) shows.entries within in
-        shows_set (Reg c event (snapshot_of load) by) c does.before _ refl own does.was does.after.same_setup does.after.same_shard does.after.history does.after.lanes
+        shows_set (Reg c event (snapshot_of load) by at) c does.before _ refl own does.was does.after.same_setup does.after.same_shard does.after.history does.after.lanes
         (record {
-          waits = ap (λ es. es ++ (event, load) ∷ []) lane.waits ∙ sym (waiting_of-reg notes c event (snapshot_of load) by fits);
-          home = if_along does.before.state _ _ (sym (home_of-reg does.before.given notes c c event (snapshot_of load) by)) lane.home;
+          waits = ap (λ es. es ++ (event, load) ∷ []) lane.waits ∙ sym (waiting_of-reg notes c event (snapshot_of load) by at fits);
+          home = if_along does.before.state _ _ (sym (home_of-reg does.before.given notes c c event (snapshot_of load) by at)) lane.home;
         })
 
     -- after a take
-    pub shows_taken : (c : Colour) (core : ℕ) (turn : TurnState S P) → IsOwn old c → Takes old new c core turn → ShowsNotes new (notes ++ Take c core turn.count ∷ [])
-    shows_taken c core turn own does =
+    pub shows_taken : (c : Colour) (core : ℕ) (turn : TurnState S P) (at : _) → IsOwn old c → Takes old new c core turn → ShowsNotes new (notes ++ Take c core turn.count at ∷ [])
+    shows_taken c core turn at own does =
         let lane = shows.each c does.before own does.was in
-        shows_set (Take c core turn.count) c does.before _ refl own does.was does.after.same_setup does.after.same_shard does.after.history does.after.lanes
+        shows_set (Take c core turn.count at) c does.before _ refl own does.was does.after.same_setup does.after.same_shard does.after.history does.after.lanes
         (record {
-          waits = ap (drop turn.count) lane.waits ∙ sym (waiting_of-take notes c core turn.count);
+          waits = ap (drop turn.count) lane.waits ∙ sym (waiting_of-take notes c core turn.count at);
           home = tt;
         })
 
     -- after a finish
-    pub shows_finished : (turn : TurnState S P) → IsOwn old turn.colour → Finishes old new turn → ShowsNotes new (notes ++ Fin turn.colour turn.core turn.count (snapshot_of turn.state) ∷ [])
-    shows_finished turn own does =
+    pub shows_finished : (turn : TurnState S P) (at : _) → IsOwn old turn.colour → Finishes old new turn → ShowsNotes new (notes ++ Fin turn.colour turn.core turn.count (snapshot_of turn.state) at ∷ [])
+    shows_finished turn at own does =
         let lane = shows.each turn.colour does.before own does.was in
-        shows_set (Fin turn.colour turn.core turn.count (snapshot_of turn.state)) turn.colour does.before _ refl own does.was does.after.same_setup does.after.same_shard does.after.history does.after.lanes
+        shows_set (Fin turn.colour turn.core turn.count (snapshot_of turn.state) at) turn.colour does.before _ refl own does.was does.after.same_setup does.after.same_shard does.after.history does.after.lanes
         (record {
-          waits = lane.waits ∙ sym (waiting_of-fin notes turn.colour turn.colour turn.core turn.count (snapshot_of turn.state));
-          home = sym (home_of-fin does.before.given notes turn.colour turn.core turn.count (snapshot_of turn.state));
+          waits = lane.waits ∙ sym (waiting_of-fin notes turn.colour turn.colour turn.core turn.count (snapshot_of turn.state) at);
+          home = sym (home_of-fin does.before.given notes turn.colour turn.core turn.count (snapshot_of turn.state) at);
         })
 
     -- after a steal
-    pub shows_stolen : (c : Colour) (from to : ℕ) → IsOwn old c → new.setup ≡ old.setup → new.shard ≡ old.shard → new.history ≡ old.history ++ entry_of (let note : Note S P = Steal c from to in note) ∷ [] → new.lanes ≡ old.lanes → ShowsNotes new (notes ++ Steal c from to ∷ [])
-    shows_stolen c from to own same_setup same_shard grown lanes =
-        let note : Note S P = Steal c from to in
+    pub shows_stolen : (c : Colour) (from to : ℕ) (at : _) → IsOwn old c → new.setup ≡ old.setup → new.shard ≡ old.shard → new.history ≡ old.history ++ entry_of (let note : Note S P = Steal c from to at in note) ∷ [] → new.lanes ≡ old.lanes → ShowsNotes new (notes ++ Steal c from to at ∷ [])
+    shows_stolen c from to at own same_setup same_shard grown lanes =
+        let note : Note S P = Steal c from to at in
         shows_grown note c refl own same_setup same_shard grown
         (λ i ne. ap (λ ls. slice_get ls i) lanes)
-        (λ lane at.
-        let shown = shows.each c lane own (sym (ap (λ ls. slice_get ls (place old.setup c)) lanes) ∙ at) in
+        (λ lane there.
+        let shown = shows.each c lane own (sym (ap (λ ls. slice_get ls (place old.setup c)) lanes) ∙ there) in
         record {
-          waits = shown.waits ∙ sym (waiting_of-steal notes c c from to);
-          home = if_along lane.state _ _ (sym (home_of-steal lane.given notes c c from to)) shown.home;
+          waits = shown.waits ∙ sym (waiting_of-steal notes c c from to at);
+          home = if_along lane.state _ _ (sym (home_of-steal lane.given notes c c from to at)) shown.home;
         })

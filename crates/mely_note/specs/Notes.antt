@@ -1,5 +1,5 @@
 -- What a list of notes says of a colour beside what its entries say: loads and states.
-use Rattle.std.specs.Prelude.{◌==◌, ℕ, List, Option, None, Some, if◌then◌else◌, map, filter, filter_map, drop, fold, unwrap_or}
+use Rattle.std.specs.Prelude.{◌==◌, ℕ, List, Option, None, Some, ◌≡◌, ◌<◌, [], ◌∷◌, ◌++◌, if◌then◌else◌, map, filter, filter_map, drop, fold, max, unwrap_or}
 use Rattle.std.specs.declared.snapshot.Snapshot.{Snapshot}
 use Rattle.mely_event.specs.declared.colour.Colour.{Colour}
 use Rattle.mely_event.specs.declared.event.Event.{Event}
@@ -16,10 +16,10 @@ snapshot_of x = record { marker = record {}; value = x }
 
 -- the entry of a note: what is left without load and state
 abbrev pub entry_of : {S P : Type 0} → Note S P → Entry
-entry_of (Reg colour event load by) = entries.Reg colour event by
-entry_of (Take colour core count) = entries.Take colour core count
-entry_of (Fin colour core count state) = entries.Fin colour core count
-entry_of (Steal colour from to) = entries.Steal colour from to
+entry_of (Reg colour event load by at) = entries.Reg colour event by
+entry_of (Take colour core count at) = entries.Take colour core count
+entry_of (Fin colour core count state at) = entries.Fin colour core count
+entry_of (Steal colour from to at) = entries.Steal colour from to
 
 -- the entries of notes
 abbrev pub entries_of : {S P : Type 0} → List (Note S P) → List Entry
@@ -29,20 +29,42 @@ entries_of notes = map entry_of notes
 abbrev pub noted_by : {S P : Type 0} → Note S P → ℕ
 noted_by note = pass_of (entry_of note)
 
+-- the stamp of a note
+abbrev pub stamp_of : {S P : Type 0} → Note S P → ℕ
+stamp_of (Reg colour event load by at) = at.value.number
+stamp_of (Take colour core count at) = at.value.number
+stamp_of (Fin colour core count state at) = at.value.number
+stamp_of (Steal colour from to at) = at.value.number
+
+-- the latest stamp of notes, and 0 where there are none
+abbrev pub latest : {S P : Type 0} → List (Note S P) → ℕ
+latest [] = 0
+latest (note ∷ more) = max (stamp_of note) (latest more)
+
+-- the latest stamp of what was seen of several histories
+abbrev pub latest_in : {S P : Type 0} → List (List (Note S P)) → ℕ
+latest_in [] = 0
+latest_in (front ∷ more) = max (latest front) (latest_in more)
+
+-- the stamps rise: that of each note is above those of all notes before it
+abbrev pub Rise : {S P : Type 0} → List (Note S P) → Type 0
+Rise {S} {P} notes = (before after : List (Note S P)) (note : Note S P)
+    → notes ≡ before ++ note ∷ after → latest before < stamp_of note
+
 -- the event that a note registers on a colour, with its load
 abbrev pub load_on : {S P : Type 0} → Colour → Note S P → Option (Event × Option P)
-load_on c (Reg colour event load by) =
+load_on c (Reg colour event load by at) =
     if colour.0 == c.0 then Some (event, load.value) else None
-load_on c (Take colour core count) = None
-load_on c (Fin colour core count state) = None
-load_on c (Steal colour from to) = None
+load_on c (Take colour core count at) = None
+load_on c (Fin colour core count state at) = None
+load_on c (Steal colour from to at) = None
 
 -- the state that a note brings home to a colour
 abbrev pub state_on : {S P : Type 0} → Colour → Note S P → Option S
-state_on c (Reg colour event load by) = None
-state_on c (Take colour core count) = None
-state_on c (Fin colour core count state) = if colour.0 == c.0 then Some state.value else None
-state_on c (Steal colour from to) = None
+state_on c (Reg colour event load by at) = None
+state_on c (Take colour core count at) = None
+state_on c (Fin colour core count state at) = if colour.0 == c.0 then Some state.value else None
+state_on c (Steal colour from to at) = None
 
 -- the events that were registered on it with their loads, in order
 abbrev pub loaded_of : {S P : Type 0} → List (Note S P) → Colour → List (Event × Option P)

@@ -4,7 +4,9 @@ use Rattle.mely_note.specs.declared.note.Note.{Note}
 use Rattle.mely_shard.specs.Shard.{ShardState, givens}
 use Rattle.mely_kept.specs.Frames.{HaveFrame}
 use Rattle.mely_note.specs.ShowsNotes.{ShowsNotes}
+use Rattle.mely_note.specs.Notes.{Rise}
 use Rattle.mely_note.proofs.ShowLemmas.{shows_first}
+use Rattle.mely_note.proofs.StampLemmas.{rise-none}
 use Rattle.mely_kept.proofs.kept_shard.KeptShard.new.Goals as goal
 
 pub invariant_of-result : goal.invariant_of-result
@@ -14,4 +16,5 @@ invariant_of-result g c =
       subst (λ (has : ShardState g.row.S.Denot g.row.P.Denot). HaveFrame g.S.Trail.frame_of (g.S.Trail.frame_of c.of.result.value.value) (givens has)) (sym same) framed,
       subst (λ (ns : List (Note g.row.S.Denot g.row.P.Denot)). ShowsNotes c.in_ok-new.field-0.value ns) (sym c.new-2.ensures)
           (subst (λ (has : ShardState g.row.S.Denot g.row.P.Denot). ShowsNotes has []) (sym same) (shows_first c.args.shard c.requires.untouched)),
+      subst (λ (ns : List (Note g.row.S.Denot g.row.P.Denot)). Rise ns) (sym c.new-2.ensures) rise-none,
     )

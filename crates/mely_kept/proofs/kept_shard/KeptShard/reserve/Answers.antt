@@ -8,6 +8,7 @@ pub invariant_of-self : goal.invariant_of-self
 invariant_of-self g c = (
   frames_kept g.S.Trail.frame_of _ c.self.inside.shard.value c.reserve.new.self (subst (λ (old : ShardState g.row.S.Denot g.row.P.Denot). KeepsFrame old c.reserve.new.self) c.deref_mut.ensures.value c.reserve.ensures.frame) c.self.invariant.0,
   shows_same c.self.inside.shard.value c.reserve.new.self c.self.inside.notes.items c.self.invariant.1 (subst (λ (old : ShardState g.row.S.Denot g.row.P.Denot). KeepsAllButSpare old c.reserve.new.self) c.deref_mut.ensures.value c.reserve.ensures.contents),
+  c.self.invariant.2,
 )
 
 pub returns-clause-frame : goal.returns-clause-frame
