@@ -2,6 +2,7 @@
 use Rattle.std.proofs.Common.{◌≡◌, ℕ, ◌<◌, List, Option, length, get_or, ap, ◌∙◌, subst, arith}
 use Rattle.std.specs.Prelude.{slice_set}
 use Rattle.mely_note.specs.declared.note.Note.{Note}
+use Rattle.mely_note.specs.Notes.{latest_in}
 use Rattle.mely_event.specs.declared.colour.Colour.{Colour}
 use Rattle.mely_history.specs.Setup.{shape_of, colours_of}
 use Rattle.mely_lock.specs.declared.pass.Pass.{Pass}
@@ -79,19 +80,19 @@ module _ {S P V F : Type 0} {g : _} (kept_frame : V → ShardFrame S F) (fleet :
   pub shards_still : (new : Pass V (Note S P) (ShardFrame S F) g) → HasLeft kept_frame lock pass new → ArePassesOf kept_frame fleet.shards.items own.number (slice_set own.shards.items place new)
   shards_still new left = row_set kept_frame fleet.shards.items own.number own.shards.items are.of_shards place lock pass there lock_is pass_is new left
 
-  -- and the call was on this shard alone
-  pub sees_shard : (D : ShardFrame S F → ℕ → List (Note S P) → List (Note S P) → Type 0) (new : Pass V (Note S P) (ShardFrame S F) g) (shard : ℕ) → place ≡ shard → IsSeen (kept_frame (initial_value lock)).setup pass.number (front pass) (front new) (D (kept_frame (initial_value lock)) pass.number)
+  -- and the call was on this shard alone; it knew of all stamps that the caller had seen
+  pub sees_shard : (D : ShardFrame S F → ℕ → List (Note S P) → List (Note S P) → Type 0) (new : Pass V (Note S P) (ShardFrame S F) g) (shard known : ℕ) → place ≡ shard → known ≡ latest_in (fronts own.shards.items) → IsSeen (kept_frame (initial_value lock)).setup pass.number known (front pass) (front new) (D (kept_frame (initial_value lock)) pass.number)
       → SeesAt fleet.setup own.number shard (fronts own.shards.items) (fronts (slice_set own.shards.items place new)) (D (frame_for fleet.setup (frame_in kept_frame fleet) (givens_in kept_frame fleet) place) own.number)
-  sees_shard D new shard place_is seen = sees_row D (kept_frame (initial_value lock)) (frame_for fleet.setup (frame_in kept_frame fleet) (givens_in kept_frame fleet) place) own.number pass.number place shard own.shards.items pass new frame_is shard_numbered place_is shard_pass_low pass_is seen
+  sees_shard D new shard known place_is known_is seen = sees_row D (kept_frame (initial_value lock)) (frame_for fleet.setup (frame_in kept_frame fleet) (givens_in kept_frame fleet) place) own.number pass.number known place shard own.shards.items pass new frame_is shard_numbered known_is place_is shard_pass_low pass_is seen
 
   -- the state that a colour was given is the fleet's
   given_is : (c : Colour) → place ≡ shard_of fleet.setup c → given_at (kept_frame (initial_value lock)) c ≡ given_in kept_frame fleet c
   given_is c place_is = ap (λ (f : ShardFrame S F). given_at f c) frame_is ∙ ap (λ k. given_at (frame_for fleet.setup (frame_in kept_frame fleet) (givens_in kept_frame fleet) k) c) place_is
 
   -- so it is with a call that hands it out
-  pub sees_given : (D : ShardFrame S F → Option S → ℕ → List (Note S P) → List (Note S P) → Type 0) (new : Pass V (Note S P) (ShardFrame S F) g) (c : Colour) → place ≡ shard_of fleet.setup c
-      → IsSeen (kept_frame (initial_value lock)).setup pass.number (front pass) (front new) (D (kept_frame (initial_value lock)) (given_at (kept_frame (initial_value lock)) c) pass.number)
+  pub sees_given : (D : ShardFrame S F → Option S → ℕ → List (Note S P) → List (Note S P) → Type 0) (new : Pass V (Note S P) (ShardFrame S F) g) (c : Colour) (known : ℕ) → place ≡ shard_of fleet.setup c → known ≡ latest_in (fronts own.shards.items)
+      → IsSeen (kept_frame (initial_value lock)).setup pass.number known (front pass) (front new) (D (kept_frame (initial_value lock)) (given_at (kept_frame (initial_value lock)) c) pass.number)
       → SeesAt fleet.setup own.number (shard_of fleet.setup c) (fronts own.shards.items) (fronts (slice_set own.shards.items place new)) (D (frame_for fleet.setup (frame_in kept_frame fleet) (givens_in kept_frame fleet) place) (given_in kept_frame fleet c) own.number)
-  sees_given D new c place_is seen =
-      sees_shard (λ of n. D of (given_in kept_frame fleet c) n) new (shard_of fleet.setup c) place_is
-      (subst (λ first. IsSeen (kept_frame (initial_value lock)).setup pass.number (front pass) (front new) (D (kept_frame (initial_value lock)) first pass.number)) (given_is c place_is) seen)
+  sees_given D new c known place_is known_is seen =
+      sees_shard (λ of n. D of (given_in kept_frame fleet c) n) new (shard_of fleet.setup c) known place_is known_is
+      (subst (λ first. IsSeen (kept_frame (initial_value lock)).setup pass.number known (front pass) (front new) (D (kept_frame (initial_value lock)) first pass.number)) (given_is c place_is) seen)

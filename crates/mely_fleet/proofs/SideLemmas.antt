@@ -1,5 +1,5 @@
 -- What the side of a core keeps over its calls.
-use Rattle.std.proofs.Common.{◌≡◌, ℕ, ◌<◌, ◌≤◌, ◌⊎◌, List, [], ◌∷◌, ◌++◌, Option, Result, Ok, Err, length, map, take, min, sym, ◌∙◌, ap, subst, arith, inl, inr, ⊎_elim, MatchResult, IfOk, length-take}
+use Rattle.std.proofs.Common.{◌≡◌, ℕ, ◌<◌, ◌≤◌, ◌⊎◌, List, [], ◌∷◌, ◌++◌, Option, Result, Ok, Err, length, take, min, sym, ◌∙◌, ap, subst, arith, inl, inr, ⊎_elim, MatchResult, IfOk, length-take}
 use Rattle.std.proofs.lemmas.List.{length-map, take-map}
 use Rattle.std.proofs.lemmas.Bool.{cases_eq}
 use Rattle.mely_event.specs.declared.colour.Colour.{Colour}
@@ -28,7 +28,7 @@ use Rattle.mely_note.specs.declared.note.Note.{Note}
 use Rattle.mely_note.specs.declared.note.Note.TheVariants.{Reg, Take, Steal}
 use Rattle.mely_note.specs.Notes.{entry_of, entries_of, noted_by, waiting_of}
 use Rattle.mely_note.proofs.NoteLemmas.{events-waiting_of}
-use Rattle.mely_kept.specs.Calls.{RegistersAt, TakesAt, IsGiven, StealsAt, IsSeen}
+use Rattle.mely_kept.specs.Calls.{Notes, RegistersAt, TakesAt, IsGiven, StealsAt, IsSeen}
 use Rattle.mely_note.specs.Notes.{snapshot_of}
 use Rattle.mely_fleet.specs.Calls.{SeesAt, front_in, front_for}
 use Rattle.mely_fleet.proofs.FrontLemmas.{others_of_entries, entries_more}
@@ -67,16 +67,16 @@ module _ {S P : Type 0} where
       (cases_eq (shard_of setup c) g)
 
   pub registers_no_finish : (setup : Setup) (n : ℕ) (colour : Colour) (event : Event) (load : Option P) (answer : Result Registered (Unregistered P)) (c : Colour) (point after : List (Note S P)) → RegistersAt setup n colour event load answer point after → AddsNoFinish n c point after
-  registers_no_finish setup n colour event load (Ok reply) c point after does = inr (Reg colour event (snapshot_of load) n, does.0, no_finish_reg n c colour event n)
+  registers_no_finish setup n colour event load (Ok reply) c point after does = inr (Reg colour event (snapshot_of load) n does.0.0, does.0.1, no_finish_reg n c colour event n)
   registers_no_finish setup n colour event load (Err back) c point after does = inl does.0
 
   pub steals_no_finish : (setup : Setup) (n : ℕ) (colour : Colour) (answer : Result Stolen NoSteal) (c : Colour) (point after : List (Note S P)) → StealsAt setup n colour answer point after → AddsNoFinish n c point after
-  steals_no_finish setup n colour (Ok stolen) c point after does = inr (Steal colour stolen.from n, does.0, no_finish_steal n c colour stolen.from n)
+  steals_no_finish setup n colour (Ok stolen) c point after does = inr (Steal colour stolen.from n does.0.0, does.0.1, no_finish_steal n c colour stolen.from n)
   steals_no_finish setup n colour (Err why) c point after does = inl does.0
 
 module _ {S P F : Type 0} (t : TrailWords S F) (fits : F → Colour → Event → Option P → Type 0) (setup : Setup) (f : F) (first : Option S) where
   pub takes_no_finish : (n : ℕ) (d : Colour) (answer : Result (TurnState S P) NoTake) (c : Colour) (point after : List (Note S P)) → TakesAt t fits setup f first n d answer point after → AddsNoFinish n c point after
-  takes_no_finish n d (Ok turn) c point after does = inr (Take d n turn.count, does.0, no_finish_take n c d n turn.count)
+  takes_no_finish n d (Ok turn) c point after does = inr (Take d n turn.count does.0.0, does.0.1, no_finish_take n c d n turn.count)
   takes_no_finish n d (Err why) c point after does = inl does.0
 
   -- as many events as the turn counts
@@ -92,18 +92,18 @@ module _ {S P F : Type 0} (t : TrailWords S F) (fits : F → Colour → Event �
   first_queued n c turn point given = ap (λ es. events_of es) given.events ∙ sym (take-map (λ (e : Event × Option P). e.0) turn.count (waiting_of point c)) ∙ ap (take turn.count) (events-waiting_of point c)
 
   -- its finish is owed
-  owed_given : (n : ℕ) (c : Colour) (turn : TurnState S P) (point after : List (Note S P)) → after ≡ point ++ Take c n turn.count ∷ [] → IsGiven t fits setup f first point c n turn → IsOwed n (entries_of after) c turn.core turn.count (t.trail_of turn.state ++ events_of turn.events)
-  owed_given n c turn point after after_is given =
+  owed_given : (n : ℕ) (c : Colour) (turn : TurnState S P) (point after : List (Note S P)) → Notes (Take c n turn.count) point after → IsGiven t fits setup f first point c n turn → IsOwed n (entries_of after) c turn.core turn.count (t.trail_of turn.state ++ events_of turn.events)
+  owed_given n c turn point after noted given =
       let history = entries_of point ++ entries.Take c n turn.count ∷ [] in
-      subst (λ h. IsOwed n h c turn.core turn.count (t.trail_of turn.state ++ events_of turn.events)) (sym (entries_more point after (Take c n turn.count) after_is))
+      subst (λ h. IsOwed n h c turn.core turn.count (t.trail_of turn.state ++ events_of turn.events)) (sym (entries_more point after (Take c n turn.count noted.0) noted.1))
       (subst (λ k. IsOwed n history c k turn.count (t.trail_of turn.state ++ events_of turn.events)) (sym given.of_core)
       (subst (λ es. IsOwed n history c n turn.count es) (sym (ap (λ es. es ++ events_of turn.events) given.trailed ∙ ap (λ es. ran_of (entries_of point) c ++ es) (first_queued n c turn point given))) (owed_taken n c setup (entries_of point) turn.count given.allowed)))
 
 -- the turn that a take gives meets what the worker asks
-pub is_taken : {A S P F : Type 0} (t : TrailWords S F) (fits : F → Colour → Event → Option P → Type 0) (setup_of : A → Setup) (core_of : A → ℕ) (frame_of : A → F) (first : Option S) (owes : A → Colour → ℕ → ℕ → List Event → Type 0) (a b : A) (c : Colour) (front after : List (Note S P)) (answer : Result (TurnState S P) NoTake)
-    → IsSeen (setup_of a) (core_of a) front after (TakesAt t fits (setup_of a) (frame_of a) first (core_of a) c answer) → ((core count : ℕ) (trail : List Event) → IsOwed (core_of a) (entries_of after) c core count trail → owes b c core count trail) → IfOk answer (IsTaken t fits setup_of core_of frame_of owes a b c)
-is_taken t fits setup_of core_of frame_of first owes a b c front after (Err why) seen owed = tt
-is_taken t fits setup_of core_of frame_of first owes a b c front after (Ok turn) seen owed =
+pub is_taken : {A S P F : Type 0} (t : TrailWords S F) (fits : F → Colour → Event → Option P → Type 0) (setup_of : A → Setup) (core_of : A → ℕ) (frame_of : A → F) (first : Option S) (owes : A → Colour → ℕ → ℕ → List Event → Type 0) (a b : A) (c : Colour) (known : ℕ) (front after : List (Note S P)) (answer : Result (TurnState S P) NoTake)
+    → IsSeen (setup_of a) (core_of a) known front after (TakesAt t fits (setup_of a) (frame_of a) first (core_of a) c answer) → ((core count : ℕ) (trail : List Event) → IsOwed (core_of a) (entries_of after) c core count trail → owes b c core count trail) → IfOk answer (IsTaken t fits setup_of core_of frame_of owes a b c)
+is_taken t fits setup_of core_of frame_of first owes a b c known front after (Err why) seen owed = tt
+is_taken t fits setup_of core_of frame_of first owes a b c known front after (Ok turn) seen owed =
     let given = seen.does.1 in
     let size = counted t fits (setup_of a) (frame_of a) first (core_of a) c turn seen.point given in
     let count_is : turn.count ≡ length turn.events = size.0 in

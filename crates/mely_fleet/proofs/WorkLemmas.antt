@@ -15,7 +15,7 @@ use Rattle.mely_history.specs.declared.setup.Setup.{Setup}
 use Rattle.mely_history.specs.declared.entry.Entry.{Entry}
 use Rattle.mely_history.specs.declared.entry.Entry.TheVariants.{Reg, Take, Fin, Steal}
 use Rattle.mely_note.specs.declared.note.Note.TheVariants as notes
-use Rattle.mely_note.specs.Notes.{entries_of, noted_by}
+use Rattle.mely_note.specs.Notes.{entries_of, latest_in, noted_by}
 use Rattle.mely_fleet.proofs.FrontLemmas.{others_of_entries, entries_more}
 use Rattle.mely_history.specs.declared.registered.Registered.{Registered}
 use Rattle.mely_history.specs.declared.no_take.NoTake.{NoTake}
@@ -56,8 +56,8 @@ use Rattle.mely_fleet.specs.Work.{Standpoint, words, SeesMore, HasFinishedBut, H
 abbrev pub Adds : {S P : Type 0} → List (Note S P) → List (Note S P) → Type 0
 Adds {S} {P} point after = (after ≡ point) ⊎ ((note : Note S P) × (after ≡ point ++ note ∷ []))
 
-seen_more : {S P : Type 0} (setup : Setup) (n : ℕ) (front after : List (Note S P)) (Does : List (Note S P) → List (Note S P) → Type 0) → (seen : IsSeen setup n front after Does) → Adds seen.point after → (more : List (Note S P)) × (after ≡ front ++ more)
-seen_more {S} {P} setup n front after Does seen adds =
+seen_more : {S P : Type 0} (setup : Setup) (n known : ℕ) (front after : List (Note S P)) (Does : List (Note S P) → List (Note S P) → Type 0) → (seen : IsSeen setup n known front after Does) → Adds seen.point after → (more : List (Note S P)) × (after ≡ front ++ more)
+seen_more {S} {P} setup n known front after Does seen adds =
     let others = seen.others in
     ⊎_elim
     (λ (same : after ≡ seen.point). (others.0, same ∙ others.1))
@@ -68,7 +68,7 @@ module _ {S P F : Type 0} (a b : Standpoint S P F) where
   -- a call on a shard shows more of it, and of the others nothing
   sees_more : (g : ℕ) (Does : List (Note S P) → List (Note S P) → Type 0) → SeesAt a.setup a.number g a.fronts b.fronts Does → ((point : List (Note S P)) → Does point (front_in b.fronts g) → Adds point (front_in b.fronts g)) → SeesMore a b
   sees_more g Does sees adds k = ⊎_elim
-      (λ (same : k ≡ g). subst (λ j. (more : List (Note S P)) × (front_in b.fronts j ≡ front_in a.fronts j ++ more)) (sym same) (seen_more a.setup a.number (front_in a.fronts g) (front_in b.fronts g) Does sees.seen (adds sees.seen.point sees.seen.does)))
+      (λ (same : k ≡ g). subst (λ j. (more : List (Note S P)) × (front_in b.fronts j ≡ front_in a.fronts j ++ more)) (sym same) (seen_more a.setup a.number (latest_in a.fronts) (front_in a.fronts g) (front_in b.fronts g) Does sees.seen (adds sees.seen.point sees.seen.does)))
       (λ (other : k ≡ g → ⊥). ([], sees.others k other ∙ sym (append-nil (front_in a.fronts k))))
       (cases_eq k g)
 
@@ -78,15 +78,15 @@ module _ {S P F : Type 0} (a b : Standpoint S P F) where
 module _ {S P : Type 0} where
   -- what each call adds
   register_adds : (setup : Setup) (n : ℕ) (c : Colour) (event : Event) (load : Option P) (answer : Result Registered (Unregistered P)) (point after : List (Note S P)) → RegistersAt setup n c event load answer point after → Adds point after
-  register_adds setup n c event load (Ok reply) point after does = inr (notes.Reg c event (snapshot_of load) n, does.0)
+  register_adds setup n c event load (Ok reply) point after does = inr (notes.Reg c event (snapshot_of load) n does.0.0, does.0.1)
   register_adds setup n c event load (Err back) point after does = inl does.0
 
   take_adds : {F : Type 0} (t : TrailWords S F) (fits : F → Colour → Event → Option P → Type 0) (setup : Setup) (f : F) (first : Option S) (n : ℕ) (c : Colour) (answer : Result (TurnState S P) NoTake) (point after : List (Note S P)) → TakesAt t fits setup f first n c answer point after → Adds point after
-  take_adds t fits setup f first n c (Ok turn) point after does = inr (notes.Take c n turn.count, does.0)
+  take_adds t fits setup f first n c (Ok turn) point after does = inr (notes.Take c n turn.count does.0.0, does.0.1)
   take_adds t fits setup f first n c (Err why) point after does = inl does.0
 
   steal_adds : (setup : Setup) (n : ℕ) (c : Colour) (answer : Result Stolen NoSteal) (point after : List (Note S P)) → StealsAt setup n c answer point after → Adds point after
-  steal_adds setup n c (Ok stolen) point after does = inr (notes.Steal c stolen.from n, does.0)
+  steal_adds setup n c (Ok stolen) point after does = inr (notes.Steal c stolen.from n does.0.0, does.0.1)
   steal_adds setup n c (Err why) point after does = inl does.0
 
 -- the last change of a colour by the caller, after one more entry of its own
@@ -134,12 +134,12 @@ module _ {S P F : Type 0} (a b : Standpoint S P F) (same_setup : b.setup ≡ a.s
       before k core count (ap (λ fs. last_change a.number k (entries_of (front_in fs (shard_of a.setup k)))) (sym same) ∙ subst (λ (s : Setup). last_change a.number k (entries_of (front_in b.fronts (shard_of s k))) ≡ Some (Take k core count)) same_setup (subst (λ n. last_change n k (entries_of (front_in b.fronts (shard_of b.setup k))) ≡ Some (Take k core count)) same_number is))
 
   register_finished : (d : Colour) (event : Event) (load : Option P) (answer : Result Registered (Unregistered P)) (r : Option Colour) → SeesAt a.setup a.number (shard_of a.setup d) a.fronts b.fronts (RegistersAt a.setup a.number d event load answer) → HasFinishedBut a r → HasFinishedBut b r
-  register_finished d event load (Ok reply) r sees = call_finished d (Some (Reg d event a.number)) r r _ sees (λ point does. entries_more point _ (notes.Reg d event (snapshot_of load) a.number) does.0) (λ k other is. is) (λ k core count was is taken. taken core count is)
+  register_finished d event load (Ok reply) r sees = call_finished d (Some (Reg d event a.number)) r r _ sees (λ point does. entries_more point _ (notes.Reg d event (snapshot_of load) a.number does.0.0) does.0.1) (λ k other is. is) (λ k core count was is taken. taken core count is)
   register_finished d event load (Err back) r sees = call_finished d None r r _ sees (λ point does. ap (λ h. entries_of h) does.0) (λ k other is. is) (λ k core count was is taken. taken core count is)
 
   steal_finished : (d : Colour) (answer : Result Stolen NoSteal) → SeesAt a.setup a.number (shard_of a.setup d) a.fronts b.fronts (StealsAt a.setup a.number d answer) → HasFinishedBut a None → HasFinishedBut b None
   steal_finished d (Err why) sees = call_finished d None None None _ sees (λ point does. ap (λ h. entries_of h) does.0) (λ k other is. is) (λ k core count was is taken. taken core count is)
-  steal_finished d (Ok stolen) sees = call_finished d (Some (Steal d stolen.from a.number)) None None _ sees (λ point does. entries_more point _ (notes.Steal d stolen.from a.number) does.0) (λ k other is. is) here where
+  steal_finished d (Ok stolen) sees = call_finished d (Some (Steal d stolen.from a.number)) None None _ sees (λ point does. entries_more point _ (notes.Steal d stolen.from a.number does.0.0) does.0.1) (λ k other is. is) here where
     here : (k : Colour) (core count : ℕ) (was : Option Entry) → changed a.number k (Some (Steal d stolen.from a.number)) was ≡ Some (Take k core count) → ((core count : ℕ) → was ≡ Some (Take k core count) → None ≡ Some k) → None ≡ Some k
     here k core count was is taken = for ((a.number == a.number) && (d.0 == k.0)) is where
       for : (own : Bool) → option_or (if own then Some (Steal k stolen.from a.number) else None) was ≡ Some (Take k core count) → None ≡ Some k
@@ -147,7 +147,7 @@ module _ {S P F : Type 0} (a b : Standpoint S P F) (same_setup : b.setup ≡ a.s
       for false is = taken core count is
 
   finish_finished : (turn : TurnState S P) (answer : After) → SeesAt a.setup a.number (shard_of a.setup turn.colour) a.fronts b.fronts (FinishesAt a.setup a.number turn answer) → HasFinishedBut a (Some turn.colour) → HasFinishedBut b None
-  finish_finished turn answer sees = call_finished turn.colour (Some (Fin turn.colour a.number turn.count)) (Some turn.colour) None _ sees (λ point does. entries_more point _ (notes.Fin turn.colour a.number turn.count (snapshot_of turn.state)) does.0) elsewhere here where
+  finish_finished turn answer sees = call_finished turn.colour (Some (Fin turn.colour a.number turn.count)) (Some turn.colour) None _ sees (λ point does. entries_more point _ (notes.Fin turn.colour a.number turn.count (snapshot_of turn.state) does.0.0) does.0.1) elsewhere here where
     elsewhere : (k : Colour) → (shard_of a.setup k ≡ shard_of a.setup turn.colour → ⊥) → Some turn.colour ≡ Some k → None ≡ Some k
     elsewhere k other is = let same : turn.colour ≡ k = cc in absurd (other (ap (shard_of a.setup) (sym same)))
 
@@ -162,7 +162,7 @@ module _ {S P F : Type 0} (a b : Standpoint S P F) (same_setup : b.setup ≡ a.s
           cc
 
   take_finished : (t : TrailWords S F) (fits : F → Colour → Event → Option P → Type 0) (d : Colour) (turn : TurnState S P) → SeesAt a.setup a.number (shard_of a.setup d) a.fronts b.fronts (TakesAt t fits a.setup a.frame (a.given d) a.number d (Ok turn)) → HasFinishedBut a None → HasFinishedBut b (Some turn.colour)
-  take_finished t fits d turn sees = call_finished d (Some (Take d a.number turn.count)) None (Some turn.colour) _ sees (λ point does. entries_more point _ (notes.Take d a.number turn.count) does.0) (λ k other is. cc) here where
+  take_finished t fits d turn sees = call_finished d (Some (Take d a.number turn.count)) None (Some turn.colour) _ sees (λ point does. entries_more point _ (notes.Take d a.number turn.count does.0.0) does.0.1) (λ k other is. cc) here where
     of_d : turn.colour ≡ d
     of_d = sees.seen.does.1.of_colour
 
@@ -248,7 +248,7 @@ module _ {S P F : Type 0} (a b : Standpoint S P F) (same_setup : b.setup ≡ a.s
 
     -- and shows more
     turn_more : (turn : TurnState S P) (left : List (Event × Option P)) → StepsTurn (words t fits) y app a w step b v turn left → SeesMore a b
-    turn_more turn [] line = sees_more a b (shard_of a.setup turn.colour) _ line.called (λ point does. inr (notes.Fin turn.colour a.number turn.count (snapshot_of turn.state), does.0))
+    turn_more turn [] line = sees_more a b (shard_of a.setup turn.colour) _ line.called (λ point does. inr (notes.Fin turn.colour a.number turn.count (snapshot_of turn.state) does.0.0, does.0.1))
     turn_more turn (event ∷ rest) runs = sees_same a b (ap (λ (s : Standpoint S P F). s.fronts) runs.untouched)
 
     puts_more : (turn : TurnState S P) (puts : List (Colour × Event × Option P)) → StepsPuts (words t fits) y app a w step b v turn puts → SeesMore a b

@@ -4,7 +4,7 @@ use Rattle.std.specs.Prelude.{◌≡◌, ◌+◌, ◌<◌, ◌≤◌, ℕ, List,
 use Rattle.mely_lock.specs.declared.ticketed.Ticketed.{Ticketed}
 use Rattle.mely_lock.specs.declared.pass.Pass.{Pass}
 use Rattle.mely_history.specs.declared.entry.Entry.{Entry}
-use Rattle.mely_note.specs.Notes.{entries_of, noted_by}
+use Rattle.mely_note.specs.Notes.{Rise, entries_of, noted_by}
 use Rattle.mely_note.specs.ShowsNotes.{ShowsNotes}
 use Rattle.mely_history.specs.declared.setup.Setup.{Setup}
 use Rattle.mely_history.specs.Setup.{shape_of}
@@ -63,6 +63,7 @@ pub record IsTakenOut {S P F : Type 0} (frame_of : S → F) (kept : KeptShardSta
   pub framed : HaveFrame frame_of (frame_of kept.sample) (givens has)
   pub legal : IsLegal has.setup has.history
   pub shows : ShowsNotes has kept.notes
+  pub rise : Rise kept.notes
 
 -- the notes of shard k after all passes are back: they begin with what each caller had seen, and go
 -- on by notes of others alone; each number below that of the passes is some caller's, and no note
@@ -83,6 +84,7 @@ pub record IsClosedShard {S P V F : Type 0} {g : _} (count k : ℕ)
     (passes : List (PassesOf V (Note S P) (ShardFrame S F) g)) (has : ShardState S P)
     (notes : List (Note S P)) : Type 0 where
   pub shows : ShowsNotes has notes
+  pub rise : Rise notes
   pub over : IsClosedOver count k passes notes
 
 -- the fronts that the cores' passes have of shard k are drained, and none is longer than this one

@@ -12,6 +12,7 @@ use mely_event::{Colour, Event, Fits, Kept, Mark, Memory, There, Trail, Unregist
 use mely_history::{After, NoSteal, NoTake, Registered, Setup, Stolen};
 use mely_kept::{KeptShard, finish_at, look_at, register_at, reserve_at, steal_at, take_at};
 use mely_lock::Ticketed;
+use mely_note::Stamp;
 use mely_queue::Turn;
 use mely_worker::Delivery;
 use std::sync::Wait;
@@ -92,10 +93,12 @@ impl<S: Fits<P> + Drop, P: Drop> FleetOf<KeptShard<S, P>> {
             (λ setup n. RegistersAt setup n colour event load result) }
     {
         let place = self.place(colour);
+        let known = Stamp::latest(passes);
         let answer = register_at(
             rt,
             &self.shards[place],
             &mut passes.shards[place],
+            &known,
             colour,
             event,
             load,
@@ -128,7 +131,14 @@ impl<S: Fits<P> + Drop, P: Drop> FleetOf<KeptShard<S, P>> {
             (λ setup n. TakesAt S.Trail S.fits_under setup frame given n colour result) }
     {
         let place = self.place(colour);
-        take_at(rt, &self.shards[place], &mut passes.shards[place], colour)
+        let known = Stamp::latest(passes);
+        take_at(
+            rt,
+            &self.shards[place],
+            &mut passes.shards[place],
+            &known,
+            colour,
+        )
     }
 
     /// Takes the state of a turn home, all of whose events were run. Of the entries of
@@ -149,7 +159,14 @@ impl<S: Fits<P> + Drop, P: Drop> FleetOf<KeptShard<S, P>> {
             (λ setup n. FinishesAt setup n turn result) }
     {
         let place = self.place(turn.colour());
-        let answer = finish_at(rt, &self.shards[place], &mut passes.shards[place], turn);
+        let known = Stamp::latest(passes);
+        let answer = finish_at(
+            rt,
+            &self.shards[place],
+            &mut passes.shards[place],
+            &known,
+            turn,
+        );
         self.bell.finished(rt, passes.number, answer == After::Idle);
         answer
     }
@@ -175,7 +192,14 @@ impl<S: Fits<P> + Drop, P: Drop> FleetOf<KeptShard<S, P>> {
             (λ setup n. StealsAt setup n colour result) }
     {
         let place = self.place(colour);
-        steal_at(rt, &self.shards[place], &mut passes.shards[place], colour)
+        let known = Stamp::latest(passes);
+        steal_at(
+            rt,
+            &self.shards[place],
+            &mut passes.shards[place],
+            &known,
+            colour,
+        )
     }
 
     /// Makes room for this many entries in the history of a shard. Others may use it. One that isn't

@@ -14,6 +14,11 @@
 //! and the state of each finish. So a take hands out the events with the loads that they were
 //! registered with, and the state that the last finish brought home.
 //!
+//! Each note has a stamp, a number that only contracts see. That of a call's own note is above those of
+//! all notes before it in the shard's history, and above all that its caller had seen before, of
+//! whatever shard. So stamps rise along each history, and along all that one caller does, and who
+//! sees a note of one shard and then makes one in another gives that the later stamp.
+//!
 //! A shard's history is there for contracts, and takes no memory, however many calls are made. Where
 //! the setup asks for it ([`Setup::listed`](mely_history::Setup::listed)) its entries are also kept
 //! as a list, which can be read once the fleet is closed.
@@ -23,9 +28,10 @@
 //! all are back the fleet is closed. `run_crew` of `mely_crew` is the whole of that.
 //!
 //! Where a mark lies in a running fleet isn't promised, nor that `work` returns, that two threads
-//! run at once, or any order between shards. The weave that [`close`](FleetOf::close) gives stands
-//! well again. That no worker is left asleep while there is work for it is argued in `BELL.md`
-//! beside this crate, model-checked and stress-tested, not proved.
+//! run at once, or any order between shards but that of the stamps. The weave that
+//! [`close`](FleetOf::close) gives stands well again. That no worker is left asleep while there is
+//! work for it is argued in `BELL.md` beside this crate, model-checked and stress-tested, not
+//! proved.
 #![tactic(auto)]
 
 mod bell;

@@ -60,7 +60,7 @@ may_finish {S} {P} {F} t fits fleet before after c (Ok turn) low same sees =
     let core_of : Unit {0} → ℕ = λ _. before.number in
     let frame_of : Unit {0} → F = λ _. frame_in (shard_frame t.frame_of) fleet in
     let owes : Unit {0} → Colour → ℕ → ℕ → List Event → Type 0 = λ _ d core count trail. owed_by fleet after d core count trail in
-    let taken = is_taken t fits setup_of core_of frame_of (given_in (shard_frame t.frame_of) fleet c) owes tt tt c _ _ (Ok turn) sees.seen
+    let taken = is_taken t fits setup_of core_of frame_of (given_in (shard_frame t.frame_of) fleet c) owes tt tt c _ _ _ (Ok turn) sees.seen
     (λ core count trail owed. subst (λ m. IsOwed m (entries_of (front_for fleet.setup (fronts after.shards.items) c)) c core count trail) (sym same) owed) in
     record {
       colour = subst (λ (d : Colour). d.0 < colours_of fleet.setup) (sym taken.colour) low;

@@ -2,6 +2,7 @@ use Rattle.std.proofs.Common.{◌≡◌, ◌≤◌, ◌<◌, ℕ, List, [], Some
 use Rattle.std.specs.Prelude.{slice_get, option_map}
 use Rattle.std.proofs.lemmas.Option.{slice_get-map, get_or_from_slice_get}
 use Rattle.mely_note.specs.declared.note.Note.{Note}
+use Rattle.mely_note.specs.Notes.{Rise}
 use Rattle.mely_shard.specs.Shard.{givens}
 use Rattle.mely_note.specs.ShowsNotes.{ShowsNotes}
 use Rattle.mely_history.specs.Setup.{shape_of}
@@ -93,8 +94,10 @@ shards_closed : (g : _) (c : After-chains_out-chains g) (k : ℕ) (has : _) → 
 shards_closed g c k has at =
     let here = shard_there g c k has at in
     let is = notes_there g c k here.value here.value_at in
+    let out = c.shards_out-shards.ensures.each k here.value has here.value_at at in
     record {
-      shows = subst (ShowsNotes has) (sym is) (c.shards_out-shards.ensures.each k here.value has here.value_at at).shows;
+      shows = subst (ShowsNotes has) (sym is) out.shows;
+      rise = subst Rise (sym is) out.rise;
       over = closed_over (shard_frame g.S.Trail.frame_of) c.args.self.setup (λ list. list.items) c.args.self.shards.items c.args.passes.items c.hand_in_all.new.shard_columns.items c.args.self.passes
           (λ n own there. (c.requires.each n own there).of_shards) c.hand_in_all.ensures.shard_columns k here.lock here.column here.value (notes_at g c k) here.lock_at here.column_at (c.args.self.shards_dealt k here.lock here.lock_at)
           is (c.close_all-kept_shards.ensures.each k here.lock here.value here.lock_at here.value_at here.column here.column_at);
