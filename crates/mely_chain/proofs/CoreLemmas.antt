@@ -19,6 +19,7 @@ use Rattle.mely_history.specs.Legal.{IsLegal, MayTake}
 use Rattle.mely_history.proofs.LegalAccountLemmas.{same_colour}
 use Rattle.mely_note.specs.declared.note.Note.{Note}
 use Rattle.mely_note.specs.declared.note.Note.TheVariants.{Reg, Take, Fin, Steal}
+use Rattle.mely_note.specs.declared.stamp.Stamp.{Stamp}
 use Rattle.mely_note.specs.Notes.{entry_of, entries_of, loaded_of, home_of, load_on, state_on, noted_by, notes_by, waiting_of}
 use Rattle.mely_queue.specs.Turn.{TurnState}
 use Rattle.mely_tally.specs.Account.{HandlerRun, IsRunOf, puts_left}
@@ -171,9 +172,9 @@ module _ {R S P F : Type 0} (t : TrailWords S F) (fits : F → Colour → Event 
 
   module _ (notes after : Colour → List (Note S P)) (runs : List (HandlerRun S P)) where
     -- a registration of the first one put
-    pub told_registered : (w : WorkerState S P) (turn : TurnState S P) (hand then_hand : Delivery) (put : Colour × Event × Option P) (rest : List (Colour × Event × Option P)) (load : Snapshot (Option P)) → load.value ≡ put.2 → IsNext setup put.0 (Reg put.0 put.1 load n) notes after → AreLegalNotes setup notes → Told notes (in_phase w (Turning turn hand (put ∷ rest))) runs → Told after (in_phase w (Turning turn then_hand rest)) runs
-    told_registered w turn hand then_hand put rest load load_is next legal told =
-        let note : Note S P = Reg put.0 put.1 load n in
+    pub told_registered : (w : WorkerState S P) (turn : TurnState S P) (hand then_hand : Delivery) (put : Colour × Event × Option P) (rest : List (Colour × Event × Option P)) (load : Snapshot (Option P)) (stamp : Snapshot Stamp) → load.value ≡ put.2 → IsNext setup put.0 (Reg put.0 put.1 load n stamp) notes after → AreLegalNotes setup notes → Told notes (in_phase w (Turning turn hand (put ∷ rest))) runs → Told after (in_phase w (Turning turn then_hand rest)) runs
+    told_registered w turn hand then_hand put rest load stamp load_is next legal told =
+        let note : Note S P = Reg put.0 put.1 load n stamp in
         let at = next_or n setup put.0 note notes after next in
         record {
           each = told.each;
@@ -226,9 +227,9 @@ module _ {R S P F : Type 0} (t : TrailWords S F) (fits : F → Colour → Event 
         (next_or n setup d note notes after next c)
 
     -- a take of the turn that the history at this point gives
-    pub told_taken : (w : WorkerState S P) (d : Colour) (turn : TurnState S P) → is_turning w.phase ≡ false → turn.colour ≡ d → MayTake setup (entries_of (notes d)) d n turn.count → turn.events ≡ take turn.count (waiting_of (notes d) d) → ((first : S) → given d ≡ Some first → turn.state ≡ home_of first (notes d) d) → IsNext setup d (Take d n turn.count) notes after → Told notes w runs → Told after (in_phase w (Turning turn Nothing [])) runs
-    told_taken w d turn rests of_colour may events state next told =
-        let note : Note S P = Take d n turn.count in
+    pub told_taken : (w : WorkerState S P) (d : Colour) (turn : TurnState S P) (stamp : Snapshot Stamp) → is_turning w.phase ≡ false → turn.colour ≡ d → MayTake setup (entries_of (notes d)) d n turn.count → turn.events ≡ take turn.count (waiting_of (notes d) d) → ((first : S) → given d ≡ Some first → turn.state ≡ home_of first (notes d) d) → IsNext setup d (Take d n turn.count stamp) notes after → Told notes w runs → Told after (in_phase w (Turning turn Nothing [])) runs
+    told_taken w d turn stamp rests of_colour may events state next told =
+        let note : Note S P = Take d n turn.count stamp in
         record {
           each = told.each;
           turns = λ c first is. turns_stay d note next c first refl (told.turns c first is);
@@ -241,15 +242,15 @@ module _ {R S P F : Type 0} (t : TrailWords S F) (fits : F → Colour → Event 
         } where
           taken_here : (c : Colour) (first : S) → given c ≡ Some first → d ≡ c → runs_out first n c (notes c) (runs_on c runs) ≡ [] → TellTurnOut first n c (after c) (runs_on c runs) turn
           taken_here c first is same none =
-              let here : after d ≡ notes d ++ Take d n turn.count ∷ [] = next.here d refl in
+              let here : after d ≡ notes d ++ Take d n turn.count stamp ∷ [] = next.here d refl in
               subst (λ e. TellTurnOut first n e (after e) (runs_on e runs) turn) same
               (subst (λ l. TellTurnOut first n d l (runs_on d runs) turn) (sym here)
-              (out_taken n d first setup (notes d) (runs_on d runs) turn may events (state first (ap given same ∙ is)) (subst (λ e. runs_out first n e (notes e) (runs_on e runs) ≡ []) (sym same) none)))
+              (out_taken n d first setup (notes d) (runs_on d runs) turn stamp may events (state first (ap given same ∙ is)) (subst (λ e. runs_out first n e (notes e) (runs_on e runs) ≡ []) (sym same) none)))
 
     -- a steal
-    pub told_stolen : (w v : WorkerState S P) (d : Colour) (from : ℕ) → is_turning w.phase ≡ false → is_turning v.phase ≡ false → v.lost ≡ w.lost → IsNext setup d (Steal d from n) notes after → Told notes w runs → Told after v runs
-    told_stolen w v d from rests then_rests lost next told =
-        let note : Note S P = Steal d from n in
+    pub told_stolen : (w v : WorkerState S P) (d : Colour) (from : ℕ) (stamp : Snapshot Stamp) → is_turning w.phase ≡ false → is_turning v.phase ≡ false → v.lost ≡ w.lost → IsNext setup d (Steal d from n stamp) notes after → Told notes w runs → Told after v runs
+    told_stolen w v d from stamp rests then_rests lost next told =
+        let note : Note S P = Steal d from n stamp in
         record {
           each = told.each;
           turns = λ c first is. turns_stay d note next c first refl (told.turns c first is);
@@ -258,23 +259,23 @@ module _ {R S P F : Type 0} (t : TrailWords S F) (fits : F → Colour → Event 
         }
 
     -- the finish of a turn whose events were all run
-    pub told_finished : (w v : WorkerState S P) (turn : TurnState S P) (hand : Delivery) (home : Snapshot S) → home.value ≡ turn.state → turn.events ≡ [] → is_turning v.phase ≡ false → v.lost ≡ w.lost → IsNext setup turn.colour (Fin turn.colour n turn.count home) notes after → AreLegalNotes setup notes → Told notes (in_phase w (Turning turn hand [])) runs → Told after v runs
-    told_finished w v turn hand home home_is none then_rests lost next legal told =
-        let note : Note S P = Fin turn.colour n turn.count home in
+    pub told_finished : (w v : WorkerState S P) (turn : TurnState S P) (hand : Delivery) (home : Snapshot S) (stamp : Snapshot Stamp) → home.value ≡ turn.state → turn.events ≡ [] → is_turning v.phase ≡ false → v.lost ≡ w.lost → IsNext setup turn.colour (Fin turn.colour n turn.count home stamp) notes after → AreLegalNotes setup notes → Told notes (in_phase w (Turning turn hand [])) runs → Told after v runs
+    told_finished w v turn hand home stamp home_is none then_rests lost next legal told =
+        let note : Note S P = Fin turn.colour n turn.count home stamp in
         record {
           each = told.each;
           turns = λ c first is. ⊎_elim
               (λ (own : turn.colour ≡ c).
               subst (λ e. TellTurns first n e (after e) (runs_on e runs)) own
               (subst (λ l. TellTurns first n turn.colour l (runs_on turn.colour runs)) (sym (next.here turn.colour refl))
-              (turns_finished n turn.colour first setup (notes turn.colour) (runs_on turn.colour runs) turn home home_is (legal turn.colour) none ((told.out turn.colour first (ap given own ∙ is)).0 refl) (told.turns turn.colour first (ap given own ∙ is)))))
+              (turns_finished n turn.colour first setup (notes turn.colour) (runs_on turn.colour runs) turn home stamp home_is (legal turn.colour) none ((told.out turn.colour first (ap given own ∙ is)).0 refl) (told.turns turn.colour first (ap given own ∙ is)))))
               (λ (other : turn.colour ≡ c → ⊥). turns_stay turn.colour note next c first (ap (λ b. if b then Some home.value else None) (differs turn.colour c other)) (told.turns c first is))
               (same_or turn.colour c);
           out = λ c first is. out_rests n first c (after c) (runs_on c runs) v.phase then_rests (⊎_elim
               (λ (own : turn.colour ≡ c).
               subst (λ e. runs_out first n e (after e) (runs_on e runs) ≡ []) own
               (ap (λ l. runs_out first n turn.colour l (runs_on turn.colour runs)) (next.here turn.colour refl)
-              ∙ none_finished n turn.colour first setup (notes turn.colour) (runs_on turn.colour runs) turn home (legal turn.colour) none ((told.out turn.colour first (ap given own ∙ is)).0 refl)))
+              ∙ none_finished n turn.colour first setup (notes turn.colour) (runs_on turn.colour runs) turn home stamp (legal turn.colour) none ((told.out turn.colour first (ap given own ∙ is)).0 refl)))
               (λ (other : turn.colour ≡ c → ⊥). none_stays turn.colour note next c first (ap (λ b. if b then turn.count else 0) (differs turn.colour c other)) ((told.out c first is).1 other))
               (same_or turn.colour c));
           puts = λ c kept. ap (λ l. l ++ puts_on c (puts_left v.phase)) (puts_stay turn.colour note refl (λ c. refl) next c) ∙ ap (λ l. loaded_of (notes_by n (notes c)) c ++ puts_on c l) (rests_left n v.phase then_rests) ∙ told.puts c (sym lost ∙ kept);
@@ -316,9 +317,9 @@ module _ {R S P F : Type 0} (t : TrailWords S F) (fits : F → Colour → Event 
   pub told_first : (notes : Colour → List (Note S P)) (w : WorkerState S P) → is_turning w.phase ≡ false → ((c : Colour) → notes_by n (notes c) ≡ []) → Told notes w []
   told_first notes w rests none = record {
     each = tt;
-    turns = λ c first is before after count state cut.
-        let found : notes_by n before ++ Fin c n count state ∷ notes_by n after ≡ [] = ap (λ b. notes_by n before ++ cond b (Fin c n count state ∷ notes_by n after) (notes_by n after)) (sym (eq-eqb n n refl)) ∙ sym (filter-append (λ m. noted_by m == n) before (Fin c n count state ∷ after)) ∙ ap (notes_by n) (sym cut) ∙ none c in
-        absurd (not_none (notes_by n before) (Fin c n count state) (notes_by n after) found);
+    turns = λ c first is before after count state stamp cut.
+        let found : notes_by n before ++ Fin c n count state stamp ∷ notes_by n after ≡ [] = ap (λ b. notes_by n before ++ cond b (Fin c n count state stamp ∷ notes_by n after) (notes_by n after)) (sym (eq-eqb n n refl)) ∙ sym (filter-append (λ m. noted_by m == n) before (Fin c n count state stamp ∷ after)) ∙ ap (notes_by n) (sym cut) ∙ none c in
+        absurd (not_none (notes_by n before) (Fin c n count state stamp) (notes_by n after) found);
     out = λ c first is. out_rests n first c (notes c) [] w.phase rests (drop_of_length-le [] (omega arith));
     puts = λ c kept. ap (λ l. loaded_of l c ++ puts_on c (puts_left w.phase)) (none c) ∙ ap (puts_on c) (rests_left n w.phase rests);
   }

@@ -20,12 +20,14 @@ use Rattle.mely_history.proofs.LegalAccountLemmas.{begun_within, same_colour}
 use Rattle.mely_history.proofs.OwingLemmas.{running_on, owed_taken, last_change-others}
 use Rattle.mely_note.specs.declared.note.Note.{Note}
 use Rattle.mely_note.specs.declared.note.Note.TheVariants.{Reg, Take, Fin, Steal}
+use Rattle.mely_note.specs.declared.stamp.Stamp.{Stamp}
+use Rattle.mely_note.proofs.StampLemmas.{cut_last}
 use Rattle.mely_note.specs.Notes.{entry_of, entries_of, loaded_of, home_of, load_on, state_on, noted_by, notes_by, waiting_of}
 use Rattle.mely_queue.specs.Turn.{TurnState}
 use Rattle.mely_tally.specs.Account.{HandlerRun}
 use Rattle.mely_chain.specs.Runs.{RunThrough, Follow, given_to}
 use Rattle.mely_chain.specs.Told.{TellTurns, TellTurnOut, runs_out, finished_by, turn_of}
-use Rattle.mely_chain.proofs.GrowthLemmas.{cut_last, over_pushes, entries-push, loaded-push, home-push, ended-push, loaded-length, finished-own, finished-other, finished-none, first_other}
+use Rattle.mely_chain.proofs.GrowthLemmas.{over_pushes, entries-push, loaded-push, home-push, ended-push, loaded-length, finished-own, finished-other, finished-none, first_other}
 
 -- what was taken whole of a list is taken of a longer one
 take_whole : {X : Type 0} (count k : ℕ) (xs more : List X) → length (take count (drop k xs)) ≡ count → take count (drop k (xs ++ more)) ≡ take count (drop k xs)
@@ -72,33 +74,33 @@ module _ {S P : Type 0} where
 
   module _ (n : ℕ) (c : Colour) where
     -- a note is a finish of the colour by the pass, or changes nothing of what it finished
-    own_finish : (note : Note S P) → ((count : ℕ) × (state : Snapshot S) × (note ≡ Fin c n count state)) ⊎ ((notes : List (Note S P)) → finished_by n (notes ++ note ∷ []) c ≡ finished_by n notes c)
-    own_finish (Reg d event load by) = inr (λ notes. finished-none n notes (Reg d event load by) c refl)
-    own_finish (Take d core count) = inr (λ notes. finished-none n notes (Take d core count) c refl)
-    own_finish (Steal d from to) = inr (λ notes. finished-none n notes (Steal d from to) c refl)
-    own_finish (Fin d core count state) = ⊎_elim
+    own_finish : (note : Note S P) → ((count : ℕ) × (state : Snapshot S) × (stamp : Snapshot Stamp) × (note ≡ Fin c n count state stamp)) ⊎ ((notes : List (Note S P)) → finished_by n (notes ++ note ∷ []) c ≡ finished_by n notes c)
+    own_finish (Reg d event load by stamp) = inr (λ notes. finished-none n notes (Reg d event load by stamp) c refl)
+    own_finish (Take d core count stamp) = inr (λ notes. finished-none n notes (Take d core count stamp) c refl)
+    own_finish (Steal d from to stamp) = inr (λ notes. finished-none n notes (Steal d from to stamp) c refl)
+    own_finish (Fin d core count state stamp) = ⊎_elim
         (λ (by : core ≡ n). ⊎_elim
-        (λ (of : d.0 ≡ c.0). inl (count, state, ap (λ k. Fin d k count state) by ∙ ap (λ e. Fin e n count state) (same_colour d c of)))
-        (λ (ne : d.0 ≡ c.0 → ⊥). inr (λ notes. finished-none n notes (Fin d core count state) c (ap (λ b. if b then count else 0) (ne_eqb d.0 c.0 ne))))
+        (λ (of : d.0 ≡ c.0). inl (count, state, stamp, ap (λ k. Fin d k count state stamp) by ∙ ap (λ e. Fin e n count state stamp) (same_colour d c of)))
+        (λ (ne : d.0 ≡ c.0 → ⊥). inr (λ notes. finished-none n notes (Fin d core count state stamp) c (ap (λ b. if b then count else 0) (ne_eqb d.0 c.0 ne))))
         (cases_eq d.0 c.0))
-        (λ (ne : core ≡ n → ⊥). inr (λ notes. finished-other n notes (Fin d core count state) c (ne_eqb core n ne)))
+        (λ (ne : core ≡ n → ⊥). inr (λ notes. finished-other n notes (Fin d core count state stamp) c (ne_eqb core n ne)))
         (cases_eq core n)
 
     module _ (first : S) where
       -- ---- the turns that the pass finished
 
-      turns_more : (notes : List (Note S P)) (note : Note S P) (runs : List (HandlerRun S P)) → ((count : ℕ) (state : Snapshot S) → note ≡ Fin c n count state → RunThrough (home_of first notes c) (turn_of notes c count) state.value (take count (drop (finished_by n notes c) runs))) → TellTurns first n c notes runs → TellTurns first n c (notes ++ note ∷ []) runs
-      turns_more notes note runs last told before after count state is = ⊎_elim
-          (λ (at : (before ≡ notes) × (note ≡ Fin c n count state)). subst (λ l. RunThrough (home_of first l c) (turn_of l c count) state.value (take count (drop (finished_by n l c) runs))) (sym at.0) (last count state at.1))
-          (λ (inner : (more : List (Note S P)) × (notes ≡ before ++ Fin c n count state ∷ more)). told before inner.0 count state inner.1)
-          (cut_last notes note before (Fin c n count state) after is)
+      turns_more : (notes : List (Note S P)) (note : Note S P) (runs : List (HandlerRun S P)) → ((count : ℕ) (state : Snapshot S) (stamp : Snapshot Stamp) → note ≡ Fin c n count state stamp → RunThrough (home_of first notes c) (turn_of notes c count) state.value (take count (drop (finished_by n notes c) runs))) → TellTurns first n c notes runs → TellTurns first n c (notes ++ note ∷ []) runs
+      turns_more notes note runs last told before after count state stamp is = ⊎_elim
+          (λ (at : (before ≡ notes) × (note ≡ Fin c n count state stamp)). subst (λ l. RunThrough (home_of first l c) (turn_of l c count) state.value (take count (drop (finished_by n l c) runs))) (sym at.0) (last count state stamp at.1))
+          (λ (inner : (more : List (Note S P)) × (notes ≡ before ++ Fin c n count state stamp ∷ more)). told before inner.0 count state stamp inner.1)
+          (cut_last notes note before (Fin c n count state stamp) after is)
 
       -- after a note that brings no state of the colour home
       pub turns_quiet : (notes : List (Note S P)) (note : Note S P) (runs : List (HandlerRun S P)) → state_on c note ≡ None → TellTurns first n c notes runs → TellTurns first n c (notes ++ note ∷ []) runs
-      turns_quiet notes note runs none = turns_more notes note runs (λ count state is. let home : Some state.value ≡ None = sym (ap (λ b. if b then Some state.value else None) (eq-eqb c.0 c.0 refl)) ∙ sym (ap (state_on c) is) ∙ none in cc)
+      turns_quiet notes note runs none = turns_more notes note runs (λ count state stamp is. let home : Some state.value ≡ None = sym (ap (λ b. if b then Some state.value else None) (eq-eqb c.0 c.0 refl)) ∙ sym (ap (state_on c) is) ∙ none in cc)
 
       turns_other : (notes : List (Note S P)) (note : Note S P) (runs : List (HandlerRun S P)) → (noted_by note == n) ≡ false → TellTurns first n c notes runs → TellTurns first n c (notes ++ note ∷ []) runs
-      turns_other notes note runs not = turns_more notes note runs (λ count state is. let wrong : true ≡ false = sym (eq-eqb (noted_by note) n (ap noted_by is)) ∙ not in cc)
+      turns_other notes note runs not = turns_more notes note runs (λ count state stamp is. let wrong : true ≡ false = sym (eq-eqb (noted_by note) n (ap noted_by is)) ∙ not in cc)
 
       -- after notes of others
       pub turns_others : (notes between : List (Note S P)) (runs : List (HandlerRun S P)) → notes_by n between ≡ [] → TellTurns first n c notes runs → TellTurns first n c (notes ++ between) runs
@@ -109,19 +111,19 @@ module _ {S P : Type 0} where
 
       -- of fewer notes
       turns_front : (notes more : List (Note S P)) (runs : List (HandlerRun S P)) → TellTurns first n c (notes ++ more) runs → TellTurns first n c notes runs
-      turns_front notes more runs told before after count state is = told before (after ++ more) count state (ap (λ l. l ++ more) is ∙ append_assoc before (Fin c n count state ∷ after) more)
+      turns_front notes more runs told before after count state stamp is = told before (after ++ more) count state stamp (ap (λ l. l ++ more) is ∙ append_assoc before (Fin c n count state stamp ∷ after) more)
 
       -- the runs of a finished turn are as many as it had events
-      through-length : (setup : Setup) (before : List (Note S P)) (count : ℕ) (state : Snapshot S) (after : List (Note S P)) (runs : List (HandlerRun S P)) → IsLegal setup (entries_of (before ++ Fin c n count state ∷ after)) → RunThrough (home_of first before c) (turn_of before c count) state.value (take count (drop (finished_by n before c) runs)) → length (take count (drop (finished_by n before c) runs)) ≡ count
-      through-length setup before count state after runs legal through =
-          let at = legal_at setup before (Fin c n count state) after legal in
+      through-length : (setup : Setup) (before : List (Note S P)) (count : ℕ) (state : Snapshot S) (stamp : Snapshot Stamp) (after : List (Note S P)) (runs : List (HandlerRun S P)) → IsLegal setup (entries_of (before ++ Fin c n count state stamp ∷ after)) → RunThrough (home_of first before c) (turn_of before c count) state.value (take count (drop (finished_by n before c) runs)) → length (take count (drop (finished_by n before c) runs)) ≡ count
+      through-length setup before count state stamp after runs legal through =
+          let at = legal_at setup before (Fin c n count state stamp) after legal in
           sym (length-map (take count (drop (finished_by n before c) runs)) given_to) ∙ ap length through.given ∙ turn-length setup before c count at.0 at.1.whole
 
       -- after further runs
       pub turns_run : (setup : Setup) (notes : List (Note S P)) (runs more : List (HandlerRun S P)) → IsLegal setup (entries_of notes) → TellTurns first n c notes runs → TellTurns first n c notes (runs ++ more)
-      turns_run setup notes runs more legal told before after count state is =
-          let through = told before after count state is in
-          let whole = through-length setup before count state after runs (subst (λ l. IsLegal setup (entries_of l)) is legal) through in
+      turns_run setup notes runs more legal told before after count state stamp is =
+          let through = told before after count state stamp is in
+          let whole = through-length setup before count state stamp after runs (subst (λ l. IsLegal setup (entries_of l)) is legal) through in
           subst (λ l. RunThrough (home_of first before c) (turn_of before c count) state.value l) (sym (take_whole count (finished_by n before c) runs more whole)) through
 
       -- no more events are finished than runs were made
@@ -132,12 +134,12 @@ module _ {S P : Type 0} where
           let at = legal_at setup notes note [] legal in
           let before = so at.0 (turns_front notes (note ∷ []) runs told) in
           ⊎_elim
-          (λ (fin : (count : ℕ) × (state : Snapshot S) × (note ≡ Fin c n count state)).
-          let through = told notes [] fin.0 fin.1 (ap (λ m. notes ++ m ∷ []) fin.2) in
-          let whole = through-length setup notes fin.0 fin.1 [] runs (subst (λ m. IsLegal setup (entries_of (notes ++ m ∷ []))) fin.2 legal) through in
+          (λ (fin : (count : ℕ) × (state : Snapshot S) × (stamp : Snapshot Stamp) × (note ≡ Fin c n count state stamp)).
+          let through = told notes [] fin.0 fin.1 fin.2 (ap (λ m. notes ++ m ∷ []) fin.3) in
+          let whole = through-length setup notes fin.0 fin.1 fin.2 [] runs (subst (λ m. IsLegal setup (entries_of (notes ++ m ∷ []))) fin.3 legal) through in
           let has = length-take fin.0 (drop (finished_by n notes c) runs) in
           let left = length-drop (finished_by n notes c) runs in
-          let more : finished_by n (notes ++ note ∷ []) c ≡ finished_by n notes c + fin.0 = finished-own n notes note c (ap noted_by fin.2) ∙ ap (λ m. finished_by n notes c + finished_on c (entry_of m)) fin.2 ∙ ap (λ b. finished_by n notes c + (if b then fin.0 else 0)) (eq-eqb c.0 c.0 refl) in
+          let more : finished_by n (notes ++ note ∷ []) c ≡ finished_by n notes c + fin.0 = finished-own n notes note c (ap noted_by fin.3) ∙ ap (λ m. finished_by n notes c + finished_on c (entry_of m)) fin.3 ∙ ap (λ b. finished_by n notes c + (if b then fin.0 else 0)) (eq-eqb c.0 c.0 refl) in
           omega (arith, before, whole, has, left, more))
           (λ (same : (notes : List (Note S P)) → finished_by n (notes ++ note ∷ []) c ≡ finished_by n notes c). let is = same notes in omega (arith, before, is))
           (own_finish note))
@@ -166,10 +168,10 @@ module _ {S P : Type 0} where
 
       -- a note of another pass finishes and brings home nothing of a colour that is out
       quiet_other : (setup : Setup) (notes : List (Note S P)) (note : Note S P) (count : ℕ) → IsAllowed setup (entries_of notes) (entry_of note) → last_take (entries_of notes) c ≡ Some (n, count) → (noted_by note == n) ≡ false → (state_on c note ≡ None) × (finished_on c (entry_of note) ≡ 0)
-      quiet_other setup notes (Reg d event load by) count may last not = (refl, refl)
-      quiet_other setup notes (Take d core many) count may last not = (refl, refl)
-      quiet_other setup notes (Steal d from to) count may last not = (refl, refl)
-      quiet_other setup notes (Fin d core many state) count may last not = for (d.0 == c.0) refl where
+      quiet_other setup notes (Reg d event load by stamp) count may last not = (refl, refl)
+      quiet_other setup notes (Take d core many stamp) count may last not = (refl, refl)
+      quiet_other setup notes (Steal d from to stamp) count may last not = (refl, refl)
+      quiet_other setup notes (Fin d core many state stamp) count may last not = for (d.0 == c.0) refl where
         for : (own : Bool) → (d.0 == c.0) ≡ own → ((if own then Some state.value else None) ≡ None) × ((if own then many else 0) ≡ 0)
         for true is =
             let there : last_take (entries_of notes) d ≡ Some (n, count) = ap (last_take (entries_of notes)) (same_colour d c (eqb-true d.0 c.0 is)) ∙ last in
@@ -192,9 +194,9 @@ module _ {S P : Type 0} where
           (out_others setup (notes ++ note ∷ []) between runs turn not.1 (subst (λ l. IsLegal setup (entries_of l)) (sym same) legal) (out_quiet setup notes note runs turn at.0 quiet.0 quiet.1 unchanged out))
 
       -- a turn that was just taken is out
-      pub out_taken : (setup : Setup) (notes : List (Note S P)) (runs : List (HandlerRun S P)) (turn : TurnState S P) → MayTake setup (entries_of notes) c n turn.count → turn.events ≡ take turn.count (waiting_of notes c) → turn.state ≡ home_of first notes c → runs_out first n c notes runs ≡ [] → TellTurnOut first n c (notes ++ Take c n turn.count ∷ []) runs turn
-      out_taken setup notes runs turn may events state none =
-          let note : Note S P = Take c n turn.count in
+      pub out_taken : (setup : Setup) (notes : List (Note S P)) (runs : List (HandlerRun S P)) (turn : TurnState S P) (stamp : Snapshot Stamp) → MayTake setup (entries_of notes) c n turn.count → turn.events ≡ take turn.count (waiting_of notes c) → turn.state ≡ home_of first notes c → runs_out first n c notes runs ≡ [] → TellTurnOut first n c (notes ++ Take c n turn.count stamp ∷ []) runs turn
+      out_taken setup notes runs turn stamp may events state none =
+          let note : Note S P = Take c n turn.count stamp in
           let rest = may.ready.at_rest in
           let none_out : runs_out first n c (notes ++ note ∷ []) runs ≡ [] = out-same notes (notes ++ note ∷ []) runs (finished-none n notes note c refl) ∙ none in
           let ended : ended_of (entries_of (notes ++ note ∷ [])) c ≡ ended_of (entries_of notes) c = ended-push notes note c ∙ add-zero (ended_of (entries_of notes) c) in
@@ -228,9 +230,9 @@ module _ {S P : Type 0} where
           let events : map given_to (runs_out first n c notes runs) ≡ turn_of notes c turn.count = sym (append-nil (map given_to (runs_out first n c notes runs))) ∙ ap (λ l. map given_to (runs_out first n c notes runs) ++ l) (sym none) ∙ out.events in
           sym (length-map (runs_out first n c notes runs) given_to) ∙ ap length events ∙ turn-length setup notes c turn.count legal (away_of setup notes turn.count legal out.taken)
 
-      pub turns_finished : (setup : Setup) (notes : List (Note S P)) (runs : List (HandlerRun S P)) (turn : TurnState S P) (home : Snapshot S) → home.value ≡ turn.state → IsLegal setup (entries_of notes) → turn.events ≡ [] → TellTurnOut first n c notes runs turn → TellTurns first n c notes runs → TellTurns first n c (notes ++ Fin c n turn.count home ∷ []) runs
-      turns_finished setup notes runs turn home home_is legal none out = turns_more notes (Fin c n turn.count home) runs
-          (λ count state is.
+      pub turns_finished : (setup : Setup) (notes : List (Note S P)) (runs : List (HandlerRun S P)) (turn : TurnState S P) (home : Snapshot S) (stamp : Snapshot Stamp) → home.value ≡ turn.state → IsLegal setup (entries_of notes) → turn.events ≡ [] → TellTurnOut first n c notes runs turn → TellTurns first n c notes runs → TellTurns first n c (notes ++ Fin c n turn.count home stamp ∷ []) runs
+      turns_finished setup notes runs turn home stamp home_is legal none out = turns_more notes (Fin c n turn.count home stamp) runs
+          (λ count state at is.
           let many : turn.count ≡ count = cc in
           let same : home ≡ state = cc in
           let brought : turn.state ≡ state.value = sym home_is ∙ ap (λ z. z.value) same in
@@ -240,9 +242,9 @@ module _ {S P : Type 0} where
             follow = subst (λ l. Follow (home_of first notes c) l state.value) (sym whole) (subst (λ s. Follow (home_of first notes c) (runs_out first n c notes runs) s) brought out.follow);
           })
 
-      pub none_finished : (setup : Setup) (notes : List (Note S P)) (runs : List (HandlerRun S P)) (turn : TurnState S P) (home : Snapshot S) → IsLegal setup (entries_of notes) → turn.events ≡ [] → TellTurnOut first n c notes runs turn → runs_out first n c (notes ++ Fin c n turn.count home ∷ []) runs ≡ []
-      none_finished setup notes runs turn home legal none out =
-          let note : Note S P = Fin c n turn.count home in
+      pub none_finished : (setup : Setup) (notes : List (Note S P)) (runs : List (HandlerRun S P)) (turn : TurnState S P) (home : Snapshot S) (stamp : Snapshot Stamp) → IsLegal setup (entries_of notes) → turn.events ≡ [] → TellTurnOut first n c notes runs turn → runs_out first n c (notes ++ Fin c n turn.count home stamp ∷ []) runs ≡ []
+      none_finished setup notes runs turn home stamp legal none out =
+          let note : Note S P = Fin c n turn.count home stamp in
           let more : finished_by n (notes ++ note ∷ []) c ≡ finished_by n notes c + turn.count = finished-own n notes note c refl ∙ ap (λ b. finished_by n notes c + (if b then turn.count else 0)) (eq-eqb c.0 c.0 refl) in
           let many = spent-length setup notes runs turn legal none out in
           ap (λ k. drop k runs) more ∙ sym (drop-drop turn.count (finished_by n notes c) runs) ∙ drop_of_length-le (runs_out first n c notes runs) (omega (arith, many))

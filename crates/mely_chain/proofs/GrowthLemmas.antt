@@ -1,5 +1,5 @@
 -- What notes say of a colour after further notes.
-use Rattle.std.proofs.Common.{◌≡◌, ℕ, suc, ◌+◌, ◌==◌, List, [], ◌∷◌, ◌++◌, ◌⊎◌, Some, None, Bool, true, false, cond, length, if◌then◌else◌, refl, sym, ◌∙◌, ap, subst, inl, inr, ⊎_elim, add-zero, zero-add, append_assoc}
+use Rattle.std.proofs.Common.{◌≡◌, ℕ, suc, ◌+◌, ◌==◌, List, [], ◌∷◌, ◌++◌, Some, None, Bool, true, false, cond, length, if◌then◌else◌, refl, sym, ◌∙◌, ap, subst, ⊎_elim, add-zero, zero-add, append_assoc}
 use Rattle.std.specs.List.{cons_option}
 use Rattle.std.specs.Option.{option_or}
 use Rattle.std.specs.Prelude.{unwrap_or}
@@ -15,21 +15,6 @@ use Rattle.mely_note.specs.declared.note.Note.{Note}
 use Rattle.mely_note.specs.declared.note.Note.TheVariants.{Reg, Take, Fin, Steal}
 use Rattle.mely_note.specs.Notes.{entry_of, entries_of, loaded_of, home_of, load_on, state_on, noted_by, notes_by}
 use Rattle.mely_chain.specs.Told.{finished_by}
-
--- a list that ends with an element, cut at an element: it is the last one, or one before
-pub cut_last : {X : Type 0} (xs : List X) (x : X) (before : List X) (y : X) (after : List X) → xs ++ x ∷ [] ≡ before ++ y ∷ after → ((before ≡ xs) × (x ≡ y)) ⊎ ((more : List X) × (xs ≡ before ++ y ∷ more))
-cut_last [] x [] y after is = inl (refl, cc)
-cut_last (z ∷ xs) x [] y after is = inr (xs, cc)
-cut_last [] x (b ∷ before) y after is = absurd (none before (let rest : [] ≡ before ++ y ∷ after = cc in rest)) where
-  none : (before : List _) → [] ≡ before ++ y ∷ after → ⊥
-  none [] is = cc
-  none (b ∷ before) is = cc
-cut_last (z ∷ xs) x (b ∷ before) y after is =
-    let same : z ≡ b = cc in
-    let rest : xs ++ x ∷ [] ≡ before ++ y ∷ after = cc in
-    ⊎_elim (λ (last : (before ≡ xs) × (x ≡ y)). inl (cc (last.0, same), last.1))
-    (λ (inner : (more : List _) × (xs ≡ before ++ y ∷ more)). inr (inner.0, cc (inner.1, same)))
-    (cut_last xs x before y after rest)
 
 -- what holds of the empty list, and after each further element, holds of each list
 pub over_pushes : {X : Type 0} (P : List X → Type 0) → P [] → ((xs : List X) (x : X) → P xs → P (xs ++ x ∷ [])) → (xs : List X) → P xs
@@ -54,13 +39,13 @@ module _ {S P : Type 0} where
   -- as many loads as events were registered
   pub loaded-length : (notes : List (Note S P)) (c : Colour) → length (loaded_of notes c) ≡ length (registered_of (entries_of notes) c)
   loaded-length [] c = refl
-  loaded-length (Reg d event load by ∷ notes) c = one_more (d.0 == c.0) (event, load.value) event (loaded_of notes c) (registered_of (entries_of notes) c) (loaded-length notes c) where
+  loaded-length (Reg d event load by stamp ∷ notes) c = one_more (d.0 == c.0) (event, load.value) event (loaded_of notes c) (registered_of (entries_of notes) c) (loaded-length notes c) where
     one_more : {X Y : Type 0} (own : Bool) (x : X) (y : Y) (xs : List X) (ys : List Y) → length xs ≡ length ys → length (cons_option (if own then Some x else None) xs) ≡ length (cons_option (if own then Some y else None) ys)
     one_more true x y xs ys same = ap (λ k. suc k) same
     one_more false x y xs ys same = same
-  loaded-length (Take d core count ∷ notes) c = loaded-length notes c
-  loaded-length (Fin d core count state ∷ notes) c = loaded-length notes c
-  loaded-length (Steal d from to ∷ notes) c = loaded-length notes c
+  loaded-length (Take d core count stamp ∷ notes) c = loaded-length notes c
+  loaded-length (Fin d core count state stamp ∷ notes) c = loaded-length notes c
+  loaded-length (Steal d from to stamp ∷ notes) c = loaded-length notes c
 
   -- the notes of a pass, with one more of its own, or of another
   pub by_own : (n : ℕ) (notes : List (Note S P)) (note : Note S P) → noted_by note ≡ n → notes_by n (notes ++ note ∷ []) ≡ notes_by n notes ++ note ∷ []

@@ -1,17 +1,18 @@
 pub mod GrowthLemmas
 pub mod CoreTurnsLemmas
 pub mod CoreLemmas
+pub mod DeedLemmas
 pub mod CoreStepLemmas
-mod MergeFollowLemmas
-mod MergeNotesLemmas
+pub mod MergeFollowLemmas
+pub mod MergeNotesLemmas
 pub mod MergeChainLemmas
 pub mod MergeThroughLemmas
 pub mod MergeMadeLemmas
 pub mod MergeOrderLemmas
 pub mod OrderLemmas
 pub mod OrderCountLemmas
-mod WeaveShardLemmas
-mod WeaveSeesLemmas
+pub mod WeaveShardLemmas
+pub mod WeaveSeesLemmas
 pub mod WeaveToldLemmas
 pub mod WeaveFirstLemmas
 pub mod WeavePostLemmas

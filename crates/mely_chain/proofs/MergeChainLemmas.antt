@@ -32,11 +32,11 @@ module _ {S P : Type 0} where
   module _ (c : Colour) (runs : ℕ → List (HandlerRun S P)) where
     -- the runs of the turn that a note finished: the next of its core
     abbrev pub piece : List (Note S P) → Note S P → List (ℕ × HandlerRun S P)
-    piece before (Reg colour event load by) = []
-    piece before (Take colour core count) = []
-    piece before (Fin colour core count state) = if colour.0 == c.0
+    piece before (Reg colour event load by stamp) = []
+    piece before (Take colour core count stamp) = []
+    piece before (Fin colour core count state stamp) = if colour.0 == c.0
         then with_core core (take count (drop (finished_by core before c) (runs core))) else []
-    piece before (Steal colour from to) = []
+    piece before (Steal colour from to stamp) = []
 
     -- the runs of the turns that notes finished, in order
     abbrev pub chain_from : List (Note S P) → List (Note S P) → List (ℕ × HandlerRun S P)

@@ -37,10 +37,10 @@ module _ {S P : Type 0} (c : Colour) (runs : ℕ → List (HandlerRun S P)) wher
 
   -- the next runs of a core are those of the turn that its note finished
   made_piece : (n : ℕ) (done : List (Note S P)) (note : Note S P) → made_by n (piece c runs done note) ≡ take (own_finish n c note) (drop (finished_by n done c) (runs n))
-  made_piece n done (Reg colour event load by) = nothing_taken (by == n) (drop (finished_by n done c) (runs n))
-  made_piece n done (Take colour core count) = nothing_taken (core == n) (drop (finished_by n done c) (runs n))
-  made_piece n done (Steal colour from to) = nothing_taken (to == n) (drop (finished_by n done c) (runs n))
-  made_piece n done (Fin colour core count state) = for (colour.0 == c.0) (core == n) refl where
+  made_piece n done (Reg colour event load by stamp) = nothing_taken (by == n) (drop (finished_by n done c) (runs n))
+  made_piece n done (Take colour core count stamp) = nothing_taken (core == n) (drop (finished_by n done c) (runs n))
+  made_piece n done (Steal colour from to stamp) = nothing_taken (to == n) (drop (finished_by n done c) (runs n))
+  made_piece n done (Fin colour core count state stamp) = for (colour.0 == c.0) (core == n) refl where
     for : (own by : Bool) → (core == n) ≡ by → made_by n (if own then with_core core (take count (drop (finished_by core done c) (runs core))) else []) ≡ take (if by then (if own then count else 0) else 0) (drop (finished_by n done c) (runs n))
     for true true is = made-with core n (take count (drop (finished_by core done c) (runs core))) is ∙ ap (λ k. take count (drop (finished_by k done c) (runs k))) (eqb-true core n is)
     for true false is = made-other core n (take count (drop (finished_by core done c) (runs core))) is
@@ -95,9 +95,9 @@ module _ (setup : Setup) (c : Colour) where
 
 module _ {S P : Type 0} (setup : Setup) (c : Colour) (runs : ℕ → List (HandlerRun S P)) (notes : List (Note S P)) (legal : IsLegal setup (entries_of notes)) where
   -- each finish of legal notes is by a core
-  pub finishers_below : (done after : List (Note S P)) (d : Colour) (n count : ℕ) (state : _) → notes ≡ done ++ Fin d n count state ∷ after → n < (shape_of setup).cores
-  finishers_below done after d n count state is =
-      let here = legal_there setup notes done after (Fin d n count state) is legal in
+  pub finishers_below : (done after : List (Note S P)) (d : Colour) (n count : ℕ) (state : _) (stamp : _) → notes ≡ done ++ Fin d n count state stamp ∷ after → n < (shape_of setup).cores
+  finishers_below done after d n count state stamp is =
+      let here = legal_there setup notes done after (Fin d n count state stamp) is legal in
       takers_below setup d (entries_of done) here.0 n count here.1.last
 
   abbrev AllByCores : List (ℕ × HandlerRun S P) → Type 0
@@ -108,12 +108,12 @@ module _ {S P : Type 0} (setup : Setup) (c : Colour) (runs : ℕ → List (Handl
   all_with n (run ∷ part) low = (low, all_with n part low)
 
   piece_by_cores : (done after : List (Note S P)) (note : Note S P) → notes ≡ done ++ note ∷ after → AllByCores (piece c runs done note)
-  piece_by_cores done after (Reg d event load by) is = tt
-  piece_by_cores done after (Take d core count) is = tt
-  piece_by_cores done after (Steal d from to) is = tt
-  piece_by_cores done after (Fin d core count state) is = for (d.0 == c.0) where
+  piece_by_cores done after (Reg d event load by stamp) is = tt
+  piece_by_cores done after (Take d core count stamp) is = tt
+  piece_by_cores done after (Steal d from to stamp) is = tt
+  piece_by_cores done after (Fin d core count state stamp) is = for (d.0 == c.0) where
     for : (own : Bool) → AllByCores (if own then with_core core (take count (drop (finished_by core done c) (runs core))) else [])
-    for true = all_with core (take count (drop (finished_by core done c) (runs core))) (finishers_below done after d core count state is)
+    for true = all_with core (take count (drop (finished_by core done c) (runs core))) (finishers_below done after d core count state stamp is)
     for false = tt
 
   pub by_cores : AllByCores (chain_of c runs notes)

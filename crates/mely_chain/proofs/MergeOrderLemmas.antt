@@ -14,6 +14,7 @@ use Rattle.mely_history.specs.History.{ended_of, begun_of, registered_of}
 use Rattle.mely_history.specs.Legal.{IsLegal, IsDrainedOf}
 use Rattle.mely_note.specs.declared.note.Note.{Note}
 use Rattle.mely_note.specs.declared.note.Note.TheVariants.{Fin}
+use Rattle.mely_note.specs.declared.stamp.Stamp.{Stamp}
 use Rattle.mely_note.specs.Notes.{entries_of, loaded_of, home_of, notes_by}
 use Rattle.mely_tally.specs.Account.{HandlerRun, IsRunOf, puts_left}
 use Rattle.mely_worker.specs.declared.app.App.{Ghosts as AppWords}
@@ -77,10 +78,10 @@ module _ {R S P F : Type 0} (t : TrailWords S F) (fits : F → Colour → Event 
     there : (n : ℕ) → n < (shape_of setup).cores → slice_get by_core n ≡ Some (get_or by_core n [])
     there n low = let many = come.cores in slice_get-get_or by_core n [] (omega (arith, low, many))
 
-    turn_told : (c : Colour) (first : S) → given c ≡ Some first → (done after : List (Note S P)) (n count : ℕ) (state : Snapshot S) → notes c ≡ done ++ Fin c n count state ∷ after → RunThrough (home_of first done c) (turn_of done c count) state.value (take count (drop (finished_by n done c) (core_runs c n)))
-    turn_told c first is done after n count state at =
-        let low = finishers_below setup c (core_runs c) (notes c) (come.legal c) done after c n count state at in
-        (come.each n (get_or by_core n []) (there n low)).told.turns c first is done after count state at
+    turn_told : (c : Colour) (first : S) → given c ≡ Some first → (done after : List (Note S P)) (n count : ℕ) (state : Snapshot S) (stamp : Snapshot Stamp) → notes c ≡ done ++ Fin c n count state stamp ∷ after → RunThrough (home_of first done c) (turn_of done c count) state.value (take count (drop (finished_by n done c) (core_runs c n)))
+    turn_told c first is done after n count state stamp at =
+        let low = finishers_below setup c (core_runs c) (notes c) (come.legal c) done after c n count state stamp at in
+        (come.each n (get_or by_core n []) (there n low)).told.turns c first is done after count state stamp at
 
     on_colour : (c : Colour) (first last : S) → given c ≡ Some first → left c ≡ Some last → RunThrough first (loaded_of (notes c) c) last (without_core (colour_runs c))
     on_colour c first last is end =

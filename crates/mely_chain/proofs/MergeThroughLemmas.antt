@@ -14,6 +14,7 @@ use Rattle.mely_history.specs.Legal.{IsLegal}
 use Rattle.mely_history.proofs.LegalAccountLemmas.{same_colour}
 use Rattle.mely_note.specs.declared.note.Note.{Note}
 use Rattle.mely_note.specs.declared.note.Note.TheVariants.{Reg, Take, Fin, Steal}
+use Rattle.mely_note.specs.declared.stamp.Stamp.{Stamp}
 use Rattle.mely_note.specs.Notes.{entry_of, entries_of, loaded_of, load_on, state_on, home_of}
 use Rattle.mely_tally.specs.Account.{HandlerRun}
 use Rattle.mely_chain.specs.Runs.{RunThrough}
@@ -57,9 +58,9 @@ module _ {S P : Type 0} (first : S) (c : Colour) (runs : ℕ → List (HandlerRu
   abbrev turn_runs : List (Note S P) → ℕ → ℕ → List (HandlerRun S P)
   turn_runs done n count = take count (drop (finished_by n done c) (runs n))
 
-  turn_step : (done : List (Note S P)) (d : Colour) (n count : ℕ) (state : Snapshot S) → (d.0 == c.0) ≡ true → RunThrough (home_of first done c) (turn_of done c count) state.value (turn_runs done n count) → Through done → Through (done ++ Fin d n count state ∷ [])
-  turn_step done d n count state own told so =
-      let note : Note S P = Fin d n count state in
+  turn_step : (done : List (Note S P)) (d : Colour) (n count : ℕ) (state : Snapshot S) (stamp : Snapshot Stamp) → (d.0 == c.0) ≡ true → RunThrough (home_of first done c) (turn_of done c count) state.value (turn_runs done n count) → Through done → Through (done ++ Fin d n count state stamp ∷ [])
+  turn_step done d n count state stamp own told so =
+      let note : Note S P = Fin d n count state stamp in
       let with = through-append first (home_of first done c) state.value (ended_loads done) (turn_of done c count) (without_core (chain_of c runs done)) (turn_runs done n count) so told in
       let finishes : finished_on c (entry_of note) ≡ count = rw own refl in
       let same : loaded_of (done ++ note ∷ []) c ≡ loaded_of done c = loaded-push done note c ∙ append-nil (loaded_of done c) in
@@ -76,17 +77,17 @@ module _ {S P : Type 0} (first : S) (c : Colour) (runs : ℕ → List (HandlerRu
       (subst (λ l. RunThrough first (ended_loads done ++ turn_of done c count) state.value l) (sym all) with))
 
   module _ (setup : Setup) (notes : List (Note S P)) (legal : IsLegal setup (entries_of notes))
-      (told : (done after : List (Note S P)) (n count : ℕ) (state : Snapshot S) → notes ≡ done ++ Fin c n count state ∷ after → RunThrough (home_of first done c) (turn_of done c count) state.value (turn_runs done n count)) where
+      (told : (done after : List (Note S P)) (n count : ℕ) (state : Snapshot S) (stamp : Snapshot Stamp) → notes ≡ done ++ Fin c n count state stamp ∷ after → RunThrough (home_of first done c) (turn_of done c count) state.value (turn_runs done n count)) where
     step : (done after : List (Note S P)) (note : Note S P) → notes ≡ done ++ note ∷ after → ended_of (entries_of done) c ≤ length (loaded_of done c) → Through done → Through (done ++ note ∷ [])
-    step done after (Reg d event load by) is few so = quiet_step done (Reg d event load by) few (record { none = refl; home = refl; runs_none = refl }) so
-    step done after (Take d n count) is few so = quiet_step done (Take d n count) few (record { none = refl; home = refl; runs_none = refl }) so
-    step done after (Steal d from to) is few so = quiet_step done (Steal d from to) few (record { none = refl; home = refl; runs_none = refl }) so
-    step done after (Fin d n count state) is few so = for (d.0 == c.0) refl where
-      for : (own : Bool) → (d.0 == c.0) ≡ own → Through (done ++ Fin d n count state ∷ [])
+    step done after (Reg d event load by stamp) is few so = quiet_step done (Reg d event load by stamp) few (record { none = refl; home = refl; runs_none = refl }) so
+    step done after (Take d n count stamp) is few so = quiet_step done (Take d n count stamp) few (record { none = refl; home = refl; runs_none = refl }) so
+    step done after (Steal d from to stamp) is few so = quiet_step done (Steal d from to stamp) few (record { none = refl; home = refl; runs_none = refl }) so
+    step done after (Fin d n count state stamp) is few so = for (d.0 == c.0) refl where
+      for : (own : Bool) → (d.0 == c.0) ≡ own → Through (done ++ Fin d n count state stamp ∷ [])
       for true own =
           let same : d ≡ c = same_colour d c (eqb-true d.0 c.0 own) in
-          turn_step done d n count state own (told done after n count state (is ∙ ap (λ e. done ++ Fin e n count state ∷ after) same)) so
-      for false other = quiet_step done (Fin d n count state) few (record { none = rw other refl; home = rw other refl; runs_none = rw other refl }) so
+          turn_step done d n count state stamp own (told done after n count state stamp (is ∙ ap (λ e. done ++ Fin e n count state stamp ∷ after) same)) so
+      for false other = quiet_step done (Fin d n count state stamp) few (record { none = rw other refl; home = rw other refl; runs_none = rw other refl }) so
 
     none_yet : Through []
     none_yet = record { given = refl; follow = refl }

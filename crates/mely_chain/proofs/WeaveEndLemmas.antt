@@ -27,7 +27,8 @@ use Rattle.mely_chain.specs.WeaveTold.{WeaveTold, IsTold}
 use Rattle.mely_chain.proofs.MergeOrderLemmas.{HasCome, AllCome, in_order, colour_runs}
 use Rattle.mely_chain.proofs.WeaveToldLemmas.{shard_there, notes_legal}
 
-free_at : {S P : Type 0} (phase : Phase S P) → is_free phase ≡ true → (place : ℕ) × (phase ≡ Free place)
+-- a worker that is free hunts somewhere
+pub free_at : {S P : Type 0} (phase : Phase S P) → is_free phase ≡ true → (place : ℕ) × (phase ≡ Free place)
 free_at (Free place) is = (place, refl)
 free_at (Popped mark) is = cc
 free_at (Picked mark victim) is = cc
@@ -39,7 +40,7 @@ if_there : {S : Type 0} (o : Option S) (x : S) (Is : S → Type 0) → o ≡ Som
 if_there o x Is is says = let Holds : Option _ → Type 0 = λ z. IfSome z Is in subst Holds is says
 
 module _ {R S P F : Type 0} (t : TrailWords S F) (fits : F → Colour → Event → Option P → Type 0) (y : AppWords R P S F) (app : R) (given : Colour → Option S) (begin : Colour × Event × Option P) (weave : WeaveState S P) (notes : ℕ → List (Note S P)) (by_core : List (List (HandlerRun S P))) (well : StandsWell t fits weave) (told : WeaveTold t fits y app given (begin ∷ []) weave notes by_core) (free : AllFree weave) (drained : HistoriesAreDrained weave) where
-  abbrev seen : Colour → List (Note S P)
+  abbrev pub seen : Colour → List (Note S P)
   seen c = notes (shard_of weave.setup c)
 
   -- each worker has come to its end
@@ -77,7 +78,8 @@ module _ {R S P F : Type 0} (t : TrailWords S F) (fits : F → Colour → Event 
         let state : lane.0.state ≡ Some last = same_Some lane.0.state (Some last) (sym (are.each c lane.0 low found) ∙ some) in
         if_there lane.0.state last (λ s. s ≡ home_of lane.0.given (seen c) c) state (shard.shows.each c lane.0 own lane.1).home ∙ ap (λ g. home_of g (seen c) c) (shard.first c lane.0 first refl lane.1 is)
 
-    come : ((core : ℕ) (w : WorkerState S P) → slice_get weave.workers core ≡ Some w → w.lost ≡ []) → ((c : Colour) → c.0 < colours_of weave.setup → (first : S) × (given c ≡ Some first)) → AllCome t fits y app weave.setup (t.frame_of weave.given) given seen begin left by_core
+    -- what is known of the whole
+    pub come : ((core : ℕ) (w : WorkerState S P) → slice_get weave.workers core ≡ Some w → w.lost ≡ []) → ((c : Colour) → c.0 < colours_of weave.setup → (first : S) × (given c ≡ Some first)) → AllCome t fits y app weave.setup (t.frame_of weave.given) given seen begin left by_core
     come none_lost all_given = record {
       cores = told.cores;
       each = has_come none_lost;
@@ -92,7 +94,7 @@ module _ {R S P F : Type 0} (t : TrailWords S F) (fits : F → Colour → Event 
 module _ {R S P F : Type 0} (t : TrailWords S F) (fits : F → Colour → Event → Option P → Type 0) (y : AppWords R P S F) (app : R) (given : List S) (begin : Colour × Event × Option P) (weave : WeaveState S P) where
   pub ran_in_order : StandsWell t fits weave → IsTold t fits y app (λ c. slice_get given c.0) (begin ∷ []) weave → AllFree weave → HistoriesAreDrained weave → NoneLost weave → length given ≡ colours_of weave.setup → (left : List S) → AreByColour (λ (lane : ColourState S P). lane.state) weave.setup weave.shards (map (λ state. Some state) left)
       → RanInOrder t fits y app weave begin (λ c. slice_get given c.0) (λ c. slice_get left c.0)
-  ran_in_order well (notes, by_core, told) free drained none_lost all left are =
+  ran_in_order well (notes, by_core, told, did) free drained none_lost all left are =
       let given_at : Colour → Option S = λ c. slice_get given c.0 in
       let seen : Colour → List (Note S P) = λ c. notes (shard_of weave.setup c) in
       let come = come t fits y app given_at begin weave notes by_core well told free drained left are none_lost (λ c low. get_there given c.0 (omega (arith, low, all))) in

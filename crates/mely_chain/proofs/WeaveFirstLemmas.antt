@@ -9,6 +9,7 @@ use Rattle.mely_event.specs.declared.trail.Trail.{Ghosts as TrailWords}
 use Rattle.mely_history.specs.Setup.{shard_of, colours_of}
 use Rattle.mely_history.specs.declared.setup.Setup.{Setup}
 use Rattle.mely_note.specs.ShowsNotes.{ShowsLane}
+use Rattle.mely_note.proofs.StampLemmas.{rise-none}
 use Rattle.mely_shard.specs.Shard.{ShardState, ColourState, lane_at, initial_lane}
 use Rattle.mely_tally.specs.Account.{HandlerRun}
 use Rattle.mely_weave.specs.Lanes.{lane_for, lane_in}
@@ -19,9 +20,11 @@ use Rattle.mely_weave.proofs.Wholes.GatherLemmas.{get_there}
 use Rattle.mely_worker.specs.declared.app.App.{Ghosts as AppWords}
 use Rattle.mely_worker.specs.Phase.{is_turning}
 use Rattle.mely_worker.specs.Worker.{WorkerState}
+use Rattle.mely_chain.specs.Deeds.{CoreDid}
 use Rattle.mely_chain.specs.Told.{CoreTold}
 use Rattle.mely_chain.specs.WeaveTold.{ShardTold, IsTold}
 use Rattle.mely_chain.proofs.CoreLemmas.{told_first}
+use Rattle.mely_chain.proofs.DeedLemmas.{did_first}
 
 module _ {R S P F : Type 0} (t : TrailWords S F) (fits : F → Colour → Event → Option P → Type 0) (y : AppWords R P S F) (app : R) (setup : Setup) (states : List S) (weave : WeaveState S P) (from : AreInitial t setup states) (is : IsInitialWeave setup states weave) (well : StandsWell t fits weave) where
   abbrev given : Colour → Option S
@@ -58,12 +61,22 @@ module _ {R S P F : Type 0} (t : TrailWords S F) (fits : F → Colour → Event 
   abbrev none_by_core : List (List (HandlerRun S P))
   none_by_core = map (λ _. []) weave.workers
 
+  -- no worker has run anything
+  none_ran : (core : ℕ) (w : WorkerState S P) (runs : List (HandlerRun S P)) → slice_get weave.workers core ≡ Some w → slice_get none_by_core core ≡ Some runs → [] ≡ runs
+  none_ran core w runs there at = same_Some [] runs (sym (ap (option_map (λ _. [])) there) ∙ sym (slice_get-map (λ _. []) weave.workers core) ∙ at)
+
   worker_first : (core : ℕ) (w : WorkerState S P) (runs : List (HandlerRun S P)) → slice_get weave.workers core ≡ Some w → slice_get none_by_core core ≡ Some runs → CoreTold t fits y app weave.setup (t.frame_of weave.given) given core (λ c. []) w runs
   worker_first core w runs there at =
       let fresh = is.worker core w there in
-      let none : [] ≡ runs = same_Some [] runs (sym (ap (option_map (λ _. [])) there) ∙ sym (slice_get-map (λ _. []) weave.workers core) ∙ at) in
+      let none = none_ran core w runs there at in
       subst (λ l. CoreTold t fits y app weave.setup (t.frame_of weave.given) given core (λ c. []) w l) none
       (told_first t fits y app weave.setup (t.frame_of weave.given) given core (λ c. []) w (ap (λ (z : WorkerState S P). is_turning z.phase) fresh) (λ c. refl))
+
+  did_first_of : (core : ℕ) (w : WorkerState S P) (runs : List (HandlerRun S P)) → slice_get weave.workers core ≡ Some w → slice_get none_by_core core ≡ Some runs → CoreDid weave.setup core (λ c. []) w runs
+  did_first_of core w runs there at =
+      let fresh = is.worker core w there in
+      subst (λ l. CoreDid weave.setup core (λ c. []) w l) (none_ran core w runs there at)
+      (did_first weave.setup core (λ c. []) w (ap (λ (z : WorkerState S P). is_turning z.phase) fresh) (λ c. refl))
 
   pub told_initially : IsTold t fits y app given [] weave
   told_initially = (
@@ -76,4 +89,5 @@ module _ {R S P F : Type 0} (t : TrailWords S F) (fits : F → Colour → Event 
       posts = λ c. refl;
       no_other = λ number n high. refl;
     },
+    record { rise = λ number. rise-none; did = did_first_of },
   )

@@ -1,6 +1,7 @@
 -- What the notes of a shard show, over each call on it.
 use Rattle.std.proofs.Common.{◌≡◌, ℕ, ◌<◌, List, [], ◌∷◌, ◌++◌, Option, Some, length, take, drop, refl, sym, ◌∙◌, ap, subst, arith, inl, inr}
 use Rattle.std.specs.Prelude.{slice_get, slice_set}
+use Rattle.std.specs.declared.snapshot.Snapshot.{Snapshot}
 use Rattle.std.proofs.lemmas.Bool.{cases_lt}
 use Rattle.std.proofs.Math.ListN.{drop_of_length-le}
 use Rattle.mely_event.specs.declared.colour.Colour.{Colour}
@@ -16,6 +17,7 @@ use Rattle.mely_history.proofs.BeyondLemmas.{none_registered}
 use Rattle.mely_history.proofs.LegalLemmas.{legal_before}
 use Rattle.mely_note.specs.declared.note.Note.{Note}
 use Rattle.mely_note.specs.declared.note.Note.TheVariants.{Reg, Take, Fin, Steal}
+use Rattle.mely_note.specs.declared.stamp.Stamp.{Stamp}
 use Rattle.mely_note.specs.Notes.{snapshot_of, waiting_of, home_of}
 use Rattle.mely_note.proofs.ShowLemmas.{if_home, shows_same, shows_registered, shows_taken, shows_finished, shows_stolen}
 use Rattle.mely_queue.specs.Turn.{TurnState}
@@ -73,31 +75,31 @@ module _ {S P F : Type 0} (t : TrailWords S F) (fits : F → Colour → Event �
     first = first_stays given setup number old new notes new_setup (givens_same given setup number old new notes new_setup keeps.lanes) told;
   }
 
-  pub shard_registered : (c : Colour) (event : Event) (load : Option P) (by : ℕ) → shard_of setup c ≡ number → Registers old new c event load by → ShardTold given setup number new (notes ++ Reg c event (snapshot_of load) by ∷ [])
-  shard_registered c event load by here does =
+  pub shard_registered : (c : Colour) (event : Event) (load : Option P) (by : ℕ) (stamp : Snapshot Stamp) → shard_of setup c ≡ number → Registers old new c event load by → ShardTold given setup number new (notes ++ Reg c event (snapshot_of load) by stamp ∷ [])
+  shard_registered c event load by stamp here does =
       let legal = then_stands.kept.legal in
       let last = legal_before new.setup old.history (entries.Reg c event by) (subst (IsLegal new.setup) does.after.history legal) in
       let low : c.0 < colours_of setup = subst (λ s. c.0 < colours_of s) then_stands.of_setup last.1.colour in
       record {
-        shows = shows_registered old new notes told.shows c event load by (is_own c here low) legal does;
+        shows = shows_registered old new notes told.shows c event load by stamp (is_own c here low) legal does;
         first = first_stays given setup number old new notes new_setup (givens_set given setup number old new notes new_setup (place old.setup c) does.before _ does.was refl does.after.lanes) told;
       }
 
-  pub shard_taken : (c : Colour) (core : ℕ) (turn : TurnState S P) → shard_of setup c ≡ number → Takes old new c core turn → ShardTold given setup number new (notes ++ Take c core turn.count ∷ [])
-  shard_taken c core turn here does = record {
-    shows = shows_taken old new notes told.shows c core turn (is_own c here (waits_low c does.allowed.ready.waiting)) does;
+  pub shard_taken : (c : Colour) (core : ℕ) (turn : TurnState S P) (stamp : Snapshot Stamp) → shard_of setup c ≡ number → Takes old new c core turn → ShardTold given setup number new (notes ++ Take c core turn.count stamp ∷ [])
+  shard_taken c core turn stamp here does = record {
+    shows = shows_taken old new notes told.shows c core turn stamp (is_own c here (waits_low c does.allowed.ready.waiting)) does;
     first = first_stays given setup number old new notes new_setup (givens_set given setup number old new notes new_setup (place old.setup c) does.before _ does.was refl does.after.lanes) told;
   }
 
-  pub shard_finished : (turn : TurnState S P) → shard_of setup turn.colour ≡ number → turn.colour.0 < colours_of setup → Finishes old new turn → ShardTold given setup number new (notes ++ Fin turn.colour turn.core turn.count (snapshot_of turn.state) ∷ [])
-  shard_finished turn here low does = record {
-    shows = shows_finished old new notes told.shows turn (is_own turn.colour here low) does;
+  pub shard_finished : (turn : TurnState S P) (stamp : Snapshot Stamp) → shard_of setup turn.colour ≡ number → turn.colour.0 < colours_of setup → Finishes old new turn → ShardTold given setup number new (notes ++ Fin turn.colour turn.core turn.count (snapshot_of turn.state) stamp ∷ [])
+  shard_finished turn stamp here low does = record {
+    shows = shows_finished old new notes told.shows turn stamp (is_own turn.colour here low) does;
     first = first_stays given setup number old new notes new_setup (givens_set given setup number old new notes new_setup (place old.setup turn.colour) does.before _ does.was refl does.after.lanes) told;
   }
 
-  pub shard_stolen : (c : Colour) (to : ℕ) (stolen : Stolen) → shard_of setup c ≡ number → Steals old new c to stolen → ShardTold given setup number new (notes ++ Steal c stolen.from to ∷ [])
-  shard_stolen c to stolen here does = record {
-    shows = shows_stolen old new notes told.shows c stolen.from to (is_own c here (waits_low c does.allowed.ready.waiting)) does.same_setup does.same_shard does.history does.lanes;
+  pub shard_stolen : (c : Colour) (to : ℕ) (stolen : Stolen) (stamp : Snapshot Stamp) → shard_of setup c ≡ number → Steals old new c to stolen → ShardTold given setup number new (notes ++ Steal c stolen.from to stamp ∷ [])
+  shard_stolen c to stolen stamp here does = record {
+    shows = shows_stolen old new notes told.shows c stolen.from to stamp (is_own c here (waits_low c does.allowed.ready.waiting)) does.same_setup does.same_shard does.history does.lanes;
     first = first_stays given setup number old new notes new_setup (givens_same given setup number old new notes new_setup does.lanes) told;
   }
 

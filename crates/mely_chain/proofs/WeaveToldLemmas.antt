@@ -31,11 +31,13 @@ use Rattle.mely_weave.proofs.Wholes.GatherLemmas.{get_there}
 use Rattle.mely_worker.specs.declared.app.App.{Ghosts as AppWords}
 use Rattle.mely_worker.specs.declared.made.Made.{Made}
 use Rattle.mely_worker.specs.Worker.{WorkerState}
+use Rattle.mely_chain.specs.Deeds.{CoreDid}
 use Rattle.mely_chain.specs.Told.{CoreTold}
-use Rattle.mely_chain.specs.WeaveTold.{ShardTold, WeaveTold, IsTold}
+use Rattle.mely_chain.specs.WeaveTold.{ShardTold, WeaveTold, WeaveDid, IsTold}
 use Rattle.mely_chain.proofs.GrowthLemmas.{by_others}
 use Rattle.mely_chain.proofs.CoreLemmas.{AreLegalNotes, told_others, told_same}
 use Rattle.mely_chain.proofs.CoreStepLemmas.{StepTold, told_step}
+use Rattle.mely_chain.proofs.DeedLemmas.{did_others, did_same}
 use Rattle.mely_chain.proofs.WeaveSeesLemmas.{SuitsShards, sees}
 
 module _ {R S P F : Type 0} (t : TrailWords S F) (fits : F → Colour → Event → Option P → Type 0) (y : AppWords R P S F) (app : R) (given : Colour → Option S) (posted : List (Colour × Event × Option P)) where
@@ -54,7 +56,7 @@ module _ {R S P F : Type 0} (t : TrailWords S F) (fits : F → Colour → Event 
       let shown = each (shard_of weave.setup c) there.0 there.1 in
       subst (IsLegal weave.setup) shown.shows.entries (subst (λ s. IsLegal s there.0.history) stands.of_setup stands.kept.legal)
 
-  module _ (before after : WeaveState S P) (core : ℕ) (made : Made) (well : StandsWell t fits before) (is : StepsWell t fits y app before core made after) (notes : ℕ → List (Note S P)) (by_core : List (List (HandlerRun S P))) (told : WeaveTold t fits y app given posted before notes by_core) where
+  module _ (before after : WeaveState S P) (core : ℕ) (made : Made) (well : StandsWell t fits before) (is : StepsWell t fits y app before core made after) (notes : ℕ → List (Note S P)) (by_core : List (List (HandlerRun S P))) (told : WeaveTold t fits y app given posted before notes by_core) (did : WeaveDid before notes by_core) where
     abbrev a : SideState S P
     a = side_of before core
 
@@ -82,16 +84,17 @@ module _ {R S P F : Type 0} (t : TrailWords S F) (fits : F → Colour → Event 
     runs = get_or by_core core []
 
     abbrev Stepped : Type 0
-    Stepped = StepTold (side_words t (λ _. Unit {0})) y app a b w made v before.setup given core seen Suits t fits (t.frame_of before.given) (sees t fits y app given before after core made well is notes told.shard) (notes_legal before notes well told.shard) runs (runs ++ new)
+    Stepped = StepTold (side_words t (λ _. Unit {0})) y app a b w made v before.setup given core seen Suits t fits (t.frame_of before.given) (sees t fits y app given before after core made well is notes told.shard did.rise) (notes_legal before notes well told.shard) runs (runs ++ new)
 
     runs_there : slice_get by_core core ≡ Some runs
     runs_there = let low = is.call.there in let many = told.cores in slice_get-get_or by_core core [] (omega (arith, low, many))
 
     stepped : Stepped
-    stepped = told_step (side_words t (λ _. Unit {0})) y app a b w made v before.setup given core seen Suits t fits (t.frame_of before.given) (sees t fits y app given before after core made well is notes told.shard) (notes_legal before notes well told.shard) runs
+    stepped = told_step (side_words t (λ _. Unit {0})) y app a b w made v before.setup given core seen Suits t fits (t.frame_of before.given) (sees t fits y app given before after core made well is notes told.shard did.rise) (notes_legal before notes well told.shard) runs
         (line t fits y app before after core made well is)
         (all_map _ (IsRunOf t fits y app before.setup (t.frame_of before.given)) new (λ run both. both.0) (runs_well t fits y app before after core made well is))
         (told.told core w runs is.call.steps.was runs_there)
+        (did.did core w runs is.call.steps.was runs_there)
 
     -- the weave after it, with the setup and the given state of the one before
     abbrev then_weave : WeaveState S P
@@ -129,6 +132,21 @@ module _ {R S P F : Type 0} (t : TrailWords S F) (fits : F → Colour → Event 
           told_others t fits y app before.setup (t.frame_of before.given) given k seen (λ c. st.suits.by_shard (shard_of before.setup c)) z all (λ c. st.suits.grew (shard_of before.setup c) k ne) (λ c. subst (λ l. IsLegal before.setup (entries_of l)) (st.suits.is c) (st.are_legal c)) (told.told k z all was_z was_all))
           (cases_eq k core)
 
+      then_did : (k : ℕ) (z : WorkerState S P) (all : List (HandlerRun S P)) → slice_get then_weave.workers k ≡ Some z → slice_get (slice_set by_core core (runs ++ new)) k ≡ Some all → CoreDid before.setup k (λ c. st.suits.by_shard (shard_of before.setup c)) z all
+      then_did k z all at_z at_all = ⊎_elim
+          (λ (same : k ≡ core).
+          let worker : v ≡ z = same_Some v z (sym (get_set_same before.workers core w v is.call.steps.was) ∙ ap (slice_get then_weave.workers) (sym same) ∙ at_z) in
+          let runs_are : runs ++ new ≡ all = same_Some (runs ++ new) all (sym (get_set_same by_core core runs (runs ++ new) runs_there) ∙ ap (slice_get (slice_set by_core core (runs ++ new))) (sym same) ∙ at_all) in
+          let here = did_same before.setup core st.after (λ c. st.suits.by_shard (shard_of before.setup c)) v (runs ++ new) (λ c. sym (st.suits.is c)) st.did in
+          subst (λ j. CoreDid before.setup j (λ c. st.suits.by_shard (shard_of before.setup c)) z all) (sym same)
+          (subst (λ u. CoreDid before.setup core (λ c. st.suits.by_shard (shard_of before.setup c)) u all) worker
+          (subst (λ l. CoreDid before.setup core (λ c. st.suits.by_shard (shard_of before.setup c)) v l) runs_are here)))
+          (λ (ne : k ≡ core → ⊥).
+          let was_z : slice_get before.workers k ≡ Some z = sym (get_set_other before.workers core k v ne) ∙ at_z in
+          let was_all : slice_get by_core k ≡ Some all = sym (get_set_other by_core core k (runs ++ new) ne) ∙ at_all in
+          did_others before.setup k seen (λ c. st.suits.by_shard (shard_of before.setup c)) z all (λ c. st.suits.grew (shard_of before.setup c) k ne) (did.did k z all was_z was_all))
+          (cases_eq k core)
+
       -- what another pass noted is as it was
       others_stay : (number k : ℕ) → (k ≡ core → ⊥) → notes_by k (st.suits.by_shard number) ≡ notes_by k (notes number)
       others_stay number k ne = let grew = st.suits.grew number k ne in ap (notes_by k) grew.1 ∙ by_others k (notes number) grew.0 grew.2
@@ -142,12 +160,21 @@ module _ {R S P F : Type 0} (t : TrailWords S F) (fits : F → Colour → Event 
         no_other = λ number k high. others_stay number k (λ same. let low = is.call.there in omega (arith, same, low, high)) ∙ told.no_other number k high;
       }
 
+      weave_did : WeaveDid then_weave st.suits.by_shard (slice_set by_core core (runs ++ new))
+      weave_did = record { rise = st.suits.rise; did = then_did }
+
     step_told : IsTold t fits y app given posted after
-    step_told = (stepped.suits.by_shard, slice_set by_core core (runs ++ new), subst (λ (z : WeaveState S P). WeaveTold t fits y app given posted z stepped.suits.by_shard (slice_set by_core core (runs ++ new))) (sym after_is) (weave_told stepped))
+    step_told =
+        let then_by_core = slice_set by_core core (runs ++ new) in (
+          stepped.suits.by_shard,
+          then_by_core,
+          subst (λ (z : WeaveState S P). WeaveTold t fits y app given posted z stepped.suits.by_shard then_by_core) (sym after_is) (weave_told stepped),
+          subst (λ (z : WeaveState S P). WeaveDid z stepped.suits.by_shard then_by_core) (sym after_is) (weave_did stepped),
+        )
 
   -- over a step
   pub told_step_of : (before after : WeaveState S P) (core : ℕ) (made : Made) → StandsWell t fits before → StepsWell t fits y app before core made after → IsTold t fits y app given posted before → IsTold t fits y app given posted after
-  told_step_of before after core made well is (notes, by_core, told) = step_told before after core made well is notes by_core told
+  told_step_of before after core made well is (notes, by_core, told, did) = step_told before after core made well is notes by_core told did
 
   -- over a run of a schedule
   pub told_run_of : (before after : WeaveState S P) (cores : List ℕ) (went : Went) → StandsWell t fits before → RunsTo t fits y app before cores went after → IsTold t fits y app given posted before → IsTold t fits y app given posted after

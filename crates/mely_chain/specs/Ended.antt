@@ -17,8 +17,8 @@ abbrev pub NoneLost : {S P : Type 0} → WeaveState S P → Type 0
 NoneLost {S = S} {P = P} weave = (core : ℕ) (w : WorkerState S P) → slice_get weave.workers core
     ≡ Some w → w.lost ≡ []
 
--- The runs of the cores, and with them those of the colours, which are in their order by notes of the
--- weave's histories.
+-- The runs of the cores, and with them those of the colours, which are in their order by notes of
+-- the weave's histories.
 pub record RanInOrder {R S P F : Type 0} (t : TrailWords S F)
     (fits : F → Colour → Event → Option P → Type 0) (y : AppWords R P S F) (app : R)
     (weave : WeaveState S P) (begin : Colour × Event × Option P)

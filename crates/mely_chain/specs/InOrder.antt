@@ -18,11 +18,11 @@ made_by n runs = filter_map (λ run. if run.0 == n then Some run.1 else None) ru
 
 module _ {R S P F : Type 0} (t : TrailWords S F) (fits : F → Colour → Event → Option P → Type 0)
     (y : AppWords R P S F) (app : R) (setup : Setup) (frame : F) where
-  -- The runs of an app's handlers that a run made which came to its end, core by core, by its notes.
-  -- On each colour they are, one after another, on the events that were registered there, with their
-  -- loads, from the state that was given to the one that is left. Those of a core are, in the order
-  -- in which it made them, those that its pass registered the puts of, in that order. The first
-  -- event was registered by the pass behind those of the cores, and nothing by any other.
+  -- The runs of an app's handlers that a run made which came to its end, core by core, by its
+  -- notes. On each colour they are, one after another, on the events that were registered there,
+  -- with their loads, from the state that was given to the one that is left. Those of a core are,
+  -- in the order in which it made them, those that its pass registered the puts of, in that order.
+  -- The first event was registered by the pass behind those of the cores, and nothing by any other.
   pub record AreInOrder (begin : Colour × Event × Option P) (given left : Colour → Option S)
       (notes : Colour → List (Note S P)) (by_core : List (List (HandlerRun S P)))
       (by_colour : Colour → List (ℕ × HandlerRun S P)) : Type 0 where

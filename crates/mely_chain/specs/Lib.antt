@@ -3,3 +3,4 @@ pub mod Told
 pub mod InOrder
 pub mod WeaveTold
 pub mod Ended
+pub mod Deeds

@@ -11,6 +11,7 @@ use Rattle.mely_history.specs.History.{ended_of}
 use Rattle.mely_history.specs.Owing.{last_change}
 use Rattle.mely_note.specs.declared.note.Note.{Note}
 use Rattle.mely_note.specs.declared.note.Note.TheVariants.{Fin}
+use Rattle.mely_note.specs.declared.stamp.Stamp.{Stamp}
 use Rattle.mely_note.specs.Notes.{entries_of, loaded_of, home_of, notes_by}
 use Rattle.mely_queue.specs.Turn.{TurnState}
 use Rattle.mely_tally.specs.Account.{HandlerRun, IsRunOf, puts_left}
@@ -35,7 +36,7 @@ module _ {S P : Type 0} (first : S) (n : ℕ) (c : Colour) (notes : List (Note S
   -- that turn, from the state that was at home to the one that was brought home.
   abbrev pub TellTurns : Type 0
   TellTurns = (before after : List (Note S P)) (count : ℕ) (state : Snapshot S)
-      → notes ≡ before ++ Fin c n count state ∷ after
+      (at : Snapshot Stamp) → notes ≡ before ++ Fin c n count state at ∷ after
       → RunThrough (home_of first before c) (turn_of before c count) state.value
       (take count (drop (finished_by n before c) runs))
 
@@ -61,10 +62,10 @@ module _ {S P : Type 0} (first : S) (n : ℕ) (c : Colour) (notes : List (Note S
 
 module _ {R S P F : Type 0} (t : TrailWords S F) (fits : F → Colour → Event → Option P → Type 0)
     (y : AppWords R P S F) (app : R) (setup : Setup) (frame : F) (given : Colour → Option S) where
-  -- These are the runs that the worker of core n made, in order, as the notes of each colour's shard
-  -- tell of them: by turns on each colour, of which one may be out; and what the pass registered on
-  -- a colour is what they put there, in order, but for what is left of the worker's turn. That is
-  -- said where nothing was refused for want of memory.
+  -- These are the runs that the worker of core n made, in order, as the notes of each colour's
+  -- shard tell of them: by turns on each colour, of which one may be out; and what the pass
+  -- registered on a colour is what they put there, in order, but for what is left of the worker's
+  -- turn. That is said where nothing was refused for want of memory.
   pub record CoreTold (n : ℕ) (notes : Colour → List (Note S P)) (w : WorkerState S P)
       (runs : List (HandlerRun S P)) : Type 0 where
     pub each : AllByRecursion (IsRunOf t fits y app setup frame) runs

@@ -23,9 +23,10 @@ ghost use Rattle.mely_chain.specs.WeaveTold.{IsTold};
 use mely_event::{Fits, Trail};
 use mely_worker::App;
 
-/// The notes of a weave's histories tell the runs of its workers: at first, when there are none, and
-/// after each post, each step, each run of a schedule and each drain. So the turns of a colour follow
-/// one another on its state, and the pass of a core registered what its runs put, in that order.
+/// The notes of a weave's histories tell the runs of its workers: at first, when there are none,
+/// and after each post, each step, each run of a schedule and each drain. So the turns of a colour
+/// follow one another on its state, and the pass of a core registered what its runs put, in that
+/// order.
 pub fn notes_tell_what_the_workers_ran<S: Fits<P>, P, R: App<State = S, Load = P>>()
     ensures first { (app : R) (setup : Setup) (states : List S) (weave : WeaveState S P)
         → AreInitial S.Trail setup states → IsInitialWeave setup states weave
@@ -60,8 +61,8 @@ pub fn notes_tell_what_the_workers_ran<S: Fits<P>, P, R: App<State = S, Load = P
 {}
 
 /// Where one event was posted, every worker is free, nothing is queued and nothing was refused for
-/// want of memory, the runs of the handlers are in their order: on each colour one after another, on
-/// what was registered there, from the state that was given to the one that is at home now; and
+/// want of memory, the runs of the handlers are in their order: on each colour one after another,
+/// on what was registered there, from the state that was given to the one that is at home now; and
 /// those of each core as its pass registered what they put.
 pub fn what_a_drained_weave_ran_is_in_order<S: Fits<P>, P, R: App<State = S, Load = P>>()
     ensures { (app : R) (begin : Colour × Event × Option P) (given left : List S)

@@ -35,6 +35,7 @@ use Rattle.mely_tally.proofs.WeaveAccountLemmas.{all-append}
 use Rattle.mely_fleet.specs.declared.fleet.FleetOf.{FleetOf}
 use Rattle.mely_fleet.specs.declared.passes.PassesOf.{PassesOf}
 use Rattle.mely_kept.specs.declared.kept_shard.ShardFrame.{ShardFrame}
+use Rattle.mely_kept.specs.Calls.{Notes}
 use Rattle.mely_fleet.specs.Calls.{SeesAt, front_in}
 use Rattle.mely_fleet.specs.Closed.{IsClosedShard}
 use Rattle.mely_fleet.specs.Fleets.{frame_in}
@@ -102,7 +103,7 @@ map_twice f h (x ∷ xs) = ap (λ l. h (f x) ∷ l) (map_twice f h xs)
 
 -- a registration enters a history
 abbrev pub Enters : {S P : Type 0} → Colour → Event → Option P → ℕ → List (Note S P) → List (Note S P) → Type 0
-Enters colour event load n point after = after ≡ point ++ Reg colour event (snapshot_of load) n ∷ []
+Enters colour event load n point after = Notes (Reg colour event (snapshot_of load) n) point after
 
 -- of what was never seen nothing is counted
 unseen_none : {S P : Type 0} (of : List Entry → Entry → ℕ) (n k : ℕ) (seen : List (List (Note S P))) → front_in seen k ≡ [] → own_in of n seen k ≡ 0
@@ -144,7 +145,7 @@ module _ {R S P F : Type 0} (t : TrailWords S F) (fits : F → Colour → Event 
 
     posted_one : (of : List Entry → Entry → ℕ) (k more : ℕ) → OthersSince pass_of n (entries_of (front_in after k)) (histories k) → of (entries_of sees.seen.point) (entries.Reg colour event n) ≡ more → ((k ≡ shard_of fleet.setup colour → ⊥) → more ≡ 0) → own_total of k ≡ more
     posted_one of k more since counts elsewhere =
-        let grows = sees_more of fleet.setup n (shard_of fleet.setup colour) before after sees (Reg colour event (snapshot_of load) n) refl sees.seen.does k more counts elsewhere in
+        let grows = sees_more of fleet.setup n (shard_of fleet.setup colour) before after sees (Reg colour event (snapshot_of load) n sees.seen.does.0) refl sees.seen.does.1 k more counts elsewhere in
         let none = unseen_none of n k before (unseen k) in
         let history = others_same of n (entries_of (front_in after k)) (histories k) since in
         omega (arith, grows, none, history)

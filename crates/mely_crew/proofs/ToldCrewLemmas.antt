@@ -15,7 +15,8 @@ use Rattle.mely_history.specs.declared.setup.Setup.{Setup}
 use Rattle.mely_lock.specs.Seen.{OthersSince}
 use Rattle.mely_note.specs.declared.note.Note.{Note}
 use Rattle.mely_note.specs.declared.note.Note.TheVariants.{Reg}
-use Rattle.mely_note.specs.Notes.{entries_of, loaded_of, noted_by, notes_by, snapshot_of}
+use Rattle.mely_note.specs.Notes.{Rise, entries_of, loaded_of, noted_by, notes_by, snapshot_of}
+use Rattle.mely_note.proofs.StampLemmas.{rise-none}
 use Rattle.mely_note.specs.ShowsNotes.{ShowsNotes}
 use Rattle.mely_shard.specs.Shard.{ShardState, ColourState, givens, lane_at}
 use Rattle.mely_tally.specs.Account.{HandlerRun}
@@ -29,11 +30,13 @@ use Rattle.mely_worker.specs.Worker.{WorkerState}
 use Rattle.mely_kept.specs.Frames.{shard_frame}
 use Rattle.mely_kept.specs.KeptShard.{KeptShardState}
 use Rattle.mely_kept.specs.declared.kept_shard.ShardFrame.{ShardFrame}
+use Rattle.mely_chain.specs.Deeds.{CoreDid}
 use Rattle.mely_chain.specs.Runs.{puts_on}
 use Rattle.mely_chain.specs.Told.{CoreTold}
-use Rattle.mely_chain.specs.WeaveTold.{ShardTold, WeaveTold, IsTold}
+use Rattle.mely_chain.specs.WeaveTold.{ShardTold, WeaveTold, WeaveDid, IsTold}
 use Rattle.mely_chain.proofs.CoreLemmas.{AreLegalNotes, loaded_own, told_first, told_others}
 use Rattle.mely_chain.proofs.CoreTurnsLemmas.{legal_notes}
+use Rattle.mely_chain.proofs.DeedLemmas.{did_first, did_others}
 use Rattle.mely_chain.proofs.GrowthLemmas.{by_own, by_others}
 use Rattle.mely_chain.proofs.WeaveToldLemmas.{shard_there, notes_legal}
 use Rattle.mely_fleet.specs.declared.fleet.FleetOf.{FleetOf}
@@ -46,7 +49,7 @@ use Rattle.mely_fleet.specs.Rows.{fronts}
 use Rattle.mely_fleet.specs.Seats.{IsFresh, HasMade}
 use Rattle.mely_fleet.specs.Work.{Standpoint, standpoint}
 use Rattle.mely_fleet.proofs.SeatLemmas.{joined_at}
-use Rattle.mely_crew.proofs.CrewAccountLemmas.{Enters}
+use Rattle.mely_crew.proofs.CrewAccountLemmas.{Enters, HasRun}
 use Rattle.mely_crew.proofs.ToldLemmas.{RunsTold, SeesLegal, runs_makes}
 
 -- ---- lists
@@ -79,6 +82,10 @@ no_notes : {A S P : Type 0} (n : ℕ) (there : Option A) (notes : List (Note S P
 no_notes n None notes none = refl
 no_notes n (Some has) notes none = none has refl
 
+rise_some : {A S P : Type 0} (there : Option A) (notes : List (Note S P)) → ((has : A) → there ≡ Some has → Rise notes) → Rise (at_some there notes)
+rise_some None notes rise = rise-none
+rise_some (Some has) notes rise = rise has refl
+
 -- ---- the states that were given
 
 module _ {R S P F : Type 0} (t : TrailWords S F) (fits : F → Colour → Event → Option P → Type 0) (y : AppWords R P S F) (app : R) where
@@ -95,14 +102,14 @@ module _ {R S P F : Type 0} (t : TrailWords S F) (fits : F → Colour → Event 
 
 module _ {S P : Type 0} (setup : Setup) (n : ℕ) (colour : Colour) (event : Event) (load : Option P) (before after : List (List (Note S P))) (unseen : (k : ℕ) → front_in before k ≡ []) (sees : SeesAt setup n (shard_of setup colour) before after (Enters colour event load n)) where
   abbrev posted : Note S P
-  posted = Reg colour event (snapshot_of load) n
+  posted = Reg colour event (snapshot_of load) n sees.seen.does.0
 
   -- it had made no note before
   point_none : notes_by n sees.seen.point ≡ []
   point_none = ap (notes_by n) (sees.seen.others.1 ∙ ap (λ l. l ++ sees.seen.others.0) (unseen (shard_of setup colour))) ∙ sees.seen.others.2
 
   posted_here : notes_by n (front_in after (shard_of setup colour)) ≡ posted ∷ []
-  posted_here = ap (notes_by n) sees.seen.does ∙ by_own n sees.seen.point posted refl ∙ ap (λ l. l ++ posted ∷ []) point_none
+  posted_here = ap (notes_by n) sees.seen.does.1 ∙ by_own n sees.seen.point posted refl ∙ ap (λ l. l ++ posted ∷ []) point_none
 
   posted_elsewhere : (k : ℕ) → (k ≡ shard_of setup colour → ⊥) → front_in after k ≡ []
   posted_elsewhere k ne = sees.others k ne ∙ unseen k
@@ -136,26 +143,26 @@ module _ {R S P F : Type 0} {g : _} (t : TrailWords S F) (fits : F → Colour �
   pub seat_told : (before after : PassesOf (KeptShardState S P) (Note S P) (ShardFrame S F) g) (worker again : Option (IdleWorkerState P)) → IsFresh before worker → (made : HasMade t fits y app fleet before worker after again) → (notes : ℕ → List (Note S P)) → AreLegalNotes fleet.setup (λ c. notes (shard_of fleet.setup c))
       → ((c : Colour) → OthersSince noted_by after.number (front_in (fronts after.shards.items) (shard_of fleet.setup c)) (notes (shard_of fleet.setup c)))
       → (runs : List (HandlerRun S P)) × CoreTold t fits y app fleet.setup (frame_at t fleet) (given_at t fleet) after.number (λ c. notes (shard_of fleet.setup c)) (resumed_worker made.again) runs
+      × CoreDid fleet.setup after.number (λ c. notes (shard_of fleet.setup c)) (resumed_worker made.again) runs
   seat_told before after worker again fresh made notes legal since =
       let kept = shard_frame t.frame_of in
       let a : Standpoint S P F = standpoint kept fleet before in
       let b : Standpoint S P F = standpoint kept fleet after in
       let seen : SeesLegal t fits y app b = λ c. let grew = since c in legal_notes fleet.setup (front_in (fronts after.shards.items) (shard_of fleet.setup c)) grew.0 (subst (λ l. IsLegal fleet.setup (entries_of l)) grew.1 (legal c)) in
-      let first : RunsTold t fits y app a (resumed_worker made.rest) [] = told_first t fits y app fleet.setup (frame_at t fleet) (given_at t fleet) before.number (front_for fleet.setup (fronts before.shards.items)) (resumed_worker made.rest) refl (λ c. ap (notes_by before.number) (fresh.unseen (shard_of fleet.setup c))) in
-      let all = runs_makes t fits y app made.makes.0 a b (resumed_worker made.rest) (resumed_worker made.again) [] made.makes.1 seen first in
-      (all.0, told_others t fits y app fleet.setup (frame_at t fleet) (given_at t fleet) after.number (front_for fleet.setup (fronts after.shards.items)) (λ c. notes (shard_of fleet.setup c)) (resumed_worker made.again) all.0 since legal all.1)
+      let none : (c : Colour) → notes_by before.number (front_for fleet.setup (fronts before.shards.items) c) ≡ [] = λ c. ap (notes_by before.number) (fresh.unseen (shard_of fleet.setup c)) in
+      let first : RunsTold t fits y app a (resumed_worker made.rest) [] = (
+        told_first t fits y app fleet.setup (frame_at t fleet) (given_at t fleet) before.number (front_for fleet.setup (fronts before.shards.items)) (resumed_worker made.rest) refl none,
+        did_first fleet.setup before.number (front_for fleet.setup (fronts before.shards.items)) (resumed_worker made.rest) refl none,
+      ) in
+      let all = runs_makes t fits y app made.makes.0 a b (resumed_worker made.rest) (resumed_worker made.again) [] made.makes.1 seen first in (
+        all.0,
+        told_others t fits y app fleet.setup (frame_at t fleet) (given_at t fleet) after.number (front_for fleet.setup (fronts after.shards.items)) (λ c. notes (shard_of fleet.setup c)) (resumed_worker made.again) all.0 since legal all.1.0,
+        did_others fleet.setup after.number (front_for fleet.setup (fronts after.shards.items)) (λ c. notes (shard_of fleet.setup c)) (resumed_worker made.again) all.0 since all.1.1,
+      )
 
 -- ---- all seats
 
 module _ {R S P F X : Type 0} {g : _} (t : TrailWords S F) (fits : F → Colour → Event → Option P → Type 0) (y : AppWords R P S F) (app : R) (fleet : FleetOf (KeptShardState S P) (Note S P) (ShardFrame S F)) (passes_of : X → PassesOf (KeptShardState S P) (Note S P) (ShardFrame S F) g) (worker_of : X → Option (IdleWorkerState P)) where
-  -- a seat whose worker was fresh before it made its steps
-  pub record HasWorkedFresh (n : ℕ) (seat : X) : Type 0 where
-    pub before : PassesOf (KeptShardState S P) (Note S P) (ShardFrame S F) g
-    pub worker : Option (IdleWorkerState P)
-    pub number : (passes_of seat).number ≡ n
-    pub fresh : IsFresh before worker
-    pub made : HasMade t fits y app fleet before worker (passes_of seat) (worker_of seat)
-
   -- a fleet of these states that is closed into a weave after each seat has worked, and one other
   -- caller has posted
   pub record HaveAllWorked (colour : Colour) (event : Event) (load : Option P) (given : Colour → Option S) (home : List X) (weave : WeaveState S P) : Type 0 where
@@ -169,7 +176,7 @@ module _ {R S P F X : Type 0} {g : _} (t : TrailWords S F) (fits : F → Colour 
     pub are : callers ≡ outside ∷ map passes_of home
     pub many : length home ≡ (shape_of weave.setup).cores
     pub workers : map (λ w. Some w) weave.workers ≡ map (option_map (λ r. resumed_worker r)) (map worker_of home)
-    pub seats : (i : ℕ) (seat : X) → slice_get home i ≡ Some seat → HasWorkedFresh i seat
+    pub seats : (i : ℕ) (seat : X) → slice_get home i ≡ Some seat → HasRun t fits y app fleet passes_of worker_of i seat
     pub number : outside.number ≡ (shape_of weave.setup).cores
     pub nothing : (k : ℕ) → front_in unseen k ≡ []
     pub posted : SeesAt fleet.setup outside.number (shard_of fleet.setup colour) unseen (fronts outside.shards.items) (Enters colour event load outside.number)
@@ -213,7 +220,10 @@ module _ {R S P F X : Type 0} {g : _} (t : TrailWords S F) (fits : F → Colour 
     abbrev Told : ℕ → WorkerState S P → List (HandlerRun S P) → Type 0
     Told n w runs = CoreTold t fits y app weave.setup (t.frame_of weave.given) given n (λ c. notes (shard_of weave.setup c)) w runs
 
-    worker_told : (i : ℕ) (w : WorkerState S P) → slice_get weave.workers i ≡ Some w → (runs : List (HandlerRun S P)) × Told i w runs
+    abbrev Has : ℕ → WorkerState S P → List (HandlerRun S P) → Type 0
+    Has n w runs = Told n w runs × CoreDid weave.setup n (λ c. notes (shard_of weave.setup c)) w runs
+
+    worker_told : (i : ℕ) (w : WorkerState S P) → slice_get weave.workers i ≡ Some w → (runs : List (HandlerRun S P)) × Has i w runs
     worker_told i w at =
         let within = slice_get_within weave.workers i w at in
         let workers = all.closed.stands.workers in
@@ -226,10 +236,12 @@ module _ {R S P F X : Type 0} {g : _} (t : TrailWords S F) (fits : F → Colour 
         let found = seat_told t fits y app fleet ran.before (passes_of seat.0) ran.worker (worker_of seat.0) ran.fresh ran.made notes legal (seen_by (suc i) (passes_of seat.0) caller) in
         let known = told_given t fits y app fleet.setup (frame_at t fleet) (given_at t fleet) given (passes_of seat.0).number (λ c. notes (shard_of fleet.setup c)) (resumed_worker ran.made.again) found.0 all.of_given found.1 in (
           found.0,
-          subst (λ u. Told i u found.0) (sym is)
-              (subst (λ n. Told n (resumed_worker ran.made.again) found.0) ran.number
-              (subst (λ f. CoreTold t fits y app weave.setup f given (passes_of seat.0).number (λ c. notes (shard_of weave.setup c)) (resumed_worker ran.made.again) found.0) all.of_frame
-              (subst (λ s. CoreTold t fits y app s (frame_at t fleet) given (passes_of seat.0).number (λ c. notes (shard_of s c)) (resumed_worker ran.made.again) found.0) (sym all.closed.setup) known))),
+          subst (λ u. Has i u found.0) (sym is)
+              (subst (λ n. Has n (resumed_worker ran.made.again) found.0) ran.number (
+                subst (λ f. CoreTold t fits y app weave.setup f given (passes_of seat.0).number (λ c. notes (shard_of weave.setup c)) (resumed_worker ran.made.again) found.0) all.of_frame
+                    (subst (λ s. CoreTold t fits y app s (frame_at t fleet) given (passes_of seat.0).number (λ c. notes (shard_of s c)) (resumed_worker ran.made.again) found.0) (sym all.closed.setup) known),
+                subst (λ s. CoreDid s (passes_of seat.0).number (λ c. notes (shard_of s c)) (resumed_worker ran.made.again) found.0) (sym all.closed.setup) found.2,
+              )),
         )
 
     posts_are : (c : Colour) → loaded_of (notes_by (shape_of weave.setup).cores (notes (shard_of weave.setup c))) c ≡ puts_on c ((colour, event, load) ∷ [])
@@ -243,14 +255,18 @@ module _ {R S P F X : Type 0} {g : _} (t : TrailWords S F) (fits : F → Colour 
     -- the weave is told
     pub closed_told : IsTold t fits y app given ((colour, event, load) ∷ []) weave
     closed_told =
-        let chosen = choose Told weave.workers worker_told in (
+        let chosen = choose Has weave.workers worker_told in (
           notes,
           chosen.0,
           record {
             shard = shard_told;
             cores = chosen.1 ∙ all.closed.stands.workers;
-            told = λ core w runs at_w at_runs. chosen.2 core w runs at_w at_runs;
+            told = λ core w runs at_w at_runs. (chosen.2 core w runs at_w at_runs).0;
             posts = posts_are;
             no_other = no_stranger;
+          },
+          record {
+            rise = λ k. rise_some (slice_get weave.shards k) (all.closed.notes k) (λ has there. (all.closed.histories k has there).rise);
+            did = λ core w runs at_w at_runs. (chosen.2 core w runs at_w at_runs).1;
           },
         )

@@ -1,5 +1,5 @@
 -- What the worker of a core ran, as the notes tell of it that its passes have seen.
-use Rattle.std.proofs.Common.{◌≡◌, ℕ, List, [], ◌∷◌, ◌++◌, Option, Ok, Err, refl, sym, ◌∙◌, ap, subst, append-nil, append_assoc}
+use Rattle.std.proofs.Common.{◌≡◌, ℕ, List, [], ◌∷◌, ◌++◌, Option, Ok, Err, refl, sym, ◌∙◌, ap, subst, arith, append-nil, append_assoc}
 use Rattle.mely_event.specs.declared.colour.Colour.{Colour}
 use Rattle.mely_event.specs.declared.event.Event.{Event}
 use Rattle.mely_event.specs.declared.trail.Trail.{Ghosts as TrailWords}
@@ -8,7 +8,8 @@ use Rattle.mely_history.specs.Setup.{shard_of}
 use Rattle.mely_history.specs.declared.setup.Setup.{Setup}
 use Rattle.mely_note.specs.declared.note.Note.{Note}
 use Rattle.mely_note.specs.declared.note.Note.TheVariants.{Reg, Take, Fin, Steal}
-use Rattle.mely_note.specs.Notes.{entries_of, snapshot_of}
+use Rattle.mely_note.specs.Notes.{Rise, entries_of, snapshot_of}
+use Rattle.mely_note.proofs.StampLemmas.{latest_in-at}
 use Rattle.mely_tally.specs.Account.{HandlerRun, IsRunOf}
 use Rattle.mely_tally.proofs.StepAccountLemmas.{runs_of, well_step}
 use Rattle.mely_tally.proofs.WeaveAccountLemmas.{all_map}
@@ -16,10 +17,12 @@ use Rattle.mely_worker.specs.declared.app.App.{Ghosts as AppWords}
 use Rattle.mely_worker.specs.declared.made.Made.{Made}
 use Rattle.mely_worker.specs.Worker.{WorkerState}
 use Rattle.mely_kept.specs.Calls.{RegistersAt, TakesAt, FinishesAt, StealsAt}
+use Rattle.mely_chain.specs.Deeds.{CoreDid}
 use Rattle.mely_chain.specs.Told.{CoreTold}
 use Rattle.mely_chain.proofs.CoreLemmas.{AreLegalNotes, told_others}
-use Rattle.mely_chain.proofs.CoreStepLemmas.{SeesCall, SeesRegistration, SeesTake, SeesFinish, SeesSome, SeesCalls, told_seen}
+use Rattle.mely_chain.proofs.CoreStepLemmas.{SeesCall, SeesRegistration, SeesTake, SeesFinish, SeesSteal, SeesSome, SeesCalls, told_seen}
 use Rattle.mely_chain.proofs.CoreTurnsLemmas.{legal_notes}
+use Rattle.mely_chain.proofs.DeedLemmas.{did_others}
 use Rattle.mely_fleet.specs.Calls.{SeesAt, front_in, front_for}
 use Rattle.mely_fleet.specs.Work.{Standpoint, words, SeesMore, HasLooked, StepsOn, MakesSteps}
 use Rattle.mely_fleet.proofs.WorkLemmas.{step_more}
@@ -33,12 +36,14 @@ module _ {S P : Type 0} (setup : Setup) (given : Colour → Option S) (n : ℕ) 
     here = λ c same. ap (front_in new) same ∙ is;
     elsewhere = λ c ne. sees.others (shard_of setup c) ne;
     legal = subst (λ l. IsLegal setup (entries_of l)) is sees.seen.legal;
+    rise = subst Rise is sees.seen.rise;
+    above = λ c note same. (let late = sees.seen.above note (is ∙ ap (λ l. sees.seen.point ++ l) same) in let seen = latest_in-at old (shard_of setup c) in omega (arith, late, seen));
   }
 
 module _ {R S P F : Type 0} (t : TrailWords S F) (fits : F → Colour → Event → Option P → Type 0) (y : AppWords R P S F) (app : R) where
-  -- what was seen tells these runs
+  -- what was seen tells these runs, and what the worker did came to them
   abbrev pub RunsTold : Standpoint S P F → WorkerState S P → List (HandlerRun S P) → Type 0
-  RunsTold a w runs = CoreTold t fits y app a.setup a.frame a.given a.number (front_for a.setup a.fronts) w runs
+  RunsTold a w runs = CoreTold t fits y app a.setup a.frame a.given a.number (front_for a.setup a.fronts) w runs × CoreDid a.setup a.number (front_for a.setup a.fronts) w runs
 
   -- what was seen is legal
   abbrev pub SeesLegal : Standpoint S P F → Type 0
@@ -67,11 +72,13 @@ module _ {R S P F : Type 0} (t : TrailWords S F) (fits : F → Colour → Event 
       registers = λ d event load reply sees. now (λ after. SeesRegistration a.setup a.given a.number (front_for a.setup a.fronts) after d event load) (record {
         noted = snapshot_of load;
         has = refl;
-        call = shard_call a.setup a.given a.number a.fronts b.fronts d (Reg d event (snapshot_of load) a.number ∷ []) (RegistersAt a.setup a.number d event load (Ok reply)) sees sees.seen.does.0;
+        at = sees.seen.does.0.0;
+        call = shard_call a.setup a.given a.number a.fronts b.fronts d (Reg d event (snapshot_of load) a.number sees.seen.does.0.0 ∷ []) (RegistersAt a.setup a.number d event load (Ok reply)) sees sees.seen.does.0.1;
       });
       refuses = λ d event load back sees. unmade d (RegistersAt a.setup a.number d event load (Err back)) sees sees.seen.does.0;
       takes = λ d turn sees. let given_is = sees.seen.does.1 in now (λ after. SeesTake a.setup a.given a.number (front_for a.setup a.fronts) after d turn) (record {
-        call = shard_call a.setup a.given a.number a.fronts b.fronts d (Take d a.number turn.count ∷ []) (TakesAt t fits a.setup a.frame (a.given d) a.number d (Ok turn)) sees sees.seen.does.0;
+        at = sees.seen.does.0.0;
+        call = shard_call a.setup a.given a.number a.fronts b.fronts d (Take d a.number turn.count sees.seen.does.0.0 ∷ []) (TakesAt t fits a.setup a.frame (a.given d) a.number d (Ok turn)) sees sees.seen.does.0.1;
         of_colour = given_is.of_colour;
         allowed = given_is.allowed;
         events = given_is.events;
@@ -81,9 +88,13 @@ module _ {R S P F : Type 0} (t : TrailWords S F) (fits : F → Colour → Event 
       finishes = λ turn answer phase sees. now (λ after. SeesFinish a.setup a.given a.number (front_for a.setup a.fronts) after turn) (record {
         noted = snapshot_of turn.state;
         has = refl;
-        call = shard_call a.setup a.given a.number a.fronts b.fronts turn.colour (Fin turn.colour a.number turn.count (snapshot_of turn.state) ∷ []) (FinishesAt a.setup a.number turn answer) sees sees.seen.does.0;
+        at = sees.seen.does.0.0;
+        call = shard_call a.setup a.given a.number a.fronts b.fronts turn.colour (Fin turn.colour a.number turn.count (snapshot_of turn.state) sees.seen.does.0.0 ∷ []) (FinishesAt a.setup a.number turn answer) sees sees.seen.does.0.1;
       });
-      steals = λ d stolen sees. now (λ after. SeesCall a.setup a.given a.number (front_for a.setup a.fronts) after d (Steal d stolen.from a.number ∷ [])) (shard_call a.setup a.given a.number a.fronts b.fronts d (Steal d stolen.from a.number ∷ []) (StealsAt a.setup a.number d (Ok stolen)) sees sees.seen.does.0);
+      steals = λ d stolen sees. now (λ after. SeesSteal a.setup a.given a.number (front_for a.setup a.fronts) after d stolen.from) (record {
+        at = sees.seen.does.0.0;
+        call = shard_call a.setup a.given a.number a.fronts b.fronts d (Steal d stolen.from a.number sees.seen.does.0.0 ∷ []) (StealsAt a.setup a.number d (Ok stolen)) sees sees.seen.does.0.1;
+      });
       unstolen = λ d why sees. unmade d (StealsAt a.setup a.number d (Err why)) sees sees.seen.does.0;
       pushes = λ core mark answer called. still called.0;
       pops = λ answer called. still called.0;
@@ -101,10 +112,10 @@ module _ {R S P F : Type 0} (t : TrailWords S F) (fits : F → Colour → Event 
     runs_step is legal runs told =
         let well = well_step (words t fits) y app a b w step v t fits (λ d core count trail other one two. one.trailed ∙ sym two.trailed) is.may is.may_then is.steps in
         let each = all_map _ (IsRunOf t fits y app a.setup a.frame) (runs_of (words t fits) y app a b w step v is.steps) (λ run both. both.0) well in
-        let then_told = told_seen (words t fits) y app a b w step v t fits a.frame a.setup a.given a.number (front_for a.setup a.fronts) (front_for a.setup b.fronts) runs calls_seen legal is.steps each told in (
+        let then_told = told_seen (words t fits) y app a b w step v t fits a.frame a.setup a.given a.number (front_for a.setup a.fronts) (front_for a.setup b.fronts) runs calls_seen legal is.steps each told.0 told.1 in (
           runs_of (words t fits) y app a b w step v is.steps,
-          on_same is (λ s. RunsTold s v (runs ++ runs_of (words t fits) y app a b w step v is.steps)) then_told.0,
-          on_same is SeesLegal then_told.1,
+          on_same is (λ s. RunsTold s v (runs ++ runs_of (words t fits) y app a b w step v is.steps)) (then_told.0, then_told.1),
+          on_same is SeesLegal then_told.2,
         )
 
   -- ---- looks
@@ -122,7 +133,10 @@ module _ {R S P F : Type 0} (t : TrailWords S F) (fits : F → Colour → Event 
   runs_looked a b w runs looked legal told =
       let same : record a { fronts = b.fronts; chains = b.chains } ≡ b = λ i. record { setup = sym looked.setup i; number = sym looked.number i; frame = sym looked.frame i; given = sym looked.given i; fronts = b.fronts; chains = b.chains } in
       let sound : SeesLegal (record a { fronts = b.fronts; chains = b.chains }) = subst SeesLegal (sym same) legal in
-      subst (λ s. RunsTold s w runs) same (told_others t fits y app a.setup a.frame a.given a.number (front_for a.setup a.fronts) (front_for a.setup b.fronts) w runs (λ c. looked.others (shard_of a.setup c)) sound told)
+      subst (λ s. RunsTold s w runs) same (
+        told_others t fits y app a.setup a.frame a.given a.number (front_for a.setup a.fronts) (front_for a.setup b.fronts) w runs (λ c. looked.others (shard_of a.setup c)) sound told.0,
+        did_others a.setup a.number (front_for a.setup a.fronts) (front_for a.setup b.fronts) w runs (λ c. looked.others (shard_of a.setup c)) told.1,
+      )
 
   -- ---- steps, with looks between them
 

@@ -72,19 +72,19 @@ module _ {R S P F : Type 0} (t : TrailWords S F) (fits : F → Colour → Event 
       of_put = λ _ entry. share_put c number entry
 
       put_takes : (d : Colour) (answer : Result (TurnState S P) NoTake) → SeesAt a.setup a.number (shard_of a.setup d) a.fronts b.fronts (TakesAt t fits a.setup a.frame (a.given d) a.number d answer) → put_to b ≡ put_to a
-      put_takes d (Ok turn) called = let more = sees_more of_put a.setup a.number (shard_of a.setup d) a.fronts b.fronts called (Take d a.number turn.count) refl called.seen.does.0 k 0 refl (λ _. refl) in omega (arith, more)
+      put_takes d (Ok turn) called = let more = sees_more of_put a.setup a.number (shard_of a.setup d) a.fronts b.fronts called (Take d a.number turn.count called.seen.does.0.0) refl called.seen.does.0.1 k 0 refl (λ _. refl) in omega (arith, more)
       put_takes d (Err why) called = sees_same of_put a.setup a.number (shard_of a.setup d) a.fronts b.fronts called called.seen.does.0 k
 
       put_steals : (d : Colour) (answer : Result Stolen NoSteal) → SeesAt a.setup a.number (shard_of a.setup d) a.fronts b.fronts (StealsAt a.setup a.number d answer) → put_to b ≡ put_to a
-      put_steals d (Ok stolen) called = let more = sees_more of_put a.setup a.number (shard_of a.setup d) a.fronts b.fronts called (Steal d stolen.from a.number) refl called.seen.does.0 k 0 refl (λ _. refl) in omega (arith, more)
+      put_steals d (Ok stolen) called = let more = sees_more of_put a.setup a.number (shard_of a.setup d) a.fronts b.fronts called (Steal d stolen.from a.number called.seen.does.0.0) refl called.seen.does.0.1 k 0 refl (λ _. refl) in omega (arith, more)
       put_steals d (Err why) called = sees_same of_put a.setup a.number (shard_of a.setup d) a.fronts b.fronts called called.seen.does.0 k
 
       put_counts : CountsRegistrations (words t fits) y app a b w made v c number put_to
       put_counts = record {
-        registers = λ d event load reply called. sees_more of_put a.setup a.number (shard_of a.setup d) a.fronts b.fronts called (Reg d event (snapshot_of load) a.number) refl called.seen.does.0 k (count_put c number (d, event, load)) refl (elsewhere a.setup c d (number event));
+        registers = λ d event load reply called. sees_more of_put a.setup a.number (shard_of a.setup d) a.fronts b.fronts called (Reg d event (snapshot_of load) a.number called.seen.does.0.0) refl called.seen.does.0.1 k (count_put c number (d, event, load)) refl (elsewhere a.setup c d (number event));
         refuses = λ d event load back called. sees_same of_put a.setup a.number (shard_of a.setup d) a.fronts b.fronts called called.seen.does.0 k;
         takes = put_takes;
-        finishes = λ turn answer called. (let more = sees_more of_put a.setup a.number (shard_of a.setup turn.colour) a.fronts b.fronts called (Fin turn.colour a.number turn.count (snapshot_of turn.state)) refl called.seen.does.0 k 0 refl (λ _. refl) in omega (arith, more));
+        finishes = λ turn answer called. (let more = sees_more of_put a.setup a.number (shard_of a.setup turn.colour) a.fronts b.fronts called (Fin turn.colour a.number turn.count (snapshot_of turn.state) called.seen.does.0.0) refl called.seen.does.0.1 k 0 refl (λ _. refl) in omega (arith, more));
         steals = put_steals;
         pushes = λ core mark answer called. ap (put_in a.setup a.number c number) called.0;
         pops = λ answer called. ap (put_in a.setup a.number c number) called.0;
@@ -101,11 +101,11 @@ module _ {R S P F : Type 0} (t : TrailWords S F) (fits : F → Colour → Event 
       untaken d note called by grew none = let more = sees_more (share_take c number) a.setup a.number (shard_of a.setup d) a.fronts b.fronts called note by grew k 0 none (λ _. refl) in omega (arith, more)
 
       taken_registers : (d : Colour) (event : Event) (load : Option P) (answer : Result Registered (Unregistered P)) → SeesAt a.setup a.number (shard_of a.setup d) a.fronts b.fronts (RegistersAt a.setup a.number d event load answer) → taken_to b ≡ taken_to a
-      taken_registers d event load (Ok reply) called = untaken d (Reg d event (snapshot_of load) a.number) called refl called.seen.does.0 refl
+      taken_registers d event load (Ok reply) called = untaken d (Reg d event (snapshot_of load) a.number called.seen.does.0.0) called refl called.seen.does.0.1 refl
       taken_registers d event load (Err back) called = sees_same (share_take c number) a.setup a.number (shard_of a.setup d) a.fronts b.fronts called called.seen.does.0 k
 
       taken_steals : (d : Colour) (answer : Result Stolen NoSteal) → SeesAt a.setup a.number (shard_of a.setup d) a.fronts b.fronts (StealsAt a.setup a.number d answer) → taken_to b ≡ taken_to a
-      taken_steals d (Ok stolen) called = untaken d (Steal d stolen.from a.number) called refl called.seen.does.0 refl
+      taken_steals d (Ok stolen) called = untaken d (Steal d stolen.from a.number called.seen.does.0.0) called refl called.seen.does.0.1 refl
       taken_steals d (Err why) called = sees_same (share_take c number) a.setup a.number (shard_of a.setup d) a.fronts b.fronts called called.seen.does.0 k
 
       taken_takes : (mark : Mark) (turn : TurnState S P) → SeesAt a.setup a.number (shard_of a.setup mark.colour) a.fronts b.fronts (TakesAt t fits a.setup a.frame (a.given mark.colour) a.number mark.colour (Ok turn)) → v ≡ after_take w mark (Ok turn) → taken_to b ≡ taken_to a + count_left t c number (Turning turn Nothing [])
@@ -116,7 +116,7 @@ module _ {R S P F : Type 0} (t : TrailWords S F) (fits : F → Colour → Event 
           let trail : t.trail_of turn.state ≡ taken_of point d = given.trailed ∙ ap (λ n. take n (registered_of point d)) (sym given.allowed.ready.at_rest) in
           let counted : (own : Bool) → (d.0 == c.0) ≡ own → (if own then sum_along number (taken_of point c) (take turn.count (queued_of point c)) else 0) ≡ (if own then sum_along number (t.trail_of turn.state) (events_of turn.events) else 0) = for point d trail (first_queued t fits a.setup a.frame (a.given d) a.number d turn called.seen.point given) in
           let of_turn : share_take c number point (entries.Take d a.number turn.count) ≡ count_left t c number (Turning turn Nothing []) = counted (d.0 == c.0) refl ∙ ap (λ (z : Colour). if z.0 == c.0 then sum_along number (t.trail_of turn.state) (events_of turn.events) else 0) (sym given.of_colour) in
-          sees_more (share_take c number) a.setup a.number (shard_of a.setup d) a.fronts b.fronts called (Take d a.number turn.count) refl called.seen.does.0 k (count_left t c number (Turning turn Nothing [])) of_turn
+          sees_more (share_take c number) a.setup a.number (shard_of a.setup d) a.fronts b.fronts called (Take d a.number turn.count called.seen.does.0.0) refl called.seen.does.0.1 k (count_left t c number (Turning turn Nothing [])) of_turn
           (λ apart. sym of_turn ∙ elsewhere a.setup c d _ apart)
         where
           for : (point : List Entry) (d : Colour) → t.trail_of turn.state ≡ taken_of point d → events_of turn.events ≡ take turn.count (queued_of point d) → (own : Bool) → (d.0 == c.0) ≡ own → (if own then sum_along number (taken_of point c) (take turn.count (queued_of point c)) else 0) ≡ (if own then sum_along number (t.trail_of turn.state) (events_of turn.events) else 0)
@@ -132,7 +132,7 @@ module _ {R S P F : Type 0} (t : TrailWords S F) (fits : F → Colour → Event 
         takes = taken_takes;
         untaken = λ d why called. sees_same (share_take c number) a.setup a.number (shard_of a.setup d) a.fronts b.fronts called called.seen.does.0 k;
         registers = taken_registers;
-        finishes = λ turn answer called. untaken turn.colour (Fin turn.colour a.number turn.count (snapshot_of turn.state)) called refl called.seen.does.0 refl;
+        finishes = λ turn answer called. untaken turn.colour (Fin turn.colour a.number turn.count (snapshot_of turn.state) called.seen.does.0.0) called refl called.seen.does.0.1 refl;
         steals = taken_steals;
         pushes = λ core mark answer called. ap (taken_in a.setup a.number c number) called.0;
         pops = λ answer called. ap (taken_in a.setup a.number c number) called.0;

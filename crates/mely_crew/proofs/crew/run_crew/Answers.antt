@@ -22,7 +22,7 @@ use Rattle.mely_weave.proofs.Runs.RunLemmas.{serves_on}
 use Rattle.mely_weave.proofs.Runs.WeaveRunLemmas.{run_grows}
 use Rattle.mely_crew.proofs.SettlingLemmas.{some_same, some_stand, some_run, some_account, some_told}
 use Rattle.mely_crew.proofs.BegunLemmas.{registered_after, first_of}
-use Rattle.mely_crew.proofs.CrewAccountLemmas.{Enters, closed_account}
+use Rattle.mely_crew.proofs.CrewAccountLemmas.{Enters, HasRun, closed_account}
 use Rattle.mely_chain.specs.WeaveTold.{IsTold}
 use Rattle.mely_chain.proofs.WeaveToldLemmas.{told_drain_of}
 use Rattle.mely_crew.proofs.ToldCrewLemmas.{closed_told}
@@ -146,13 +146,39 @@ returns-clause-begun g c =
     registered_after c.args.begin.0 c.args.begin.1 by weave c.drain-drained.new.self (entries_of (front_in seen (shard_of c.in-Ok.crew.fleet.setup c.args.begin.0))) (entries_of sees.seen.point)
     (c.drain-drained.ensures.same.setup ∙ (settled_same g (goal.at.returns-clause-begun g c).After-settle).setup) closed.stands.shards
     (subst (λ (s : Setup). (shape_of s).cores ≤ by) (sym closed.setup) c.in-Ok.ensures.outside.outside)
-    (entries_more sees.seen.point _ (Reg c.args.begin.0 c.args.begin.1 (snapshot_of c.args.begin.2) by) sees.seen.does.0)
+    (entries_more sees.seen.point _ (Reg c.args.begin.0 c.args.begin.1 (snapshot_of c.args.begin.2) by sees.seen.does.0.0) sees.seen.does.0.1)
     (λ has at.
     let shard = shard_of weave.setup c.args.begin.0 in
     let its = closed.histories shard has at in
     let since = others_of_entries c.post.new.passes.number (front_in seen shard) (closed.notes shard) (its.over.seen 0 c.post.new.passes (first_of _ _ _ one)) in
     (since.0, subst (λ (s : Setup). has.history ≡ entries_of (front_in seen (shard_of s c.args.begin.0)) ++ since.0) closed.setup (its.shows.entries ∙ since.1)))
     (run_grows g.S.Trail g.S.Fits.fits_under g.A.App run.0 weave c.drain-drained.new.self run.1)
+
+-- the registration of the first event entered the history of its shard
+entered : (g : _) (c : After-close_home-weave g) → SeesAt c.in-Ok.crew.fleet.setup c.post.new.passes.number (shard_of c.in-Ok.crew.fleet.setup c.args.begin.0) (fronts c.in-Ok.crew.outside.shards.items) (fronts c.post.new.passes.shards.items) (Enters c.args.begin.0 c.args.begin.1 c.args.begin.2 c.post.new.passes.number)
+entered g c =
+    let fleet = c.in-Ok.crew.fleet in
+    let sees = c.in_default-post.ensures.sees in
+    subst (λ n. SeesAt fleet.setup n (shard_of fleet.setup c.args.begin.0) (fronts c.in-Ok.crew.outside.shards.items) (fronts c.post.new.passes.shards.items) (Enters c.args.begin.0 c.args.begin.1 c.args.begin.2 n)) (sym c.in_default-post.ensures.same) (record {
+      seen = record { point = sees.seen.point; others = sees.seen.others; does = sees.seen.does.0; legal = sees.seen.legal; rise = sees.seen.rise; above = sees.seen.above };
+      others = sees.others;
+    })
+
+-- each seat that is closed has run, and its worker was fresh before
+seat_ran : (g : _) (c : After-close_home-weave g) → take c.in-Ok.crew.seats.len (c.work_all.new.seats ++ drop (length c.work_all.new.seats) c.in-Ok.crew.seats.items) ≡ c.work_all.new.seats → (i : _) (seat : _) → slice_get (take c.in-Ok.crew.seats.len (c.work_all.new.seats ++ drop (length c.work_all.new.seats) c.in-Ok.crew.seats.items)) i ≡ Some seat
+    → HasRun g.S.Trail g.S.Fits.fits_under g.A.App c.args.app.now c.in-Ok.crew.fleet (λ seat. seat.passes) (λ seat. seat.worker) i seat
+seat_ran g c back i seat at =
+    let there = ap (λ l. slice_get l i) (sym back) ∙ at in
+    let made = c.work_all.ensures.made i seat there in
+    let was = ap (λ l. slice_get l i) (sym c.deref_mut.ensures.value) ∙ made.1 in
+    record {
+      before = made.0.passes;
+      worker = made.0.worker;
+      numbered = (c.in-Ok.ensures.seats i made.0 was).numbered;
+      number = (c.work_all.ensures.seats i seat there).numbered;
+      fresh = c.in-Ok.ensures.fresh i made.0 was;
+      made = made.2;
+    }
 
 -- what runs before the closing put and ran is accounted for by the weave that it gives
 closed_accounted : (g : _) (c : After-close_home-weave g) → take c.in-Ok.crew.seats.len (c.work_all.new.seats ++ drop (length c.work_all.new.seats) c.in-Ok.crew.seats.items) ≡ c.work_all.new.seats → length (take c.in-Ok.crew.seats.len (c.work_all.new.seats ++ drop (length c.work_all.new.seats) c.in-Ok.crew.seats.items)) ≡ (shape_of c.args.setup.now).cores
@@ -164,7 +190,6 @@ closed_accounted g c back many =
     let closed = home.closed in
     let one = c.push_reserved.ensures.items ∙ ap (λ l. l ++ c.post.new.passes ∷ []) c.in-Ok.ensures.outsiders.0 in
     let seats = take c.in-Ok.crew.seats.len (c.work_all.new.seats ++ drop (length c.work_all.new.seats) c.in-Ok.crew.seats.items) in
-    let sees = c.in_default-post.ensures.sees in
     let cores = ap (λ (k : Setup). (shape_of k).cores) (sym (closed.setup ∙ c.in-Ok.ensures.of_setup)) in
     closed_account g.S.Trail g.S.Fits.fits_under g.A.App c.args.app.now fleet (λ seat. seat.passes) (λ seat. seat.worker) c.args.begin.0 c.args.begin.1 c.args.begin.2 seats weave (record {
       callers = _;
@@ -180,24 +205,10 @@ closed_accounted g c back many =
       are = ap (λ l. l ++ map (λ seat. seat.passes) seats) one;
       many = many ∙ cores;
       workers = home.workers;
-      seats = λ i seat at.
-          let there = ap (λ l. slice_get l i) (sym back) ∙ at in
-          let made = c.work_all.ensures.made i seat there in
-          let was = ap (λ l. slice_get l i) (sym c.deref_mut.ensures.value) ∙ made.1 in
-          record {
-            before = made.0.passes;
-            worker = made.0.worker;
-            numbered = (c.in-Ok.ensures.seats i made.0 was).numbered;
-            number = (c.work_all.ensures.seats i seat there).numbered;
-            fresh = c.in-Ok.ensures.fresh i made.0 was;
-            made = made.2;
-          };
+      seats = seat_ran g c back;
       outside_number = c.in_default-post.ensures.same ∙ c.in-Ok.ensures.numbered ∙ cores;
       nothing = c.in-Ok.ensures.unseen;
-      posted = subst (λ n. SeesAt fleet.setup n (shard_of fleet.setup c.args.begin.0) (fronts c.in-Ok.crew.outside.shards.items) (fronts c.post.new.passes.shards.items) (Enters c.args.begin.0 c.args.begin.1 c.args.begin.2 n)) (sym c.in_default-post.ensures.same) (record {
-        seen = record { point = sees.seen.point; others = sees.seen.others; does = sees.seen.does.0; legal = sees.seen.legal };
-        others = sees.others;
-      });
+      posted = entered g c;
     })
 
 pub returns-clause-accounted : goal.returns-clause-accounted
@@ -221,7 +232,6 @@ closed_is_told g c back many =
     let closed = home.closed in
     let one = c.push_reserved.ensures.items ∙ ap (λ l. l ++ c.post.new.passes ∷ []) c.in-Ok.ensures.outsiders.0 in
     let seats = take c.in-Ok.crew.seats.len (c.work_all.new.seats ++ drop (length c.work_all.new.seats) c.in-Ok.crew.seats.items) in
-    let sees = c.in_default-post.ensures.sees in
     let cores = ap (λ (k : Setup). (shape_of k).cores) (sym (closed.setup ∙ c.in-Ok.ensures.of_setup)) in
     closed_told g.S.Trail g.S.Fits.fits_under g.A.App c.args.app.now fleet (λ seat. seat.passes) (λ seat. seat.worker) c.args.begin.0 c.args.begin.1 c.args.begin.2 (λ k. slice_get c.args.states.items k.0) seats weave (record {
       outside = c.post.new.passes;
@@ -234,23 +244,10 @@ closed_is_told g c back many =
       are = ap (λ l. l ++ map (λ seat. seat.passes) seats) one;
       many = many ∙ cores;
       workers = home.workers;
-      seats = λ i seat at.
-          let there = ap (λ l. slice_get l i) (sym back) ∙ at in
-          let made = c.work_all.ensures.made i seat there in
-          let was = ap (λ l. slice_get l i) (sym c.deref_mut.ensures.value) ∙ made.1 in
-          record {
-            before = made.0.passes;
-            worker = made.0.worker;
-            number = (c.work_all.ensures.seats i seat there).numbered;
-            fresh = c.in-Ok.ensures.fresh i made.0 was;
-            made = made.2;
-          };
+      seats = seat_ran g c back;
       number = c.in_default-post.ensures.same ∙ c.in-Ok.ensures.numbered ∙ cores;
       nothing = c.in-Ok.ensures.unseen;
-      posted = subst (λ n. SeesAt fleet.setup n (shard_of fleet.setup c.args.begin.0) (fronts c.in-Ok.crew.outside.shards.items) (fronts c.post.new.passes.shards.items) (Enters c.args.begin.0 c.args.begin.1 c.args.begin.2 n)) (sym c.in_default-post.ensures.same) (record {
-        seen = record { point = sees.seen.point; others = sees.seen.others; does = sees.seen.does.0; legal = sees.seen.legal };
-        others = sees.others;
-      });
+      posted = entered g c;
     })
 
 pub returns-clause-told : goal.returns-clause-told
