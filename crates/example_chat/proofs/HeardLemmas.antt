@@ -1,8 +1,9 @@
 -- What each client has heard is what the room keeps.
-use Rattle.std.proofs.Common.{◌≡◌, ◌<◌, ◌≤◌, ◌+◌, ◌*◌, ℕ, Bool, true, false, List, [], ◌∷◌, nat_lt, if◌then◌else◌, map, refl, ◌∙◌, ap, arith}
+use Rattle.std.proofs.Common.{◌≡◌, ◌<◌, ◌≤◌, ◌+◌, ◌*◌, ◌/◌, ◌%◌, ◌==◌, ℕ, Bool, true, false, List, [], ◌∷◌, Option, Some, None, nat_lt, if◌then◌else◌, length, map, refl, sym, ◌∙◌, ap, arith}
 use Rattle.std.proofs.lemmas.List.Sums.{sum_by-append, sum_by-cons}
+use Rattle.std.proofs.lemmas.Option.{slice_get_within}
 use Rattle.std.specs.List.{AllByRecursion}
-use Rattle.std.specs.Prelude.{sum_by}
+use Rattle.std.specs.Prelude.{filter_map, slice_get, sum_by}
 use Rattle.mely_event.specs.declared.colour.Colour.{Colour}
 use Rattle.mely_event.specs.declared.event.Event.{Event}
 use Rattle.mely_history.specs.declared.entry.Entry.{Entry}
@@ -13,16 +14,25 @@ use Rattle.mely_app.specs.Puts.{sum_colours}
 use Rattle.mely_app.proofs.PutsLemmas.{colours_same}
 use Rattle.mely_actor.specs.declared.actor.Actor.{Ghosts as ActorWords}
 use Rattle.mely_actor.specs.Received.{AreKept}
-use Rattle.mely_actor.specs.Sending.{count_to}
+use Rattle.mely_actor.specs.Sending.{count_to, is_sent_by, none_sent, sends_to}
 use Rattle.mely_actor.proofs.ListLemmas.{all_so, arrived_by}
 use Rattle.example_chat.specs.declared.message.Message.{Message}
 use Rattle.example_chat.specs.declared.message.Message.TheVariants.{Say, Line, Hear}
 use Rattle.example_chat.specs.declared.script.Line.{Line as ScriptLine}
 use Rattle.example_chat.specs.declared.seat.Seat.{Seat}
 use Rattle.example_chat.specs.declared.chat.TheConstants.{CLIENTS}
-use Rattle.example_chat.specs.Chats.{IsByClient, IsSeat, MayHear, Sent, along, notes, room, said, says, sent_as, to_clients}
-use Rattle.example_chat.specs.Talked.{IsTalked, as_heard, as_told, of_heard, of_words}
-use Rattle.example_chat.proofs.ToldLemmas.{client_tells, clients_each, counts_words, none_says, of_said, posted_all, posted_elsewhere, posted_to, room_elsewhere, sent_by, sent_step, to_it, to_none}
+use Rattle.example_chat.specs.Chats.{IsByClient, IsSeat, MayHear, Note, Sent, along, note_of, notes, room, said, says, sent_as, to_clients}
+use Rattle.example_chat.specs.Talked.{IsTalked, lines_of, said_by}
+use Rattle.example_chat.proofs.OrderLemmas.{all_from, all_told, client_keeps, client_passes, heard_as, many_lines, many_of, own_line, own_lines, pick, picked_many, picked_sends, picks, posted_lines, room_keeps, room_sends, said_as, sents_many, size, told_as, told_one, told_size}
+use Rattle.example_chat.proofs.ToldLemmas.{as_told, client_tells, clients_each, counts_words, none_says, of_said, of_words, posted_all, posted_elsewhere, posted_to, room_elsewhere, sent_by, sent_step, to_it, to_none}
+
+-- a number of what is heard alone
+abbrev of_heard : (Event → List ℕ → ℕ) → Event → List ℕ → ℕ
+of_heard number event text = if event.handler == 3 then number event text else 0
+
+-- the number of a line that the room keeps, as a client hears it
+abbrev as_heard : (Event → List ℕ → ℕ) → Note → ℕ
+as_heard number note = number (record { handler = 3; arg = note.0 * 256 + note.1 }) note.2
 
 module _ (script : List ScriptLine) (number : Event → List ℕ → ℕ) (c : Colour) where
   -- the numbers of lines that are sent to the colour to be heard
@@ -61,7 +71,7 @@ module _ (script : List ScriptLine) (number : Event → List ℕ → ℕ) (c : C
   none_posted k (line ∷ lines) = to_none c (of_heard number) (record { 0 = line.client }) (record { handler = 1; arg = k }) line.text.items (map sent_as (said (k + 1) lines)) refl ∙ none_posted (k + 1) lines
 
 module _ {A : Type 0} (a : ActorWords A Seat Message) (chat : A) (script : List ScriptLine) (setup : Setup) (histories : List (List Entry)) (seats : List Seat) (colours : colours_of setup ≡ CLIENTS + 1) (sounds : (c : Colour) (message : Message) → a.sound chat c message → MayHear script c message)
-    (keeps : (c : Colour) (received : List Message) (sent : List (Colour × Message)) (seat : Seat) → a.kept chat c received sent seat → IsSeat received sent seat.heard.items) (posts : List (Colour × Message)) (posts_are : posts ≡ said 0 script) (by : AllByRecursion IsByClient script) (kept : AreKept a chat setup posts histories seats) where
+    (keeps : (c : Colour) (received : List Message) (sent : List (Colour × Message)) (seat : Seat) → a.kept chat c received sent seat → IsSeat received sent seat.heard.items) (posts : List (Colour × Message)) (posts_are : posts ≡ said 0 script) (by : AllByRecursion IsByClient script) (few : length script ≤ 256) (kept : AreKept a chat setup posts histories seats) where
   may : (c : Colour) → c.0 < CLIENTS + 1 → AllByRecursion (MayHear script c) (kept.received c)
   may c low = all_so (a.sound chat c) (MayHear script c) (kept.received c) (sounds c) (kept.sound c (omega (arith, low, colours)))
 
@@ -127,6 +137,64 @@ module _ {A : Type 0} (a : ActorWords A Seat Message) (chat : A) (script : List 
       let fourth = none 4 (omega arith) (omega arith) in
       omega (arith, all, posted, zeroth, first, second, third, fourth)
 
+  -- ---- in what order
+
+  low_of : (c : Colour) → c.0 < CLIENTS + 1 → c.0 < colours_of setup
+  low_of c low = omega (arith, low, colours)
+
+  from_posts : {Y : Type 0} (f : Event → List ℕ → Option Y) (c : Colour) → c.0 < CLIENTS + 1 → length (filter_map (pick f) (kept.received c)) ≡ length (picks c f (map sent_as (said 0 script))) → filter_map (pick f) (kept.received c) ≡ picks c f (map sent_as (said 0 script))
+  from_posts f c low many =
+      let is = ap (λ l. filter_map (pick f) (sends_to c l)) posts_are ∙ picked_sends f c (said 0 script) in
+      all_from none_sent (pick f) (kept.senders c) (kept.received c) (sends_to c posts) (kept.all_sent c (low_of c low)) (kept.posted c (low_of c low)) (many ∙ sym (ap length is)) ∙ is
+
+  from_sender : {Y : Type 0} (f : Event → List ℕ → Option Y) (c d : Colour) (ys : List Y) → c.0 < CLIENTS + 1 → d.0 < CLIENTS + 1 → picks c f (along says 0 (kept.received d)) ≡ ys → length (filter_map (pick f) (kept.received c)) ≡ length ys → filter_map (pick f) (kept.received c) ≡ ys
+  from_sender f c d ys low there are many =
+      let is = picked_sends f c (kept.sent d) ∙ ap (picks c f) (sent_is d there) ∙ are in
+      all_from (is_sent_by d) (pick f) (kept.senders c) (kept.received c) (sends_to c (kept.sent d)) (kept.all_sent c (low_of c low)) (kept.in_order c d (low_of c low)) (many ∙ sym (ap length is)) ∙ is
+
+  one_if : {Y : Type 0} (b : Bool) (y : Y) → size (if b then Some y else None) ≡ (if b then 1 else 0)
+  one_if true y = refl
+  one_if false y = refl
+
+  -- a client is to say its lines, in the order of the script
+  client_lines : (d : ℕ) → d < CLIENTS + 1 → filter_map (pick said_as) (kept.received (record { 0 = d })) ≡ lines_of d 0 script
+  client_lines d low =
+      let c : Colour = record { 0 = d } in
+      let one : Event → List ℕ → ℕ = λ event text. 1 in
+      let sized : (event : Event) (text : List ℕ) → size (said_as event text) ≡ of_said one event text = λ event text. one_if (event.handler == 1) (event.arg, text) in
+      let posted = sents_many said_as (of_said one) sized c (map sent_as (said 0 script)) in
+      from_posts said_as c low (picked_many said_as (of_said one) sized (kept.received c) ∙ client_says one d low ∙ sym posted) ∙ posted_lines d 0 script
+
+  -- and the room is told them in that order
+  room_lines : (d : ℕ) → 0 < d → d < CLIENTS + 1 → filter_map (pick (told_as script d)) (kept.received room) ≡ lines_of d 0 script
+  room_lines d some low =
+      let c : Colour = record { 0 = d } in
+      from_sender (told_as script d) room c (lines_of d 0 script) (omega arith) low
+      (client_passes script d c some 0 (kept.received c) (may c low) ∙ ap (filter_map (own_line script d)) (client_lines d low) ∙ own_lines script d)
+      (picked_many (told_as script d) (told_one script d) (told_size script d) (kept.received room) ∙ room_told (told_one script d) ∙ many_lines script d)
+
+  -- as many as there are
+  all_lines : length (kept.received room) ≡ length script
+  all_lines = let one : Event → List ℕ → ℕ = λ event text. 1 in sym (many_of (of_words one) (λ message. refl) (kept.received room)) ∙ room_told one ∙ all_told one (λ event text. refl) 0 script
+
+  -- and keeps them
+  kept_lines : (d : ℕ) (seat : Seat) → 0 < d → d ≤ CLIENTS → slice_get seats 0 ≡ Some seat → filter_map (said_by script d) (map note_of seat.heard.items) ≡ lines_of d 0 script
+  kept_lines d seat some high there =
+      ap (filter_map (said_by script d)) (keeps room (kept.received room) (kept.sent room) seat (kept.kept room seat there)).noted
+      ∙ room_keeps script d 0 (kept.received room) (may room (omega arith)) (let many = all_lines in omega (arith, many, few)) ∙ room_lines d some (omega (arith, high))
+
+  -- each client keeps what the room does
+  in_order : (c : Colour) (seat own : Seat) → 0 < c.0 → slice_get seats c.0 ≡ Some seat → slice_get seats 0 ≡ Some own → map note_of seat.heard.items ≡ map note_of own.heard.items
+  in_order c seat own some there first =
+      let low : c.0 < CLIENTS + 1 = (let many = kept.many in let within = slice_get_within seats c.0 seat there in omega (arith, many, within, colours)) in
+      let one : Event → List ℕ → ℕ = λ event text. 1 in
+      let sized : (event : Event) (text : List ℕ) → size (heard_as event text) ≡ of_heard one event text = λ event text. one_if (event.handler == 3) (event.arg / 256, event.arg % 256, text) in
+      let notes_of = along notes 0 (kept.received room) in
+      (keeps c (kept.received c) (kept.sent c) seat (kept.kept c seat there)).noted ∙ client_keeps script few c some 0 (kept.received c) (may c low)
+      ∙ from_sender heard_as c room notes_of low (omega arith) (room_sends script few c some (omega (arith, low)) 0 (kept.received room) (may room (omega arith)))
+      (picked_many heard_as (of_heard one) sized (kept.received c) ∙ each_heard one c some (omega (arith, low)) ∙ many_of (as_heard one) (λ note. refl) notes_of)
+      ∙ sym (keeps room (kept.received room) (kept.sent room) own (kept.kept room own first)).noted
+
   pub are_talked : IsTalked script seats
   are_talked = record {
     many = kept.many ∙ colours;
@@ -134,6 +202,7 @@ module _ {A : Type 0} (a : ActorWords A Seat Message) (chat : A) (script : List 
     sent = kept.sent;
     of_script = may;
     seat = λ c seat there. keeps c (kept.received c) (kept.sent c) seat (kept.kept c seat there);
-    told = room_told;
-    heard = λ c some high number. each_heard number c some high;
+    told = all_lines;
+    by_client = kept_lines;
+    heard = in_order;
   }

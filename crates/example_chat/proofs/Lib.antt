@@ -1,3 +1,4 @@
 mod SeatLemmas
 mod ToldLemmas
+mod OrderLemmas
 mod HeardLemmas

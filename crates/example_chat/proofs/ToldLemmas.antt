@@ -11,8 +11,16 @@ use Rattle.example_chat.specs.declared.message.Message.{Message}
 use Rattle.example_chat.specs.declared.message.Message.TheVariants.{Say, Line, Hear}
 use Rattle.example_chat.specs.declared.script.Line.{Line as ScriptLine}
 use Rattle.example_chat.specs.declared.chat.TheConstants.{CLIENTS}
-use Rattle.example_chat.specs.Chats.{IsByClient, MayHear, Sent, along, room, said, says, sent_as, to_clients}
-use Rattle.example_chat.specs.Talked.{as_told, of_words}
+use Rattle.example_chat.specs.Chats.{IsByClient, MayHear, Sent, along, event_of, room, said, says, sent_as, text_of, to_clients}
+
+-- a number of a message, by its event and its text
+abbrev pub of_words : (Event → List ℕ → ℕ) → Message → ℕ
+of_words number message = number (event_of message) (text_of message)
+
+-- the number of a script's lines, as the room is told them, from a line's number on
+abbrev pub as_told : (Event → List ℕ → ℕ) → ℕ → List ScriptLine → ℕ
+as_told number k [] = 0
+as_told number k (line ∷ lines) = number (record { handler = 2; arg = k }) line.text.items + as_told number (k + 1) lines
 
 -- a number of what a client is to say alone, that of the line that the room is told
 abbrev pub of_said : (Event → List ℕ → ℕ) → Event → List ℕ → ℕ

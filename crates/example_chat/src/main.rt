@@ -4,10 +4,11 @@
 //! its lines to the room, which puts what all say into one order and sends it to every client; all
 //! run on four workers. The order is the run's own, so the program prints each line that client 4
 //! heard in the order of the script, and whether each client heard the lines of the room in the
-//! room's order.
+//! room's order, which they do.
 //!
-//! It is an example of actors with data: a message carries a text, and the contract says that each
-//! client has heard each of the room's lines once, at its place.
+//! It is an example of actors with data: a message carries a text, and the contract says that the
+//! room keeps each line of the script, those of each client in its order, and that each client has
+//! heard what the room keeps, line by line in the room's order.
 #![tactic(auto)]
 
 mod chat;
@@ -59,7 +60,8 @@ fn main(rt: HostRuntime) -> io::Result<ExitCode> {
     Ok(ExitCode::SUCCESS)
 }
 
-/// Whether the lines stand in the room's order, from its first line on.
+/// Whether the lines stand in the room's order, from its first line on: a look at what `talk`
+/// promises.
 fn is_in_order(heard: &[Heard]) -> bool {
     heard
         .iter()

@@ -35,7 +35,8 @@ fn post_lines(alloc: Global, lines: Vec<Line>) -> Result<Vec<(Colour, Message)>,
     Ok(posts)
 }
 
-/// What the room and the clients have after this script, on four workers.
+/// What the room and the clients have after this script, on four workers: the room each line, those
+/// of each client in the script's order, and each client what the room has, in its order.
 ///
 /// # Errors
 ///

@@ -1,15 +1,14 @@
 -- What the runs of one colour come to, one after another: what they received and sent, what they put
 -- of it, and where nothing waits any more.
 use Rattle.std.proofs.Common.{◌≡◌, ◌+◌, ◌*◌, ◌==◌, ℕ, Bool, true, false, List, [], ◌∷◌, ◌++◌, Option, None, Some, if◌then◌else◌, length, map, refl, sym, ◌∙◌, ap, subst, arith, append_assoc, eq-eqb, ne_eqb}
-use Rattle.std.proofs.lemmas.List.{append-nil, length-append}
-use Rattle.std.proofs.lemmas.List.Elements.{filter_map-append}
+use Rattle.std.proofs.lemmas.List.{append-nil, length-append, map-append}
 use Rattle.std.proofs.lemmas.List.Sums.{sum_by-append, sum_by-cons}
-use Rattle.std.specs.List.{AllByRecursion}
+use Rattle.std.specs.List.{AllByRecursion, cons_option}
 use Rattle.std.specs.Prelude.{sum_by}
 use Rattle.mely_event.specs.declared.colour.Colour.{Colour}
 use Rattle.mely_event.specs.declared.event.Event.{Event}
 use Rattle.mely_tally.specs.Account.{HandlerRun}
-use Rattle.mely_chain.specs.Runs.{Follow, given_to, put_on, puts_on}
+use Rattle.mely_chain.specs.Runs.{Follow, given_to, put_on, puts_of, puts_on}
 use Rattle.mely_actor.specs.declared.actor.Actor.{Ghosts as ActorWords}
 use Rattle.mely_actor.specs.declared.load.Load.{Load}
 use Rattle.mely_actor.specs.declared.load.Load.TheVariants.{Posts, Message}
@@ -17,18 +16,13 @@ use Rattle.mely_actor.specs.declared.load.Plan.{Plan}
 use Rattle.mely_actor.specs.KeptState.{KeptState}
 use Rattle.mely_actor.specs.Loads.{IsPut, as_put, as_puts, is_turn, message_of, messages_of, turn_puts}
 use Rattle.mely_actor.specs.Running.{Runs, Steps}
-use Rattle.mely_actor.specs.Sending.{count_to, turn_event}
+use Rattle.mely_actor.specs.Sending.{sends_to, turn_event}
 use Rattle.mely_actor.specs.Waiting.{put_later, put_now, turn_is_put, turning}
-use Rattle.mely_actor.proofs.RegisteredLemmas.{found, sum_by-filter_map, sum_by-map}
+use Rattle.mely_actor.proofs.NewsLemmas.{all-as, all-picked, all_news, as_news, messages-append, none-picked, own_news, picked-append, posted_news, posts-append, posts_in, posts_of, to-append}
+use Rattle.mely_actor.proofs.RegisteredLemmas.{found, puts_append, sum_by-filter_map, sum_by-map}
 use Rattle.mely_actor.proofs.WaitingLemmas.{of_some, of_true, one_turn, put_whole}
 
 -- ---- numbers of loads
-
--- the posts that a load has
-abbrev pub posts_of : {M : Type 0} → Option (Load M) → List (Colour × M)
-posts_of (Some (Posts all)) = all.items
-posts_of (Some (Message message)) = []
-posts_of None = []
 
 module _ {M : Type 0} where
   abbrev pub of_message : (M → ℕ) → Event × Option (Load M) → ℕ
@@ -36,9 +30,6 @@ module _ {M : Type 0} where
 
   abbrev pub of_turn : Event × Option (Load M) → ℕ
   of_turn load = of_true (is_turn load.1)
-
-  abbrev pub of_posts : Colour → (M → ℕ) → Event × Option (Load M) → ℕ
-  of_posts b number load = count_to b number (posts_of load.1)
 
 if_none : (b : Bool) → (if b then 0 else 0) ≡ (let nothing : ℕ = 0 in nothing)
 if_none true = refl
@@ -90,14 +81,43 @@ module _ {M : Type 0} (b : Colour) (f : Event × Option (Load M) → ℕ) where
       let last = turn_sum c turn in
       omega (arith, all, both, first, last)
 
+module _ {M : Type 0} (b : Colour) where
+  -- of messages and a turn the messages are put, and no posts
+  messages_put : (event_of : M → Event) (sends : List (Colour × M)) → messages_of (puts_on b (as_puts event_of sends)) ≡ sends_to b sends
+  messages_put event_of [] = refl
+  messages_put event_of (send ∷ sends) = for (send.0.0 == b.0) (messages_put event_of sends) where
+    for : (here : Bool) → messages_of (puts_on b (as_puts event_of sends)) ≡ sends_to b sends → messages_of (cons_option (if here then Some (event_of send.1, Some (Message send.1)) else None) (puts_on b (as_puts event_of sends))) ≡ cons_option (if here then Some send.1 else None) (sends_to b sends)
+    for true rest = ap (λ l. send.1 ∷ l) rest
+    for false rest = rest
+
+  no_posts_put : (event_of : M → Event) (sends : List (Colour × M)) → posts_in (puts_on b (as_puts event_of sends)) ≡ []
+  no_posts_put event_of [] = refl
+  no_posts_put event_of (send ∷ sends) = for (send.0.0 == b.0) (no_posts_put event_of sends) where
+    for : (here : Bool) → posts_in (puts_on b (as_puts event_of sends)) ≡ [] → posts_in (cons_option (if here then Some (event_of send.1, Some (Message send.1)) else None) (puts_on b (as_puts event_of sends))) ≡ []
+    for true rest = rest
+    for false rest = rest
+
+  no_messages_in_turn : (c : Colour) (turn : Bool) → messages_of (puts_on b (turn_puts {M = M} c turn)) ≡ []
+  no_messages_in_turn c false = refl
+  no_messages_in_turn c true = for (c.0 == b.0) where
+    for : (here : Bool) → messages_of {M = M} (cons_option (if here then Some (turn_event, None) else None) []) ≡ []
+    for true = refl
+    for false = refl
+
+  no_posts_in_turn : (c : Colour) (turn : Bool) → posts_in (puts_on b (turn_puts {M = M} c turn)) ≡ []
+  no_posts_in_turn c false = refl
+  no_posts_in_turn c true = for (c.0 == b.0) where
+    for : (here : Bool) → posts_in {M = M} (cons_option (if here then Some (turn_event, None) else None) []) ≡ []
+    for true = refl
+    for false = refl
+
+  pub messages_both : (puts more : List (Colour × Event × Option (Load M))) → messages_of (puts_on b (puts ++ more)) ≡ messages_of (puts_on b puts) ++ messages_of (puts_on b more)
+  messages_both puts more = ap messages_of (puts_append b puts more) ∙ messages-append (puts_on b puts) (puts_on b more)
+
+  posts_both : (puts more : List (Colour × Event × Option (Load M))) → posts_in (puts_on b (puts ++ more)) ≡ posts_in (puts_on b puts) ++ posts_in (puts_on b more)
+  posts_both puts more = ap posts_in (puts_append b puts more) ∙ posts-append (puts_on b puts) (puts_on b more)
+
 -- ---- one run
-
-count_append : {M : Type 0} (b : Colour) (number : M → ℕ) (sends more : List (Colour × M)) → count_to b number (sends ++ more) ≡ count_to b number sends + count_to b number more
-count_append {M} b number sends more = sum_by-append (λ (send : Colour × M). if send.0.0 == b.0 then number send.1 else 0) sends more
-
-times_none : (b : Bool) (n : ℕ) → (if b then 0 * n else 0) ≡ 0
-times_none true n = omega arith
-times_none false n = refl
 
 module _ {A V M : Type 0} (a : ActorWords A V M) (plan : Plan A M) (c : Colour) where
   abbrev pub Keeps : List M → List (Colour × M) → V → Type 0
@@ -106,15 +126,16 @@ module _ {A V M : Type 0} (a : ActorWords A V M) (plan : Plan A M) (c : Colour) 
   moved : (p q : Plan A M) (d e : Colour) (received : List M) (sent : List (Colour × M)) (value : V) → p ≡ q → d ≡ e → a.kept p.actor d received sent value → a.kept q.actor e received sent value
   moved p q d e received sent value plans colours kept = subst (λ (x : Plan A M). a.kept x.actor e received sent value) plans (subst (λ x. a.kept p.actor x received sent value) colours kept)
 
-  -- what one run comes to: what its message sends, what it keeps, and what it puts
+  -- what one run comes to: what it sends, what it keeps, and what it puts
   pub record One (before after : KeptState A M V) (event : Event) (load : Option (Load M)) (puts : List (Colour × Event × Option (Load M))) : Type 0 where
-    pub sends : List (Colour × M)
+    pub news : List (Bool × (Colour × M))
     pub count : after.count ≡ before.count + length (messages_of ((event, load) ∷ []))
-    pub keeps : (received : List M) (sent : List (Colour × M)) → length received ≡ before.count → Keeps received sent before.value → Keeps (received ++ messages_of ((event, load) ∷ [])) (sent ++ sends) after.value
-    pub counts : (b : Colour) (number : M → ℕ) → sum_by (of_message number) (puts_on b puts) + count_to b number after.waiting ≡ count_to b number before.waiting + count_to b number sends + count_to b number (posts_of load)
+    pub keeps : (received : List M) (sent : List (Colour × M)) → length received ≡ before.count → Keeps received sent before.value → Keeps (received ++ messages_of ((event, load) ∷ [])) (sent ++ own_news news) after.value
+    pub posts : posted_news news ≡ posts_of load
+    pub sends : (b : Colour) → messages_of (puts_on b puts) ++ sends_to b after.waiting ≡ sends_to b before.waiting ++ sends_to b (all_news news)
+    pub no_posts : (b : Colour) → posts_in (puts_on b puts) ≡ []
     pub turns : sum_by of_turn (puts_on c puts) + of_some before.waiting ≡ of_some after.waiting + of_true (is_turn load)
     pub no_turns : (b : Colour) → (c.0 ≡ b.0 → ⊥) → sum_by of_turn (puts_on b puts) ≡ 0
-    pub no_posts : (b d : Colour) (number : M → ℕ) → sum_by (of_posts d number) (puts_on b puts) ≡ 0
 
   module _ (before after : KeptState A M V) (turn : Bool) (new : List (Colour × M)) (puts : List (Colour × Event × Option (Load M)))
       (put : IsPut a.event_of c (turning turn before.waiting) (turn_is_put turn before.waiting (before.waiting ++ new)) (before.waiting ++ new) after.waiting puts) where
@@ -130,13 +151,18 @@ module _ {A V M : Type 0} (a : ActorWords A V M) (plan : Plan A M) (c : Colour) 
     sum_is : (b : Colour) (f : Event × Option (Load M) → ℕ) → sum_by f (puts_on b puts) ≡ sum_by (λ send. if send.0.0 == b.0 then f (a.event_of send.1, Some (Message send.1)) else 0) now + (if c.0 == b.0 then f (turn_event, None) * of_true is_put else 0)
     sum_is b f = ap (λ l. sum_by f (puts_on b l)) put.puts_are ∙ put_sum b f a.event_of c now is_put
 
-    one_counts : (b : Colour) (number : M → ℕ) → sum_by (of_message number) (puts_on b puts) + count_to b number after.waiting ≡ count_to b number before.waiting + count_to b number new
-    one_counts b number =
-        let puts_are = sum_is b (of_message number) in
-        let none = times_none (c.0 == b.0) (of_true is_put) in
-        let left = ap (count_to b number) put.left_is in
-        let whole = sym (count_append b number now (put_later (turning turn before.waiting) all)) ∙ ap (count_to b number) (put_whole (turning turn before.waiting) all) ∙ count_append b number before.waiting new in
-        omega (arith, puts_are, none, left, whole)
+    one_sends : (b : Colour) → messages_of (puts_on b puts) ++ sends_to b after.waiting ≡ sends_to b before.waiting ++ sends_to b new
+    one_sends b =
+        let later = put_later (turning turn before.waiting) all in
+        ap (λ l. messages_of (puts_on b l) ++ sends_to b after.waiting) put.puts_are
+        ∙ ap (λ l. l ++ sends_to b after.waiting) (messages_both b (as_puts a.event_of now) (turn_puts c is_put) ∙ ap (λ l. l ++ messages_of (puts_on b (turn_puts c is_put))) (messages_put b a.event_of now) ∙ ap (λ l. sends_to b now ++ l) (no_messages_in_turn b c is_put) ∙ append-nil (sends_to b now))
+        ∙ ap (λ l. sends_to b now ++ sends_to b l) put.left_is
+        ∙ sym (to-append b now later) ∙ ap (sends_to b) (put_whole (turning turn before.waiting) all) ∙ to-append b before.waiting new
+
+    one_no_posts : (b : Colour) → posts_in (puts_on b puts) ≡ []
+    one_no_posts b =
+        ap (λ l. posts_in (puts_on b l)) put.puts_are
+        ∙ posts_both b (as_puts a.event_of now) (turn_puts c is_put) ∙ ap (λ l. l ++ posts_in (puts_on b (turn_puts c is_put))) (no_posts_put b a.event_of now) ∙ no_posts_in_turn b c is_put
 
     one_turns : (turn ≡ true → new ≡ []) → sum_by of_turn (puts_on c puts) + of_some before.waiting ≡ of_some after.waiting + of_true turn
     one_turns none =
@@ -154,13 +180,6 @@ module _ {A V M : Type 0} (a : ActorWords A V M) (plan : Plan A M) (c : Colour) 
         let far : (if c.0 == b.0 then 1 * of_true is_put else 0) ≡ 0 = ap (λ (own : Bool). if own then 1 * of_true is_put else 0) (ne_eqb c.0 b.0 apart) in
         omega (arith, puts_are, nothing, far)
 
-    one_no_posts : (b d : Colour) (number : M → ℕ) → sum_by (of_posts d number) (puts_on b puts) ≡ 0
-    one_no_posts b d number =
-        let puts_are = sum_is b (of_posts d number) in
-        let nothing = sum_none (λ (send : Colour × M). if send.0.0 == b.0 then 0 else 0) now (λ send. if_none (send.0.0 == b.0)) in
-        let none = times_none (c.0 == b.0) (of_true is_put) in
-        omega (arith, puts_are, nothing, none)
-
   placed : (before after : KeptState A M V) (load : Option (Load M)) (puts : List (Colour × Event × Option (Load M))) → before.log.colour ≡ c → (step : Steps a before load after puts) → IsPut a.event_of c (turning (is_turn load) before.waiting) (turn_is_put (is_turn load) before.waiting (before.waiting ++ step.sends)) (before.waiting ++ step.sends) after.waiting puts
   placed before after load puts of_colour step = subst (λ d. IsPut a.event_of d (turning (is_turn load) before.waiting) (turn_is_put (is_turn load) before.waiting (before.waiting ++ step.sends)) (before.waiting ++ step.sends) after.waiting puts) of_colour step.put
 
@@ -168,47 +187,45 @@ module _ {A V M : Type 0} (a : ActorWords A V M) (plan : Plan A M) (c : Colour) 
   one_of before after event (Some (Posts all)) puts of_plan of_colour step =
       let put = placed before after (Some (Posts all)) puts of_colour step in
       record {
-        sends = [];
+        news = as_news false step.sends;
         count = let same = step.does.counts in omega (arith, same);
         keeps = λ received sent long kept.
-            subst (λ v. Keeps (received ++ []) (sent ++ []) v) (sym step.does.keeps)
-            (subst (λ r. Keeps r (sent ++ []) before.value) (sym (append-nil received)) (subst (λ s. Keeps received s before.value) (sym (append-nil sent)) kept));
-        counts = λ b number.
-            let counts = one_counts before after false step.sends puts put b number in
-            let are = ap (count_to b number) step.does.sends_are in
-            omega (arith, counts, are);
+            subst (λ v. Keeps (received ++ []) (sent ++ own_news (as_news false step.sends)) v) (sym step.does.keeps)
+            (subst (λ r. Keeps r (sent ++ own_news (as_news false step.sends)) before.value) (sym (append-nil received)) (subst (λ s. Keeps received s before.value) (sym (ap (λ l. sent ++ l) (none-picked false step.sends) ∙ append-nil sent)) kept));
+        posts = all-picked false step.sends ∙ step.does.sends_are;
+        sends = λ b. one_sends before after false step.sends puts put b ∙ ap (λ l. sends_to b before.waiting ++ sends_to b l) (sym (all-as false step.sends));
+        no_posts = one_no_posts before after false step.sends puts put;
         turns = one_turns before after false step.sends puts put (λ no. cc);
         no_turns = one_no_turns before after false step.sends puts put;
-        no_posts = one_no_posts before after false step.sends puts put;
       }
   one_of before after event (Some (Message message)) puts of_plan of_colour step =
       let put = placed before after (Some (Message message)) puts of_colour step in
       record {
-        sends = step.sends;
+        news = as_news true step.sends;
         count = let more = step.does.counts in let one : length (message ∷ []) ≡ 1 = refl in omega (arith, more, one);
         keeps = λ received sent long kept.
-            moved before.plan plan before.log.colour c (received ++ message ∷ []) (sent ++ step.sends) after.value of_plan of_colour
-            (step.does.keeps received sent long (moved plan before.plan c before.log.colour received sent before.value (sym of_plan) (sym of_colour) kept));
-        counts = λ b number. let counts = one_counts before after false step.sends puts put b number in omega (arith, counts);
+            subst (λ s. Keeps (received ++ message ∷ []) (sent ++ s) after.value) (sym (all-picked true step.sends))
+            (moved before.plan plan before.log.colour c (received ++ message ∷ []) (sent ++ step.sends) after.value of_plan of_colour
+            (step.does.keeps received sent long (moved plan before.plan c before.log.colour received sent before.value (sym of_plan) (sym of_colour) kept)));
+        posts = none-picked true step.sends;
+        sends = λ b. one_sends before after false step.sends puts put b ∙ ap (λ l. sends_to b before.waiting ++ sends_to b l) (sym (all-as true step.sends));
+        no_posts = one_no_posts before after false step.sends puts put;
         turns = one_turns before after false step.sends puts put (λ no. cc);
         no_turns = one_no_turns before after false step.sends puts put;
-        no_posts = one_no_posts before after false step.sends puts put;
       }
   one_of before after event None puts of_plan of_colour step =
       let put = placed before after None puts of_colour step in
       record {
-        sends = [];
+        news = [];
         count = let same = step.does.counts in omega (arith, same);
         keeps = λ received sent long kept.
             subst (λ v. Keeps (received ++ []) (sent ++ []) v) (sym step.does.keeps)
             (subst (λ r. Keeps r (sent ++ []) before.value) (sym (append-nil received)) (subst (λ s. Keeps received s before.value) (sym (append-nil sent)) kept));
-        counts = λ b number.
-            let counts = one_counts before after true step.sends puts put b number in
-            let are = ap (count_to b number) step.does.sends_are in
-            omega (arith, counts, are);
+        posts = refl;
+        sends = λ b. one_sends before after true step.sends puts put b ∙ ap (λ l. sends_to b before.waiting ++ sends_to b l) step.does.sends_are;
+        no_posts = one_no_posts before after true step.sends puts put;
         turns = one_turns before after true step.sends puts put (λ yes. step.does.sends_are);
         no_turns = one_no_turns before after true step.sends puts put;
-        no_posts = one_no_posts before after true step.sends puts put;
       }
 
   -- ---- all of them
@@ -221,42 +238,50 @@ module _ {A V M : Type 0} (a : ActorWords A V M) (plan : Plan A M) (c : Colour) 
 
   pub record Through (from to : KeptState A M V) (runs : List (HandlerRun (KeptState A M V) (Load M))) : Type 0 where
     pub well : from.failed ≡ false
-    pub sent : List (Colour × M)
-    pub keeps : (received : List M) (was : List (Colour × M)) → length received ≡ from.count → Keeps received was from.value → Keeps (received ++ messages_of (map given_to runs)) (was ++ sent) to.value
-    pub counts : (b : Colour) (number : M → ℕ) → sum_by (λ run. sum_by (of_message number) (puts_on b run.puts)) runs + count_to b number to.waiting ≡ count_to b number from.waiting + count_to b number sent + sum_by (of_posts b number) (map given_to runs)
+    pub news : List (Bool × (Colour × M))
+    pub keeps : (received : List M) (was : List (Colour × M)) → length received ≡ from.count → Keeps received was from.value → Keeps (received ++ messages_of (map given_to runs)) (was ++ own_news news) to.value
+    pub posts : posted_news news ≡ posts_in (map given_to runs)
+    pub sends : (b : Colour) → messages_of (puts_on b (puts_of runs)) ++ sends_to b to.waiting ≡ sends_to b from.waiting ++ sends_to b (all_news news)
+    pub no_posts : (b : Colour) → posts_in (puts_on b (puts_of runs)) ≡ []
     pub turns : sum_by (λ run. sum_by of_turn (puts_on c run.puts)) runs + of_some from.waiting ≡ of_some to.waiting + sum_by of_turn (map given_to runs)
     pub no_turns : (b : Colour) → (c.0 ≡ b.0 → ⊥) → sum_by (λ run. sum_by of_turn (puts_on b run.puts)) runs ≡ 0
-    pub no_posts : (b d : Colour) (number : M → ℕ) → sum_by (λ run. sum_by (of_posts d number) (puts_on b run.puts)) runs ≡ 0
 
   none_left : (to : KeptState A M V) → to.failed ≡ false → Through to to []
   none_left to well = record {
     well = well;
-    sent = [];
+    news = [];
     keeps = λ received was long kept. subst (λ r. Keeps r (was ++ []) to.value) (sym (append-nil received)) (subst (λ s. Keeps received s to.value) (sym (append-nil was)) kept);
-    counts = λ b number. omega arith;
+    posts = refl;
+    sends = λ b. sym (append-nil (sends_to b to.waiting));
+    no_posts = λ b. refl;
     turns = omega arith;
     no_turns = λ b apart. refl;
-    no_posts = λ b d number. refl;
   }
 
   one_more : (to : KeptState A M V) (run : HandlerRun (KeptState A M V) (Load M)) (later : List (HandlerRun (KeptState A M V) (Load M))) → run.state.failed ≡ false → One run.state run.becomes run.event run.load run.puts → Through run.becomes to later → Through run.state to (run ∷ later)
   one_more to run later well one rest = record {
     well = well;
-    sent = one.sends ++ rest.sent;
+    news = one.news ++ rest.news;
     keeps = λ received was long kept.
         let mine = messages_of (given_to run ∷ []) in
-        let all : mine ++ messages_of (map given_to later) ≡ messages_of (map given_to (run ∷ later)) = sym (filter_map-append (λ (load : Event × Option (Load M)). message_of load.1) (given_to run ∷ []) (map given_to later)) in
+        let all : mine ++ messages_of (map given_to later) ≡ messages_of (map given_to (run ∷ later)) = sym (messages-append (given_to run ∷ []) (map given_to later)) in
         let longer : length (received ++ mine) ≡ run.becomes.count = (let both = length-append received mine in let count = one.count in omega (arith, both, count, long)) in
-        subst (λ s. Keeps (received ++ messages_of (map given_to (run ∷ later))) s to.value) (append_assoc was one.sends rest.sent)
-        (subst (λ r. Keeps r ((was ++ one.sends) ++ rest.sent) to.value) (append_assoc received mine (messages_of (map given_to later)) ∙ ap (λ l. received ++ l) all)
-        (rest.keeps (received ++ mine) (was ++ one.sends) longer (one.keeps received was long kept)));
-    counts = λ b number.
-        let here = one.counts b number in
-        let others = rest.counts b number in
-        let puts = sum_by-cons (λ (r : HandlerRun (KeptState A M V) (Load M)). sum_by (of_message number) (puts_on b r.puts)) run later in
-        let loads = sum_by-cons (of_posts b number) (given_to run) (map given_to later) in
-        let sends = count_append b number one.sends rest.sent in
-        omega (arith, here, others, puts, loads, sends);
+        subst (λ s. Keeps (received ++ messages_of (map given_to (run ∷ later))) s to.value) (append_assoc was (own_news one.news) (own_news rest.news) ∙ ap (λ l. was ++ l) (sym (picked-append true false one.news rest.news)))
+        (subst (λ r. Keeps r ((was ++ own_news one.news) ++ own_news rest.news) to.value) (append_assoc received mine (messages_of (map given_to later)) ∙ ap (λ l. received ++ l) all)
+        (rest.keeps (received ++ mine) (was ++ own_news one.news) longer (one.keeps received was long kept)));
+    posts = picked-append false true one.news rest.news ∙ ap (λ l. l ++ posted_news rest.news) one.posts ∙ ap (λ l. posts_of run.load ++ l) rest.posts;
+    sends = λ b.
+        let was = sends_to b run.state.waiting in
+        let between = sends_to b run.becomes.waiting in
+        let left = sends_to b to.waiting in
+        let puts = messages_of (puts_on b run.puts) in
+        let more = messages_of (puts_on b (puts_of later)) in
+        let first = sends_to b (all_news one.news) in
+        let others = sends_to b (all_news rest.news) in
+        ap (λ l. l ++ left) (messages_both b run.puts (puts_of later)) ∙ append_assoc puts more left ∙ ap (λ l. puts ++ l) (rest.sends b)
+        ∙ sym (append_assoc puts between others) ∙ ap (λ l. l ++ others) (one.sends b) ∙ append_assoc was first others
+        ∙ ap (λ l. was ++ l) (sym (to-append b (all_news one.news) (all_news rest.news)) ∙ ap (sends_to b) (sym (map-append (λ (n : Bool × (Colour × M)). n.1) one.news rest.news)));
+    no_posts = λ b. posts_both b run.puts (puts_of later) ∙ ap (λ l. l ++ posts_in (puts_on b (puts_of later))) (one.no_posts b) ∙ rest.no_posts b;
     turns =
         let here = one.turns in
         let others = rest.turns in
@@ -267,11 +292,6 @@ module _ {A V M : Type 0} (a : ActorWords A V M) (plan : Plan A M) (c : Colour) 
         let here = one.no_turns b apart in
         let others = rest.no_turns b apart in
         let puts = sum_by-cons (λ (r : HandlerRun (KeptState A M V) (Load M)). sum_by of_turn (puts_on b r.puts)) run later in
-        omega (arith, here, others, puts);
-    no_posts = λ b d number.
-        let here = one.no_posts b d number in
-        let others = rest.no_posts b d number in
-        let puts = sum_by-cons (λ (r : HandlerRun (KeptState A M V) (Load M)). sum_by (of_posts d number) (puts_on b r.puts)) run later in
         omega (arith, here, others, puts);
   }
 

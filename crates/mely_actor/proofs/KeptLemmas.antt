@@ -1,9 +1,10 @@
 -- What a run of the app leaves is what a run of actors leaves.
-use Rattle.std.proofs.Common.{◌≡◌, ◌<◌, ◌+◌, ◌==◌, ℕ, Bool, true, false, List, [], ◌∷◌, Option, None, Some, if◌then◌else◌, map, nat_lt, refl, sym, ◌∙◌, ap, subst, arith, inl, inr, eq-eqb, ne_eqb, ltb-true, ltb-false}
-use Rattle.std.proofs.lemmas.Bool.{cases_eq, lt-ltb}
+use Rattle.std.proofs.Common.{◌≡◌, ◌<◌, ◌≤◌, ◌+◌, ◌==◌, ℕ, Bool, true, false, List, [], ◌∷◌, ◌++◌, Option, None, Some, if◌then◌else◌, length, map, nat_lt, refl, sym, ◌∙◌, ap, subst, arith, inl, inr, eq-eqb, ne_eqb, ltb-true, ltb-false}
+use Rattle.std.proofs.lemmas.Bool.{cases_eq, cases_lt, lt-ltb}
+use Rattle.std.proofs.lemmas.List.{append-nil, length-map}
 use Rattle.std.proofs.lemmas.List.Sums.{sum_by-cons}
 use Rattle.std.proofs.lemmas.Option.{slice_get_within}
-use Rattle.std.specs.List.{AllByRecursion, filter_map}
+use Rattle.std.specs.List.{AllByRecursion, cons_option, filter_map}
 use Rattle.std.specs.Prelude.{slice_get, sum_by}
 use Rattle.mely_event.specs.declared.colour.Colour.{Colour}
 use Rattle.mely_event.specs.declared.event.Event.{Event}
@@ -20,12 +21,12 @@ use Rattle.mely_weave.specs.Making.{AreInitial}
 use Rattle.mely_weave.specs.Side.{shard_of}
 use Rattle.mely_weave.proofs.Wholes.GatherLemmas.{get_there}
 use Rattle.mely_worker.specs.declared.app.App.{Ghosts as AppWords}
-use Rattle.mely_chain.specs.Runs.{given_to, puts_on}
+use Rattle.mely_chain.specs.Runs.{given_to, puts_of, puts_on}
 use Rattle.mely_chain.proofs.OrderLemmas.{each_fits, each_on}
 use Rattle.mely_app.specs.InOrder.{RanInOrder}
 use Rattle.mely_app.specs.Puts.{sum_colours}
 use Rattle.mely_app.specs.RanAll.{RanAll}
-use Rattle.mely_app.proofs.PutsLemmas.{colours_both, colours_none, colours_one, colours_same}
+use Rattle.mely_app.proofs.PutsLemmas.{colours_both, colours_one, colours_same}
 use Rattle.mely_actor.specs.declared.actor.Actor.{Ghosts as ActorWords}
 use Rattle.mely_actor.specs.declared.load.Load.{Load}
 use Rattle.mely_actor.specs.declared.load.Load.TheVariants.{Posts, Message}
@@ -34,9 +35,11 @@ use Rattle.mely_actor.specs.KeptState.{KeptState}
 use Rattle.mely_actor.specs.Loads.{FitsLoad, is_turn, message_of, messages_of}
 use Rattle.mely_actor.specs.Received.{AreKept, AreMade, AreValues}
 use Rattle.mely_actor.specs.Running.{Runs}
-use Rattle.mely_actor.specs.Sending.{count_to, messages_in}
-use Rattle.mely_actor.proofs.ChainLemmas.{IsOn, Through, of_message, of_posts, of_turn, posts_of, through}
-use Rattle.mely_actor.proofs.RegisteredLemmas.{found, registered_sum, sum_by-filter_map}
+use Rattle.mely_actor.specs.Sending.{count_to, is_sent_by, messages_in, none_sent, sends_to, sent_by}
+use Rattle.mely_actor.proofs.ChainLemmas.{IsOn, Through, of_message, of_turn, through}
+use Rattle.mely_actor.proofs.NewsLemmas.{all-news_to, all_news, neither-picked, news-counted, news_to, news-passed, own_news, passing, picked, posted_news, posts_in, posts_of, sends-counted}
+use Rattle.mely_actor.proofs.RegisteredLemmas.{found, puts_by_runs, registered_sum, sum_by-filter_map}
+use Rattle.mely_actor.proofs.SenderLemmas.{all-came, by-colour, came_from, many-senders, merged, posts-came, senders_of}
 use Rattle.mely_actor.proofs.WaitingLemmas.{none_there, of_some, of_true}
 
 -- the states that were made are initial
@@ -181,40 +184,83 @@ module _ {A V M R : Type 0} (a : ActorWords A V M) (plan : Plan A M) (setup : Se
         | inr apart ↦ (along d below).on.no_turns c (λ e. apart (sym e)) ∙ sym (ap (λ (b : Bool). if b then sum_by (λ run. sum_by of_turn (puts_on c run.puts)) (runs c) else 0) (ne_eqb c.0 d.0 apart))
       ]
 
+  -- ---- what a colour sent, and what was posted
+
+  -- nothing runs on a colour that there isn't
+  none_beyond : (c : Colour) → colours_of setup ≤ c.0 → runs c ≡ []
+  none_beyond c high = for (runs c) (each_on t fits y app setup plan begin (λ d. slice_get firsts d.0) (λ d. slice_get states d.0) (λ d. order.notes (shard_of setup d)) order.by_core order.by_colour order.in_order c) where
+    for : (some : List Run) → AllByRecursion (λ run. IsRunOf t fits y app setup plan run × (run.colour ≡ c)) some → some ≡ []
+    for [] each = refl
+    for (run ∷ some) each = absurd (let low = each.0.0.there in let same = ap (λ (d : Colour). d.0) each.0.1 in omega (arith, low, same, high))
+
+  no_posts : (c d : Colour) → posts_in (puts_on c (puts_of (runs d))) ≡ []
+  no_posts c d = elim (cases_lt d.0 (colours_of setup)) [
+    | inl low ↦ (along d low).on.no_posts c
+    | inr high ↦ ap (λ l. posts_in (puts_on c (puts_of l))) (none_beyond d high)
+  ]
+
   -- the posts come with the first event, to the first colour
-  posted : (d b : Colour) (number : M → ℕ) → sum_by (of_posts b number) (loads d) ≡ (if 0 == d.0 then count_to b number plan.posts.items else 0)
-  posted d b number =
-      let all = put d (of_posts b number) in
-      let first = begun d (of_posts b number) ∙ ap (λ (l : List (Colour × M)). if 0 == d.0 then count_to b number l else 0) posts in
-      let none = colours_same (colours_of setup) (λ e. sum_by (λ run. sum_by (of_posts b number) (puts_on d run.puts)) (runs e)) (λ _. 0) (λ e below. (along e below).on.no_posts d b number) in
-      let nothing = colours_none (colours_of setup) in
-      omega (arith, all, first, none, nothing)
-
-  -- what a colour sent
-  picked : (c : Colour) (b : Bool) → nat_lt c.0 (colours_of setup) ≡ b → List (Colour × M)
-  picked c true is = (along c (ltb-true c.0 (colours_of setup) is)).on.sent
-  picked c false is = []
-
-  sent : Colour → List (Colour × M)
-  sent c = picked c (nat_lt c.0 (colours_of setup)) refl
-
-  sent_so : (c : Colour) (Is : List (Colour × M) → Type 0) → c.0 < colours_of setup → ((low : c.0 < colours_of setup) → Is (along c low).on.sent) → Is (sent c)
-  unfolding sent picked
-  sent_so c Is low each = go (nat_lt c.0 (colours_of setup)) refl
+  posts_are : (c : Colour) → posts_in (loads c) ≡ (if 0 == c.0 then plan.posts.items else [])
+  posts_are c =
+      ap posts_in (sym (order.caused.loads c)) ∙ posts-came (order.caused.came c) (λ d. ap posts_in (order.caused.by_colour c d) ∙ no_posts c d) ∙ ap posts_in (order.caused.first c) ∙ for (0 == c.0)
     where
-      go : (b : Bool) (is : nat_lt c.0 (colours_of setup) ≡ b) → Is (picked c b is)
+      for : (own : Bool) → posts_in (cons_option (if own then Some (event, load) else None) []) ≡ (if own then plan.posts.items else [])
+      for true = append-nil (posts_of load) ∙ posts
+      for false = refl
+
+  first_has_none : (c : Colour) → messages_of (puts_on c (begin ∷ [])) ≡ []
+  first_has_none c = for (0 == c.0) where
+    for : (own : Bool) → messages_of (cons_option (if own then Some (event, load) else None) []) ≡ []
+    for true = ap (λ (o : Option M). cons_option o []) no_message
+    for false = refl
+
+  told_by : (c : Colour) (b : Bool) → nat_lt c.0 (colours_of setup) ≡ b → List (Bool × (Colour × M))
+  told_by c true is = (along c (ltb-true c.0 (colours_of setup) is)).on.news
+  told_by c false is = []
+
+  told : Colour → List (Bool × (Colour × M))
+  told c = told_by c (nat_lt c.0 (colours_of setup)) refl
+
+  told_so : (c : Colour) (Is : List (Bool × (Colour × M)) → Type 0) → ((low : c.0 < colours_of setup) → Is (along c low).on.news) → (colours_of setup ≤ c.0 → Is []) → Is (told c)
+  unfolding told told_by
+  told_so c Is each none = go (nat_lt c.0 (colours_of setup)) refl
+    where
+      go : (b : Bool) (is : nat_lt c.0 (colours_of setup) ≡ b) → Is (told_by c b is)
       go true is = each (ltb-true c.0 (colours_of setup) is)
-      go false is = absurd (let high = ltb-false c.0 (colours_of setup) is in omega (arith, low, high))
+      go false is = none (ltb-false c.0 (colours_of setup) is)
+
+  abbrev sent : Colour → List (Colour × M)
+  sent c = own_news (told c)
+
+  posted_told : (d : Colour) → posted_news (told d) ≡ (if 0 == d.0 then plan.posts.items else [])
+  posted_told d = told_so d (λ l. posted_news l ≡ (if 0 == d.0 then plan.posts.items else [])) (λ low. (along d low).on.posts ∙ ap posts_in (given d low) ∙ posts_are d)
+      (λ high. sym (ap (λ b. if b then plan.posts.items else []) (ne_eqb 0 d.0 (λ same. let some = setup.colours_in.0 in omega (arith, some, same, high)))))
+
+  -- in the end it was put
+  sends_told : (c d : Colour) → sends_to c (all_news (told d)) ≡ messages_of (puts_on c (puts_of (runs d)))
+  sends_told c d = told_so d (λ l. sends_to c (all_news l) ≡ messages_of (puts_on c (puts_of (runs d))))
+      (λ low.
+      let at = along d low in
+      let put_now = messages_of (puts_on c (puts_of (runs d))) in
+      ap (λ l. sends_to c l ++ sends_to c (all_news at.on.news)) (sym (made.each d.0 at.first at.is).nothing) ∙ sym (at.on.sends c) ∙ ap (λ l. put_now ++ sends_to c l) (nothing_waits d low) ∙ append-nil put_now)
+      (λ high. ap (λ l. messages_of (puts_on c (puts_of l))) (sym (none_beyond d high)))
+
+  -- ---- its numbers
 
   -- what is put for a colour by another is what that sent to it, and the posts by the first
-  put_by : (c d : Colour) (number : M → ℕ) → d.0 < colours_of setup → sum_by (λ run. sum_by (of_message number) (puts_on c run.puts)) (runs d) ≡ (if 0 == d.0 then count_to c number plan.posts.items else 0) + count_to c number (sent d)
-  put_by c d number below = sent_so d (λ l. sum_by (λ run. sum_by (of_message number) (puts_on c run.puts)) (runs d) ≡ (if 0 == d.0 then count_to c number plan.posts.items else 0) + count_to c number l) below (λ low.
-      let at = along d low in
-      let counts = at.on.counts c number in
-      let fresh = ap (count_to c number) (made.each d.0 at.first at.is).nothing in
-      let empty = ap (count_to c number) (nothing_waits d low) in
-      let are = ap (λ l. sum_by (of_posts c number) l) (given d low) ∙ posted d c number in
-      omega (arith, counts, fresh, empty, are))
+  put_by : (c d : Colour) (number : M → ℕ) → sum_by (λ run. sum_by (of_message number) (puts_on c run.puts)) (runs d) ≡ (if 0 == d.0 then count_to c number plan.posts.items else 0) + count_to c number (sent d)
+  put_by c d number =
+      let each = puts_by_runs c (of_message number) (runs d) in
+      let messages = sum_by-filter_map number (λ (one : Event × Option (Load M)). message_of one.1) (puts_on c (puts_of (runs d))) in
+      let same = ap (λ l. sum_by number l) (sends_told c d) in
+      let all = sends-counted c number (all_news (told d)) in
+      let both = news-counted c number (told d) in
+      let with_posts = ap (count_to c number) (posted_told d) ∙ for (0 == d.0) in
+      omega (arith, each, messages, same, all, both, with_posts)
+    where
+      for : (own : Bool) → count_to c number (if own then plan.posts.items else []) ≡ (if own then count_to c number plan.posts.items else 0)
+      for true = refl
+      for false = refl
 
   arrived : (c : Colour) → c.0 < colours_of setup → (number : M → ℕ) → sum_by number (received c) ≡ count_to c number plan.posts.items + sum_colours (colours_of setup) (λ d. count_to c number (sent d))
   arrived c low number =
@@ -222,7 +268,7 @@ module _ {A V M R : Type 0} (a : ActorWords A V M) (plan : Plan A M) (setup : Se
       let here = sum_by-filter_map number (λ (one : Event × Option (Load M)). message_of one.1) (loads c) in
       let all = put c (of_message number) in
       let none = begun_none c (of_message number) (ap (λ (o : Option M). found number o) no_message) in
-      let each = colours_same (colours_of setup) (λ d. sum_by (λ run. sum_by (of_message number) (puts_on c run.puts)) (runs d)) (λ d. (if 0 == d.0 then x else 0) + count_to c number (sent d)) (λ d below. put_by c d number below) in
+      let each = colours_same (colours_of setup) (λ d. sum_by (λ run. sum_by (of_message number) (puts_on c run.puts)) (runs d)) (λ d. (if 0 == d.0 then x else 0) + count_to c number (sent d)) (λ d _. put_by c d number) in
       let both = colours_both (colours_of setup) (λ d. if 0 == d.0 then x else 0) (λ d. count_to c number (sent d)) in
       let some : 0 < colours_of setup = (let few = setup.colours_in.0 in omega (arith, few)) in
       let alone = colours_one (colours_of setup) (record { 0 = 0 }) x some in
@@ -234,12 +280,41 @@ module _ {A V M R : Type 0} (a : ActorWords A V M) (plan : Plan A M) (setup : Se
       let many = ran.colours in
       let as_many = taken.many in
       let low : c.0 < colours_of setup = omega (arith, within, many, as_many) in
-      sent_so c (λ l. a.kept plan.actor c (received c) l value) low (λ there.
+      told_so c (λ l. a.kept plan.actor c (received c) (own_news l) value) (λ there.
       let here = along c there in
       let fresh = made.each c.0 here.first here.is in
       let kept = here.on.keeps [] [] (sym fresh.none) fresh.begins in
-      let of_loads = subst (λ l. a.kept plan.actor c (messages_of l) here.on.sent here.last.value) (given c there) kept in
-      subst (λ v. a.kept plan.actor c (received c) here.on.sent v) (sym (taken.each c.0 here.last value here.end at)) of_loads)
+      let of_loads = subst (λ l. a.kept plan.actor c (messages_of l) (own_news here.on.news) here.last.value) (given c there) kept in
+      subst (λ v. a.kept plan.actor c (received c) (own_news here.on.news) v) (sym (taken.each c.0 here.last value here.end at)) of_loads)
+      (λ high. absurd (omega (arith, low, high)))
+
+  -- ---- who sent what came
+
+  abbrev came : Colour → List (Colour × M)
+  came c = came_from (order.caused.came c)
+
+  abbrev senders : Colour → List (Option Colour)
+  senders c = senders_of (λ d. news_to c (told d)) (came c)
+
+  came_is : (c : Colour) → map (λ one. one.1) (came c) ≡ received c
+  came_is c = all-came (order.caused.came c) (ap messages_of (order.caused.first c) ∙ first_has_none c) ∙ ap messages_of (order.caused.loads c)
+
+  sent_there : (c d : Colour) → map (λ one. one.1) (news_to c (told d)) ≡ sends_to d (came c)
+  sent_there c d = all-news_to c (told d) ∙ sends_told c d ∙ ap messages_of (sym (order.caused.by_colour c d)) ∙ sym (by-colour d (order.caused.came c))
+
+  all_sent : (c : Colour) → length (senders c) ≡ length (received c)
+  all_sent c = many-senders (λ d. news_to c (told d)) (came c) ∙ sym (length-map (came c) (λ one. one.1)) ∙ ap length (came_is c)
+
+  -- where only what one colour put has such a sender
+  by_such : (test : Option Colour → Bool) (c e : Colour) (own with_posts : Bool) → test (Some e) ≡ own → test None ≡ with_posts → ((d : Colour) → (d.0 ≡ e.0 → ⊥) → passing test d (news_to c (told d)) ≡ []) → sent_by test (senders c) (received c) ≡ sends_to c (picked own with_posts (told e))
+  by_such test c e own with_posts is none quiet = ap (sent_by test (senders c)) (sym (came_is c)) ∙ merged test e (λ d. news_to c (told d)) (came c) (sent_there c) quiet ∙ news-passed test e c own with_posts is none (told e)
+
+  in_order : (c d : Colour) → sent_by (is_sent_by d) (senders c) (received c) ≡ sends_to c (sent d)
+  in_order c d = by_such (is_sent_by d) c d true false (eq-eqb d.0 d.0 refl) refl (λ e apart. news-passed (is_sent_by d) e c false false (ne_eqb e.0 d.0 apart) refl (told e) ∙ ap (sends_to c) (neither-picked (told e)))
+
+  posted : (c : Colour) → sent_by none_sent (senders c) (received c) ≡ sends_to c plan.posts.items
+  posted c = by_such none_sent c (record { 0 = 0 }) false true refl refl (λ e apart. news-passed none_sent e c false true refl refl (told e) ∙ ap (sends_to c) (posted_told e ∙ ap (λ b. if b then plan.posts.items else []) (ne_eqb 0 e.0 (λ same. apart (sym same)))))
+      ∙ ap (sends_to c) (posted_told (record { 0 = 0 }))
 
   are_kept : AreKept a plan.actor setup plan.posts.items histories values
   are_kept = record {
@@ -255,6 +330,10 @@ module _ {A V M R : Type 0} (a : ActorWords A V M) (plan : Plan A M) (setup : Se
     sent = sent;
     kept = keeps_at;
     arrived = arrived;
+    senders = senders;
+    all_sent = λ c _. all_sent c;
+    posted = λ c _. posted c;
+    in_order = λ c d _. in_order c d;
   }
 
 -- the same for a frame that is known to be that of the states

@@ -2,6 +2,8 @@ mod AnswerLemmas
 mod WaitingLemmas
 mod RunLemmas
 mod RegisteredLemmas
+mod NewsLemmas
+mod SenderLemmas
 mod ChainLemmas
 mod StatesLemmas
 mod KeptLemmas

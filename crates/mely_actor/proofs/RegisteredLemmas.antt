@@ -117,7 +117,7 @@ module _ {P : Type 0} (c : Colour) where
   puts_append puts more = filter_map-append (λ (put : Colour × Event × Option P). if put.0.0 == c.0 then Some (put.1, put.2) else None) puts more
 
   -- what runs put is what each puts
-  puts_by_runs : {S : Type 0} (f : Event × Option P → ℕ) (runs : List (HandlerRun S P)) → sum_by f (puts_on c (puts_of runs)) ≡ sum_by (λ run. sum_by f (puts_on c run.puts)) runs
+  pub puts_by_runs : {S : Type 0} (f : Event × Option P → ℕ) (runs : List (HandlerRun S P)) → sum_by f (puts_on c (puts_of runs)) ≡ sum_by (λ run. sum_by f (puts_on c run.puts)) runs
   puts_by_runs f [] = refl
   puts_by_runs {S} f (run ∷ runs) =
       let rest = puts_by_runs f runs in

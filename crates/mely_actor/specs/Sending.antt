@@ -1,5 +1,5 @@
 -- What may be sent, and which events of a history are those of messages.
-use Rattle.std.specs.Prelude.{◌==◌, ◌<◌, ℕ, List, Bool, filter, nat_lt, if◌then◌else◌, sum_by}
+use Rattle.std.specs.Prelude.{◌==◌, ◌<◌, ℕ, List, [], ◌∷◌, Bool, true, false, Option, Some, None, filter, filter_map, nat_lt, if◌then◌else◌, sum_by}
 use Rattle.mely_event.specs.declared.colour.Colour.{Colour}
 use Rattle.mely_event.specs.declared.event.Event.{Event}
 
@@ -14,6 +14,27 @@ pub record MaySend {M : Type 0} (colours rows : ℕ) (event_of : M → Event)
 -- the numbers of the messages that are sent to the colour
 abbrev pub count_to : {M : Type 0} → Colour → (M → ℕ) → List (Colour × M) → ℕ
 count_to c number sends = sum_by (λ send. if send.0.0 == c.0 then number send.1 else 0) sends
+
+-- the messages that are sent to the colour, in order
+abbrev pub sends_to : {M : Type 0} → Colour → List (Colour × M) → List M
+sends_to c sends = filter_map (λ send. if send.0.0 == c.0 then Some send.1 else None) sends
+
+-- whether nobody is the sender of a message, which was posted
+abbrev pub none_sent : Option Colour → Bool
+none_sent None = true
+none_sent (Some d) = false
+
+-- whether this colour is
+abbrev pub is_sent_by : Colour → Option Colour → Bool
+is_sent_by c None = false
+is_sent_by c (Some d) = d.0 == c.0
+
+-- of messages, each with its sender at the same place, those whose sender is such, in order
+abbrev pub sent_by : {M : Type 0} → (Option Colour → Bool) → List (Option Colour) → List M → List M
+sent_by test [] messages = []
+sent_by test (sender ∷ senders) [] = []
+sent_by test (sender ∷ senders) (message ∷ messages) =
+    if test sender then message ∷ sent_by test senders messages else sent_by test senders messages
 
 -- whether the event is that of a message, and not one of the library's own
 abbrev pub is_message : Event → Bool

@@ -19,9 +19,14 @@
 //! message carries, no more and no less. So what a message sends may depend on the value of its
 //! colour and on the whole message: all that is to be known of it stands in the author's fact.
 //!
-//! Not promised is in which order messages come to a colour that different runs sent, be it of one
-//! colour, as its turns go from core to core; nor that a message has a cause: received and sent are
-//! counted over the whole run, which alone doesn't rule out two messages that send one another.
+//! Each message that was received has its sender, or was posted. What one colour received from
+//! another is what that one sent it, in the order in which it sent it, over all its messages and
+//! from whichever cores its turns sent them; and what was posted to a colour came in the order in
+//! which it was posted.
+//!
+//! Not promised is in which order the messages of different senders come to a colour; nor that a
+//! message came from messages before it: what a colour received and what it sent are lists over the
+//! whole run, which alone don't rule out two messages that send one another.
 #![tactic(auto)]
 
 mod acting;

@@ -1,6 +1,7 @@
 -- Where a run's weave is drained and nothing was refused, its handlers ran in order.
 use Rattle.std.proofs.Common.{◌≡◌, ℕ, zero, suc, ◌<◌, true, List, [], ◌∷◌, Option, Some, length, map, refl, sym, ◌∙◌, ap, subst, arith}
-use Rattle.std.proofs.lemmas.Option.{slice_get-map, slice_get_within, same_Some}
+use Rattle.std.proofs.lemmas.List.{length-map}
+use Rattle.std.proofs.lemmas.Option.{slice_get-map, slice_get_past, slice_get_within, same_Some}
 use Rattle.std.specs.Prelude.{Result, Ok, Err, IfOk, IfSome, slice_get, option_map, flat_map}
 use Rattle.mely_event.specs.declared.colour.Colour.{Colour}
 use Rattle.mely_event.specs.declared.event.Event.{Event}
@@ -10,7 +11,7 @@ use Rattle.mely_history.specs.declared.setup.Setup.{Setup}
 use Rattle.mely_history.specs.Legal.{IsLegal, IsDrainedOf}
 use Rattle.mely_history.specs.Setup.{colours_of}
 use Rattle.mely_note.specs.declared.note.Note.{Note}
-use Rattle.mely_note.specs.Notes.{entries_of, home_of}
+use Rattle.mely_note.specs.Notes.{entries_of, home_of, loaded_of}
 use Rattle.mely_shard.specs.Shard.{ShardState, ColourState}
 use Rattle.mely_tally.specs.Account.{HandlerRun}
 use Rattle.mely_weave.specs.Drains.{AllFree, HistoriesAreDrained}
@@ -25,8 +26,13 @@ use Rattle.mely_worker.specs.declared.phase.Phase.{Phase}
 use Rattle.mely_worker.specs.declared.phase.Phase.TheVariants.{Free, Popped, Picked, Landing, Pushing, Turning}
 use Rattle.mely_worker.specs.Phase.{is_free}
 use Rattle.mely_worker.specs.Worker.{WorkerState}
-use Rattle.mely_chain.specs.WeaveTold.{IsTold, WeaveTold}
+use Rattle.mely_chain.specs.WeaveTold.{IsTold, WeaveTold, WeaveDid}
+use Rattle.mely_chain.proofs.MergeChainLemmas.{without_core}
 use Rattle.mely_chain.proofs.MergeOrderLemmas.{HasCome, AllCome, colour_runs, in_order}
+use Rattle.mely_cause.specs.Causes.{AreCaused}
+use Rattle.mely_cause.proofs.CausedOrderLemmas.{caused_by_core}
+use Rattle.mely_cause.proofs.SerialOrderLemmas.{one_by_core}
+use Rattle.mely_cause.proofs.EndedLemmas.{timed_core}
 use Rattle.mely_app.proofs.AllPutLemmas.{both_none}
 use Rattle.mely_app.proofs.LaneLemmas.{shard_with, shard_on, has_lane}
 use Rattle.mely_app.specs.InOrder.{RanInOrder}
@@ -114,21 +120,32 @@ module _ {R S P F : Type 0} (t : TrailWords S F) (fits : F → Colour → Event 
       no_other = λ c n high. told.no_other (shard_of weave.setup c) n high;
     }
 
-    ran : (histories : List (List Entry)) → histories ≡ map (λ (has : ShardState S P). has.history) weave.shards → RanInOrder t fits y app weave.setup (t.frame_of weave.given) begin first histories states
-    ran histories are = record {
-      notes = notes;
-      by_core = by_core;
-      by_colour = colour_runs t fits y app weave.setup (t.frame_of weave.given) (λ c. slice_get first c.0) notes_on begin (λ c. slice_get states c.0) by_core all_come;
-      of_histories = of_notes histories are;
-      in_order = in_order t fits y app weave.setup (t.frame_of weave.given) (λ c. slice_get first c.0) notes_on begin (λ c. slice_get states c.0) by_core all_come;
-    }
+    -- what was registered has its causes
+    caused : WeaveDid weave notes by_core → AreCaused begin (λ c. loaded_of (notes_on c) c) (λ c. without_core (colour_runs t fits y app weave.setup (t.frame_of weave.given) (λ c. slice_get first c.0) notes_on begin (λ c. slice_get states c.0) by_core all_come c))
+    caused did = caused_by_core t fits y app weave.setup (t.frame_of weave.given) (λ c. slice_get first c.0) notes_on begin (λ c. slice_get states c.0) by_core all_come (timed_core weave notes by_core did legal free (none_lost weave.workers none) (well.workers ∙ sym told.cores)) (λ c. did.rise (shard_of weave.setup c))
+
+    ran : WeaveDid weave notes by_core → (histories : List (List Entry)) → histories ≡ map (λ (has : ShardState S P). has.history) weave.shards → RanInOrder t fits y app weave.setup (t.frame_of weave.given) begin first histories states
+    ran did histories are =
+        let many = homes.many in
+        let mapped = length-map {B = Option S} states (λ s. Some s) in
+        record {
+          notes = notes;
+          by_core = by_core;
+          by_colour = colour_runs t fits y app weave.setup (t.frame_of weave.given) (λ c. slice_get first c.0) notes_on begin (λ c. slice_get states c.0) by_core all_come;
+          of_histories = of_notes histories are;
+          in_order = in_order t fits y app weave.setup (t.frame_of weave.given) (λ c. slice_get first c.0) notes_on begin (λ c. slice_get states c.0) by_core all_come;
+          caused = caused did;
+          serial = one_by_core t fits y app weave.setup (t.frame_of weave.given) (λ c. slice_get first c.0) notes_on begin (λ c. slice_get states c.0) by_core all_come (caused did)
+              (λ c low. get_there states c.0 (omega (arith, low, many, mapped)))
+              (λ c high. slice_get_past states c.0 (omega (arith, high, many, mapped)) ∙ sym (slice_get_past first c.0 (omega (arith, high, all))));
+        }
 
 pub ran_in_order : {R S P F : Type 0} (t : TrailWords S F) (fits : F → Colour → Event → Option P → Type 0) (y : AppWords R P S F) (app : R) (setup : Setup) (frame : F) (begin : Colour × Event × Option P) (first : List S) (weave : WeaveState S P) (histories : List (List Entry)) (states : List S) (lost : List (Colour × Event × Option P))
     → weave.setup ≡ setup → t.frame_of weave.given ≡ frame → length first ≡ colours_of setup → StandsWell t fits weave → WeaveStands t fits weave → histories ≡ map (λ (has : ShardState S P). has.history) weave.shards
     → AreByColour (λ (lane : ColourState S P). lane.state) weave.setup weave.shards (map (λ (s : S). Some s) states) → AllFree weave → HistoriesAreDrained weave → lost ≡ flat_map (λ (w : WorkerState S P). w.lost) weave.workers → lost ≡ []
     → IsTold t fits y app (λ c. slice_get first c.0) (begin ∷ []) weave → RanInOrder t fits y app setup frame begin first histories states
-ran_in_order t fits y app setup frame begin first weave histories states lost of_setup of_frame all well stands are homes free drained refused none (notes, by_core, told) =
-    let whole = ran t fits y app begin first weave states notes by_core told (all ∙ ap colours_of (sym of_setup)) well stands homes free drained (sym refused ∙ none) histories are in
+ran_in_order t fits y app setup frame begin first weave histories states lost of_setup of_frame all well stands are homes free drained refused none (notes, by_core, told, did) =
+    let whole = ran t fits y app begin first weave states notes by_core told (all ∙ ap colours_of (sym of_setup)) well stands homes free drained (sym refused ∙ none) did histories are in
     subst (λ f. RanInOrder t fits y app setup f begin first histories states) of_frame (subst (λ s. RanInOrder t fits y app s (t.frame_of weave.given) begin first histories states) of_setup whole)
 
 -- what is so of the states that were made is so of some initial ones

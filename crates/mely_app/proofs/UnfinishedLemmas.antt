@@ -16,6 +16,7 @@ use Rattle.mely_history.specs.Legal.{IsLegal}
 use Rattle.mely_history.specs.Setup.{colours_of}
 use Rattle.mely_note.specs.declared.note.Note.{Note}
 use Rattle.mely_note.specs.declared.note.Note.TheVariants.{Fin}
+use Rattle.mely_note.specs.declared.stamp.Stamp.{Stamp}
 use Rattle.mely_note.specs.Notes.{entries_of, loaded_of, waiting_of, home_of, notes_by}
 use Rattle.mely_shard.specs.Shard.{ShardState, ColourState, HomeStands}
 use Rattle.mely_tally.specs.Account.{HandlerRun, IsAccounted, count_put, count_puts, count_due, puts_left, sum_along}
@@ -166,13 +167,13 @@ module _ {R S P F : Type 0} (t : TrailWords S F) (fits : F → Colour → Event 
   abbrev colour_runs : Colour → List (ℕ × HandlerRun S P)
   colour_runs c = chain_of c (core_runs c) (here c)
 
-  turn_told : (c : Colour) (from : S) → slice_get first c.0 ≡ Some from → (done after : List (Note S P)) (n count : ℕ) (state : Snapshot S) → here c ≡ done ++ Fin c n count state ∷ after → RunThrough (home_of from done c) (turn_of done c count) state.value (take count (drop (finished_by n done c) (core_runs c n)))
-  turn_told c from is done after n count state at =
-      let low = finishers_below weave.setup c (core_runs c) (here c) (legal_on c) done after c n count state at in
+  turn_told : (c : Colour) (from : S) → slice_get first c.0 ≡ Some from → (done after : List (Note S P)) (n count : ℕ) (state : Snapshot S) (stamp : Snapshot Stamp) → here c ≡ done ++ Fin c n count state stamp ∷ after → RunThrough (home_of from done c) (turn_of done c count) state.value (take count (drop (finished_by n done c) (core_runs c n)))
+  turn_told c from is done after n count state stamp at =
+      let low = finishers_below weave.setup c (core_runs c) (here c) (legal_on c) done after c n count state stamp at in
       let many = told.cores in
       let there : slice_get by_core n ≡ Some (get_or by_core n []) = slice_get-get_or by_core n [] (omega (arith, low, many)) in
       let w = worker_of t fits y app begin first weave states notes by_core told all well stands homes n (get_or by_core n []) there in
-      (told.told n w.0 (get_or by_core n []) w.1 there).turns c from is done after count state at
+      (told.told n w.0 (get_or by_core n []) w.1 there).turns c from is done after count state stamp at
 
   on_colour : (c : Colour) (from to : S) → slice_get first c.0 ≡ Some from → slice_get states c.0 ≡ Some to → RunThrough from (take (ended_of (entries_of (here c)) c) (loaded_of (here c) c)) to (without_core (colour_runs c))
   on_colour c from to is end = subst (λ s. RunThrough from (take (ended_of (entries_of (here c)) c) (loaded_of (here c) c)) s (without_core (colour_runs c))) (sym (home t fits y app begin first weave states notes by_core told all well stands homes c from to is end))
@@ -238,7 +239,7 @@ pub ran_so_far : {R S P F : Type 0} (t : TrailWords S F) (fits : F → Colour �
     → weave.setup ≡ setup → t.frame_of weave.given ≡ frame → length first ≡ colours_of setup → StandsWell t fits weave → WeaveStands t fits weave → histories ≡ map (λ (has : ShardState S P). has.history) weave.shards
     → AreByColour (λ (lane : ColourState S P). lane.state) weave.setup weave.shards (map (λ (s : S). Some s) states) → AreByColour (λ (lane : ColourState S P). lane.events) weave.setup weave.shards waiting → AllFree weave
     → lost ≡ flat_map (λ (w : WorkerState S P). w.lost) weave.workers → IsTold t fits y app (λ c. slice_get first c.0) (begin ∷ []) weave → RanInOrderSoFar t fits y app setup frame begin first histories states waiting lost
-ran_so_far t fits y app setup frame begin first weave histories states waiting lost of_setup of_frame all well stands are homes waits free refused (notes, by_core, told) =
+ran_so_far t fits y app setup frame begin first weave histories states waiting lost of_setup of_frame all well stands are homes waits free refused (notes, by_core, told, did) =
     let whole = so_far t fits y app begin first weave states notes by_core told (all ∙ ap colours_of (sym of_setup)) well stands homes free histories waiting lost are waits refused in
     subst (λ f. RanInOrderSoFar t fits y app setup f begin first histories states waiting lost) of_frame (subst (λ s. RanInOrderSoFar t fits y app s (t.frame_of weave.given) begin first histories states waiting lost) of_setup whole)
 

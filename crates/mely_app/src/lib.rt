@@ -37,6 +37,15 @@
 //! of the state one step on by its event and load, it ends as the steps along all that was
 //! registered on the colour; `value_of_history` says so of the history, where no load matters.
 //!
+//! How the colours stand to one another is [`AreCaused`](../../mely_cause/specs/Causes.antt): each
+//! event but the first was put by a run, of an event that was registered earlier; and what the
+//! handlers of one colour put on another stands there in the order in which they put it, whatever
+//! cores ran them. So a run on threads is one of a single thread
+//! ([`RanAsByOne`](../../mely_cause/specs/Serial.antt)): there is one order of all runs, in which
+//! each takes something that is under way, on the state of its colour, and adds what it puts. What
+//! each run keeps of the states and of what is under way, the whole run keeps (`by_one`, and for
+//! sums `same_by_one`, of `mely_cause/proofs/SerialLawLemmas`).
+//!
 //! Where memory is wanted on the way, [`Unfinished`] has the states, the histories, what waits on each
 //! colour with its loads, and what was refused. What is promised of it is
 //! [`RanInPart`, `HasPutInPart` and `RanInOrderSoFar`](../specs/Unfinished.antt): states and queues
@@ -44,11 +53,8 @@
 //! was in order.
 //!
 //! Not promised is that the run ends (an app may register for ever), or that memory was wanted where
-//! an error says so. Nor is any order on a colour
-//! between what different cores put there, which two runs of one other colour may be on too, as its
-//! turns go from core to core. Nor is it said that an event came before what it put: runs are
-//! counted and ordered on each colour and each core, and that alone doesn't rule out two events that
-//! put one another.
+//! an error says so; nor any order on a colour between what different colours put there, but that
+//! each event comes behind the run that put it.
 #![tactic(auto)]
 
 mod initial;

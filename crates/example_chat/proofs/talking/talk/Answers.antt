@@ -14,4 +14,4 @@ run_actors-requires-clause-posts g c κs within =
     subst (λ lines. AllByRecursion (MaySend (CLIENTS + 1) 4 event_of (MayHear lines.items)) c.in_ok-posts.posts.items) (sym c.of.ensures) may
 
 pub returns : goal.returns
-returns g c = IfOk-weaker c.run_actors.result _ _ (λ ended kept. are_talked _ _ c.args.lines.items c.in-Ok-new.setup _ ended.values.items c.in-Ok-new.ensures.colours (λ colour message is. subst (λ lines. MayHear lines.items colour message) c.of.ensures is) (λ colour received sent seat keeps. keeps) c.in_ok-posts.posts.items c.in_ok-posts.ensures c.requires.clients kept) c.run_actors.ensures.kept
+returns g c = IfOk-weaker c.run_actors.result _ _ (λ ended kept. are_talked _ _ c.args.lines.items c.in-Ok-new.setup _ ended.values.items c.in-Ok-new.ensures.colours (λ colour message is. subst (λ lines. MayHear lines.items colour message) c.of.ensures is) (λ colour received sent seat keeps. keeps) c.in_ok-posts.posts.items c.in_ok-posts.ensures c.requires.clients c.requires.few kept) c.run_actors.ensures.kept

@@ -1,6 +1,6 @@
 use Rattle.std.proofs.Common.{◌≡◌, ◌<◌, ◌≤◌, ◌+◌, ◌*◌, ◌++◌, map, ap, sym, ◌∙◌, subst, arith}
 use Rattle.std.specs.Prelude.{OnOk}
-use Rattle.example_chat.specs.Chats.{IsOfScript, MayHear, event_of, note_of, notes, says, sent_as, to_clients}
+use Rattle.example_chat.specs.Chats.{IsOfScript, MayHear, note_of, notes, says, sent_as, to_clients}
 use Rattle.mely_actor.proofs.ListLemmas.{one_sent}
 use Rattle.example_chat.proofs.SeatLemmas.{late_noted, late_sent, line_noted, line_sent, none_more, on_ok, seat_kept, seat_more}
 use Rattle.example_chat.proofs.chat.ChatActor.on.Goals as goal
