@@ -3,4 +3,5 @@ mod Ends
 mod Paths
 mod Balances
 mod Runs
+mod Crews
 mod Model

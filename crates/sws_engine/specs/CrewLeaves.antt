@@ -5,6 +5,7 @@ use Rattle.std.specs.List.{AllByRecursion}
 use Rattle.mely_event.specs.declared.colour.Colour.{Colour}
 use Rattle.mely_event.specs.declared.event.Event.{Event}
 use Rattle.mely_event.specs.declared.trail.Trail.{Ghosts as TrailWords}
+use Rattle.mely_chain.specs.WeaveTold.{IsTold}
 use Rattle.mely_crew.specs.Crew.{IsRegisteredIn}
 use Rattle.mely_history.specs.History.{registered_of}
 use Rattle.mely_history.specs.declared.entry.Entry.{Entry}
@@ -39,6 +40,17 @@ pub record IsAccountedBy {R S P F : Type 0} (t : TrailWords S F)
   pub links : total_of app ≡ total
   pub logs : log_of app ≡ log
   pub accounted : IsAccounted t fits a app posted weave
+
+-- notes tell what the weave's workers ran of an app over so many links, with the log or without,
+-- from the states that were given, where this was posted
+pub record IsToldBy {R S P F : Type 0} (t : TrailWords S F)
+    (fits : F → Colour → Event → Option P → Type 0) (a : AppWords R P S F) (total_of : R → ℕ)
+    (log_of : R → Bool) (given : Colour → Option S) (total : ℕ) (log : Bool)
+    (posted : List (Colour × Event × Option P)) (weave : WeaveState S P) : Type 0 where
+  pub app : R
+  pub links : total_of app ≡ total
+  pub logs : log_of app ≡ log
+  pub told : IsTold t fits a app given posted weave
 
 -- the first poll of the world, with which a run begins
 abbrev pub first_put : {W L : Type 0} → ℕ → W → Put W L

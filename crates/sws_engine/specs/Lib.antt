@@ -42,3 +42,4 @@ pub mod Begins
 pub mod LogTurns
 pub mod LogStream
 pub mod CrewLeaves
+pub mod CrewEnds

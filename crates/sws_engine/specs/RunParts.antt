@@ -1,5 +1,5 @@
 -- What a run on a weave leaves, once the weave was taken apart.
-use Rattle.std.specs.Prelude.{◌≡◌, ◌++◌, Bool, List, [], Option, Some, flat_map, length, slice_get}
+use Rattle.std.specs.Prelude.{◌≡◌, ◌++◌, Bool, List, [], Option, flat_map, length}
 use Rattle.mely_event.specs.declared.colour.Colour.{Colour}
 use Rattle.mely_event.specs.declared.event.Event.{Event}
 use Rattle.mely_history.specs.declared.entry.Entry.{Entry}
@@ -10,13 +10,11 @@ use Rattle.mely_tally.specs.Tallies.{carried_by}
 use Rattle.sws_link.specs.declared.world.World.{Ghosts as WorldWords}
 use Rattle.sws_steps.specs.declared.talk.Talk.{Ghosts as TalkWords}
 use Rattle.sws_engine.specs.declared.load.Load.{Load}
-use Rattle.sws_engine.specs.declared.place.Desk.{Desk}
-use Rattle.sws_engine.specs.declared.place.Role.TheVariants.{Polling}
 use Rattle.sws_engine.specs.Counting.{colours_over}
+use Rattle.sws_engine.specs.CrewEnds.{CrewEnds}
 use Rattle.sws_engine.specs.LogStream.{LogsEndInOrder}
 use Rattle.sws_engine.specs.Place.{PlaceState}
 use Rattle.sws_engine.specs.PartsKept.{PartsKept}
-use Rattle.sws_engine.specs.RunEnds.{RunEnds}
 use Rattle.sws_engine.specs.RunStands.{Way, RunStands}
 
 module _ {W L T G H : Type 0} (x : WorldWords W L) (y : TalkWords T L G H) (setup : Setup)
@@ -31,9 +29,7 @@ module _ {W L T G H : Type 0} (x : WorldWords W L) (y : TalkWords T L G H) (setu
     pub stands : RunStands y (x.tells first).total states
         (flat_map (λ events. events) queued ++ carried_by lost)
     -- where the weave was drained and nothing was refused, the run has ended
-    pub ends : ended ≡ Empty → lost ≡ [] → (place : PlaceState H W T) (desk : Desk W)
-        → slice_get states 0 ≡ Some place → place.role ≡ Polling desk
-        → RunEnds y (x.tells first).total states desk
+    pub ends : ended ≡ Empty → lost ≡ [] → CrewEnds y (x.tells first).total log states
     -- there is a list of what is queued for each colour; with the log, each connection's lines came
     -- in order
     pub many_queued : length queued ≡ colours_over (x.tells first).total log

@@ -1,5 +1,5 @@
 -- What a run of the server on threads leaves.
-use Rattle.std.specs.Prelude.{◌≡◌, ◌⊎◌, Bool}
+use Rattle.std.specs.Prelude.{◌≡◌, ◌≢◌, ◌⊎◌, ℕ, Bool}
 use Rattle.mely_history.specs.declared.shape.Shape.{Shape}
 use Rattle.sws_link.specs.declared.Link.{Ghosts as LinkWords}
 use Rattle.sws_link.specs.declared.world.World.{Ghosts as WorldWords}
@@ -17,6 +17,8 @@ module _ {W L T G H : Type 0} (x : WorldWords W L) (l : LinkWords L) (y : TalkWo
     pub open left use *
     -- at Ok each connection follows the script that its link is known to answer by
     pub follows : ended.verdict ≡ verdict.Ok → AllFollow x l y hall first ended
+    -- no connection is ever lost
+    pub never_apart : (conn : ℕ) → ended.verdict ≢ verdict.Apart conn
 
   -- memory was refused before the first event, or the server has run on the threads
   abbrev pub ThreadsLeave : Type 0

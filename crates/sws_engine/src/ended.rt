@@ -23,7 +23,7 @@ pub enum Verdict {
 
     /// All was run, but a connection was lost: that of the link with this number lacks what it is
     /// owed or its lines in the access log are out of turn. Where this is the number of all links,
-    /// the world was lost.
+    /// the world was lost. This never comes: each call that runs the server promises so.
     Apart { conn: u16 },
 
     /// Memory was refused.

@@ -1,7 +1,8 @@
 //! The server with a thread for each worker, from the world and the hall to what the run leaves.
 //! One worker needs no thread: it runs over a weave.
-ghost use Rattle.std.specs.Prelude.{◌≡◌, ◌≢◌, ◌≤◌, ◌+◌, [], ◌∷◌, Some, false, IfOk, IfErr, IsSome, map, slice_get};
+ghost use Rattle.std.specs.Prelude.{◌≡◌, ◌≢◌, ◌≤◌, ◌+◌, [], ◌∷◌, Some, IfOk, IfErr, map, slice_get};
 ghost use Rattle.std.specs.List.{AllByRecursion};
+ghost use Rattle.mely_chain.specs.WeaveTold.{IsTold};
 ghost use Rattle.mely_crew.specs.Crew.{IsRegistered};
 ghost use Rattle.mely_history.specs.Setup.{is_listed};
 ghost use Rattle.mely_tally.specs.Account.{IsAccounted};
@@ -12,7 +13,8 @@ ghost use Rattle.mely_worker.specs.Access.{FitsSetup};
 ghost use Rattle.mely_worker.specs.Conditions.{AppServes};
 ghost use Rattle.sws_engine.specs.Begins.{AreInitialFor, IsAtRest, IsSetFor, IsShapedFor};
 ghost use Rattle.sws_engine.specs.Counting.{colours_over};
-ghost use Rattle.sws_engine.specs.CrewLeaves.{CrewLeaves, HandlersRan, IsAccountedBy, first_put};
+ghost use Rattle.sws_engine.specs.CrewEnds.{CrewEnds};
+ghost use Rattle.sws_engine.specs.CrewLeaves.{CrewLeaves, HandlersRan, IsAccountedBy, IsToldBy, first_put};
 ghost use Rattle.sws_engine.specs.Initial.{AreInitialPlacesOver, first_poll};
 ghost use Rattle.sws_engine.specs.Invariant.{IsConsistent};
 ghost use Rattle.sws_engine.specs.RunFits.{RunFits};
@@ -41,7 +43,7 @@ use std::alloc::Global;
 use std::sync::Wait;
 use std::thread::Threads;
 use sws_conn::{Conn, Talk};
-use sws_link::{Link, World};
+use sws_link::World;
 use sws_site::Site;
 
 /// What the type of a state keeps, for contracts alone. A call does nothing.
@@ -59,11 +61,6 @@ fn are_kept<W: World, T: Talk<W::Link>>(places: &[Place<W, T>])
         is_kept(place);
     }
 }
-
-/// A talk whose end is known isn't kept waiting, for contracts alone. A call does nothing.
-fn ended_is_unkept<L: Link, T: Talk<L>>()
-    ensures { (talk : T) → IsSome (T.view_of talk).end → (T.view_of talk).waiting ≡ false }
-{}
 
 /// Runs a crew of the states of a list, which are taken out of it. Who is generic in a part of the
 /// states lends their list.
@@ -97,6 +94,8 @@ fn run_lent<
     ensures begun { IfOk result (λ ran. IsRegistered begin.0 begin.1 ran.0) }
     ensures accounted { IfOk result (λ ran.
         IsAccounted S.Trail S.fits_under A.App app.now (begin ∷ []) ran.0) }
+    ensures told { IfOk result (λ ran. IsTold S.Trail S.fits_under A.App app.now
+        (λ c. slice_get states.old.items c.0) (begin ∷ []) ran.0) }
     ensures memory { IfOk result (λ ran. ran.1 ≡ Drained.Memory → SomeHalted ran.0) }
     ensures back { IfErr result (λ refused. refused ≡ record { event = begin.1; load = begin.2 }) }
 {
@@ -139,6 +138,10 @@ where
     ensures accounted { IfOk result (λ ran. IsAccountedBy ⟦<Place<W, T> as Trail>⟧
         ⟦<Place<W, T> as Fits<Load<W, W::Link>>>⟧.fits_under ⟦<Sws<W, T> as App>⟧
         (λ app. app.total) (λ app. app.log) total log (first_put total world ∷ []) ran.0) }
+    ensures told { IfOk result (λ ran. IsToldBy ⟦<Place<W, T> as Trail>⟧
+        ⟦<Place<W, T> as Fits<Load<W, W::Link>>>⟧.fits_under ⟦<Sws<W, T> as App>⟧
+        (λ app. app.total) (λ app. app.log) (λ c. slice_get states.old.items c.0) total log
+        (first_put total world ∷ []) ran.0) }
     ensures memory { IfOk result (λ ran. ran.1 ≡ Drained.Memory → SomeHalted ran.0) }
     ensures back { IfErr result (λ back. back ≡ world) }
 {
@@ -192,6 +195,8 @@ where
     ensures handled { IfOk result (λ ran. HandlersRan W.World W.Link.Link T.Talk
         (T.contents_of hall) world log setup.now
         (map (λ history. history.items) ran.0.histories.items) ran.0.lost.items) }
+    ensures ends { IfOk result (λ ran. ran.1 ≡ Drained.Empty → ran.0.lost.items ≡ []
+        → CrewEnds T.Talk (W.tells world).total log ran.0.states.items) }
     ensures listed { IfOk result (λ ran. AllByRecursion
         (λ history. history.listed ≡ is_listed setup.now) ran.0.histories.items) }
     ensures back { IfErr result (λ back. back ≡ world) }
@@ -222,8 +227,11 @@ where
 /// is passed before each handler. All room for what the run leaves is made before its first
 /// event. The histories are listed or not, as is asked. It need not return.
 ///
+/// No connection is ever lost, on one worker or on several: the verdict is never
+/// [`Verdict::Apart`](crate::Verdict::Apart).
+///
 /// One worker runs over a weave, on the thread of the caller and with no lock. It leaves what
-/// [`talk_steps`](crate::talk_steps) leaves of an empty schedule, so no connection is ever lost.
+/// [`talk_steps`](crate::talk_steps) leaves of an empty schedule.
 ///
 /// What is left over where the fleet of several is closed, because memory was refused to a worker,
 /// is run by one core after another then, and passes no gate.
@@ -266,7 +274,6 @@ where
     };
     let colours = colour_count(total, log);
     let setup = setup_of(shape, colours, listed);
-    ended_is_unkept::<W::Link, T>();
     match run_threads::<R, W, T, G>(rt, alloc, &setup, hall, world, gate, log) {
         Ok((parts, drained)) => conclude(room, total, parts, drained, log),
         Err(world) => unbegun(alloc, world),
@@ -276,16 +283,16 @@ where
 /// Serves all links of a world out of a site, with a thread for each worker; the gate is passed
 /// before each handler. The histories are listed or not, as is asked. It need not return.
 ///
-/// The verdict is exactly what the run shows: [`Verdict::Apart`](crate::Verdict::Apart) names the
-/// first connection that was lost, and where none was says that the world was.
+/// The verdict is exactly what the run shows, and never [`Verdict::Apart`](crate::Verdict::Apart):
+/// on one worker or on several, no connection is ever lost, and no line of the access log is out of
+/// its turn.
 ///
 /// Several workers begin with the first poll of the world, and run the server's handlers alone, with
 /// the access log where it is asked for: what these put was registered, or was refused for memory.
 ///
 /// One worker runs over a weave, on the thread of the caller and with no lock. It leaves what
-/// [`serve_steps`](crate::serve_steps) leaves of an empty schedule: the verdict is never `Apart`,
-/// and where the world's links answer by scripts, the histories at `Ok` are those of the
-/// definition of a run, and no others.
+/// [`serve_steps`](crate::serve_steps) leaves of an empty schedule: where the world's links answer by
+/// scripts, the histories at `Ok` are those of the definition of a run, and no others.
 pub fn serve_all<'s, R: Threads + Wait + Sync, W: World + Drop + Send, G: Gate + Sync>(
     rt: &R,
     alloc: Global,

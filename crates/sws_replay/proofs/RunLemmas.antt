@@ -233,18 +233,23 @@ world≢memory same = cc
 apart≢memory : (conn : ℕ) → verdict.Apart conn ≢ verdict.Memory
 apart≢memory conn same = cc
 
-pub threads_keep_the_world : {T G H : Type 0} (x : WorldWords MemWorldState MemLinkState) (l : LinkWords MemLinkState) (y : TalkWords T MemLinkState G H) (hall : H) (shape : Shape) (first : MemWorldState) (conns : List ScriptConn) (log : Bool) (ended : Ended MemWorldState MemLinkState)
+threads_keep_the_world : {T G H : Type 0} (x : WorldWords MemWorldState MemLinkState) (l : LinkWords MemLinkState) (y : TalkWords T MemLinkState G H) (hall : H) (shape : Shape) (first : MemWorldState) (conns : List ScriptConn) (log : Bool) (ended : Ended MemWorldState MemLinkState)
     → ThreadsLeave x l y shape hall first log ended → x.tells first ≡ told_of conns → ended.verdict ≡ verdict.World → ⊥
 threads_keep_the_world x l y hall shape first conns log ended (inl refused) told gone = world≢memory (sym gone ∙ refused.refused)
 threads_keep_the_world x l y hall shape first conns log ended (inr run) told gone = no_fault x l first conns ended told (run.world gone).0 (run.world gone).1 run.stands
 
-pub steps_keep_the_world : {T G H : Type 0} (x : WorldWords MemWorldState MemLinkState) (l : LinkWords MemLinkState) (y : TalkWords T MemLinkState G H) (hall : H) (shape : Shape) (first : MemWorldState) (conns : List ScriptConn) (log : Bool) (ended : Ended MemWorldState MemLinkState)
+steps_keep_the_world : {T G H : Type 0} (x : WorldWords MemWorldState MemLinkState) (l : LinkWords MemLinkState) (y : TalkWords T MemLinkState G H) (hall : H) (shape : Shape) (first : MemWorldState) (conns : List ScriptConn) (log : Bool) (ended : Ended MemWorldState MemLinkState)
     → StepsLeave x l y shape hall first log ended → x.tells first ≡ told_of conns → ended.verdict ≡ verdict.World → ⊥
 steps_keep_the_world x l y hall shape first conns log ended (inl refused) told gone = world≢memory (sym gone ∙ refused.refused)
 steps_keep_the_world x l y hall shape first conns log ended (inr run) told gone = no_fault x l first conns ended told (run.world gone).0 (run.world gone).1 run.stands
 
--- a weave misses nothing
-pub steps_miss_nothing : {T G H : Type 0} (x : WorldWords MemWorldState MemLinkState) (l : LinkWords MemLinkState) (y : TalkWords T MemLinkState G H) (hall : H) (shape : Shape) (first : MemWorldState) (log : Bool) (ended : Ended MemWorldState MemLinkState)
+-- neither threads nor a weave miss anything
+threads_miss_nothing : {T G H : Type 0} (x : WorldWords MemWorldState MemLinkState) (l : LinkWords MemLinkState) (y : TalkWords T MemLinkState G H) (hall : H) (shape : Shape) (first : MemWorldState) (log : Bool) (ended : Ended MemWorldState MemLinkState)
+    → ThreadsLeave x l y shape hall first log ended → (conn : ℕ) → ended.verdict ≡ verdict.Apart conn → ⊥
+threads_miss_nothing x l y hall shape first log ended (inl refused) conn apart = apart≢memory conn (sym apart ∙ refused.refused)
+threads_miss_nothing x l y hall shape first log ended (inr run) conn apart = run.never_apart conn apart
+
+steps_miss_nothing : {T G H : Type 0} (x : WorldWords MemWorldState MemLinkState) (l : LinkWords MemLinkState) (y : TalkWords T MemLinkState G H) (hall : H) (shape : Shape) (first : MemWorldState) (log : Bool) (ended : Ended MemWorldState MemLinkState)
     → StepsLeave x l y shape hall first log ended → (conn : ℕ) → ended.verdict ≡ verdict.Apart conn → ⊥
 steps_miss_nothing x l y hall shape first log ended (inl refused) conn apart = apart≢memory conn (sym apart ∙ refused.refused)
 steps_miss_nothing x l y hall shape first log ended (inr run) conn apart = run.never_apart conn apart
@@ -254,6 +259,11 @@ loses_nothing verdict.Ok world apart = tt
 loses_nothing verdict.World world apart = world refl
 loses_nothing (verdict.Apart conn) world apart = apart conn refl
 loses_nothing verdict.Memory world apart = tt
+
+pub threads_lose_nothing : {T G H : Type 0} (x : WorldWords MemWorldState MemLinkState) (l : LinkWords MemLinkState) (y : TalkWords T MemLinkState G H) (hall : H) (shape : Shape) (first : MemWorldState) (conns : List ScriptConn) (log : Bool) (ended : Ended MemWorldState MemLinkState)
+    → ThreadsLeave x l y shape hall first log ended → x.tells first ≡ told_of conns → HasLostNothing ended.verdict
+threads_lose_nothing x l y hall shape first conns log ended leaves told =
+    loses_nothing ended.verdict (threads_keep_the_world x l y hall shape first conns log ended leaves told) (threads_miss_nothing x l y hall shape first log ended leaves)
 
 pub steps_lose_nothing : {T G H : Type 0} (x : WorldWords MemWorldState MemLinkState) (l : LinkWords MemLinkState) (y : TalkWords T MemLinkState G H) (hall : H) (shape : Shape) (first : MemWorldState) (conns : List ScriptConn) (log : Bool) (ended : Ended MemWorldState MemLinkState)
     → StepsLeave x l y shape hall first log ended → x.tells first ≡ told_of conns → HasLostNothing ended.verdict

@@ -9,10 +9,7 @@
 //! for whoever counts what it leaves. [`replay_talks`] and [`run_talks`] are the two for any
 //! [`Talk`](sws_conn::Talk), of which HTTP is one.
 //!
-//! Nothing is written before a run has ended well. That a connection is lost isn't proved
-//! impossible on threads, so what such a run left is tested: that each connection met its link and
-//! the events that were due. Where that test fails, the connections are run again by one thread,
-//! of which it is proved.
+//! Nothing is written before a run has ended well.
 //!
 //! ```text
 //! let input = read(rt, script, false, shape);

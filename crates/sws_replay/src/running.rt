@@ -17,7 +17,7 @@ use std::alloc::Global;
 use std::sync::Wait;
 use std::thread::Threads;
 use sws_conn::{Conn, Talk};
-use sws_engine::{Ended, Verdict, serve_steps, talk_all, talk_steps};
+use sws_engine::{Ended, Verdict, serve_steps, talk_all};
 use sws_link::{MemLink, MemWorld};
 use sws_script::{ScriptConn, script_world};
 use sws_site::Site;
@@ -78,7 +78,10 @@ where
     ensures listed { IfOk result (AreListedAs listed) }
     ensures refused { IfErr result (λ fault. fault ≡ RunFault.Memory) }
 {
-    given(run_threads::<R, T>(rt, alloc, hall, shape, conns, log, listed)?)
+    let world = make_world(alloc, conns)?;
+    given(talk_all::<R, MemWorld, T, OpenGate>(
+        rt, alloc, hall, shape, world, &OpenGate, log, listed,
+    ))
 }
 
 /// What a run gives that has lost nothing: all that it leaves, where it went well.
@@ -96,72 +99,6 @@ fn given(ended: Ended<MemWorld>) -> Result<Ended<MemWorld>, RunFault>
         Verdict::Memory => Err(RunFault::Memory),
         Verdict::World | Verdict::Apart { .. } => unreachable!(),
     }
-}
-
-/// Serves the connections of a script by talks of one hall, with a thread for each of several
-/// workers. That threads miss nothing isn't proved; of a run on one thread, which takes their place
-/// where they did, it is.
-///
-/// # Errors
-///
-/// `Memory` where there was none for the world of a run.
-fn run_threads<R: Threads + Wait + Sync, T: Talk<MemLink> + Drop + Send>(
-    rt: &R,
-    alloc: Global,
-    hall: T::Hall,
-    shape: &Shape,
-    conns: &[ScriptConn],
-    log: bool,
-    listed: bool,
-) -> Result<Ended<MemWorld>, RunFault>
-where
-    T::Hall: Send,
-    requires shape { first_out_of_range shape.now (colours_over (length conns.now) log) 1 ≡ None }
-    requires few { length conns.now ≤ conn_limit }
-    requires conns { AreOfInput conns.now }
-    ensures ran { IfOk result (λ ended. ended.verdict ≡ Verdict.Ok
-        → RunsWell (of_talk T.Talk (T.contents_of hall)) shape.now conns.now log ended) }
-    ensures whole { IfOk result (λ ended. HasLostNothing ended.verdict) }
-    ensures listed { IfOk result (AreListedAs listed) }
-    ensures refused { IfErr result (λ fault. fault ≡ RunFault.Memory) }
-{
-    let world = make_world(alloc, conns)?;
-    let ended = talk_all::<R, MemWorld, T, OpenGate>(
-        rt, alloc, hall, shape, world, &OpenGate, log, listed,
-    );
-    match ended.verdict {
-        Verdict::Ok | Verdict::Memory => Ok(ended),
-        Verdict::Apart { .. } => run_again::<R, T>(rt, alloc, hall, shape, conns, log, listed),
-        Verdict::World => unreachable!(),
-    }
-}
-
-/// Serves the connections of a script by talks of one hall, on one thread.
-///
-/// # Errors
-///
-/// `Memory` where there was none for the world of the run.
-fn run_again<R: Wait, T: Talk<MemLink> + Drop>(
-    rt: &R,
-    alloc: Global,
-    hall: T::Hall,
-    shape: &Shape,
-    conns: &[ScriptConn],
-    log: bool,
-    listed: bool,
-) -> Result<Ended<MemWorld>, RunFault>
-    requires shape { first_out_of_range shape.now (colours_over (length conns.now) log) 1 ≡ None }
-    requires few { length conns.now ≤ conn_limit }
-    requires conns { AreOfInput conns.now }
-    ensures ran { IfOk result (λ ended. ended.verdict ≡ Verdict.Ok
-        → RunsWell (of_talk T.Talk (T.contents_of hall)) shape.now conns.now log ended) }
-    ensures whole { IfOk result (λ ended. HasLostNothing ended.verdict) }
-    ensures listed { IfOk result (AreListedAs listed) }
-    ensures refused { IfErr result (λ fault. fault ≡ RunFault.Memory) }
-{
-    let world = make_world(alloc, conns)?;
-    let ended = talk_steps::<R, MemWorld, T>(rt, alloc, hall, shape, world, &[], log, listed);
-    Ok(ended)
 }
 
 /// Serves the connections of a script out of a site on one thread: the schedule's steps of each

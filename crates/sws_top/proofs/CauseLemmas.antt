@@ -56,6 +56,7 @@ use Rattle.sws_top.specs.Ranges.{run_shape}
 use Rattle.sws_top.specs.Scripts.{LacksInput, HasNoInput}
 use Rattle.sws_top.specs.Sites.{LacksSite, HasNoSite, TellsWithinLimits}
 use Rattle.sws_top.specs.Texts.{WritesText}
+use Rattle.sws_top.proofs.ServeLemmas.{never_lost}
 
 -- ---- one object after another
 
@@ -369,19 +370,19 @@ module _ {F R W L O T G H : Type 0} (f : FolderWords F) (r : SourceWords R) (x :
     served_done verdict.Ok is ends nothing = text_done outcome.fault ends nothing.out
       where
         text_done : (fault : Option TopFault) {IsText : List ℕ → Type 0} → WritesText o before.out now.out fault IsText → ¬ (Rose (o.faults before.out) (o.faults now.out))
-            → (fault ≡ None) ⊎ ((fault ≡ Some Memory) ⊎ ((conn : ℕ) × (fault ≡ Some (Apart conn)) × HasLost outcome conn))
+            → (fault ≡ None) ⊎ (fault ≡ Some Memory)
         text_done fault writes unfailed = by_answer writes.answer writes.ended writes.cause.rose
           where
             by_answer : {T : Type 0} (answer : Result T RunFault) → fault ≡ fault_of_run answer → (answer ≡ Err run_fault.Write → Rose (o.faults before.out) (o.faults now.out))
-                → (fault ≡ None) ⊎ ((fault ≡ Some Memory) ⊎ ((conn : ℕ) × (fault ≡ Some (Apart conn)) × HasLost outcome conn))
+                → (fault ≡ None) ⊎ (fault ≡ Some Memory)
             by_answer (Ok value) ended rose = inl ended
             by_answer (Err run_fault.Write) ended rose = absurd (unfailed (rose refl))
-            by_answer (Err run_fault.Memory) ended rose = inr (inl ended)
+            by_answer (Err run_fault.Memory) ended rose = inr ended
     served_done verdict.World is ends nothing =
         let last = some_there served.ended.world (served.held (inr is)) in
         absurd (nothing.last last.0 (inr (served.ended, served.there, last.1)) (served.rose last.0 last.1 is))
-    served_done (verdict.Apart conn) is ends nothing = inr (inr (conn, ends.0, (served.ended, served.there, is)))
-    served_done verdict.Memory is ends nothing = inr (inl ends.0)
+    served_done (verdict.Apart conn) is ends nothing = absurd (never_lost x l y shape hall served.first log served.ended conn served.leaves is)
+    served_done verdict.Memory is ends nothing = inr ends.0
 
 -- ---- by the order
 
@@ -486,7 +487,7 @@ module _ {F R W L O T G T' G' : Type 0} (f : FolderWords F) (r : SourceWords R) 
 
   site_done : (path : List ℕ) (cause : TopFault) → outcome.fault ≡ Some cause → LacksSite f path before.folder now.folder cause → TellsWithinLimits (f.tells before.folder) → Undisturbed → AllDone
   site_done path ReadFault is lacks within nothing = absurd (nothing.folder lacks.0)
-  site_done path Memory is lacks within nothing = inr (inl is)
+  site_done path Memory is lacks within nothing = inr is
   site_done path (SiteFull limit) is lacks within nothing = absurd (not_full (f.tells before.folder) limit within lacks.2)
   site_done path Usage is lacks within nothing = absurd lacks
   site_done path (BadScript line) is lacks within nothing = absurd lacks
@@ -501,7 +502,7 @@ module _ {F R W L O T G T' G' : Type 0} (f : FolderWords F) (r : SourceWords R) 
   input_done : (schedule : Bool) (cores : ℕ) (cause : TopFault) → outcome.fault ≡ Some cause → LacksInput r schedule cores before.source now.source cause
       → TellsInput schedule cores (r.left before.source) → Undisturbed → AllDone
   input_done schedule cores ReadFault is lacks tells nothing = absurd (nothing.source lacks)
-  input_done schedule cores Memory is lacks tells nothing = inr (inl is)
+  input_done schedule cores Memory is lacks tells nothing = inr is
   input_done schedule cores (BadScript line) is lacks tells nothing = absurd (not_bad schedule cores line (r.left before.source) tells lacks.1)
   input_done schedule cores (TooMany line) is lacks tells nothing = absurd (not_many schedule cores line (r.left before.source) tells lacks.1)
   input_done schedule cores Usage is lacks tells nothing = absurd lacks
@@ -517,13 +518,13 @@ module _ {F R W L O T G T' G' : Type 0} (f : FolderWords F) (r : SourceWords R) 
       → Undisturbed → AllDone
   text_done (Ok value) ended rose nothing = inl ended
   text_done (Err run_fault.Write) ended rose nothing = absurd (nothing.out (rose refl))
-  text_done (Err run_fault.Memory) ended rose nothing = inr (inl ended)
+  text_done (Err run_fault.Memory) ended rose nothing = inr ended
 
   answer_done : (site : SiteState) (fault : Option TopFault) → outcome.fault ≡ fault → AnswersInput r o site before.source now.source before.out now.out fault → Undisturbed → AllDone
   answer_done site None is answers nothing = inl is
   answer_done site (Some ReadFault) is answers nothing = absurd (nothing.source (answers.read_cause.rose refl))
   answer_done site (Some WriteFault) is answers nothing = absurd (nothing.out (answers.write_cause.rose refl))
-  answer_done site (Some Memory) is answers nothing = inr (inl is)
+  answer_done site (Some Memory) is answers nothing = inr is
   answer_done site (Some Usage) is answers nothing = absurd answers.ends
   answer_done site (Some (BadScript line)) is answers nothing = absurd answers.ends
   answer_done site (Some WorldFault) is answers nothing = absurd answers.ends
@@ -538,7 +539,7 @@ module _ {F R W L O T G T' G' : Type 0} (f : FolderWords F) (r : SourceWords R) 
       → IsBack last outcome → Undisturbed → AllDone
   unready_done port connections opened.Ready last listens why back nothing = absurd why
   unready_done port connections opened.Failed last listens why back nothing = absurd (nothing.last last (inl back.back) (listens.failed.rose refl))
-  unready_done port connections opened.Memory last listens why back nothing = inr (inl why)
+  unready_done port connections opened.Memory last listens why back nothing = inr why
 
   serve_done : (path : List ℕ) (port connections : ℕ) (shape : Shape) (date : Option ℕ) (log : Bool) → now.source ≡ before.source
       → RanServe f x l o y before.folder now.folder before.out now.out world outcome path port connections shape date log → TellsWithinLimits (f.tells before.folder) → Undisturbed → AllDone
@@ -557,7 +558,7 @@ module _ {F R W L O T G T' G' : Type 0} (f : FolderWords F) (r : SourceWords R) 
       → WritesFound o before.out now.out outcome.fault found → IsAcceptance found → Undisturbed → AllDone
   check_done (Ok report) cause writes accepted nothing = text_done writes.answer writes.ended writes.cause.rose nothing
   check_done (Err check_fault.Read) cause writes accepted nothing = absurd (nothing.source (cause.rose refl))
-  check_done (Err check_fault.Memory) cause writes accepted nothing = inr (inl writes.0)
+  check_done (Err check_fault.Memory) cause writes accepted nothing = inr writes.0
   check_done (Err (check_fault.BadJournal line)) cause writes (inl other) nothing = cc
   check_done (Err (check_fault.BadJournal line)) cause writes (inr other) nothing = cc
   check_done (Err (check_fault.NotLegal line)) cause writes (inl other) nothing = cc
@@ -568,14 +569,14 @@ module _ {F R W L O T G T' G' : Type 0} (f : FolderWords F) (r : SourceWords R) 
   gopher_script_done : (path host : List ℕ) (port : ℕ) (shape : Shape) (journal : Bool) → RanGopherScript f r o before now outcome.fault path host port shape journal
       → TellsWithinLimits (f.tells before.folder) → TellsInput false shape.cores (r.left before.source) → Undisturbed → AllDone
   gopher_script_done path host port shape journal (inl (cause, is, lacks, untouched)) within tells nothing = site_done path cause is lacks.why within nothing
-  gopher_script_done path host port shape journal (inr (site, loaded, inl (refused, untouched))) within tells nothing = inr (inl refused)
+  gopher_script_done path host port shape journal (inr (site, loaded, inl (refused, untouched))) within tells nothing = inr refused
   gopher_script_done path host port shape journal (inr (site, loaded, inr (inl (cause, is, lacks, untouched)))) within tells nothing = input_done false shape.cores cause is lacks.why tells nothing
   gopher_script_done path host port shape journal (inr (site, loaded, inr (inr (input, read, writes)))) within tells nothing = text_done writes.answer writes.ended writes.cause.rose nothing
 
   gopher_serve_done : (path host : List ℕ) (port connections : ℕ) (shape : Shape) → now.source ≡ before.source
       → RanGopherServe f x l o z before.folder now.folder before.out now.out world outcome path host port connections shape → TellsWithinLimits (f.tells before.folder) → Undisturbed → AllDone
   gopher_serve_done path host port connections shape source (inl (cause, is, lacks, untouched)) within nothing = site_done path cause is lacks.why within nothing
-  gopher_serve_done path host port connections shape source (inr (site, loaded, inl (refused, untouched))) within nothing = inr (inl refused)
+  gopher_serve_done path host port connections shape source (inr (site, loaded, inl (refused, untouched))) within nothing = inr refused
   gopher_serve_done path host port connections shape source (inr (site, loaded, inr (inl unready))) within nothing =
       unready_done port connections unready.answer unready.now_world unready.listens unready.why unready.back nothing
   gopher_serve_done path host port connections shape source (inr (site, loaded, inr (inr served))) within nothing =
@@ -607,7 +608,7 @@ module _ {F R W L O T G T' G' : Type 0} (f : FolderWords F) (r : SourceWords R) 
   done_as (gopher path host port connections shape journal) ran sound nothing = gopher_done path host port connections shape journal ran sound nothing
 
   -- with words, site and script in order, and no fault of the outside, all is done, or there was no
-  -- memory, or a connection was lost
+  -- memory
   pub done_of : (order : Order) → Ran f r x l o y z before now world outcome order → IsSound f r x o before now world outcome order → Undisturbed → AllDone
-  done_of order (inl (is, untouched)) sound nothing = inr (inl is)
+  done_of order (inl (is, untouched)) sound nothing = inr is
   done_of order (inr ran) sound nothing = done_as order ran sound nothing

@@ -21,7 +21,6 @@ use Rattle.sws_steps.specs.declared.End.TheVariants as ending
 use Rattle.sws_steps.specs.declared.talk.Talk.{Ghosts as TalkWords}
 use Rattle.sws_engine.specs.Counting.{colours_over}
 use Rattle.sws_engine.specs.RunLeaves.{NoneOutOfMemory, is_out_of_memory}
-use Rattle.sws_engine.specs.StepsLeave.{StepsLeave}
 use Rattle.sws_engine.specs.ThreadsLeave.{ThreadsLeave, HasRunThreads}
 use Rattle.sws_engine.specs.declared.ended.Ended.{Ended}
 use Rattle.sws_engine.specs.declared.ended.Served.{Served}
@@ -118,16 +117,15 @@ module _ {W L T G H : Type 0} (x : WorldWords W L) (l : LinkWords L) (y : TalkWo
 
   module _ {O : Type 0} (o : SinkWords O) (out out_now : O) (world : W) (outcome : Outcome W L) (port connections : ℕ)
       (listens : Listens x.tells x.faults x.waits world port connections opened.Ready first) where
-    pub served_by : ThreadsLeave x l y shape hall first log ended → (shape.cores ≡ 1 → StepsLeave x l y shape hall first log ended) → outcome.ended ≡ Some ended → outcome.world ≡ None
+    pub served_by : ThreadsLeave x l y shape hall first log ended → outcome.ended ≡ Some ended → outcome.world ≡ None
         → EndsBy o out out_now outcome.fault ended.log.items ended.served.items ended.verdict → HasServedPort x l o y out out_now world outcome port connections shape log hall
-    served_by leaves alone there gone ends = record {
+    served_by leaves there gone ends = record {
       first = first;
       listens = listens;
       ended = ended;
       there = there;
       gone = gone;
       leaves = leaves;
-      alone = λ one conn. never_by conn (alone one);
       port_is = λ last is. port_by leaves last is;
       rose = λ last is failed. rose_by leaves last is failed;
       held = λ well. held_by leaves well;
@@ -135,10 +133,6 @@ module _ {W L T G H : Type 0} (x : WorldWords W L) (l : LinkWords L) (y : TalkWo
       ends = ends;
     }
       where
-        never_by : (conn : ℕ) → StepsLeave x l y shape hall first log ended → ended.verdict ≢ verdict.Apart conn
-        never_by conn (inl begun) is = (let other : verdict.Apart conn ≡ verdict.Memory = sym is ∙ begun.refused in cc)
-        never_by conn (inr run) is = run.never_apart conn is
-
         port_by : ThreadsLeave x l y shape hall first log ended → (last : W) → ended.world ≡ Some last → (x.tells last).port ≡ port
         port_by (inl begun) last is =
             let same : first ≡ last = (let e = begun.back in cc) in ap (λ w. (x.tells w).port) (sym same) ∙ opened_port x world port connections first listens
@@ -158,6 +152,12 @@ module _ {W L T G H : Type 0} (x : WorldWords W L) (l : LinkWords L) (y : TalkWo
         many_by : ThreadsLeave x l y shape hall first log ended → ended.verdict ≢ verdict.Memory → length ended.served.items ≡ total_within (x.tells world).coming connections
         many_by (inl begun) run = absurd (run begun.refused)
         many_by (inr ran) run = ran.many_served ∙ opened_total x world port connections first listens
+
+-- a run on threads loses no connection
+pub never_lost : {W L T G H : Type 0} (x : WorldWords W L) (l : LinkWords L) (y : TalkWords T L G H) (shape : Shape) (hall : H) (first : W) (log : Bool) (ended : Ended W L) (conn : ℕ)
+    → ThreadsLeave x l y shape hall first log ended → ended.verdict ≢ verdict.Apart conn
+never_lost x l y shape hall first log ended conn (inl begun) is = (let other : verdict.Apart conn ≡ verdict.Memory = sym is ∙ begun.refused in cc)
+never_lost x l y shape hall first log ended conn (inr run) is = run.never_apart conn is
 
 -- ---- the summary
 

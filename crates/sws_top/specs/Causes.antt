@@ -35,16 +35,6 @@ abbrev pub HasLost : {W L : Type 0} → Outcome W L → ℕ → Type 0
 HasLost {W} {L} outcome conn = (ended : Ended W L) × (outcome.ended ≡ Some ended)
     × (ended.verdict ≡ verdict.Apart conn)
 
--- a run of the order may lose a connection: two workers or more serve
-abbrev pub MayLose : Order → Type 0
-MayLose (answer path date) = ⊥
-MayLose (replay path shape date journal schedule log) = ⊥
-MayLose (serve path port connections shape date log) = 2 ≤ shape.cores
-MayLose (bench connections number shape) = ⊥
-MayLose (check connections shape log) = ⊥
-MayLose (gopher path host port None shape journal) = ⊥
-MayLose (gopher path host port (Some connections) shape journal) = 2 ≤ shape.cores
-
 module _ {F R W L O : Type 0} (f : FolderWords F) (r : SourceWords R) (x : WorldWords W L)
     (o : SinkWords O) (before now : Hands F R O) (world : W) (outcome : Outcome W L) where
   -- Each fault of the outside comes only where the count of what failed rose, and the sink's, the
@@ -90,7 +80,6 @@ module _ {F R W L O : Type 0} (f : FolderWords F) (r : SourceWords R) (x : World
     pub out : ¬ (Rose (o.faults before.out) (o.faults now.out))
     pub last : (last : W) → IsLast outcome last → ¬ (Rose (x.faults world) (x.faults last))
 
-  -- all was done, there was no memory, or a run on threads has lost a connection, which it shows
+  -- all was done, or there was no memory
   abbrev pub IsDone : Type 0
-  IsDone = (outcome.fault ≡ None) ⊎ ((outcome.fault ≡ Some Memory)
-      ⊎ ((conn : ℕ) × (outcome.fault ≡ Some (Apart conn)) × HasLost outcome conn))
+  IsDone = (outcome.fault ≡ None) ⊎ (outcome.fault ≡ Some Memory)

@@ -88,8 +88,6 @@ module _ {W L O T G H : Type 0} (x : WorldWords W L) (l : LinkWords L) (o : Sink
     pub there : outcome.ended ≡ Some ended
     pub gone : outcome.world ≡ None
     pub leaves : ThreadsLeave x l y shape hall first log ended
-    -- one worker loses no connection
-    pub alone : shape.cores ≡ 1 → (conn : ℕ) → ended.verdict ≢ verdict.Apart conn
     -- the world that is handed out has the port, and where it failed its count of faults rose; at
     -- Ok and World it is handed out
     pub port_is : (last : W) → ended.world ≡ Some last → (x.tells last).port ≡ port

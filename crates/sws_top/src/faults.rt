@@ -44,8 +44,8 @@ pub enum TopFault {
     NotLegal { line: u32 },
     /// The text is the journal of a legal run, and this colour is the least that runs or waits.
     NotDrained { colour: u16 },
-    /// A run on threads lost this connection, or, where the number is that of
-    /// all connections, its world.
+    /// A run lost this connection, or, where the number is that of all connections, its world. This
+    /// never comes: [`sws`](crate::sws) promises so.
     Apart { conn: u16 },
 }
 

@@ -1,8 +1,8 @@
 //! The top call: from the words to the command that they order.
-ghost use Rattle.std.specs.Prelude.{◌≡◌, ℕ, List, Some, None, map, string_bytes};
+ghost use Rattle.std.specs.Prelude.{◌≡◌, ◌≢◌, ℕ, List, Some, None, map, string_bytes};
 ghost use Rattle.sws_words.specs.Orders.{order_of, Order as OrderValue};
 ghost use Rattle.sws_words.specs.Told.{order_view};
-ghost use Rattle.sws_top.specs.Causes.{HasCauses, IsDone, IsSound, MayLose, NothingFailed};
+ghost use Rattle.sws_top.specs.Causes.{HasCauses, IsDone, IsSound, NothingFailed};
 ghost use Rattle.sws_top.specs.Faults.{status_of};
 ghost use Rattle.sws_top.specs.Hands.{hands};
 ghost use Rattle.sws_top.specs.Printed.{PrintsJournal};
@@ -46,8 +46,7 @@ use sws_words::{Order, WordFault, read_words};
 ///   one is outside the grammar.
 /// - `BadJournal` (10), `NotLegal` (11) and `NotDrained` (12) exactly where the source's bytes are
 ///   no accepted journal, and the first of these three that is so of them.
-/// - `Apart` (13) exactly where a run on the world that was handed in has lost a connection, which
-///   `ended` shows. That takes `serve`, or `gopher` with connections, and two workers or more.
+/// - `Apart` (13) never: no run loses a connection, on one worker or on several.
 pub fn sws<
     T: AllocGlobal + Threads + Wait + Sync,
     F: Folder,
@@ -79,9 +78,7 @@ where
     ensures causes { HasCauses F.Folder R.Source W.World O.Sink
         (hands folder.old source.old out.old) (hands folder.new source.new out.new)
         world result }
-    ensures lost { (order : OrderValue) (conn : ℕ)
-        → order_of (map string_bytes words.now) ≡ Some order
-        → result.fault ≡ Some (TopFault.Apart conn) → MayLose order }
+    ensures lost { (conn : ℕ) → result.fault ≢ Some (TopFault.Apart conn) }
 
     // words in the grammar, a site, a script and a journal as they must be, and no fault outside
     ensures complete { (order : OrderValue) → order_of (map string_bytes words.now) ≡ Some order

@@ -1,4 +1,4 @@
--- What a run by steps leaves is what a run on threads may leave.
+-- What a run by steps leaves is what a run on threads leaves.
 use Rattle.std.proofs.Common.{Bool, inl, inr}
 use Rattle.mely_history.specs.declared.shape.Shape.{Shape}
 use Rattle.sws_link.specs.declared.Link.{Ghosts as LinkWords}
@@ -14,4 +14,5 @@ steps_leave_threads x l y shape hall first log ended (inl none) = inl none
 steps_leave_threads x l y shape hall first log ended (inr run) = inr (record {
   left = run.left;
   follows = run.follows;
+  never_apart = run.never_apart;
 })

@@ -1,9 +1,9 @@
--- What a run by steps leaves: no connection is ever lost.
-use Rattle.std.proofs.Common.{◌≡◌, ℕ, zero, suc, ◌∷◌, ◌+◌, ◌≤◌, ◌<◌, Bool, true, false, true≢false, List, [], ◌++◌, Option, None, Some, length, map, refl, sym, ◌∙◌, ap, subst, arith, inl, inr}
-use Rattle.std.proofs.lemmas.Option.{same_Some, slice_get_within}
+-- What a run leaves that has come to its end: no connection is ever lost.
+use Rattle.std.proofs.Common.{◌≡◌, ℕ, ◌+◌, ◌≤◌, ◌<◌, Bool, true, false, true≢false, List, [], ◌++◌, Option, None, Some, length, map, refl, sym, ◌∙◌, ap, subst, arith, inl, inr}
+use Rattle.std.proofs.lemmas.Option.{slice_get_within}
 use Rattle.std.proofs.lemmas.Bool.Decides.{nat_tests}
 use Rattle.std.specs.List.{AllByRecursion}
-use Rattle.std.specs.Prelude.{flat_map, slice_get, is_some, is_none, IsSome, option_map, not, nat_lt, ◌&&◌, ◌||◌}
+use Rattle.std.specs.Prelude.{slice_get, is_some, is_none, IsSome, option_map, not, nat_lt, ◌&&◌, ◌||◌}
 use Rattle.mely_event.specs.declared.event.Event.{Event}
 use Rattle.mely_history.specs.Setup.{colours_of}
 use Rattle.mely_history.specs.declared.setup.Setup.{Setup}
@@ -30,7 +30,8 @@ use Rattle.sws_engine.specs.declared.load.Load.{Load}
 use Rattle.sws_engine.specs.KeptLines.{KeptLinesState, no_lines}
 use Rattle.sws_engine.specs.Place.{PlaceState}
 use Rattle.sws_engine.specs.RunEnds.{RunEnds}
-use Rattle.sws_engine.specs.RunParts.{RunParts}
+use Rattle.sws_engine.specs.PartsKept.{PartsKept}
+use Rattle.sws_engine.specs.CrewEnds.{CrewEnds}
 use Rattle.sws_engine.specs.ServerRun.{server_rules}
 use Rattle.sws_engine.specs.RunFits.{RunFits}
 use Rattle.sws_engine.specs.declared.place.Seat.{Seat}
@@ -38,11 +39,9 @@ use Rattle.sws_engine.specs.declared.place.Role.TheVariants.{Talking}
 use Rattle.sws_engine.specs.Counting.{colours_over}
 use Rattle.sws_engine.specs.RunLeaves.{lines_in, Talker, talkers, resting_in, ShowsSeat, RoleTells, StateTells, is_lacking, is_out_of_turn, links_owed, AreWhole, VerdictIs, lines_kept}
 use Rattle.std.specs.List.{range_with_len}
-use Rattle.mely_order.specs.Stream.{numbers_of, numbers_put}
 use Rattle.sws_log.specs.declared.line.LogLine.{LogLine}
 use Rattle.sws_engine.specs.declared.place.Role.{Role}
 use Rattle.sws_engine.specs.LogTurns.{turns_of}
-use Rattle.sws_engine.specs.LogStream.{log_stream}
 use Rattle.sws_engine.specs.RunStands.{at_seat}
 use Rattle.sws_engine.specs.Served.{SeatServes}
 use Rattle.sws_engine.proofs.Ends.LogTurnsLemmas.{all_numbered}
@@ -52,6 +51,7 @@ use Rattle.sws_engine.specs.StepsLeave.{HasRun}
 use Rattle.sws_engine.proofs.Ends.RunLeftLemmas.{run_left, told_as as told_of}
 use Rattle.sws_engine.proofs.Ends.ConcludedLemmas.{all_at, log_stands, whole_is, served_many, conn_follows}
 use Rattle.sws_engine.proofs.Ends.SeatsOfRunLemmas.{SeatsStand, seats_stand}
+use Rattle.sws_engine.proofs.Balances.ConcludesLemmas.{run_ends}
 
 -- where nothing is due, nothing is pending
 none_pending : (waiting : Bool) (pending : Next) → due_after (reported_by waiting pending) ≡ None → pending ≡ next.Nothing
@@ -90,20 +90,6 @@ module _ {W L T G H : Type 0} (y : TalkWords T L G H) (talker : Talker H W T) (s
       ∙ ap (λ b. (false || b) || is_some s.stray) (some_there s.end (shows.closed.1 nothing))
       ∙ ap (λ o. (false || false) || is_some o) (shows.stray ∙ unstrayed)
 
--- where nothing is queued, no list has anything
-none_in : {A : Type 0} (lists : List (List A)) (k : ℕ) (list : List A) → flat_map (λ events. events) lists ≡ [] → slice_get lists k ≡ Some list → list ≡ []
-none_in [] k list none at = cc
-none_in {A = A} (xs ∷ lists) zero list none at = sym (same_Some xs list at) ∙ first_none xs (flat_map (λ events. events) lists) none
-  where
-    first_none : (xs ys : List A) → xs ++ ys ≡ [] → xs ≡ []
-    first_none [] ys none = refl
-    first_none (x ∷ xs) ys none = cc
-none_in {A = A} (xs ∷ lists) (suc k) list none at = none_in lists k list (rest_none xs (flat_map (λ events. events) lists) none) at
-  where
-    rest_none : (xs ys : List A) → xs ++ ys ≡ [] → ys ≡ []
-    rest_none [] ys none = none
-    rest_none (x ∷ xs) ys none = cc
-
 -- the links that were to be served were all accepted
 owed_below : (failed : Bool) (accepted total i : ℕ) → not failed && nat_lt accepted total ≡ false → i < links_owed failed accepted total → i < total → i < accepted
 owed_below true accepted total i ended low under = low
@@ -111,7 +97,8 @@ owed_below false accepted total i ended low under = let more : total ≤ accepte
 
 module _ {W L T G H : Type 0} (x : WorldWords W L) (l : LinkWords L) (y : TalkWords T L G H) (shape : Shape) (setup : Setup) (hall : H) (first : W) (log : Bool) (how : Drained) (parts : WeaveParts (PlaceState H W T) (Load W L)) (ended : Ended W L)
     (rules : rules_of setup ≡ server_rules shape) (colours : colours_of setup ≡ colours_over (x.tells first).total log)
-    (ran : RunParts x y setup first log how (map (λ history. history.items) parts.histories.items) parts.states.items (map (λ events. events.items) parts.queued.items) parts.lost.items)
+    (kept : PartsKept x y setup first log how (map (λ history. history.items) parts.histories.items) parts.states.items (map (λ events. events.items) parts.queued.items))
+    (crew : how ≡ drained.Empty → parts.lost.items ≡ [] → CrewEnds y (x.tells first).total log parts.states.items)
     (fits : RunFits x l first hall parts.states.items (map (λ events. events.items) parts.queued.items) parts.lost.items)
     (is : IsConcluded y (x.tells first).total log how parts ended)
     (tell : AllByRecursion (StateTells x l y) parts.states.items) where
@@ -119,7 +106,7 @@ module _ {W L T G H : Type 0} (x : WorldWords W L) (l : LinkWords L) (y : TalkWo
   total = (x.tells first).total
 
   seats : SeatsStand total parts.states.items
-  seats = seats_stand total log parts.states.items ran.many ran.placed
+  seats = seats_stand total log parts.states.items kept.many kept.placed
 
   found_many : length is.found ≡ total
   found_many = is.shows.many ∙ seats.many
@@ -127,10 +114,10 @@ module _ {W L T G H : Type 0} (x : WorldWords W L) (l : LinkWords L) (y : TalkWo
   -- where all was run, nothing is under way
   module _ (empty : how ≡ drained.Empty) (none_lost : parts.lost.items ≡ []) where
     ends : RunEnds y total parts.states.items seats.desk
-    ends = ran.ends empty none_lost seats.place seats.desk seats.first seats.polls
+    ends = run_ends y total parts.states.items (λ i place at. (kept.placed i place at).colour) (crew empty none_lost).stands seats.place seats.desk seats.first seats.polls
 
     none_left : ways_of y total log how parts ended ≡ []
-    none_left = ap (λ (l : List (Event × Option (Load W L))). l ++ carried_by parts.lost.items) (ran.emptied empty) ∙ ap (λ l. carried_by l) none_lost
+    none_left = ap (λ (l : List (Event × Option (Load W L))). l ++ carried_by parts.lost.items) (kept.emptied empty) ∙ ap (λ l. carried_by l) none_lost
 
     served_are : ended.served.items ≡ is.found
     served_are = is.served ∙ ap (λ (l : List (Event × Option (Load W L))). served_with_loads l is.found) none_left
@@ -165,14 +152,10 @@ module _ {W L T G H : Type 0} (x : WorldWords W L) (l : LinkWords L) (y : TalkWo
         -- with the log, all lines that the connection gave came, in order
         lines_all : log ≡ true → (i : ℕ) (s : Served L) (place : PlaceState H W T) (seat : Seat T) → i < total → slice_get parts.states.items (i + 2) ≡ Some place → place.role ≡ Talking seat → s.answered ≡ (y.view_of seat.talk).lines → turns_of i ended.log.items ≡ range_with_len 1 s.answered
         lines_all on i s place seat under there talks answered =
-            let count : length parts.states.items ≡ total + 2 + 1 = ran.many ∙ ap (λ (b : Bool). colours_over total b) on in
+            let count : length parts.states.items ≡ total + 2 + 1 = kept.many ∙ ap (λ (b : Bool). colours_over total b) on in
             let last = get_there parts.states.items (total + 2) (omega (arith, count)) in
-            let many_queued = ran.many_queued in
-            let queue = get_there (map (λ events. events.items) parts.queued.items) (total + 2) (omega (arith, many_queued, count, ran.many)) in
-            let none : queue.0 ≡ [] = none_in (map (λ events. events.items) parts.queued.items) (total + 2) queue.0 (ran.emptied empty) queue.1 in
-            let all = (ran.ordered on i under).whole refl last.0 place queue.0 last.1 there queue.1
-            (ap (λ (events : List (Event × Option (Load W L))). numbers_of (log_stream y total i) events) none) (ap (λ puts. numbers_put (log_stream y total i) puts) none_lost) in
-            let came : ended.log.items ≡ (lines_in no_lines parts.states.items).came = is.kept ∙ (log_stands x l y hall first log how parts ended ran.many ran.placed ran.of_world fits is tell last.0 last.1).1.all kept_all in
+            let all = (crew empty none_lost).in_turn on i under last.0 place last.1 there in
+            let came : ended.log.items ≡ (lines_in no_lines parts.states.items).came = is.kept ∙ (log_stands x l y hall first log how parts ended kept.many kept.placed kept.of_world fits is tell last.0 last.1).1.all kept_all in
             let sent : at_seat (λ (k : Seat T). (y.view_of k.talk).lines) place.role ≡ (y.view_of seat.talk).lines = ap (λ (r : Role W T). at_seat (λ (k : Seat T). (y.view_of k.talk).lines) r) talks in
             ap (λ (ls : List LogLine). turns_of i ls) (came ∙ ap (λ (ls : KeptLinesState). ls.came) (seats.logged last.0 last.1)) ∙ all ∙ ap (λ (n : ℕ). range_with_len 1 n) (sent ∙ sym answered)
 
@@ -200,7 +183,7 @@ module _ {W L T G H : Type 0} (x : WorldWords W L) (l : LinkWords L) (y : TalkWo
   Told v = VerdictIs (lines_kept log ended.log.items) ended.served.items (is_whole how parts.lost.items (lines_in no_lines parts.states.items)) total (is_some ended.world) ended.accepted ended.failed v
 
   told_as : (v : Verdict) → ended.verdict ≡ v → Told v
-  told_as v same = told_of x l y shape setup hall first log how parts ended rules colours ran.kept fits is tell v same
+  told_as v same = told_of x l y shape setup hall first log how parts ended rules colours kept fits is tell v same
 
   -- where all was run and the world is sound, nothing is due on any connection
   is_shut : (empty : how ≡ drained.Empty) (none_lost : parts.lost.items ≡ []) → ended.failed ≡ false → (i : ℕ) → i < total → (place : PlaceState H W T) (seat : Seat T) → slice_get parts.states.items (i + 2) ≡ Some place → place.role ≡ Talking seat → due (y.view_of seat.talk) ≡ None
@@ -209,14 +192,14 @@ module _ {W L T G H : Type 0} (x : WorldWords W L) (l : LinkWords L) (y : TalkWo
   pub has_run : HasRun x l y shape hall first log ended
   unfolding run_left
   has_run = record {
-    left = run_left x l y shape setup hall first log how parts ended rules colours ran.kept fits is tell;
+    left = run_left x l y shape setup hall first log how parts ended rules colours kept fits is tell;
     follows = λ same coming one script i s trail known at answers there run_of.
         let told = told_as verdict.Ok same in
         let run = whole_is how parts.lost.items (lines_in no_lines parts.states.items) told.0.ran in
         let whole = subst (λ (b : Bool). AreWhole (lines_kept log ended.log.items) ended.served.items (links_owed b ended.accepted total)) told.2 told.3 in
-        let many = served_many x l y hall first log how parts ended ran.many ran.placed ran.of_world fits is tell in
+        let many = served_many x l y hall first log how parts ended kept.many kept.placed kept.of_world fits is tell in
         let under : i < total = (let within = slice_get_within ended.served.items i s there in omega (arith, within, many)) in
-        conn_follows x l y hall first log how parts ended ran.many ran.placed ran.of_world fits is tell (served_are run.0 run.1) i (λ place seat at talks nothing some. is_shut run.0 run.1 told.2 i under place seat at talks) coming one script s trail known at answers there run_of (whole i s under there) (told.0.enough i s there);
+        conn_follows x l y hall first log how parts ended kept.many kept.placed kept.of_world fits is tell (served_are run.0 run.1) i (λ place seat at talks nothing some. is_shut run.0 run.1 told.2 i under place seat at talks) coming one script s trail known at answers there run_of (whole i s under there) (told.0.enough i s there);
     never_apart = λ conn same.
         let told = told_as (verdict.Apart conn) same in
         let run = whole_is how parts.lost.items (lines_in no_lines parts.states.items) told.0.ran in

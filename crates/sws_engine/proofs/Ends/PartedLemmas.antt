@@ -1,17 +1,22 @@
 -- What a run leaves in the parts of its weave.
-use Rattle.std.proofs.Common.{Bool, ◌≡◌, ℕ, List, [], ◌++◌, Option, Some, length, map, sym, ◌∙◌, ap, subst}
+use Rattle.std.proofs.Common.{Bool, true, ◌≡◌, ℕ, zero, suc, ◌+◌, ◌<◌, List, [], ◌∷◌, ◌++◌, Option, Some, length, map, refl, sym, ◌∙◌, ap, subst, arith}
 use Rattle.std.proofs.lemmas.List.{length-map}
+use Rattle.std.proofs.lemmas.Option.{same_Some}
 use Rattle.std.specs.Prelude.{slice_get, flat_map}
+use Rattle.std.specs.List.{range_with_len}
 use Rattle.mely_event.specs.declared.colour.Colour.{Colour}
 use Rattle.mely_event.specs.declared.event.Event.{Event}
 use Rattle.mely_event.specs.declared.trail.Trail.{Ghosts as TrailWords}
 use Rattle.mely_history.specs.Legal.{AreLegal}
 use Rattle.mely_history.specs.Setup.{shape_of, colours_of}
-use Rattle.sws_engine.specs.LogStream.{LogsEndInOrder}
+use Rattle.mely_order.specs.Stream.{numbers_of, numbers_put}
+use Rattle.sws_engine.specs.LogStream.{LogsEndInOrder, log_stream}
+use Rattle.sws_engine.specs.LogTurns.{turns_of}
 use Rattle.sws_engine.specs.Counting.{colours_over}
 use Rattle.mely_history.specs.declared.entry.Entry.{Entry}
 use Rattle.mely_history.specs.declared.setup.Setup.{Setup}
 use Rattle.mely_shard.specs.Shard.{ShardState}
+use Rattle.mely_weave.proofs.Wholes.GatherLemmas.{get_there}
 use Rattle.mely_weave.specs.Drains.{HistoriesAreDrained}
 use Rattle.mely_weave.specs.Side.{shard_of}
 use Rattle.mely_weave.specs.Weave.{WeaveState}
@@ -30,14 +35,29 @@ use Rattle.sws_engine.specs.Loads.{Fit}
 use Rattle.sws_engine.specs.RunFits.{RunFits}
 use Rattle.sws_engine.specs.RunFact.{RunFact}
 use Rattle.sws_engine.specs.RunParts.{RunParts}
-use Rattle.sws_engine.specs.RunStands.{Way, RunStands}
-use Rattle.sws_engine.proofs.Balances.ConcludesLemmas.{placed_as, run_ends}
+use Rattle.sws_engine.specs.declared.place.Seat.{Seat}
+use Rattle.sws_engine.specs.RunStands.{Way, RunStands, at_seat}
+use Rattle.sws_engine.proofs.Balances.ConcludesLemmas.{placed_as}
 use Rattle.sws_engine.proofs.Events.WaitingListsLemmas.{each_weaker}
 use Rattle.sws_engine.proofs.Runs.SameStandsLemmas.{same_stands}
 
 -- there is a history for each shard
 pub as_many_histories : {S P : Type 0} (shards : List (ShardState S P)) (histories : List (List Entry)) (count : ℕ) → histories ≡ map (λ (has : ShardState S P). has.history) shards → length shards ≡ count → length histories ≡ count
 as_many_histories {S} {P} shards histories count are many = ap length are ∙ length-map shards (λ (has : ShardState S P). has.history) ∙ many
+
+-- where all lists are empty together, each of them is
+pub none_in : {A B : Type 0} (of : A → List B) (all : List A) (k : ℕ) (one : A) → flat_map of all ≡ [] → slice_get all k ≡ Some one → of one ≡ []
+none_in of [] k one none at = cc
+none_in {B = B} of (first ∷ all) zero one none at = ap of (sym (same_Some first one at)) ∙ first_none (of first) (flat_map of all) none
+  where
+    first_none : (xs ys : List B) → xs ++ ys ≡ [] → xs ≡ []
+    first_none [] ys none = refl
+    first_none (x ∷ xs) ys none = cc
+none_in {B = B} of (first ∷ all) (suc k) one none at = none_in of all k one (rest_none (of first) (flat_map of all) none) at
+  where
+    rest_none : (xs ys : List B) → xs ++ ys ≡ [] → ys ≡ []
+    rest_none [] ys none = none
+    rest_none (x ∷ xs) ys none = cc
 
 module _ {W L T G H : Type 0} (x : WorldWords W L) (y : TalkWords T L G H) (t : TrailWords (PlaceState H W T) (Frame H W)) (setup : Setup) (first : W) (log : Bool) (ended : Drained) (weave : WeaveState (PlaceState H W T) (Load W L))
     (histories : List (List Entry)) (states : List (PlaceState H W T)) (queued : List (List (Way W L))) (lost : List (Colour × Event × Option (Load W L)))
@@ -61,6 +81,18 @@ module _ {W L T G H : Type 0} (x : WorldWords W L) (y : TalkWords T L G H) (t : 
   none_left : ended ≡ Empty → lost ≡ [] → ways ≡ []
   none_left empty none = ap (λ (l : List (Way W L)). l ++ carried_by lost) (apart.emptied (drained_is empty)) ∙ ap (λ (l : List (Colour × Event × Option (Load W L))). carried_by l) none
 
+  many_lists : length queued ≡ colours_over total log
+  many_lists = many_queued ∙ ap (λ (s : Setup). colours_of s) of_setup ∙ colours
+
+  -- with the log, all lines that a connection gave came, in order
+  in_turn : ended ≡ Empty → lost ≡ [] → log ≡ true → (i : ℕ) → i < total → (last place : PlaceState H W T) → slice_get states (total + 2) ≡ Some last → slice_get states (i + 2) ≡ Some place → turns_of i last.lines.came ≡ range_with_len 1 (at_seat (λ (seat : Seat T). (y.view_of seat.talk).lines) place.role)
+  in_turn empty none on i under last place at there =
+      let count : length queued ≡ total + 2 + 1 = many_lists ∙ ap (λ (b : Bool). colours_over total b) on in
+      let queue = get_there queued (total + 2) (omega (arith, count)) in
+      let none_queued : queue.0 ≡ [] = none_in (λ (events : List (Way W L)). events) queued (total + 2) queue.0 (apart.emptied (drained_is empty)) queue.1 in
+      (ordered on i under).whole refl last place queue.0 at there queue.1
+      (ap (λ (events : List (Way W L)). numbers_of (log_stream y total i) events) none_queued) (ap (λ (puts : List (Colour × Event × Option (Load W L))). numbers_put (log_stream y total i) puts) none)
+
   pub run_parts : RunParts x y setup first log ended histories states queued lost
   run_parts = record {
     kept = record {
@@ -74,9 +106,9 @@ module _ {W L T G H : Type 0} (x : WorldWords W L) (y : TalkWords T L G H) (t : 
       trailed = λ c place history at there. sym (trail_is place) ∙ apart.trailed c place history at (ap (λ (s : Setup). slice_get histories (shard_of s c)) of_setup ∙ there);
     };
     stands = stands;
-    many_queued = many_queued ∙ ap (λ (s : Setup). colours_of s) of_setup ∙ colours;
+    many_queued = many_lists;
     ordered = ordered;
-    ends = λ empty none place desk at role. run_ends y total states coloured (subst (λ (l : List (Way W L)). RunStands y total states l) (none_left empty none) stands) place desk at role;
+    ends = λ empty none. record { stands = subst (λ (l : List (Way W L)). RunStands y total states l) (none_left empty none) stands; in_turn = in_turn empty none };
   }
 
 -- what is still under way fits, and the states are over the hall

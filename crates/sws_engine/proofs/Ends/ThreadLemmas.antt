@@ -1,7 +1,6 @@
 -- What a run on threads leaves, of the parts of the weave that its fleet was closed into.
-use Rattle.std.proofs.Common.{Some, ◌≡◌, ℕ, ◌<◌, Bool, false, List, [], ◌++◌, Option, length, map, refl, sym, ◌∙◌, ap, subst, arith}
-use Rattle.std.proofs.lemmas.Option.{slice_get_within}
-use Rattle.std.specs.Prelude.{slice_get, is_some, IsSome}
+use Rattle.std.proofs.Common.{Some, ◌≡◌, ℕ, Bool, List, [], Option, length, map, refl, sym, ◌∙◌, ap, subst, arith}
+use Rattle.std.specs.Prelude.{slice_get, is_some}
 use Rattle.std.specs.List.{AllByRecursion}
 use Rattle.mely_event.specs.declared.colour.Colour.{Colour}
 use Rattle.mely_event.specs.declared.event.Event.{Event}
@@ -19,16 +18,11 @@ use Rattle.mely_weave.specs.Weave.{WeaveState}
 use Rattle.mely_weave.specs.declared.draining.Drained.{Drained}
 use Rattle.mely_weave.specs.declared.draining.Drained.TheVariants.{Empty}
 use Rattle.mely_weave.specs.declared.parts.WeaveParts.{WeaveParts}
-use Rattle.mely_tally.specs.Tallies.{carried_by}
 use Rattle.mely_tally.specs.Tells.{IsTakenApart}
 use Rattle.sws_link.specs.declared.Link.{Ghosts as LinkWords}
 use Rattle.sws_link.specs.declared.world.World.{Ghosts as WorldWords}
-use Rattle.sws_steps.specs.declared.Next.{Next}
 use Rattle.sws_steps.specs.declared.talk.Talk.{Ghosts as TalkWords}
-use Rattle.sws_conn.specs.Conn.{reported_by}
-use Rattle.sws_conn.specs.Talks.{due_after}
 use Rattle.sws_engine.specs.declared.ended.Ended.{Ended}
-use Rattle.sws_engine.specs.declared.ended.Verdict.TheVariants as verdict
 use Rattle.sws_engine.specs.declared.load.Load.{Load}
 use Rattle.sws_engine.specs.declared.place.Frame.{Frame}
 use Rattle.sws_engine.specs.declared.place.Role.{Role}
@@ -40,14 +34,15 @@ use Rattle.sws_engine.specs.RunEnds.{IsPlacedAs}
 use Rattle.sws_engine.specs.ServerRun.{server_rules}
 use Rattle.sws_engine.specs.RunFits.{RunFits}
 use Rattle.sws_engine.specs.Counting.{colours_over}
-use Rattle.sws_engine.specs.RunLeaves.{lines_in, links_owed, AreWhole, VerdictIs, StateTells, lines_kept}
-use Rattle.sws_engine.specs.Handing.{served_with_loads}
-use Rattle.sws_engine.specs.Conclusion.{is_whole, ways_of, IsConcluded}
+use Rattle.sws_engine.specs.RunLeaves.{lines_in, StateTells, lines_kept}
+use Rattle.sws_engine.specs.Conclusion.{is_whole, IsConcluded}
 use Rattle.sws_engine.specs.PartsKept.{PartsKept}
+use Rattle.sws_engine.specs.CrewEnds.{CrewEnds}
 use Rattle.sws_engine.specs.ThreadsLeave.{HasRunThreads}
 use Rattle.sws_engine.specs.CrewLeaves.{HandlersRan, HasRunCrew}
-use Rattle.sws_engine.proofs.Ends.RunLeftLemmas.{told_as, histories_are, run_left}
-use Rattle.sws_engine.proofs.Ends.ConcludedLemmas.{whole_is, judged, served_many, conn_follows}
+use Rattle.sws_engine.proofs.Ends.NeverApartLemmas.{has_run}
+use Rattle.sws_engine.proofs.Ends.RunLeftLemmas.{histories_are, run_left}
+use Rattle.sws_engine.proofs.Ends.ConcludedLemmas.{whole_is, judged}
 
 -- what a state keeps says which role it has
 module _ {W L T G H : Type 0} (x : WorldWords W L) (l : LinkWords L) (y : TalkWords T L G H) where
@@ -110,31 +105,18 @@ module _ {W L T G H : Type 0} (x : WorldWords W L) (l : LinkWords L) (y : TalkWo
 module _ {W L T G H : Type 0} (x : WorldWords W L) (l : LinkWords L) (y : TalkWords T L G H) (shape : Shape) (setup : Setup) (hall : H) (first : W) (log : Bool) (how : Drained) (parts : WeaveParts (PlaceState H W T) (Load W L)) (ended : Ended W L)
     (rules : rules_of setup ≡ server_rules shape) (colours : colours_of setup ≡ colours_over (x.tells first).total log)
     (kept : PartsKept x y setup first log how (map (λ history. history.items) parts.histories.items) parts.states.items (map (λ events. events.items) parts.queued.items))
+    (crew : how ≡ Empty → parts.lost.items ≡ [] → CrewEnds y (x.tells first).total log parts.states.items)
     (fits : RunFits x l first hall parts.states.items (map (λ events. events.items) parts.queued.items) parts.lost.items)
-    (is : IsConcluded y (x.tells first).total log how parts ended) (tell : AllByRecursion (StateTells x l y) parts.states.items)
-    (unkept : (talk : T) → IsSome (y.view_of talk).end → (y.view_of talk).waiting ≡ false) where
-  abbrev total : ℕ
-  total = (x.tells first).total
-
-  pub told_well : ended.verdict ≡ verdict.Ok → VerdictIs (lines_kept log ended.log.items) ended.served.items (is_whole how parts.lost.items (lines_in no_lines parts.states.items)) total (is_some ended.world) ended.accepted ended.failed verdict.Ok
-  told_well same = told_as x l y shape setup hall first log how parts ended rules colours kept fits is tell verdict.Ok same
-
+    (is : IsConcluded y (x.tells first).total log how parts ended) (tell : AllByRecursion (StateTells x l y) parts.states.items) where
   unfoldable pub has_run_threads : HasRunThreads x l y shape hall first log ended
   unfolding run_left
-  has_run_threads = record {
-    left = run_left x l y shape setup hall first log how parts ended rules colours kept fits is tell;
-    follows = λ same coming one script i s trail known at answers there run_of.
-        let told = told_well same in
-        let run = whole_is how parts.lost.items (lines_in no_lines parts.states.items) told.0.ran in
-        let whole = subst (λ (b : Bool). AreWhole (lines_kept log ended.log.items) ended.served.items (links_owed b ended.accepted total)) told.2 told.3 in
-        let many = served_many x l y hall first log how parts ended kept.many kept.placed kept.of_world fits is tell in
-        let under : i < total = (let within = slice_get_within ended.served.items i s there in omega (arith, within, many)) in
-        let none_left : ways_of y total log how parts ended ≡ [] = ap (λ (l : List (Event × Option (Load W L))). l ++ carried_by parts.lost.items) (kept.emptied run.0) ∙ ap (λ l. carried_by l) run.1 in
-        let served_are : ended.served.items ≡ is.found = is.served ∙ ap (λ (l : List (Event × Option (Load W L))). served_with_loads l is.found) none_left in
-        conn_follows x l y hall first log how parts ended kept.many kept.placed kept.of_world fits is tell served_are i
-        (λ place seat at talks nothing some. ap (λ (w : Bool). due_after (reported_by w (y.view_of seat.talk).pending)) (unkept seat.talk some) ∙ ap (λ (n : Next). due_after (reported_by false n)) nothing)
-        coming one script s trail known at answers there run_of (whole i s under there) (told.0.enough i s there);
-  }
+  has_run_threads =
+      let run = has_run x l y shape setup hall first log how parts ended rules colours kept crew fits is tell in
+      record {
+        left = run_left x l y shape setup hall first log how parts ended rules colours kept fits is tell;
+        follows = run.follows;
+        never_apart = run.never_apart;
+      }
 
   -- and what its handlers have done
   pub has_run_crew : HandlersRan x l y hall first log setup (map (λ history. history.items) parts.histories.items) parts.lost.items → HasRunCrew x l y shape hall first log ended
@@ -144,6 +126,6 @@ module _ {W L T G H : Type 0} (x : WorldWords W L) (l : LinkWords L) (y : TalkWo
     lost = parts.lost.items;
     handled = subst (λ (all : List (List Entry)). HandlersRan x l y hall first log setup all parts.lost.items) (sym (histories_are x l y shape setup hall first log how parts ended rules colours kept fits is tell)) handled;
     none_lost = λ isnt.
-        let whole = judged (lines_kept log ended.log.items) ended.served.items (is_whole how parts.lost.items (lines_in no_lines parts.states.items)) (is_some ended.world) ended.failed total ended.accepted ended.verdict isnt is.verdict in
+        let whole = judged (lines_kept log ended.log.items) ended.served.items (is_whole how parts.lost.items (lines_in no_lines parts.states.items)) (is_some ended.world) ended.failed (x.tells first).total ended.accepted ended.verdict isnt is.verdict in
         (whole_is how parts.lost.items (lines_in no_lines parts.states.items) whole.ran).1;
   }

@@ -26,7 +26,7 @@ returns-in-Ok-run_apart-clause-leaves g c =
     let setup = c.setup_of-setup.ensures in
     let made = c.colour_count-colours.ensures in
     let count = setup.colours in
-    inr (has_run g.W.World g.W.Link.Link g.T.Talk c.args.shape.now c.setup_of-setup.result (g.T.Talk.contents_of c.args.hall) c.args.world c.args.log c.in-Ok-run_apart.drained c.in-Ok-run_apart.parts c.conclude.result (rules_are c.setup_of-setup.result c.args.shape.now setup.shape setup.rows setup.pinned) (omega (arith, count, made, same)) c.in-Ok-run_apart.ensures.ran c.in-Ok-run_apart.ensures.fits (subst (λ n. IsConcluded g.T.Talk n c.args.log c.in-Ok-run_apart.drained c.in-Ok-run_apart.parts c.conclude.result) same c.conclude.ensures.concluded) c.conclude.ensures.tell)
+    inr (has_run g.W.World g.W.Link.Link g.T.Talk c.args.shape.now c.setup_of-setup.result (g.T.Talk.contents_of c.args.hall) c.args.world c.args.log c.in-Ok-run_apart.drained c.in-Ok-run_apart.parts c.conclude.result (rules_are c.setup_of-setup.result c.args.shape.now setup.shape setup.rows setup.pinned) (omega (arith, count, made, same)) c.in-Ok-run_apart.ensures.ran.kept c.in-Ok-run_apart.ensures.ran.ends c.in-Ok-run_apart.ensures.fits (subst (λ n. IsConcluded g.T.Talk n c.args.log c.in-Ok-run_apart.drained c.in-Ok-run_apart.parts c.conclude.result) same c.conclude.ensures.concluded) c.conclude.ensures.tell)
 
 pub returns-in-Ok-run_apart-clause-model : goal.returns-in-Ok-run_apart-clause-model
 returns-in-Ok-run_apart-clause-model g c =

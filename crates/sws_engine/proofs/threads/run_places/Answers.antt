@@ -6,6 +6,7 @@ use Rattle.mely_event.specs.declared.event.Event.{Event}
 use Rattle.mely_crew.specs.Crew.{IsRegistered}
 use Rattle.mely_weave.proofs.Wholes.GatherLemmas.{get_there}
 use Rattle.sws_engine.specs.declared.place.Frame.{Frame}
+use Rattle.sws_engine.proofs.Crews.CrewPartsLemmas.{told_by}
 use Rattle.sws_engine.proofs.Ends.HandledLemmas.{accounted_by}
 use Rattle.sws_engine.proofs.Runs.BeginLemmas.{are_first, first_fits_in}
 use Rattle.mely_log.proofs.log.Log.TheSendSync as log
@@ -61,3 +62,6 @@ returns-in-Ok-clause-begun g c = subst (λ (event : Event). IsRegistered (record
 
 pub returns-in-Ok-clause-accounted : goal.returns-in-Ok-clause-accounted
 returns-in-Ok-clause-accounted g c = accounted_by _ _ _ _ _ _ _ _ _ _ c.new-app.result _ _ c.in-Ok.ensures.accounted c.first_event.ensures c.new-app.ensures.total c.new-app.ensures.log
+
+pub returns-in-Ok-clause-told : goal.returns-in-Ok-clause-told
+returns-in-Ok-clause-told g c = told_by _ _ _ _ _ _ _ _ _ _ _ c.new-app.result _ _ c.in-Ok.ensures.told c.first_event.ensures c.new-app.ensures.total c.new-app.ensures.log

@@ -4,6 +4,7 @@ use Rattle.mely_history.specs.Setup.{is_listed}
 use Rattle.mely_history.specs.declared.setup.Setup.{Setup}
 use Rattle.mely_weave.specs.Dealing.{AtEach}
 use Rattle.sws_engine.specs.Invariant.{IsConsistent}
+use Rattle.sws_engine.proofs.Crews.CrewPartsLemmas.{parts_end}
 use Rattle.sws_engine.proofs.Ends.HandledLemmas.{handlers_ran}
 use Rattle.sws_engine.proofs.Ends.ThreadLemmas.{parts_kept}
 use Rattle.sws_engine.proofs.Ends.PartedLemmas.{as_many_histories, run_fits}
@@ -34,6 +35,14 @@ returns-clause-handled g c =
     handlers_ran g.W.World g.W.Link.Link g.T.Talk _ _ _ _ _ c.args.setup.now _ c.args.world c.args.log c.total-total.result c.in_ok-weave.weave _ _ ran.accounted ran.begun c.total-total.ensures
     ran.rests.of_setup c.requires.colours (ran.of_hall _ c.in-Ok.ensures) ran.of_world parts.histories ran.rests.free parts.lost
     (λ s. refl) (λ s. refl) (λ s. refl) (λ frame k event carried is. is) (λ app s event carried after puts is. is)
+
+pub returns-clause-ends : goal.returns-clause-ends
+returns-clause-ends g c =
+    let parts = c.into_parts-parts.ensures in
+    let stands = c.stands_well.ensures in
+    let ran = c.in_ok-weave.ensures in
+    parts_end g.W.World g.W.Link.Link g.T.Talk _ _ _ _ _ c.args.setup.now _ c.args.world c.args.log c.total-total.result c.in_ok-weave.drained c.in_ok-weave.weave _ _ _ ran.told c.total-total.ensures
+    stands.keeps ran.rests c.requires.colours c.in-Ok.ensures parts.states parts.lost (λ s. refl) (λ s. refl) (λ frame k event carried is. is.0) (λ app s event carried after puts is. is)
 
 pub returns-clause-listed : goal.returns-clause-listed
 returns-clause-listed g c =

@@ -29,8 +29,8 @@ returns-in-Ok-run_threads-clause-leaves g c =
     let setup = c.setup_of-setup.ensures in
     let made = c.colour_count-colours.ensures in
     let count = setup.colours in
-    inr (has_run_threads g.W.World g.W.Link.Link g.T.Talk c.args.shape.now c.setup_of-setup.result _ c.args.world c.args.log c.in-Ok-run_threads.drained c.in-Ok-run_threads.parts c.conclude.result (rules_are c.setup_of-setup.result c.args.shape.now setup.shape setup.rows setup.pinned) (omega (arith, count, made, same)) c.in-Ok-run_threads.ensures.kept c.in-Ok-run_threads.ensures.fits
-    (subst (λ n. IsConcluded g.T.Talk n c.args.log c.in-Ok-run_threads.drained c.in-Ok-run_threads.parts c.conclude.result) same c.conclude.ensures.concluded) c.conclude.ensures.tell c.ended_is_unkept.ensures)
+    inr (has_run_threads g.W.World g.W.Link.Link g.T.Talk c.args.shape.now c.setup_of-setup.result _ c.args.world c.args.log c.in-Ok-run_threads.drained c.in-Ok-run_threads.parts c.conclude.result (rules_are c.setup_of-setup.result c.args.shape.now setup.shape setup.rows setup.pinned) (omega (arith, count, made, same)) c.in-Ok-run_threads.ensures.kept c.in-Ok-run_threads.ensures.ends c.in-Ok-run_threads.ensures.fits
+    (subst (λ n. IsConcluded g.T.Talk n c.args.log c.in-Ok-run_threads.drained c.in-Ok-run_threads.parts c.conclude.result) same c.conclude.ensures.concluded) c.conclude.ensures.tell)
 
 pub returns-then-shape-eq1-clause-crew : goal.returns-then-shape-eq1-clause-crew
 returns-then-shape-eq1-clause-crew g c = λ several. absurd (several c.if-shape-eq1.true)
@@ -41,8 +41,8 @@ returns-in-Ok-run_threads-clause-crew g c = λ several.
     let setup = c.setup_of-setup.ensures in
     let made = c.colour_count-colours.ensures in
     let count = setup.colours in
-    inr (has_run_crew g.W.World g.W.Link.Link g.T.Talk c.args.shape.now c.setup_of-setup.result _ c.args.world c.args.log c.in-Ok-run_threads.drained c.in-Ok-run_threads.parts c.conclude.result (rules_are c.setup_of-setup.result c.args.shape.now setup.shape setup.rows setup.pinned) (omega (arith, count, made, same)) c.in-Ok-run_threads.ensures.kept c.in-Ok-run_threads.ensures.fits
-    (subst (λ n. IsConcluded g.T.Talk n c.args.log c.in-Ok-run_threads.drained c.in-Ok-run_threads.parts c.conclude.result) same c.conclude.ensures.concluded) c.conclude.ensures.tell c.ended_is_unkept.ensures c.in-Ok-run_threads.ensures.handled)
+    inr (has_run_crew g.W.World g.W.Link.Link g.T.Talk c.args.shape.now c.setup_of-setup.result _ c.args.world c.args.log c.in-Ok-run_threads.drained c.in-Ok-run_threads.parts c.conclude.result (rules_are c.setup_of-setup.result c.args.shape.now setup.shape setup.rows setup.pinned) (omega (arith, count, made, same)) c.in-Ok-run_threads.ensures.kept c.in-Ok-run_threads.ensures.ends c.in-Ok-run_threads.ensures.fits
+    (subst (λ n. IsConcluded g.T.Talk n c.args.log c.in-Ok-run_threads.drained c.in-Ok-run_threads.parts c.conclude.result) same c.conclude.ensures.concluded) c.conclude.ensures.tell c.in-Ok-run_threads.ensures.handled)
 
 pub returns-in-Ok-run_threads-clause-listed : goal.returns-in-Ok-run_threads-clause-listed
 returns-in-Ok-run_threads-clause-listed g c =

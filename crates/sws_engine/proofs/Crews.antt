@@ -1,0 +1,5 @@
+pub mod CrewStandsLemmas
+pub mod StreamCameLemmas
+pub mod LogTurnLemmas
+pub mod CrewEndsLemmas
+pub mod CrewPartsLemmas
