@@ -1,7 +1,9 @@
 -- When sites were last modified.
-use Rattle.std.specs.Prelude.{◌≡◌, ℕ, ◌+◌, ◌<◌, min, max, Option, None, Some, IfSome, option_map}
+use Rattle.std.specs.Prelude.{◌≡◌, ℕ, ◌+◌, ◌/◌, ◌%◌, ◌<◌, min, max, Option, None, Some, IfSome, option_map}
 use Rattle.std.specs.Option.{option_map_or}
 use Rattle.std.specs.Arc.{arc_value}
+use Rattle.std.specs.Duration.{as_nanos}
+use Rattle.std.specs.declared.time.Duration.{Duration}
 use Rattle.httpdate.specs.Date.{unix_secs}
 use Rattle.sws_site.specs.Site.{SiteState}
 use Rattle.sws_daemon.specs.declared.shelf.Loaded.{Loaded}
@@ -14,6 +16,14 @@ IsLater before date = IfSome before (λ earlier. earlier < date)
 abbrev pub date_after : Option ℕ → ℕ → ℕ → ℕ
 date_after before newest now =
     min (max (option_map_or (λ earlier. earlier + 1) before 0) (newest + 1)) now
+
+-- the whole seconds of a time
+abbrev pub secs_of : Duration → ℕ
+secs_of time = as_nanos time / 1_000_000_000
+
+-- and the milliseconds beyond them
+abbrev pub millis_of : Duration → ℕ
+millis_of time = as_nanos time % 1_000_000_000 / 1_000_000
 
 -- when the site was last modified, in seconds after the beginning of 1970, where it has a date
 abbrev pub date_of : SiteState → Option ℕ

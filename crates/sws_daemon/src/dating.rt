@@ -1,7 +1,7 @@
 //! When a site was last modified, as the server says it.
-ghost use Rattle.std.specs.Prelude.{◌≡◌, ◌≤◌, ◌↔◌, IsSome, IfSome, min};
+ghost use Rattle.std.specs.Prelude.{◌≡◌, ◌≤◌, ◌+◌, ◌↔◌, IsSome, IfSome, Some, min};
 ghost use Rattle.sws_site.specs.Site.{last_second};
-ghost use Rattle.sws_daemon.specs.Dates.{date_after, IsLater};
+ghost use Rattle.sws_daemon.specs.Dates.{date_after, millis_of, secs_of, IsLater};
 
 use std::time::{Duration, SystemTime, UNIX_EPOCH};
 
@@ -20,7 +20,8 @@ pub fn next_date(before: Option<u64>, newest: u64, now: u64) -> Option<u64>
     ensures later { IfSome result (IsLater before) }
     ensures clock { IfSome result (λ date. date ≤ now) }
     ensures shown { IfSome result (λ date. date ≤ last_second) }
-    ensures exactly { IfSome result (λ date. date ≡ date_after before newest (min now last_second)) }
+    ensures exactly { IfSome result (λ date.
+        date ≡ date_after before newest (min now last_second)) }
 {
     let now = now.min(LAST_SECOND);
     let least = match before {
@@ -35,7 +36,8 @@ pub fn next_date(before: Option<u64>, newest: u64, now: u64) -> Option<u64>
 
 /// For how many milliseconds the clock still shows the second of this date, if it does.
 pub fn rest_of_second(date: Option<u64>, now: Duration) -> u64
-    ensures { result ≤ 1000 }
+    ensures shown { date ≡ Some (secs_of now) → result + millis_of now ≡ 1000 }
+    ensures over { (date ≡ Some (secs_of now) → ⊥) → result ≡ 0 }
 {
     if date != Some(now.as_secs()) {
         return 0;
