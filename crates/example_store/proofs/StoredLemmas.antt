@@ -1,6 +1,6 @@
 -- What a message does to what a colour has, it does to the fold of what the colour has received.
 use Rattle.std.proofs.Common.{◌≡◌, ◌+◌, ℕ, List, [], ◌∷◌, ◌++◌, Option, Some, length, map, sym, ◌∙◌, ap, fold, append_assoc}
-use Rattle.std.proofs.lemmas.List.{append-nil, map-append}
+use Rattle.std.proofs.lemmas.List.{append-nil, append_cancel_left, map-append}
 use Rattle.std.proofs.lemmas.List.Elements.{filter_map-append}
 use Rattle.std.proofs.lemmas.List.Sums.{fold-append}
 use Rattle.std.specs.BTreeMap.{insert_entry}
@@ -22,7 +22,7 @@ replies_push entries (one ∷ more) message =
     ∙ sym (append_assoc (reply_to entries one) (replies (after_one entries one) more) (reply_to (fold after_one (after_one entries one) more) message))
 
 -- what was sent, as replies
-abbrev all_in : List (Colour × Message) → List (Option Reply)
+abbrev pub all_in : List (Colour × Message) → List (Option Reply)
 all_in sent = map (λ (send : Colour × Message). reply_in send.0 send.1) sent
 
 module _ (received : List Message) (sent new : List (Colour × Message)) (entries : List (ℕ × String Global)) (answers : List (ℕ × Option (String Global))) (message : Message) (stored : IsStored received sent entries answers) where
@@ -39,6 +39,12 @@ module _ (received : List Message) (sent new : List (Colour × Message)) (entrie
     map_is = is ∙ sym next_map;
     answers_are = tells ∙ sym next_answers;
   }
+
+  -- and what two facts say of it that come one after the other
+  pub new_replies : (after : List (ℕ × String Global)) (told : List (ℕ × Option (String Global))) → IsStored (received ++ message ∷ []) (sent ++ new) after told → all_in new ≡ reply_to entries message
+  new_replies after told is = append_cancel_left (all_in sent) (all_in new) (reply_to entries message)
+      (sym (map-append (λ (send : Colour × Message). reply_in send.0 send.1) sent new) ∙ is.replied ∙ replies_push [] received message
+      ∙ ap (λ l. l ++ reply_to (fold after_one [] received) message) (sym stored.replied) ∙ ap (λ es. all_in sent ++ reply_to es message) (sym stored.map_is))
 
 -- the same on an answer, of a message that asks
 pub get_done : {A E : Type 0} (entries : List (ℕ × String Global)) (answers : List (ℕ × Option (String Global))) (message : Message) (key client number : ℕ) (found : Option (String Global)) (new : List (Colour × Message)) (answer : Result A E) → message ≡ Get key client → new ≡ (record { 0 = BUCKETS + client }, Answer key found) ∷ [] → OnOk answer (text_of found ≡ found_in entries key)

@@ -3,7 +3,7 @@
 use Rattle.std.proofs.Common.{◌≡◌, ◌+◌, ◌*◌, ◌==◌, ℕ, Bool, true, false, List, [], ◌∷◌, ◌++◌, Option, None, Some, if◌then◌else◌, length, map, refl, sym, ◌∙◌, ap, subst, arith, append_assoc, eq-eqb, ne_eqb}
 use Rattle.std.proofs.lemmas.List.{append-nil, length-append, map-append}
 use Rattle.std.proofs.lemmas.List.Sums.{sum_by-append, sum_by-cons}
-use Rattle.std.specs.List.{AllByRecursion, cons_option}
+use Rattle.std.specs.List.{AllByRecursion, cons_option, flat_map}
 use Rattle.std.specs.Prelude.{sum_by}
 use Rattle.mely_event.specs.declared.colour.Colour.{Colour}
 use Rattle.mely_event.specs.declared.event.Event.{Event}
@@ -19,6 +19,7 @@ use Rattle.mely_actor.specs.Running.{Runs, Steps}
 use Rattle.mely_actor.specs.Sending.{sends_to, turn_event}
 use Rattle.mely_actor.specs.Waiting.{put_later, put_now, turn_is_put, turning}
 use Rattle.mely_actor.proofs.NewsLemmas.{all-as, all-picked, all_news, as_news, messages-append, none-picked, own_news, picked-append, posted_news, posts-append, posts_in, posts_of, to-append}
+use Rattle.mely_actor.proofs.ReceiptLemmas.{by_message, put_and_left, receipts_in, sends_are, sends_between, sends_by, sends_one}
 use Rattle.mely_actor.proofs.RegisteredLemmas.{found, puts_append, sum_by-filter_map, sum_by-map}
 use Rattle.mely_actor.proofs.WaitingLemmas.{of_some, of_true, one_turn, put_whole}
 
@@ -131,6 +132,7 @@ module _ {A V M : Type 0} (a : ActorWords A V M) (plan : Plan A M) (c : Colour) 
     pub news : List (Bool × (Colour × M))
     pub count : after.count ≡ before.count + length (messages_of ((event, load) ∷ []))
     pub keeps : (received : List M) (sent : List (Colour × M)) → length received ≡ before.count → Keeps received sent before.value → Keeps (received ++ messages_of ((event, load) ∷ [])) (sent ++ own_news news) after.value
+    pub own : own_news news ≡ by_message load (sends_between before.waiting puts after.waiting)
     pub posts : posted_news news ≡ posts_of load
     pub sends : (b : Colour) → messages_of (puts_on b puts) ++ sends_to b after.waiting ≡ sends_to b before.waiting ++ sends_to b (all_news news)
     pub no_posts : (b : Colour) → posts_in (puts_on b puts) ≡ []
@@ -192,6 +194,7 @@ module _ {A V M : Type 0} (a : ActorWords A V M) (plan : Plan A M) (c : Colour) 
         keeps = λ received sent long kept.
             subst (λ v. Keeps (received ++ []) (sent ++ own_news (as_news false step.sends)) v) (sym step.does.keeps)
             (subst (λ r. Keeps r (sent ++ own_news (as_news false step.sends)) before.value) (sym (append-nil received)) (subst (λ s. Keeps received s before.value) (sym (ap (λ l. sent ++ l) (none-picked false step.sends) ∙ append-nil sent)) kept));
+        own = none-picked false step.sends;
         posts = all-picked false step.sends ∙ step.does.sends_are;
         sends = λ b. one_sends before after false step.sends puts put b ∙ ap (λ l. sends_to b before.waiting ++ sends_to b l) (sym (all-as false step.sends));
         no_posts = one_no_posts before after false step.sends puts put;
@@ -207,6 +210,7 @@ module _ {A V M : Type 0} (a : ActorWords A V M) (plan : Plan A M) (c : Colour) 
             subst (λ s. Keeps (received ++ message ∷ []) (sent ++ s) after.value) (sym (all-picked true step.sends))
             (moved before.plan plan before.log.colour c (received ++ message ∷ []) (sent ++ step.sends) after.value of_plan of_colour
             (step.does.keeps received sent long (moved plan before.plan c before.log.colour received sent before.value (sym of_plan) (sym of_colour) kept)));
+        own = all-picked true step.sends ∙ sym (sends_are before.waiting puts after.waiting step.sends (put_and_left a.event_of c _ _ (before.waiting ++ step.sends) after.waiting puts put));
         posts = none-picked true step.sends;
         sends = λ b. one_sends before after false step.sends puts put b ∙ ap (λ l. sends_to b before.waiting ++ sends_to b l) (sym (all-as true step.sends));
         no_posts = one_no_posts before after false step.sends puts put;
@@ -221,6 +225,7 @@ module _ {A V M : Type 0} (a : ActorWords A V M) (plan : Plan A M) (c : Colour) 
         keeps = λ received sent long kept.
             subst (λ v. Keeps (received ++ []) (sent ++ []) v) (sym step.does.keeps)
             (subst (λ r. Keeps r (sent ++ []) before.value) (sym (append-nil received)) (subst (λ s. Keeps received s before.value) (sym (append-nil sent)) kept));
+        own = refl;
         posts = refl;
         sends = λ b. one_sends before after true step.sends puts put b ∙ ap (λ l. sends_to b before.waiting ++ sends_to b l) step.does.sends_are;
         no_posts = one_no_posts before after true step.sends puts put;
@@ -240,6 +245,7 @@ module _ {A V M : Type 0} (a : ActorWords A V M) (plan : Plan A M) (c : Colour) 
     pub well : from.failed ≡ false
     pub news : List (Bool × (Colour × M))
     pub keeps : (received : List M) (was : List (Colour × M)) → length received ≡ from.count → Keeps received was from.value → Keeps (received ++ messages_of (map given_to runs)) (was ++ own_news news) to.value
+    pub own : own_news news ≡ flat_map (λ receipt. receipt.sends) (receipts_in runs)
     pub posts : posted_news news ≡ posts_in (map given_to runs)
     pub sends : (b : Colour) → messages_of (puts_on b (puts_of runs)) ++ sends_to b to.waiting ≡ sends_to b from.waiting ++ sends_to b (all_news news)
     pub no_posts : (b : Colour) → posts_in (puts_on b (puts_of runs)) ≡ []
@@ -251,6 +257,7 @@ module _ {A V M : Type 0} (a : ActorWords A V M) (plan : Plan A M) (c : Colour) 
     well = well;
     news = [];
     keeps = λ received was long kept. subst (λ r. Keeps r (was ++ []) to.value) (sym (append-nil received)) (subst (λ s. Keeps received s to.value) (sym (append-nil was)) kept);
+    own = refl;
     posts = refl;
     sends = λ b. sym (append-nil (sends_to b to.waiting));
     no_posts = λ b. refl;
@@ -269,6 +276,7 @@ module _ {A V M : Type 0} (a : ActorWords A V M) (plan : Plan A M) (c : Colour) 
         subst (λ s. Keeps (received ++ messages_of (map given_to (run ∷ later))) s to.value) (append_assoc was (own_news one.news) (own_news rest.news) ∙ ap (λ l. was ++ l) (sym (picked-append true false one.news rest.news)))
         (subst (λ r. Keeps r ((was ++ own_news one.news) ++ own_news rest.news) to.value) (append_assoc received mine (messages_of (map given_to later)) ∙ ap (λ l. received ++ l) all)
         (rest.keeps (received ++ mine) (was ++ own_news one.news) longer (one.keeps received was long kept)));
+    own = picked-append true false one.news rest.news ∙ ap (λ l. l ++ own_news rest.news) one.own ∙ ap (λ l. by_message run.load (sends_by run) ++ l) rest.own ∙ sym (sends_one run (receipts_in later) run.load);
     posts = picked-append false true one.news rest.news ∙ ap (λ l. l ++ posted_news rest.news) one.posts ∙ ap (λ l. posts_of run.load ++ l) rest.posts;
     sends = λ b.
         let was = sends_to b run.state.waiting in

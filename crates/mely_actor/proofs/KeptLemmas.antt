@@ -3,8 +3,8 @@ use Rattle.std.proofs.Common.{◌≡◌, ◌<◌, ◌≤◌, ◌+◌, ◌==◌, 
 use Rattle.std.proofs.lemmas.Bool.{cases_eq, cases_lt, lt-ltb}
 use Rattle.std.proofs.lemmas.List.{append-nil, length-map}
 use Rattle.std.proofs.lemmas.List.Sums.{sum_by-cons}
-use Rattle.std.proofs.lemmas.Option.{slice_get_within}
-use Rattle.std.specs.List.{AllByRecursion, cons_option, filter_map}
+use Rattle.std.proofs.lemmas.Option.{slice_get-map, slice_get_within}
+use Rattle.std.specs.List.{AllByRecursion, cons_option, filter_map, flat_map}
 use Rattle.std.specs.Prelude.{slice_get, sum_by}
 use Rattle.mely_event.specs.declared.colour.Colour.{Colour}
 use Rattle.mely_event.specs.declared.event.Event.{Event}
@@ -35,11 +35,15 @@ use Rattle.mely_actor.specs.KeptState.{KeptState}
 use Rattle.mely_actor.specs.Loads.{FitsLoad, is_turn, message_of, messages_of}
 use Rattle.mely_actor.specs.Received.{AreKept, AreMade, AreValues}
 use Rattle.mely_actor.specs.Running.{Runs}
-use Rattle.mely_actor.specs.Sending.{count_to, is_sent_by, messages_in, none_sent, sends_to, sent_by}
+use Rattle.mely_actor.specs.Sending.{IsThere, count_to, is_sent_by, messages_in, none_sent, sends_to, sent_by}
+use Rattle.mely_actor.specs.Serial.{Receipt, ReceivedAsByOne, ReceivedByOne, received_in, sent_in}
 use Rattle.mely_actor.proofs.ChainLemmas.{IsOn, Through, of_message, of_turn, through}
 use Rattle.mely_actor.proofs.NewsLemmas.{all-news_to, all_news, neither-picked, news-counted, news_to, news-passed, own_news, passing, picked, posted_news, posts_in, posts_of, sends-counted}
+use Rattle.mely_actor.proofs.ReceiptLemmas.{carried, carried_posts, in_load, messages_in_runs, on_colour, receipts_in}
 use Rattle.mely_actor.proofs.RegisteredLemmas.{found, puts_by_runs, registered_sum, sum_by-filter_map}
-use Rattle.mely_actor.proofs.SenderLemmas.{all-came, by-colour, came_from, many-senders, merged, posts-came, senders_of}
+use Rattle.mely_actor.proofs.SenderLemmas.{all-came, by-colour, came-there, came_from, many-senders, merged, posts-came, senders-there, senders_of}
+use Rattle.mely_actor.proofs.SerialLemmas.{ByOne, IsOurs, KeepAlong, all_of_each, all_waiting, kept_at, none_waiting, received_by_one, values_of, waiting_at}
+use Rattle.mely_actor.proofs.SilentLemmas.{is_mapped}
 use Rattle.mely_actor.proofs.WaitingLemmas.{none_there, of_some, of_true}
 
 -- the states that were made are initial
@@ -274,12 +278,16 @@ module _ {A V M R : Type 0} (a : ActorWords A V M) (plan : Plan A M) (setup : Se
       let alone = colours_one (colours_of setup) (record { 0 = 0 }) x some in
       omega (arith, here, all, none, each, both, alone)
 
-  keeps_at : (c : Colour) (value : V) → slice_get values c.0 ≡ Some value → a.kept plan.actor c (received c) (sent c) value
-  keeps_at c value at =
+  value_there : (c : Colour) (value : V) → slice_get values c.0 ≡ Some value → c.0 < colours_of setup
+  value_there c value at =
       let within = slice_get_within values c.0 value at in
       let many = ran.colours in
       let as_many = taken.many in
-      let low : c.0 < colours_of setup = omega (arith, within, many, as_many) in
+      omega (arith, within, many, as_many)
+
+  keeps_at : (c : Colour) (value : V) → slice_get values c.0 ≡ Some value → a.kept plan.actor c (received c) (sent c) value
+  keeps_at c value at =
+      let low = value_there c value at in
       told_so c (λ l. a.kept plan.actor c (received c) (own_news l) value) (λ there.
       let here = along c there in
       let fresh = made.each c.0 here.first here.is in
@@ -316,24 +324,107 @@ module _ {A V M R : Type 0} (a : ActorWords A V M) (plan : Plan A M) (setup : Se
   posted c = by_such none_sent c (record { 0 = 0 }) false true refl refl (λ e apart. news-passed none_sent e c false true refl refl (told e) ∙ ap (sends_to c) (posted_told e ∙ ap (λ b. if b then plan.posts.items else []) (ne_eqb 0 e.0 (λ same. apart (sym same)))))
       ∙ ap (sends_to c) (posted_told (record { 0 = 0 }))
 
+  there : (c : Colour) → AllByRecursion (IsThere (colours_of setup)) (senders c)
+  there c = senders-there (colours_of setup) (λ d. news_to c (told d)) (came c) (came-there (colours_of setup) (came c) (λ d high. sym (sent_there c d) ∙ ap (λ l. map (λ one. one.1) (news_to c l)) (told_beyond d high)))
+    where
+      told_beyond : (d : Colour) → colours_of setup ≤ d.0 → told d ≡ []
+      told_beyond d high = told_so d (λ l. l ≡ []) (λ low. absurd (omega (arith, low, high))) (λ far. refl)
+
+  -- ---- one order of all receipts
+
+  abbrev given_states : Colour → Option (KeptState A M V)
+  given_states d = slice_get firsts d.0
+
+  abbrev left_states : Colour → Option (KeptState A M V)
+  left_states d = slice_get states d.0
+
+  abbrev receipts : List (Receipt M V)
+  receipts = receipts_in order.serial.all
+
+  all_ours : AllByRecursion (IsOurs a plan (colours_of setup)) order.serial.all
+  all_ours = all_of_each (IsOurs a plan (colours_of setup)) order.serial.all (λ c. subst (AllByRecursion (IsOurs a plan (colours_of setup))) (sym (order.serial.each c)) (ours c (runs c) (each_on t fits y app setup plan begin given_states left_states (λ d. order.notes (shard_of setup d)) order.by_core order.by_colour order.in_order c)))
+    where
+      ours : (c : Colour) (some : List Run) → AllByRecursion (λ run. IsRunOf t fits y app setup plan run × (run.colour ≡ c)) some → AllByRecursion (IsOurs a plan (colours_of setup)) some
+      ours c [] each = tt
+      ours c (run ∷ some) each = (
+        record {
+          of_plan = sym (frames run.state) ∙ each.0.0.framed;
+          of_colour = sym (colours run.state) ∙ each.0.0.coloured;
+          there = each.0.0.there;
+          does = runs_are run.state run.event run.load run.becomes run.puts each.0.0.ran;
+        },
+        ours c some each.1,
+      )
+
+  begun_waits : all_waiting (colours_of setup) given_states ≡ []
+  begun_waits = none_waiting (colours_of setup) given_states (λ c low. let at = along c low in ap waiting_at at.is ∙ (made.each c.0 at.first at.is).nothing)
+
+  none_waits : all_waiting (colours_of setup) left_states ≡ []
+  none_waits = none_waiting (colours_of setup) left_states (λ c low. ap waiting_at (along c low).end ∙ nothing_waits c low)
+
+  received_in_order : ByOne a plan (colours_of setup) [] (values_of a plan (colours_of setup) given_states) (carried (begin ∷ [])) receipts (values_of a plan (colours_of setup) left_states)
+  received_in_order = received_by_one a plan (colours_of setup) order.serial.all given_states left_states (begin ∷ []) all_ours order.serial.made (λ c state at. taken.well c.0 state at) begun_waits none_waits
+      (λ c state at. let fresh = made.each c.0 state at in (fresh.none, fresh.begins))
+
+  values_are : values ≡ map (λ state. state.value) states
+  values_are = is_mapped (λ (state : KeptState A M V). state.value) values states taken.many (λ k state value at there. taken.each k state value at there)
+
+  received_is : (c : Colour) → c.0 < colours_of setup → received_in c receipts ≡ received c
+  received_is c low = ap (map (λ (r : Receipt M V). r.message)) (on_colour c order.serial.all ∙ ap receipts_in (order.serial.each c)) ∙ messages_in_runs (runs c) ∙ ap messages_of (given c low)
+
+  sent_is : (c : Colour) → sent_in c receipts ≡ sent c
+  sent_is c = ap (flat_map (λ (r : Receipt M V). r.sends)) (on_colour c order.serial.all ∙ ap receipts_in (order.serial.each c))
+      ∙ told_so c (λ l. flat_map (λ (r : Receipt M V). r.sends) (receipts_in (runs c)) ≡ own_news l) (λ low. sym (along c low).on.own) (λ high. ap (λ l. flat_map (λ (r : Receipt M V). r.sends) (receipts_in l)) (none_beyond c high))
+
+  serial : ReceivedAsByOne a plan.actor plan.posts.items values (λ c. received_in c receipts) (λ c. sent_in c receipts)
+  serial =
+      let value : KeptState A M V → V = λ state. state.value in
+      let first : values_of a plan (colours_of setup) given_states ≡ (λ c. slice_get (map value firsts) c.0) = λ i c. sym (slice_get-map value firsts c.0) i in
+      let last : values_of a plan (colours_of setup) left_states ≡ (λ c. slice_get values c.0) = λ i c. (sym (slice_get-map value states c.0) ∙ ap (λ l. slice_get l c.0) (sym values_are)) i in
+      let way : carried (begin ∷ []) ≡ plan.posts.items = append-nil (in_load (record { 0 = 0 }) load) ∙ carried_posts (record { 0 = 0 }) load no_message ∙ posts in
+      record {
+        first = map value firsts;
+        many =
+            let made_many = made.many in
+            let left_many = ran.colours in
+            let taken_many = taken.many in
+            let mapped = length-map firsts value in
+            omega (arith, made_many, left_many, taken_many, mapped);
+        all = receipts;
+        each_received = λ c. refl;
+        each_sent = λ c. refl;
+        made = subst (λ (v : Colour → Option V). ReceivedByOne v plan.posts.items receipts (λ c. slice_get values c.0)) first
+            (subst (λ (v : Colour → Option V). ReceivedByOne (values_of a plan (colours_of setup) given_states) plan.posts.items receipts v) last
+            (subst (λ l. ReceivedByOne (values_of a plan (colours_of setup) given_states) l receipts (values_of a plan (colours_of setup) left_states)) way received_in_order.made));
+        kept = λ before later is. kept_at a plan (colours_of setup) [] (λ c. slice_get (map value firsts) c.0) receipts before later (subst (λ (v : Colour → Option V). KeepAlong a plan (colours_of setup) [] v receipts) first received_in_order.keep) is;
+      }
+
   are_kept : AreKept a plan.actor setup plan.posts.items histories values
   are_kept = record {
     many = taken.many ∙ ran.colours;
     shards = ran.shards;
     legal = ran.legal;
     drained = ran.drained;
-    received = received;
+    received = λ c. received_in c receipts;
     registered = λ c history low there.
-        events_of_messages (a.colours_of plan.actor) a.event_of (a.sound plan.actor) plan.posts.items c (loads c) (fit c low)
+        ap (map a.event_of) (received_is c low)
+        ∙ events_of_messages (a.colours_of plan.actor) a.event_of (a.sound plan.actor) plan.posts.items c (loads c) (fit c low)
         ∙ ap messages_in (events-loaded_of (order.notes (shard_of setup c)) c ∙ sym (ap (λ h. registered_of h c) (order.of_histories (shard_of setup c) history there)));
-    sound = λ c low. messages_sound (a.colours_of plan.actor) a.event_of (a.sound plan.actor) plan.posts.items c (loads c) (fit c low);
-    sent = sent;
-    kept = keeps_at;
-    arrived = arrived;
+    sound = λ c low. subst (AllByRecursion (a.sound plan.actor c)) (sym (received_is c low)) (messages_sound (a.colours_of plan.actor) a.event_of (a.sound plan.actor) plan.posts.items c (loads c) (fit c low));
+    sent = λ c. sent_in c receipts;
+    kept = λ c value at.
+        subst (λ l. a.kept plan.actor c l (sent_in c receipts) value) (sym (received_is c (value_there c value at)))
+        (subst (λ l. a.kept plan.actor c (received c) l value) (sym (sent_is c)) (keeps_at c value at));
+    arrived = λ c low number.
+        let all : sent ≡ (λ d. sent_in d receipts) = λ i d. sym (sent_is d) i in
+        ap (sum_by number) (received_is c low) ∙ arrived c low number
+        ∙ ap (λ (s : Colour → List (Colour × M)). count_to c number plan.posts.items + sum_colours (colours_of setup) (λ d. count_to c number (s d))) all;
     senders = senders;
-    all_sent = λ c _. all_sent c;
-    posted = λ c _. posted c;
-    in_order = λ c d _. in_order c d;
+    all_sent = λ c low. all_sent c ∙ ap length (sym (received_is c low));
+    there = λ c _. there c;
+    posted = λ c low. ap (sent_by none_sent (senders c)) (received_is c low) ∙ posted c;
+    in_order = λ c d low. ap (sent_by (is_sent_by d) (senders c)) (received_is c low) ∙ in_order c d ∙ ap (sends_to c) (sym (sent_is d));
+    serial = serial;
   }
 
 -- the same for a frame that is known to be that of the states

@@ -1,14 +1,14 @@
 -- Who sent each message that came to a colour: of what each colour put there, in its order, the next.
-use Rattle.std.proofs.Common.{◌≡◌, ◌==◌, ℕ, suc, Bool, true, false, List, [], ◌∷◌, ◌++◌, Option, Some, None, if◌then◌else◌, length, map, refl, sym, ◌∙◌, ap, subst, inl, inr, eq-eqb, ne_eqb}
-use Rattle.std.proofs.lemmas.Bool.{cases_eq}
-use Rattle.std.specs.List.{cons_option, filter_map}
+use Rattle.std.proofs.Common.{◌≡◌, ◌<◌, ◌≤◌, ◌==◌, ℕ, suc, Bool, true, false, List, [], ◌∷◌, ◌++◌, Option, Some, None, if◌then◌else◌, length, map, refl, sym, ◌∙◌, ap, subst, inl, inr, eq-eqb, ne_eqb}
+use Rattle.std.proofs.lemmas.Bool.{cases_eq, cases_lt}
+use Rattle.std.specs.List.{AllByRecursion, cons_option, filter_map}
 use Rattle.mely_event.specs.declared.colour.Colour.{Colour}
 use Rattle.mely_event.specs.declared.event.Event.{Event}
 use Rattle.mely_history.proofs.LegalAccountLemmas.{same_colour}
 use Rattle.mely_cause.specs.Causes.{Registration, put_by_colour, put_first}
 use Rattle.mely_actor.specs.declared.load.Load.{Load}
 use Rattle.mely_actor.specs.Loads.{message_of, messages_of}
-use Rattle.mely_actor.specs.Sending.{sends_to, sent_by}
+use Rattle.mely_actor.specs.Sending.{IsThere, sends_to, sent_by}
 use Rattle.mely_actor.proofs.NewsLemmas.{passing, posts_in, posts_of, sender_of}
 
 module _ {M : Type 0} where
@@ -130,6 +130,32 @@ module _ {M : Type 0} where
     pub merged : (e : Colour) (q : Colour → List (Bool × M)) (came : List (Colour × M)) → Are q came → Quiet e q → sent_by test (senders_of q came) (map (λ one. one.1) came) ≡ passing test e (q e)
     merged e q [] are quiet = sym (ap (passing test e) (nothing_left (q e) (are e)))
     merged e q (one ∷ more) are quiet = first e q one more are quiet _ (merged e (with_now q one.0 (behind (q one.0))) more (still_are e q one more are quiet) (still_quiet e q one more are quiet))
+
+  -- ---- senders are colours that there are
+
+  nothing_behind : (d : Colour) (one : Colour × M) (more : List (Colour × M)) → sends_to d (one ∷ more) ≡ [] → sends_to d more ≡ []
+  nothing_behind d one more = for (one.0.0 == d.0) where
+    for : (own : Bool) → cons_option (if own then Some one.1 else None) (sends_to d more) ≡ [] → sends_to d more ≡ []
+    for true is = cc
+    for false is = is
+
+  -- where nothing came from beyond so many colours, all came from one of them
+  pub came-there : (n : ℕ) (came : List (Colour × M)) → ((d : Colour) → n ≤ d.0 → sends_to d came ≡ []) → AllByRecursion (λ one. one.0.0 < n) came
+  came-there n [] none = tt
+  came-there n (one ∷ more) none = (
+    elim (cases_lt one.0.0 n) [
+      | inl low ↦ low
+      | inr high ↦ absurd (let some = to_same one.0 one more refl in let nothing = none one.0 high in cc)
+    ],
+    came-there n more (λ d high. nothing_behind d one more (none d high)),
+  )
+
+  pub senders-there : (n : ℕ) (q : Colour → List (Bool × M)) (came : List (Colour × M)) → AllByRecursion (λ one. one.0.0 < n) came → AllByRecursion (IsThere n) (senders_of q came)
+  senders-there n q [] there = tt
+  senders-there n q (one ∷ more) there = (for (next_own (q one.0)), senders-there n (with_now q one.0 (behind (q one.0))) more there.1) where
+    for : (own : Bool) → IsThere n (sender_of one.0 own)
+    for true = there.0
+    for false = tt
 
   -- ---- what came, by whom it was put
 

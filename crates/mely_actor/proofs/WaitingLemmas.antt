@@ -75,11 +75,11 @@ module _ {X : Type 0} where
   none_there (x ∷ xs) none = cc
 
 module _ {X : Type 0} (P : X → Type 0) where
-  all_left : (xs ys : List X) → AllByRecursion P (xs ++ ys) → AllByRecursion P xs
+  pub all_left : (xs ys : List X) → AllByRecursion P (xs ++ ys) → AllByRecursion P xs
   all_left [] ys all = tt
   all_left (x ∷ xs) ys all = (all.0, all_left xs ys all.1)
 
-  all_right : (xs ys : List X) → AllByRecursion P (xs ++ ys) → AllByRecursion P ys
+  pub all_right : (xs ys : List X) → AllByRecursion P (xs ++ ys) → AllByRecursion P ys
   all_right [] ys all = all
   all_right (x ∷ xs) ys all = all_right xs ys all.1
 

@@ -12,7 +12,8 @@ use Rattle.mely_app.specs.Puts.{sum_colours}
 use Rattle.mely_actor.specs.declared.actor.Actor.{Ghosts as ActorWords}
 use Rattle.mely_actor.specs.declared.load.Plan.{Plan}
 use Rattle.mely_actor.specs.KeptState.{KeptState}
-use Rattle.mely_actor.specs.Sending.{count_to, is_sent_by, messages_in, none_sent, sends_to, sent_by}
+use Rattle.mely_actor.specs.Sending.{IsThere, count_to, is_sent_by, messages_in, none_sent, sends_to, sent_by}
+use Rattle.mely_actor.specs.Serial.{ReceivedAsByOne}
 
 module _ {A V M : Type 0} (a : ActorWords A V M) where
   -- the state of a colour that has received nothing
@@ -35,7 +36,8 @@ module _ {A V M : Type 0} (a : ActorWords A V M) where
   -- keeps the author's fact over exactly what was received and sent. What a colour received is what
   -- was posted to it and what all colours sent to it, with all its data: so it is counted, whatever
   -- number a message has. Each message has its sender, and what came from one is what that one sent
-  -- there, in the order in which it sent it.
+  -- there, in the order in which it sent it. And one thread might have received all messages, one
+  -- after another, each when it was under way, with the author's fact at each moment.
   pub record AreKept (actor : A) (setup : Setup) (posts : List (Colour × M))
       (histories : List (List Entry)) (values : List V) : Type 0 where
     pub many : length values ≡ colours_of setup
@@ -57,10 +59,13 @@ module _ {A V M : Type 0} (a : ActorWords A V M) where
         ≡ count_to c number posts + sum_colours (colours_of setup) (λ d. count_to c number (sent d))
     pub senders : Colour → List (Option Colour)
     pub all_sent : (c : Colour) → c.0 < colours_of setup → length (senders c) ≡ length (received c)
+    pub there : (c : Colour) → c.0 < colours_of setup
+        → AllByRecursion (IsThere (colours_of setup)) (senders c)
     pub posted : (c : Colour) → c.0 < colours_of setup
         → sent_by none_sent (senders c) (received c) ≡ sends_to c posts
     pub in_order : (c d : Colour) → c.0 < colours_of setup
         → sent_by (is_sent_by d) (senders c) (received c) ≡ sends_to c (sent d)
+    pub serial : ReceivedAsByOne a actor posts values received sent
 
 -- each value is that of its state, none of which has failed
 pub record AreValues {A M V : Type 0} (states : List (KeptState A M V)) (values : List V)

@@ -29,6 +29,11 @@ abbrev pub is_sent_by : Colour → Option Colour → Bool
 is_sent_by c None = false
 is_sent_by c (Some d) = d.0 == c.0
 
+-- the sender is one of so many colours, where there is one
+abbrev pub IsThere : ℕ → Option Colour → Type 0
+IsThere colours None = Unit {0}
+IsThere colours (Some d) = d.0 < colours
+
 -- of messages, each with its sender at the same place, those whose sender is such, in order
 abbrev pub sent_by : {M : Type 0} → (Option Colour → Bool) → List (Option Colour) → List M → List M
 sent_by test [] messages = []

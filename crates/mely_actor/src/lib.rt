@@ -24,9 +24,26 @@
 //! from whichever cores its turns sent them; and what was posted to a colour came in the order in
 //! which it was posted.
 //!
-//! Not promised is in which order the messages of different senders come to a colour; nor that a
-//! message came from messages before it: what a colour received and what it sent are lists over the
-//! whole run, which alone don't rule out two messages that send one another.
+//! Whatever threads made the run, one thread might have received all its messages, one after
+//! another ([`ReceivedAsByOne`](../specs/Serial.antt), `serial` of `AreKept`). There is one order
+//! of all receipts, in which those of each colour stand in theirs. It begins with the values that
+//! the colours begin with, and the posts under way; each receipt takes a message that is under way,
+//! at the value that the receipt of its colour before it left, and what it sends is under way from
+//! then on; at the end nothing is, and the values are those that are handed out. So each message
+//! comes from messages before it, or was posted. And the author's fact isn't one of the end alone:
+//! at each moment of that order it holds of the value of each colour, over what the colour has
+//! received and sent by then.
+//!
+//! So who shows that each receipt keeps something, of the values of all colours and of the messages
+//! under way, has shown it of threads. [proofs/MomentLemmas.antt](../proofs/MomentLemmas.antt) has
+//! the rules: it holds in the end (`in_the_end`) and wherever a message is received (`whenever`,
+//! `each_message`), each message has its cause (`has_cause`), and a sum that no receipt changes is
+//! in the end what it was with the posts (`total_kept`, as the money in `example_bank`).
+//!
+//! Not promised is in which order the messages of different senders come to a colour; nor, where
+//! several have sent a colour the same message, whose a receipt of the one order takes: what is
+//! under way there are messages with the colours that they are for, and not with those that sent
+//! them.
 #![tactic(auto)]
 
 mod acting;
