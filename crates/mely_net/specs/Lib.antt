@@ -1,0 +1,9 @@
+pub mod Cutting
+pub mod Rules
+pub mod Exchanges
+pub mod Lines
+pub mod Talks
+pub mod Clients
+pub mod Messages
+pub mod Parts
+pub mod Served

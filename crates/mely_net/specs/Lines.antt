@@ -1,0 +1,98 @@
+-- What a connection was asked and what it answered, line by line.
+use Rattle.std.specs.Prelude.{◌≡◌, ◌<◌, ℕ, List, [], ◌∷◌, ◌++◌, Option, Some, None, ⊤, IfSome, map, filter_map, flat_map}
+use Rattle.sws_link.specs.Links.{LinkContents}
+use Rattle.mely_net.specs.declared.asked.Asked.{Asked}
+use Rattle.mely_net.specs.declared.asked.Asked.TheVariants.{At, Here, Last}
+use Rattle.mely_net.specs.declared.cut.Cut.TheVariants.{Fault, More}
+use Rattle.mely_net.specs.declared.end.End.{End}
+use Rattle.mely_net.specs.declared.end.End.TheVariants as ends
+use Rattle.mely_net.specs.Cutting.{AreFrames, cut_within}
+use Rattle.mely_net.specs.Exchanges.{Exchange}
+use Rattle.mely_net.specs.Rules.{Rules}
+
+-- a frame, what it asked, and what was replied
+pub record Line (Request Reply : Type 0) : Type 0 where
+  pub frame : List ℕ
+  pub asked : Asked Request Reply
+  pub reply : Reply
+
+-- a reply without a cell is the one that the frame has
+abbrev pub IsReply : {Q P : Type 0} → Asked Q P → P → Type 0
+IsReply (At cell request) reply = ⊤
+IsReply (Here own) reply = reply ≡ own
+IsReply (Last own) reply = reply ≡ own
+
+-- the connection ends with it
+abbrev pub IsLast : {Q P : Type 0} → Asked Q P → Type 0
+IsLast (At cell request) = ⊥
+IsLast (Here own) = ⊥
+IsLast (Last own) = ⊤
+
+-- a cell that is asked is one of so many
+abbrev pub IsWhose : {Q P : Type 0} → ℕ → Asked Q P → Type 0
+IsWhose cells (At cell request) = cell < cells
+IsWhose cells (Here own) = ⊤
+IsWhose cells (Last own) = ⊤
+
+-- the exchange of a line with a cell, where it has one
+abbrev pub exchange_of : {Q P : Type 0} → P → Asked Q P → Option (Exchange Q P)
+exchange_of reply (At cell request) =
+    Some (record { peer = cell; request = request; reply = reply })
+exchange_of reply (Here own) = None
+exchange_of reply (Last own) = None
+
+-- all those of lines, in order
+abbrev pub exchanges_in : {Q P : Type 0} → List (Line Q P) → List (Exchange Q P)
+exchanges_in lines = filter_map (λ line. exchange_of line.reply line.asked) lines
+
+-- no line is behind one with which the connection ends
+abbrev pub EndAtLast : {Q P : Type 0} → List (Line Q P) → Type 0
+EndAtLast [] = ⊤
+EndAtLast (line ∷ lines) = (IsLast line.asked → lines ≡ []) × EndAtLast lines
+
+module _ {Q P C : Type 0} (rules : Rules Q P C) where
+  pub record IsLine (line : Line Q P) : Type 0 where
+    pub asks : rules.Asks line.frame line.asked
+    pub replies : IsReply line.asked line.reply
+
+  -- the bytes of their replies, in order
+  abbrev pub shown_of : List (Line Q P) → List ℕ
+  shown_of lines = flat_map (λ line. rules.shown line.reply) lines
+
+  -- those of the answer to a fault
+  abbrev pub shown_to_fault : Option P → List ℕ
+  shown_to_fault None = []
+  shown_to_fault (Some reply) = rules.shown reply
+
+  -- bytes that begin with no frame are answered so
+  pub record IsRefused (rest : List ℕ) (reply : P) : Type 0 where
+    pub refuses : rules.Refuses reply
+    pub fault : cut_within rules.cut rules.longest rest ≡ Fault
+
+  -- what an end says of what is not cut and what is not written: a client that has sent all is
+  -- answered all its frames
+  abbrev pub IsAll : Option End → List ℕ → List ℕ → Type 0
+  IsAll None rest unwritten = ⊤
+  IsAll (Some ends.Left) rest unwritten =
+      (unwritten ≡ []) × (cut_within rules.cut rules.longest rest ≡ More)
+  IsAll (Some ends.Done) rest unwritten = unwritten ≡ []
+  IsAll (Some ends.Fault) rest unwritten = ⊤
+  IsAll (Some ends.Memory) rest unwritten = ⊤
+  IsAll (Some ends.Astray) rest unwritten = ⊤
+
+  -- What was taken of a link begins with the frames of these lines, in order. What was written and
+  -- what isn't yet are the bytes of their replies, in order, and of the answer to a fault, which
+  -- may only come last. What is on its way is in the outbox, as long as the connection hasn't
+  -- ended; and nothing is unwritten where it has ended well. Where its client has sent all that it
+  -- sends, all of that was taken, and no frame of it is left.
+  pub record IsFramed (told : LinkContents) (lines : List (Line Q P)) (outbox : List ℕ)
+      (end : Option End) : Type 0 where
+    pub rest : List ℕ
+    pub frames : AreFrames rules.cut rules.longest told.taken (map (λ line. line.frame) lines) rest
+    pub refused : Option P
+    pub refused_is : IfSome refused (IsRefused rest)
+    pub unwritten : List ℕ
+    pub written : told.written ++ unwritten ≡ shown_of lines ++ shown_to_fault refused
+    pub on_its_way : end ≡ None → unwritten ≡ outbox
+    pub all : IsAll end rest unwritten
+    pub nothing_left : end ≡ Some ends.Left → told.left ≡ []

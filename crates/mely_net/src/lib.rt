@@ -1,0 +1,83 @@
+//! Networked services over actors: an author says what a frame asks, of which cell, and what a cell
+//! does with a request, and gets a server on all cores, without a lock.
+//!
+//! A [`Service`] cuts the bytes of a connection into frames. What a frame asks is answered by the
+//! connection itself ([`Asked::Here`], [`Asked::Last`]) or by one of the service's *cells*, each of
+//! which has a value of its own and answers one request after another ([`Asked::At`]). So keys that
+//! are spread over cells are served on all cores at once, and a key is never at two places. So
+//! `example_counters` does with a cell that has the counters of some keys:
+//!
+//! ```text
+//! match request {
+//!     Request::Add(key, number) => {
+//!         let sum = value(counters, key).saturating_add(number);
+//!         counters.insert(key, sum)?;
+//!         Ok(Reply::Number(sum))
+//!     }
+//!     Request::Get(key) => Ok(Reply::Number(value(counters, key))),
+//! }
+//! ```
+//!
+//! [`serve`] runs it over any [`World`](sws_link::World) of links that is open, until all of its
+//! connections have ended, and leaves the value of each colour, a [`Part`]:
+//!
+//! | Colour | What it has |
+//! |---|---|
+//! | 0 | the [`Desk`], which asks the world who may go on, and for the next link |
+//! | `1 + c` | the value of cell `c` |
+//! | `1 + cells + k` | connection `k`, a [`Client`]: its link, and how it has ended ([`End`]) |
+//!
+//! A connection has one request under way at most. It isn't read while a request is under way or an
+//! answer isn't written, so who doesn't take answers isn't heard either. Frames that came together
+//! are answered together. A frame of more than [`Service::longest`] bytes is a fault, as is what
+//! the service can't cut: it is answered once ([`Service::refuse`]), and the connection ends.
+//!
+//! # What is promised
+//!
+//! [`HasServed`](../specs/Served.antt), of every run that ends with Ok:
+//!
+//! - *Framed.* Over a link that tells what was taken and written, what was taken of a connection
+//!   begins with the frames of its lines, as the service cuts them; each line has what its frame
+//!   asks, and its reply; and what was written, and what isn't yet, are the bytes of these replies
+//!   in order. Where the connection has ended well, nothing is left unwritten; where its client has
+//!   sent all that it sends, all of that was taken, and no frame of it is left.
+//! - *Sequential.* Each cell has one list of exchanges, a request with its reply, along which it
+//!   went step by step from what it began with to the value that is handed out: a sequential
+//!   history, as in linearizability (M. Herlihy and J. Wing, *Linearizability: A Correctness
+//!   Condition for Concurrent Objects*, 1990).
+//! - *The same exchanges.* The exchanges of a connection with a cell, by the lines of the
+//!   connection, are in order those of the cell with the connection, by the history of the cell. So
+//!   each request has one place in the history of its cell, those of one connection stand there in
+//!   the order in which they were sent, and what a connection is told is the reply of that place.
+//!   No request is left under way, and no reply goes astray.
+//!
+//! **Not promised**, since nothing tells it: what a socket brings or carries away; in which order
+//! the requests of different connections come to a cell; anything of the order of exchanges with
+//! different cells, so that a request which concerns several keys is no single step; that a run
+//! ends, or how long an answer takes; and anything of a run that wants memory, which is dropped.
+#![tactic(auto)]
+
+mod acting;
+mod asked;
+mod asking;
+mod client;
+mod cut;
+mod desk;
+mod end;
+mod layout;
+mod message;
+mod part;
+mod running;
+mod service;
+mod serving;
+mod window;
+
+pub use asked::Asked;
+pub use client::Client;
+pub use cut::Cut;
+pub use desk::Desk;
+pub use end::End;
+pub use message::{Held, Message};
+pub use part::Part;
+pub use running::{MOST_WORKERS, serve};
+pub use service::Service;
