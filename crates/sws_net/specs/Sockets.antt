@@ -6,7 +6,7 @@ use Rattle.sws_link.specs.declared.LinkRead.TheVariants as read
 use Rattle.sws_link.specs.declared.LinkWrite.{LinkWrite}
 use Rattle.sws_link.specs.declared.LinkWrite.TheVariants as write
 use Rattle.sws_link.specs.Links.{LinkContents, given_by, written_by, EndsRead}
-use Rattle.sws_net.specs.Invariant.{kept_limit}
+use Rattle.sws_net.specs.Invariant.{head_limit, kept_limit}
 
 -- what was taken of what the peer sends and what is left of it, and what the socket took to be sent
 pub record SocketContents : Type 0 where
@@ -66,19 +66,20 @@ IsReceived read.End = ⊤
 IsReceived read.NotReady = ⊥
 IsReceived read.Failed = ⊥
 
--- a piece is kept: nothing was, it begins a response, and it is small and kept as a whole
-pub record IsKeptWhole (kept : List ℕ) (in_piece : Bool) (count : ℕ) (piece now : List ℕ)
+-- a piece is kept as a whole: it isn't the rest of one, and is small and nothing was kept, or stands
+-- behind what a link keeps that holds answers
+pub record IsKeptWhole (kept : List ℕ) (in_piece holds : Bool) (count : ℕ) (piece now : List ℕ)
     : Type 0 where
-  pub nothing_was : kept ≡ []
+  pub may : (holds ≡ true) ⊎ ((kept ≡ []) × (length piece ≤ head_limit))
   pub begins : in_piece ≡ false
-  pub small : length piece ≤ kept_limit
+  pub few : length now ≤ kept_limit
   pub whole : count ≡ length piece
-  pub is : now ≡ piece
+  pub is : now ≡ kept ++ piece
 
 -- what counts as written of a piece was kept, or nothing is kept any more
-abbrev pub KeepsOrSends : List ℕ → Bool → LinkWrite → List ℕ → List ℕ → Type 0
-KeepsOrSends kept in_piece (write.Wrote count) piece now =
-    IsKeptWhole kept in_piece count piece now ⊎ (now ≡ [])
-KeepsOrSends kept in_piece write.NotReady piece now = ⊤
-KeepsOrSends kept in_piece write.Failed piece now = ⊤
-KeepsOrSends kept in_piece write.Memory piece now = ⊤
+abbrev pub KeepsOrSends : List ℕ → Bool → Bool → LinkWrite → List ℕ → List ℕ → Type 0
+KeepsOrSends kept in_piece holds (write.Wrote count) piece now =
+    IsKeptWhole kept in_piece holds count piece now ⊎ (now ≡ [])
+KeepsOrSends kept in_piece holds write.NotReady piece now = ⊤
+KeepsOrSends kept in_piece holds write.Failed piece now = ⊤
+KeepsOrSends kept in_piece holds write.Memory piece now = ⊤

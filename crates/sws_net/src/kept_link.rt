@@ -15,6 +15,10 @@ use sws_link::{Link, LinkRead, LinkWrite};
 /// goes to the socket with the piece behind it, by one call. It goes alone where a read or
 /// the end comes instead. What is kept back counts as written. Of the piece behind it, only
 /// what the socket took does.
+///
+/// **Answers may go together.** A link that holds answers keeps the small pieces behind it back
+/// too, up to 4,096 bytes in all, so that the answers to requests that came together go out
+/// together. A read hands them on before it looks for more.
 #[derive(Drop)]
 pub struct KeptLink<S: Socket + Drop> {
     socket: S,
@@ -22,9 +26,16 @@ pub struct KeptLink<S: Socket + Drop> {
 
     /// Whether a piece was taken in part, so that the next one is the rest of it.
     in_piece: bool,
+
+    /// Whether pieces behind a kept one are kept too.
+    holds: bool,
     faults: u64,
     waits: u64,
 }
+
+/// How many bytes a head has at most that is kept by a link which holds no answers. Every head of a
+/// response has fewer.
+const MAX_HEAD: usize = 512;
 
 /// How it went to hand on what was kept.
 enum Handed {
@@ -86,7 +97,7 @@ fn send_behind<S: Socket>(socket: &mut S, kept: &mut Kept, piece: &[u8]) -> Link
     ensures fits { IsWriteWithin result (length piece.now) }
     ensures puts { LinkPuts (link_tells (S.tells socket.old) kept.old)
         (link_tells (S.tells socket.new) kept.new) result piece.now }
-    ensures keeps { KeepsOrSends kept.old true result piece.now kept.new }
+    ensures keeps { KeepsOrSends kept.old true false result piece.now kept.new }
     ensures not_shut { S.is_shut socket.new ≡ false }
 {
     let len = kept.bytes().len();
@@ -106,11 +117,12 @@ fn send_behind<S: Socket>(socket: &mut S, kept: &mut Kept, piece: &[u8]) -> Link
 }
 
 /// Hands over a piece, with what is kept before it; or keeps it, where it is
-/// small and begins a response.
+/// small and begins a response, or stands behind kept ones of a link that holds answers.
 fn write_behind<S: Socket>(
     socket: &mut S,
     kept: &mut Kept,
     in_piece: bool,
+    holds: bool,
     piece: &[u8],
 ) -> LinkWrite
     requires some { 0 < length piece.now }
@@ -118,21 +130,23 @@ fn write_behind<S: Socket>(
     ensures fits { IsWriteWithin result (length piece.now) }
     ensures puts { LinkPuts (link_tells (S.tells socket.old) kept.old)
         (link_tells (S.tells socket.new) kept.new) result piece.now }
-    ensures keeps { KeepsOrSends kept.old in_piece result piece.now kept.new }
+    ensures keeps { KeepsOrSends kept.old in_piece holds result piece.now kept.new }
     ensures not_shut { S.is_shut socket.new ≡ false }
 {
-    if !in_piece && kept.is_empty() && kept.keep(piece) {
+    let may_keep = holds || (kept.is_empty() && piece.len() <= MAX_HEAD);
+    if !in_piece && may_keep && kept.keep(piece) {
         return LinkWrite::Wrote(piece.len());
     }
     send_behind(socket, kept, piece)
 }
 
 impl<S: Socket + Drop> KeptLink<S> {
-    /// A link that keeps nothing yet.
-    pub fn new(alloc: Global, socket: S) -> KeptLink<S>
+    /// A link that keeps nothing yet, and holds answers or doesn't.
+    pub fn new(alloc: Global, socket: S, holds: bool) -> KeptLink<S>
         ensures socket { result.socket ≡ socket }
         ensures nothing_kept { result.kept ≡ [] }
         ensures begins { result.in_piece ≡ false }
+        ensures holds { result.holds ≡ holds }
         ensures no_faults_yet { result.faults ≡ 0 }
         ensures no_waits_yet { result.waits ≡ 0 }
     {
@@ -140,6 +154,7 @@ impl<S: Socket + Drop> KeptLink<S> {
             socket,
             kept: Kept::new(alloc),
             in_piece: false,
+            holds,
             faults: 0,
             waits: 0,
         }
@@ -187,18 +202,19 @@ impl<S: Socket + Drop> Link for KeptLink<S> {
         }
     }
 
-    /// Keeps the piece, where it is small and begins a response, or hands it over behind what is
-    /// kept.
+    /// Keeps the piece, where it is small and begins a response or is held behind one, or hands it
+    /// over behind what is kept.
     fn write(&mut self, bytes: &[u8]) -> LinkWrite
         requires some { 0 < length bytes.now }
         requires not_shut { S.is_shut self.old.socket ≡ false }
-        ensures keeps { KeepsOrSends self.old.kept self.old.in_piece result
+        ensures keeps { KeepsOrSends self.old.kept self.old.in_piece self.old.holds result
             bytes.now self.new.kept }
         ensures writes { Writes (λ link. link_tells (S.tells link.socket) link.kept)
             (λ link. S.is_shut link.socket) (λ link. kept_count link.faults)
             (λ link. kept_count link.waits) self.old bytes.now result self.new }
     {
-        match write_behind(&mut self.socket, &mut self.kept, self.in_piece, bytes) {
+        let (in_piece, holds) = (self.in_piece, self.holds);
+        match write_behind(&mut self.socket, &mut self.kept, in_piece, holds, bytes) {
             LinkWrite::Wrote(count) => {
                 self.in_piece = count < bytes.len();
                 LinkWrite::Wrote(count)

@@ -121,7 +121,7 @@ fn see_out(rt: &HostRuntime, mut server: Server) {
 fn begin(rt: &HostRuntime, listener: &TcpListener, total: u16) -> io::Result<(Server, u64)> {
     let now = time_of(rt)?;
     let listener = net::TcpListener::from_std(listener.try_clone()?);
-    Ok((Server::over(rt, listener, total)?, now))
+    Ok((Server::over(rt, listener, total, true)?, now))
 }
 
 impl<'d> Stay<'d> {

@@ -11,7 +11,7 @@ use std::marker::Model;
 use sws_link::{LinkRead, LinkWrite};
 
 /// How many bytes may come with the end.
-const MAX_LAST: usize = 512;
+const MAX_LAST: usize = 4096;
 
 /// Gives its input to the reads, and keeps what is sent; a contract sees all of it.
 #[derive(Drop)]

@@ -20,6 +20,10 @@ use std::time::{Clock, Duration};
 /// others do.
 const TICK: u64 = 250;
 
+/// How many looks in succession don't ask the machine at most, while a link that is there is busy:
+/// what it does then is often the next that there is to see, and each question costs a call.
+const PASSED: u32 = 7;
+
 /// How many events one wait brings at most.
 const EVENTS: usize = 256;
 
@@ -58,6 +62,9 @@ pub struct Server {
     /// behind theirs.
     total: u16,
 
+    /// Whether its links hold answers.
+    holds: bool,
+
     /// How many connections were taken from the lobby's exit.
     taken: u64,
 
@@ -66,6 +73,9 @@ pub struct Server {
 
     /// Whether the machine had no room for a connection, which is still waiting.
     is_to_retry: bool,
+
+    /// How many looks in succession haven't asked the machine.
+    passed: u32,
 
     /// The time of the last wait, in milliseconds.
     now: u64,
@@ -84,15 +94,21 @@ pub fn time_of(clock: &impl Clock) -> io::Result<u64> {
 }
 
 impl Server {
-    /// Listens at the port, on all of the machine's addresses, for so many links.
+    /// Listens at the port, on all of the machine's addresses, for so many links, which hold no
+    /// answers.
     pub fn new(rt: &HostRuntime, port: u16, total: u16) -> io::Result<Server> {
         let address = SocketAddr::new(IpAddr::V4(Ipv4Addr::new(0, 0, 0, 0)), port);
-        Server::over(rt, TcpListener::bind(rt, address)?, total)
+        Server::over(rt, TcpListener::bind(rt, address)?, total, false)
     }
 
     /// Takes so many connections from this listener, which doesn't block and may have owners
-    /// beside this one.
-    pub fn over(rt: &HostRuntime, listener: TcpListener, total: u16) -> io::Result<Server> {
+    /// beside this one. Their links hold answers or don't.
+    pub fn over(
+        rt: &HostRuntime,
+        listener: TcpListener,
+        total: u16,
+        holds: bool,
+    ) -> io::Result<Server> {
         let alloc = rt.alloc();
         let now = time_of(rt)?;
         let mut listener = listener;
@@ -113,9 +129,11 @@ impl Server {
             progress,
             departures: Departures::new(alloc),
             total,
+            holds,
             taken: 0,
             may_accept: true,
             is_to_retry: false,
+            passed: 0,
             now,
             swept: now,
             has_cut: false,
@@ -167,9 +185,9 @@ impl Server {
     }
 
     /// Which of those that wait may be ready, as one that was cut is. Where none
-    /// showed it, the machine is asked; that waits for one to be due, at most for `most`
-    /// milliseconds, where each link that is there waits and no connection may be waiting to be
-    /// accepted, and else not at all.
+    /// showed it, the machine is asked: where each link that is there waits, and no connection may
+    /// be waiting to be accepted, for one to be due, at most for `most` milliseconds; and else
+    /// without waiting, at each eighth look.
     pub fn look(
         &mut self,
         rt: &HostRuntime,
@@ -190,6 +208,11 @@ impl Server {
             return Ok(None);
         }
         let all_wait = waiting.len() as u64 >= self.there(accepted);
+        if !all_wait && self.passed < PASSED {
+            self.passed += 1;
+            return Ok(None);
+        }
+        self.passed = 0;
         self.wait(rt, waiting, all_wait, most)?;
         Ok(self.signs.take_ready(&self.lobby, waiting, self.now))
     }
@@ -233,7 +256,7 @@ impl Server {
     }
 
     /// For how many milliseconds the machine may be waited for.
-    fn patience(&self, waiting: &[u16]) -> u64 {
+    fn patience(&mut self, waiting: &[u16]) -> u64 {
         let until = self.signs.until_due(waiting, self.now);
         let until = until.min(self.departures.until_due(self.now));
         if self.is_to_retry {
@@ -354,6 +377,6 @@ impl Server {
         let presence = self.lobby.enter(number)?;
         register(self.poll.registry(), &mut stream, number as usize)?;
         self.signs.begin(number as usize, self.now);
-        TcpLink::new(self.alloc, stream, presence)
+        TcpLink::new(self.alloc, stream, presence, self.holds)
     }
 }

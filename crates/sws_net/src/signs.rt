@@ -4,6 +4,7 @@ ghost use Rattle.sws_net.specs.Invariant.{silence};
 
 use crate::lobby::{Lobby, Way};
 use std::alloc::{AllocError, Global};
+use std::collections::VecDeque;
 
 /// After so many milliseconds without a sign a link that waits counts as ready, so that one whose
 /// peer says nothing comes to its end.
@@ -35,12 +36,15 @@ impl Sign {
         was_shown
     }
 
-    /// It showed something in this way.
-    fn show(&mut self, way: Way) {
-        match way {
-            Way::Reading => self.can_read = true,
-            Way::Writing => self.can_write = true,
-        }
+    /// It showed something in this way. Answers whether it had shown nothing there.
+    fn show(&mut self, way: Way) -> bool {
+        let shown = match way {
+            Way::Reading => &mut self.can_read,
+            Way::Writing => &mut self.can_write,
+        };
+        let is_new = !*shown;
+        *shown = true;
+        is_new
     }
 }
 
@@ -48,9 +52,19 @@ impl Sign {
 ///
 /// A link that waits to write isn't ready because something has come, nor one that waits to read
 /// because the machine would take bytes: for it that is no sign of life.
+///
+/// Who is ready to be read is found without a look at those that aren't, so that a thousand idle
+/// links cost the others nothing.
 #[derive(Drop)]
 pub struct Signs {
     signs: Vec<Sign>,
+
+    /// The links that have shown that there is something to read, in the order in which they did,
+    /// each once. There is room for all.
+    readable: VecDeque<u16>,
+
+    /// Before this time no link that waited when it was reckoned is due, in milliseconds.
+    due: u64,
 }
 
 impl Signs {
@@ -63,6 +77,8 @@ impl Signs {
         };
         Ok(Signs {
             signs: Vec::from_elem(alloc, none, links as usize)?,
+            readable: VecDeque::with_capacity(alloc, links as usize)?,
+            due: now,
         })
     }
 
@@ -75,26 +91,71 @@ impl Signs {
 
     /// The link showed that it is ready in this way.
     pub fn note(&mut self, link: usize, way: Way) {
-        if let Some(sign) = self.signs.get_mut(link) {
-            sign.show(way);
+        let (Some(sign), Ok(conn)) = (self.signs.get_mut(link), u16::try_from(link)) else {
+            return;
+        };
+        if sign.show(way) && way == Way::Reading {
+            // each is there once, and there is room for all
+            let _ = self.readable.push_back(conn);
         }
     }
 
-    /// The first of those that wait which showed that it is ready in the way for which it waits.
-    /// From then on it has shown nothing there.
+    /// One of those that wait which showed that it is ready in the way for which it waits: to read,
+    /// the first that showed it, and else to write. From then on it has shown nothing there.
     pub fn take_ready(&mut self, lobby: &Lobby, waiting: &[u16], now: u64) -> Option<u16>
+        ensures { IfSome result (λ conn. Contains waiting.now conn) }
+    {
+        match self.take_readable(lobby, waiting) {
+            Some(conn) => {
+                self.name(conn, now);
+                Some(conn)
+            }
+            None if lobby.writers() == 0 => None,
+            None => self.take_writable(lobby, waiting, now),
+        }
+    }
+
+    /// The first of those that wait to read which showed that it can.
+    fn take_readable(&mut self, lobby: &Lobby, waiting: &[u16]) -> Option<u16>
+        ensures { IfSome result (λ conn. Contains waiting.now conn) }
+    {
+        for _ in 0..self.readable.len() {
+            let conn = self.readable.pop_front()?;
+            let link = conn as usize;
+            if lobby.way(link) == Way::Reading && waiting.contains(&conn) {
+                if let Some(sign) = self.signs.get_mut(link) {
+                    sign.take(Way::Reading);
+                }
+                return Some(conn);
+            }
+            let _ = self.readable.push_back(conn);
+        }
+        None
+    }
+
+    /// The first of those that wait to write which showed that it can.
+    fn take_writable(&mut self, lobby: &Lobby, waiting: &[u16], now: u64) -> Option<u16>
         ensures { IfSome result (λ conn. Contains waiting.now conn) }
     {
         for conn in waiting {
             let link = *conn as usize;
-            if let Some(sign) = self.signs.get_mut(link) {
-                if sign.take(lobby.way(link)) {
-                    sign.named = now;
-                    return Some(*conn);
+            if lobby.way(link) == Way::Writing {
+                if let Some(sign) = self.signs.get_mut(link) {
+                    if sign.take(Way::Writing) {
+                        sign.named = now;
+                        return Some(*conn);
+                    }
                 }
             }
         }
         None
+    }
+
+    /// The link is named now.
+    fn name(&mut self, link: u16, now: u64) {
+        if let Some(sign) = self.signs.get_mut(link as usize) {
+            sign.named = now;
+        }
     }
 
     /// Those that wait and weren't named for long count as ready. Each is counted by itself, so
@@ -102,19 +163,30 @@ impl Signs {
     pub fn sweep(&mut self, lobby: &Lobby, waiting: &[u16], now: u64) {
         for conn in waiting {
             let link = *conn as usize;
-            if let Some(sign) = self.signs.get_mut(link) {
-                if now.saturating_sub(sign.named) >= SILENCE {
-                    sign.show(lobby.way(link));
-                }
+            let is_due = match self.signs.get(link) {
+                Some(sign) => now.saturating_sub(sign.named) >= SILENCE,
+                None => false,
+            };
+            if is_due {
+                self.note(link, lobby.way(link));
             }
         }
     }
 
     /// In how many milliseconds the first of those that wait is to be named at the latest, and in
-    /// a second where none waits.
-    pub fn until_due(&self, waiting: &[u16], now: u64) -> u64
+    /// a second where none waits. It is reckoned anew where that time has come: a link that has
+    /// begun to wait since may be named up to a second later.
+    pub fn until_due(&mut self, waiting: &[u16], now: u64) -> u64
         ensures { result ≤ silence }
     {
+        if now >= self.due {
+            self.due = now.saturating_add(self.first_due(waiting, now));
+        }
+        SILENCE.min(self.due.saturating_sub(now))
+    }
+
+    /// The same, by all that wait.
+    fn first_due(&self, waiting: &[u16], now: u64) -> u64 {
         let mut until = SILENCE;
         for conn in waiting {
             if let Some(sign) = self.signs.get(*conn as usize) {

@@ -22,11 +22,16 @@ pub struct TcpLink {
 }
 
 impl TcpLink {
-    /// A link over a socket that doesn't block.
-    pub(crate) fn new(alloc: Global, stream: TcpStream, presence: Presence) -> io::Result<TcpLink>
+    /// A link over a socket that doesn't block, which holds answers or doesn't.
+    pub(crate) fn new(
+        alloc: Global,
+        stream: TcpStream,
+        presence: Presence,
+        holds: bool,
+    ) -> io::Result<TcpLink>
         ensures { IfOk result (λ link. IsInitialTcpLink link) }
     {
-        let link = KeptLink::new(alloc, TcpSocket::new(stream, presence));
+        let link = KeptLink::new(alloc, TcpSocket::new(stream, presence), holds);
         Ok(TcpLink {
             kept: Box::new(alloc, link)?,
         })

@@ -7,12 +7,19 @@ use sws_link::{Link, LinkRead, LinkWrite};
 use sws_net::{KeptLink, MemSocket};
 
 /// A link whose peer sends three bytes, and whose sends take at most so many, the last of these
-/// first.
-fn link_of(alloc: Global, rooms: &[usize]) -> Result<KeptLink<MemSocket>, AllocError>
+/// first. It holds answers or doesn't.
+fn link_by(alloc: Global, rooms: &[usize], holds: bool) -> Result<KeptLink<MemSocket>, AllocError>
     ensures { IfOk result (λ link. link.socket.is_shut ≡ false) }
 {
     let socket = MemSocket::new(alloc, b"abc".to_vec(alloc)?, rooms.to_vec(alloc)?);
-    Ok(KeptLink::new(alloc, socket))
+    Ok(KeptLink::new(alloc, socket, holds))
+}
+
+/// One that holds none.
+fn link_of(alloc: Global, rooms: &[usize]) -> Result<KeptLink<MemSocket>, AllocError>
+    ensures { IfOk result (λ link. link.socket.is_shut ≡ false) }
+{
+    link_by(alloc, rooms, false)
 }
 
 /// A head waits for its body, and both go by one call.
@@ -63,5 +70,19 @@ fn the_end_hands_on_what_is_kept(rt: HostRuntime) -> Result<(), Fail> {
     link.shut();
     assert!(rt; link.socket().is_shut());
     assert_eq!(rt; link.socket().last(), b"head ".as_slice());
+    Ok(())
+}
+
+/// Answers that are held go together, with the read behind them.
+#[test]
+fn answers_that_are_held_go_together(rt: HostRuntime) -> Result<(), Fail> {
+    let mut link = link_by(rt.alloc(), &[], true)?;
+    let mut room = [0; 8];
+    assert_eq!(rt; link.write(b"head "), LinkWrite::Wrote(5));
+    assert_eq!(rt; link.write(b"body "), LinkWrite::Wrote(5));
+    assert_eq!(rt; link.write(b"more"), LinkWrite::Wrote(4));
+    assert_eq!(rt; link.socket().sent(), b"".as_slice());
+    assert_eq!(rt; link.read(&mut room), LinkRead::Took(3));
+    assert_eq!(rt; link.socket().sent(), b"head body more".as_slice());
     Ok(())
 }

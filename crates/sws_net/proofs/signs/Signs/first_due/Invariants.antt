@@ -1,5 +1,5 @@
 use Rattle.std.proofs.Common.{◌≤◌}
-use Rattle.sws_net.proofs.signs.Signs.until_due.Given as goal
+use Rattle.sws_net.proofs.signs.Signs.first_due.Given as goal
 
 abbrev pub invariant-loop-conn : goal.invariant-loop-conn
 invariant-loop-conn l = l.until ≤ 1000
