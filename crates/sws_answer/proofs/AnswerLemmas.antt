@@ -5,13 +5,11 @@ use Rattle.sws_request.specs.Request.{Request, IsRequest, IsNoRequest}
 use Rattle.sws_request.proofs.RequestInLemmas.{request_in-request, request_in-none}
 use Rattle.sws_site.specs.Files.{File, file_named}
 use Rattle.sws_site.specs.Site.{SiteState}
-use Rattle.percent_encoding.specs.Percent.{percent_decode}
-use Rattle.sws_answer.specs.Targets.{path_and_query, name_of, path_of, with_index}
+use Rattle.sws_answer.specs.Targets.{path_and_query, name_of, name_said_by, path_of}
 use Rattle.sws_answer.proofs.TargetLemmas.{name_of-path}
 use Rattle.sws_answer.specs.declared.answers.Answer.{Answer as Sent}
 use Rattle.sws_answer.specs.Conditions.{is_unmodified}
 use Rattle.sws_answer.specs.Closing.{is_closing}
-use Rattle.httpdate.specs.declared.date.HttpDate.{HttpDate}
 use Rattle.sws_site.specs.declared.statuses.Status.{Status}
 use Rattle.sws_site.specs.declared.statuses.Status.TheVariants.{Success, PartialContent, NotModified, BadRequest, NotFound, MethodNotAllowed, RangeNotSatisfiable, HeaderFieldsTooLarge, NotImplemented}
 use Rattle.sws_site.specs.Statuses.{row_of}
@@ -27,31 +25,31 @@ use Rattle.sws_answer.specs.Ranges.{selection_in, selection_for, is_part, is_uns
 use Rattle.sws_answer.specs.AnswerValues.{Sends}
 
 -- the head and the body of a refusal
-pub response-refusal_head : (date : Option HttpDate) (status : Status) (closes is_head : Bool) → IsTrue (is_fixed status)
-    → fixed_head status closes ≡ (response date status None Whole closes is_head).head
+pub response-refusal_head : (site : SiteState) (status : Status) (closes is_head : Bool) → IsTrue (is_fixed status)
+    → fixed_head status closes ≡ (response site status None Whole closes is_head).head
 unfolding response fixed_head head_text
-response-refusal_head date Success closes is_head refuses = (let never : false ≡ true = refuses in absurd (cc))
-response-refusal_head date PartialContent closes is_head refuses = (let never : false ≡ true = refuses in absurd (cc))
-response-refusal_head date NotModified closes is_head refuses = (let never : false ≡ true = refuses in absurd (cc))
-response-refusal_head date BadRequest closes is_head refuses = refl
-response-refusal_head date NotFound closes is_head refuses = refl
-response-refusal_head date MethodNotAllowed closes is_head refuses = refl
-response-refusal_head date RangeNotSatisfiable closes is_head refuses = (let never : false ≡ true = refuses in absurd (cc))
-response-refusal_head date HeaderFieldsTooLarge closes is_head refuses = refl
-response-refusal_head date NotImplemented closes is_head refuses = refl
+response-refusal_head site Success closes is_head refuses = (let never : false ≡ true = refuses in absurd (cc))
+response-refusal_head site PartialContent closes is_head refuses = (let never : false ≡ true = refuses in absurd (cc))
+response-refusal_head site NotModified closes is_head refuses = (let never : false ≡ true = refuses in absurd (cc))
+response-refusal_head site BadRequest closes is_head refuses = refl
+response-refusal_head site NotFound closes is_head refuses = refl
+response-refusal_head site MethodNotAllowed closes is_head refuses = refl
+response-refusal_head site RangeNotSatisfiable closes is_head refuses = (let never : false ≡ true = refuses in absurd (cc))
+response-refusal_head site HeaderFieldsTooLarge closes is_head refuses = refl
+response-refusal_head site NotImplemented closes is_head refuses = refl
 
-pub response-refusal_body : (date : Option HttpDate) (status : Status) (closes is_head : Bool) → IsTrue (is_fixed status)
-    → (if is_head then [] else fixed_body status) ≡ (response date status None Whole closes is_head).body
+pub response-refusal_body : (site : SiteState) (status : Status) (closes is_head : Bool) → IsTrue (is_fixed status)
+    → (if is_head then [] else fixed_body status) ≡ (response site status None Whole closes is_head).body
 unfolding response
-response-refusal_body date Success closes is_head refuses = (let never : false ≡ true = refuses in absurd (cc))
-response-refusal_body date PartialContent closes is_head refuses = (let never : false ≡ true = refuses in absurd (cc))
-response-refusal_body date NotModified closes is_head refuses = (let never : false ≡ true = refuses in absurd (cc))
-response-refusal_body date BadRequest closes is_head refuses = refl
-response-refusal_body date NotFound closes is_head refuses = refl
-response-refusal_body date MethodNotAllowed closes is_head refuses = refl
-response-refusal_body date RangeNotSatisfiable closes is_head refuses = (let never : false ≡ true = refuses in absurd (cc))
-response-refusal_body date HeaderFieldsTooLarge closes is_head refuses = refl
-response-refusal_body date NotImplemented closes is_head refuses = refl
+response-refusal_body site Success closes is_head refuses = (let never : false ≡ true = refuses in absurd (cc))
+response-refusal_body site PartialContent closes is_head refuses = (let never : false ≡ true = refuses in absurd (cc))
+response-refusal_body site NotModified closes is_head refuses = (let never : false ≡ true = refuses in absurd (cc))
+response-refusal_body site BadRequest closes is_head refuses = refl
+response-refusal_body site NotFound closes is_head refuses = refl
+response-refusal_body site MethodNotAllowed closes is_head refuses = refl
+response-refusal_body site RangeNotSatisfiable closes is_head refuses = (let never : false ≡ true = refuses in absurd (cc))
+response-refusal_body site HeaderFieldsTooLarge closes is_head refuses = refl
+response-refusal_body site NotImplemented closes is_head refuses = refl
 
 -- ---- the table of cases
 
@@ -72,42 +70,42 @@ by_target site asked form =
 
 answer_at : (site : SiteState) (asked : Request) (last : Bool) (status : Status) → request_status site asked ≡ status
     → request_answer site asked last
-    ≡ response site.date status (file_for site asked) (selected site asked) ((row_of status).closes || is_closing asked || last) (is_head_request asked)
+    ≡ response site status (file_for site asked) (selected site asked) ((row_of status).closes || is_closing asked || last) (is_head_request asked)
 unfolding request_answer
 answer_at site asked last status e =
-    ap (λ s. response site.date s (file_for site asked) (selected site asked) ((row_of s).closes || is_closing asked || last) (is_head_request asked)) e
+    ap (λ s. response site s (file_for site asked) (selected site asked) ((row_of s).closes || is_closing asked || last) (is_head_request asked)) e
 
 -- a refusal is the same whatever the request names or selects
-unnamed : (date : Option HttpDate) (status : Status) (file : Option File) (selection : Selection) (closes is_head : Bool) → IsTrue (is_fixed status)
-    → response date status file selection closes is_head ≡ response date status None Whole closes is_head
+unnamed : (site : SiteState) (status : Status) (file : Option File) (selection : Selection) (closes is_head : Bool) → IsTrue (is_fixed status)
+    → response site status file selection closes is_head ≡ response site status None Whole closes is_head
 unfolding response head_text
-unnamed date Success file selection closes is_head refuses = (let never : false ≡ true = refuses in absurd (cc))
-unnamed date PartialContent file selection closes is_head refuses = (let never : false ≡ true = refuses in absurd (cc))
-unnamed date NotModified file selection closes is_head refuses = (let never : false ≡ true = refuses in absurd (cc))
-unnamed date BadRequest file selection closes is_head refuses = refl
-unnamed date NotFound file selection closes is_head refuses = refl
-unnamed date MethodNotAllowed file selection closes is_head refuses = refl
-unnamed date RangeNotSatisfiable file selection closes is_head refuses = (let never : false ≡ true = refuses in absurd (cc))
-unnamed date HeaderFieldsTooLarge file selection closes is_head refuses = refl
-unnamed date NotImplemented file selection closes is_head refuses = refl
+unnamed site Success file selection closes is_head refuses = (let never : false ≡ true = refuses in absurd (cc))
+unnamed site PartialContent file selection closes is_head refuses = (let never : false ≡ true = refuses in absurd (cc))
+unnamed site NotModified file selection closes is_head refuses = (let never : false ≡ true = refuses in absurd (cc))
+unnamed site BadRequest file selection closes is_head refuses = refl
+unnamed site NotFound file selection closes is_head refuses = refl
+unnamed site MethodNotAllowed file selection closes is_head refuses = refl
+unnamed site RangeNotSatisfiable file selection closes is_head refuses = (let never : false ≡ true = refuses in absurd (cc))
+unnamed site HeaderFieldsTooLarge file selection closes is_head refuses = refl
+unnamed site NotImplemented file selection closes is_head refuses = refl
 
 -- without the one field Host
 pub answer-no_host : (site : SiteState) (asked : Request) (last : Bool) → lacks_host asked ≡ true
-    → response site.date BadRequest None Whole true (is_head_request asked) ≡ request_answer site asked last
+    → response site BadRequest None Whole true (is_head_request asked) ≡ request_answer site asked last
 unfolding request_status
 answer-no_host site asked last host = sym (
     answer_at site asked last BadRequest (ap (λ t. table t (is_one_of other_methods asked.method) (not (is_one_of file_methods asked.method)) (is_none (path_and_query asked.target)) (is_none (file_for site asked)) (is_unmodified site.date asked.fields) (is_unsatisfied (selected site asked)) (is_part (selected site asked))) host)
-    ∙ unnamed site.date BadRequest (file_for site asked) (selected site asked) true (is_head_request asked) refl)
+    ∙ unnamed site BadRequest (file_for site asked) (selected site asked) true (is_head_request asked) refl)
 
 -- with a known method that a file has not
 pub answer-other_method : (site : SiteState) (asked : Request) (last : Bool) → lacks_host asked ≡ false → is_one_of other_methods asked.method ≡ true
-    → response site.date MethodNotAllowed None Whole (is_closing asked || last) (is_head_request asked) ≡ request_answer site asked last
+    → response site MethodNotAllowed None Whole (is_closing asked || last) (is_head_request asked) ≡ request_answer site asked last
 unfolding request_status
 answer-other_method site asked last host other = sym (
     answer_at site asked last MethodNotAllowed (
     ap (λ t. table t (is_one_of other_methods asked.method) (not (is_one_of file_methods asked.method)) (is_none (path_and_query asked.target)) (is_none (file_for site asked)) (is_unmodified site.date asked.fields) (is_unsatisfied (selected site asked)) (is_part (selected site asked))) host
     ∙ ap (λ t. table false t (not (is_one_of file_methods asked.method)) (is_none (path_and_query asked.target)) (is_none (file_for site asked)) (is_unmodified site.date asked.fields) (is_unsatisfied (selected site asked)) (is_part (selected site asked))) other)
-    ∙ unnamed site.date MethodNotAllowed (file_for site asked) (selected site asked) (is_closing asked || last) (is_head_request asked) refl)
+    ∙ unnamed site MethodNotAllowed (file_for site asked) (selected site asked) (is_closing asked || last) (is_head_request asked) refl)
 
 -- the tests of the methods are passed
 status_from_file : (site : SiteState) (asked : Request) → lacks_host asked ≡ false → is_one_of other_methods asked.method ≡ false
@@ -120,12 +118,12 @@ status_from_file site asked host other =
 
 -- with an unknown method
 pub answer-unknown_method : (site : SiteState) (asked : Request) (last : Bool) → lacks_host asked ≡ false → is_one_of other_methods asked.method ≡ false → is_one_of file_methods asked.method ≡ false
-    → response site.date NotImplemented None Whole (is_closing asked || last) (is_head_request asked) ≡ request_answer site asked last
+    → response site NotImplemented None Whole (is_closing asked || last) (is_head_request asked) ≡ request_answer site asked last
 answer-unknown_method site asked last host other file = sym (
     answer_at site asked last NotImplemented (
     status_from_file site asked host other
     ∙ ap (λ t. table false false (not t) (is_none (path_and_query asked.target)) (is_none (file_for site asked)) (is_unmodified site.date asked.fields) (is_unsatisfied (selected site asked)) (is_part (selected site asked))) file)
-    ∙ unnamed site.date NotImplemented (file_for site asked) (selected site asked) (is_closing asked || last) (is_head_request asked) refl)
+    ∙ unnamed site NotImplemented (file_for site asked) (selected site asked) (is_closing asked || last) (is_head_request asked) refl)
 
 -- the tests of the target are left
 status_from_target : (site : SiteState) (asked : Request) → lacks_host asked ≡ false → is_one_of other_methods asked.method ≡ false → is_one_of file_methods asked.method ≡ true
@@ -137,10 +135,10 @@ status_from_target site asked host other file =
 -- with a target of another form
 pub answer-other_form : (site : SiteState) (asked : Request) (last : Bool) → lacks_host asked ≡ false → is_one_of other_methods asked.method ≡ false → is_one_of file_methods asked.method ≡ true
     → path_and_query asked.target ≡ None
-    → response site.date BadRequest None Whole true (is_head_request asked) ≡ request_answer site asked last
+    → response site BadRequest None Whole true (is_head_request asked) ≡ request_answer site asked last
 answer-other_form site asked last host other file form = sym (
     answer_at site asked last BadRequest (status_from_target site asked host other file ∙ ap (λ o. by_target site asked (is_none o)) form)
-    ∙ unnamed site.date BadRequest (file_for site asked) (selected site asked) true (is_head_request asked) refl)
+    ∙ unnamed site BadRequest (file_for site asked) (selected site asked) true (is_head_request asked) refl)
 
 -- the status of a request for a file, by what is selected of it
 abbrev by_file : SiteState → Request → Option File → Status
@@ -164,7 +162,7 @@ file_closes false Unsatisfied closes = refl
 
 -- with a target that names a file
 answer-named : (site : SiteState) (asked : Request) (last : Bool) (path name : List ℕ) → lacks_host asked ≡ false → is_one_of other_methods asked.method ≡ false → is_one_of file_methods asked.method ≡ true
-    → path_and_query asked.target ≡ Some path → name_of asked.target ≡ Some name
+    → path_and_query asked.target ≡ Some path → name_of site.options asked.target ≡ Some name
     → name_answer site asked name (is_closing asked || last) (is_head_request asked) ≡ request_answer site asked last
 answer-named site asked last path name host other file form named = by_named (file_named name site.files) (ap (option_and_then (λ n. file_named n site.files)) named)
   where
@@ -174,11 +172,11 @@ answer-named site asked last path name host other file form named = by_named (fi
     by_named : (found : Option File) → file_for site asked ≡ found → file_answer site asked found (is_closing asked || last) (is_head_request asked) ≡ request_answer site asked last
     by_named None e = sym (
         answer_at site asked last NotFound (status None e)
-        ∙ unnamed site.date NotFound (file_for site asked) (selected site asked) (is_closing asked || last) (is_head_request asked) refl)
+        ∙ unnamed site NotFound (file_for site asked) (selected site asked) (is_closing asked || last) (is_head_request asked) refl)
     by_named (Some found) e = sym (
         answer_at site asked last kind (status (Some found) e ∙ table-file modified selection)
-        ∙ ap (λ o. response site.date kind o (selection_for asked o) ((row_of kind).closes || is_closing asked || last) (is_head_request asked)) e
-        ∙ ap (λ c. response site.date kind (Some found) selection (c || last) (is_head_request asked)) (file_closes modified selection (is_closing asked)))
+        ∙ ap (λ o. response site kind o (selection_for asked o) ((row_of kind).closes || is_closing asked || last) (is_head_request asked)) e
+        ∙ ap (λ c. response site kind (Some found) selection (c || last) (is_head_request asked)) (file_closes modified selection (is_closing asked)))
       where
         modified : Bool
         modified = is_unmodified site.date asked.fields
@@ -207,13 +205,13 @@ pub Sends-named : (sent : Sent) (site : SiteState) (asked : Request) (last close
     → lacks_host asked ≡ false → is_one_of other_methods asked.method ≡ false → is_one_of file_methods asked.method ≡ true
     → closes ≡ (is_closing asked || last) → is_head ≡ is_head_request asked
     → target ≡ asked.target → Some rest ≡ option_map (drop 1) (path_and_query target) → path ≡ path_of rest
-    → Sends sent (name_answer site asked (with_index (percent_decode path)) closes is_head)
+    → Sends sent (name_answer site asked (name_said_by site.options (47 ∷ path)) closes is_head)
     → Sends sent (request_answer site asked last)
 Sends-named sent site asked last closes is_head target rest path host other file c h t r p s =
     let at = mapped_some (path_and_query asked.target) rest (r ∙ ap (λ x. option_map (drop 1) (path_and_query x)) t) in
-    subst (Sends sent) (answer-named site asked last at.0 (with_index (percent_decode (path_of rest))) host other file at.1 (name_of-path asked.target at.0 rest at.1 at.2))
-    (Sends-with sent (name_answer site asked (with_index (percent_decode (path_of rest)))) closes (is_closing asked || last) is_head (is_head_request asked) c h
-    (subst (λ x. Sends sent (name_answer site asked (with_index (percent_decode x)) closes is_head)) p s))
+    subst (Sends sent) (answer-named site asked last at.0 (name_said_by site.options (47 ∷ path_of rest)) host other file at.1 (name_of-path site.options asked.target at.0 rest at.1 at.2))
+    (Sends-with sent (name_answer site asked (name_said_by site.options (47 ∷ path_of rest))) closes (is_closing asked || last) is_head (is_head_request asked) c h
+    (subst (λ x. Sends sent (name_answer site asked (name_said_by site.options (47 ∷ x)) closes is_head)) p s))
 
 -- ---- what a head asks
 

@@ -1,7 +1,6 @@
 -- How long an answer is at most.
 use Rattle.std.specs.Prelude.{◌≡◌, ℕ, ◌+◌, ◌≤◌, Bool, true, false, if◌then◌else◌, List, [], ◌++◌, length, Option, Some, None, ⊤}
 use Rattle.std.proofs.Common.{refl, sym, arith, length-append, lit≤}
-use Rattle.httpdate.specs.declared.date.HttpDate.{HttpDate}
 use Rattle.sws_request.specs.Request.{Request}
 use Rattle.sws_site.specs.declared.statuses.Status.{Status}
 use Rattle.sws_site.specs.declared.statuses.Status.TheVariants.{Success, PartialContent, NotModified, BadRequest, NotFound, MethodNotAllowed, RangeNotSatisfiable, HeaderFieldsTooLarge, NotImplemented}
@@ -10,7 +9,7 @@ use Rattle.sws_site.specs.Fixed.{fixed_body}
 use Rattle.sws_site.specs.Files.{File, file_named}
 use Rattle.sws_site.specs.Limits.{IsWithinLimits, size_limit}
 use Rattle.sws_site.specs.Site.{SiteState}
-use Rattle.sws_site.proofs.HeadLengthsLemmas.{content_type-short, IsShortRange, head_text-short}
+use Rattle.sws_site.proofs.HeadLengthsLemmas.{media_type_of-short, IsShortRange, head_text-short}
 use Rattle.sws_site.proofs.FileLemmas.{file_named-short}
 use Rattle.sws_answer.specs.Asked.{Asked, request, not_request, too_long}
 use Rattle.sws_answer.specs.declared.ranges.Selection.{Selection}
@@ -30,7 +29,7 @@ IsShort (Some file) = length file.1 ≤ size_limit
 
 file_for-short : (site : SiteState) (asked : Request) → IsWithinLimits site.files → IsShort (file_for site asked)
 unfolding IsShort
-file_for-short site asked within = by_name (name_of asked.target)
+file_for-short site asked within = by_name (name_of site.options asked.target)
   where
     by_file : (name : List ℕ) (found : Option File) → found ≡ file_named name site.files → IsShort found
     by_file name None e = tt
@@ -47,21 +46,21 @@ record HasShortContent (content : Content) : Type 0 where
   media_type : length content.media_type ≤ 32
   bytes : length content.bytes ≤ size_limit
 
-content_of-short : (status : Status) (file : Option File) (selection : Selection) → IsShort file → HasShortContent (content_of status file selection)
+content_of-short : (site : SiteState) (status : Status) (file : Option File) (selection : Selection) → IsShort file → HasShortContent (content_of site status file selection)
 unfolding IsShort fixed_body
-content_of-short Success None selection short = record { media_type = lit≤ tt; bytes = lit≤ tt }
-content_of-short Success (Some file) selection short = record { media_type = content_type-short file.0; bytes = short }
-content_of-short PartialContent None selection short = record { media_type = lit≤ tt; bytes = lit≤ tt }
-content_of-short PartialContent (Some file) Whole short = record { media_type = content_type-short file.0; bytes = short }
-content_of-short PartialContent (Some file) (Part first last) short = record { media_type = content_type-short file.0; bytes = length-part-le file.1 first (last + 1) size_limit short }
-content_of-short PartialContent (Some file) Unsatisfied short = record { media_type = content_type-short file.0; bytes = lit≤ tt }
-content_of-short NotModified file selection short = record { media_type = lit≤ tt; bytes = lit≤ tt }
-content_of-short BadRequest file selection short = record { media_type = lit≤ tt; bytes = lit≤ tt }
-content_of-short NotFound file selection short = record { media_type = lit≤ tt; bytes = lit≤ tt }
-content_of-short MethodNotAllowed file selection short = record { media_type = lit≤ tt; bytes = lit≤ tt }
-content_of-short RangeNotSatisfiable file selection short = record { media_type = lit≤ tt; bytes = lit≤ tt }
-content_of-short HeaderFieldsTooLarge file selection short = record { media_type = lit≤ tt; bytes = lit≤ tt }
-content_of-short NotImplemented file selection short = record { media_type = lit≤ tt; bytes = lit≤ tt }
+content_of-short site Success None selection short = record { media_type = lit≤ tt; bytes = lit≤ tt }
+content_of-short site Success (Some file) selection short = record { media_type = media_type_of-short site.options file.0; bytes = short }
+content_of-short site PartialContent None selection short = record { media_type = lit≤ tt; bytes = lit≤ tt }
+content_of-short site PartialContent (Some file) Whole short = record { media_type = media_type_of-short site.options file.0; bytes = short }
+content_of-short site PartialContent (Some file) (Part first last) short = record { media_type = media_type_of-short site.options file.0; bytes = length-part-le file.1 first (last + 1) size_limit short }
+content_of-short site PartialContent (Some file) Unsatisfied short = record { media_type = media_type_of-short site.options file.0; bytes = lit≤ tt }
+content_of-short site NotModified file selection short = record { media_type = lit≤ tt; bytes = lit≤ tt }
+content_of-short site BadRequest file selection short = record { media_type = lit≤ tt; bytes = lit≤ tt }
+content_of-short site NotFound file selection short = record { media_type = lit≤ tt; bytes = lit≤ tt }
+content_of-short site MethodNotAllowed file selection short = record { media_type = lit≤ tt; bytes = lit≤ tt }
+content_of-short site RangeNotSatisfiable file selection short = record { media_type = lit≤ tt; bytes = lit≤ tt }
+content_of-short site HeaderFieldsTooLarge file selection short = record { media_type = lit≤ tt; bytes = lit≤ tt }
+content_of-short site NotImplemented file selection short = record { media_type = lit≤ tt; bytes = lit≤ tt }
 
 -- the selection lies within the file, where there is one
 abbrev FitsFile : Option File → Selection → Type 0
@@ -76,21 +75,21 @@ range_of-short (Some file) (Part first last) short fits =
     ((let a = fits.0 in let b = fits.1 in omega (arith, short)), (let b = fits.1 in omega (arith, short)), omega (arith, short))
 range_of-short (Some file) Unsatisfied short fits = omega (arith, short)
 
-response-short : (date : Option HttpDate) (status : Status) (file : Option File) (selection : Selection) (closes is_head : Bool) → IsShort file → FitsFile file selection
-    → length (text_of (response date status file selection closes is_head)) ≤ text_limit
+response-short : (site : SiteState) (status : Status) (file : Option File) (selection : Selection) (closes is_head : Bool) → IsShort file → FitsFile file selection
+    → length (text_of (response site status file selection closes is_head)) ≤ text_limit
 unfolding response
-response-short date status file selection closes is_head short fits =
-    let content = content_of-short status file selection short in
+response-short site status file selection closes is_head short fits =
+    let content = content_of-short site status file selection short in
     let few = content.bytes in
     let head : ResponseHead = record {
       status = status;
       closes = closes;
-      date = date;
+      date = site.date;
       range = range_of file selection;
-      media_type = (content_of status file selection).media_type;
-      len = length (content_of status file selection).bytes;
+      media_type = (content_of site status file selection).media_type;
+      len = length (content_of site status file selection).bytes;
     } in
-    by_head (head_text head) (content_of status file selection).bytes (head_text-short head content.media_type (omega arith) (range_of-short file selection short fits)) content.bytes is_head
+    by_head (head_text head) (content_of site status file selection).bytes (head_text-short head content.media_type (omega arith) (range_of-short file selection short fits)) content.bytes is_head
   where
     by_head : (head bytes : List ℕ) → length head ≤ 256 → length bytes ≤ size_limit → (t : Bool) → length (head ++ (if t then [] else bytes)) ≤ text_limit
     by_head head bytes short few true = omega (arith, length-append head [])

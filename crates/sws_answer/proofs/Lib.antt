@@ -5,3 +5,4 @@ mod RangeLemmas
 mod FieldLemmas
 mod AnswerLemmas
 mod TargetLemmas
+mod DotLemmas

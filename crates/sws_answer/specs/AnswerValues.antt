@@ -1,5 +1,7 @@
 -- What the program's values say.
 use Rattle.std.specs.Prelude.{◌≡◌}
+use Rattle.sws_site.specs.Page.{PageState}
+use Rattle.sws_site.specs.Site.{SiteState}
 use Rattle.sws_answer.specs.declared.asking.Asked.{Asked as AskedHead}
 use Rattle.sws_answer.specs.declared.asking.Asked.TheVariants.{Request as AskedRequest, NotARequest, TooLong}
 use Rattle.sws_answer.specs.declared.answers.Answer.{Answer as Sent}
@@ -18,3 +20,8 @@ pub record Sends (sent : Sent) (answer : Answer) : Type 0 where
   pub closes : sent.closes ≡ answer.closes
   pub head : sent.parts.head ≡ answer.head
   pub body : sent.parts.body ≡ answer.body
+
+-- the page is one of the site
+pub record IsPageOf (site : SiteState) (page : PageState) : Type 0 where
+  pub date : page.date ≡ site.date
+  pub options : page.options ≡ site.options

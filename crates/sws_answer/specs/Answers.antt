@@ -1,7 +1,6 @@
 -- The answer to one head (RFC 9110, RFC 9112; RFC 6585, section 5).
 use Rattle.std.specs.Prelude.{ℕ, ◌+◌, Bool, true, false, ◌||◌, if◌then◌else◌, List, [], ◌++◌, length, slice_range, codes, Option, Some, None}
 use Rattle.std.specs.Str.{bytes_eq}
-use Rattle.httpdate.specs.declared.date.HttpDate.{HttpDate}
 use Rattle.sws_request.specs.Request.{Request}
 use Rattle.sws_site.specs.declared.statuses.Status.{Status}
 use Rattle.sws_site.specs.declared.statuses.Status.TheVariants.{BadRequest, HeaderFieldsTooLarge}
@@ -10,7 +9,7 @@ use Rattle.sws_site.specs.declared.statuses.Body.TheVariants.{Nothing, WholeFile
 use Rattle.sws_site.specs.declared.heads.ContentRange.{ContentRange}
 use Rattle.sws_site.specs.declared.heads.ContentRange.TheVariants.{Selected, NoSuch}
 use Rattle.sws_site.specs.Statuses.{row_of, code_of}
-use Rattle.sws_site.specs.ContentTypes.{content_type}
+use Rattle.sws_site.specs.ContentTypes.{media_type_of}
 use Rattle.sws_site.specs.ResponseHeads.{head_text}
 use Rattle.sws_site.specs.Fixed.{fixed_body, plain_text}
 use Rattle.sws_site.specs.Files.{File}
@@ -46,10 +45,11 @@ pub record Content : Type 0 where
 abbrev pub no_content : Content
 no_content = record { media_type = []; bytes = [] }
 
--- a file as content, all of it
-abbrev pub file_content : Option File → Content
-file_content None = no_content
-file_content (Some file) = record { media_type = content_type file.0; bytes = file.1 }
+-- a file of a site as content, all of it
+abbrev pub file_content : SiteState → Option File → Content
+file_content site None = no_content
+file_content site (Some file) =
+    record { media_type = media_type_of site.options file.0; bytes = file.1 }
 
 -- the bytes from the first to the last one that are selected
 abbrev pub selected_bytes : Selection → List ℕ → List ℕ
@@ -58,25 +58,27 @@ selected_bytes (Part first last) bytes = slice_range bytes first (last + 1)
 selected_bytes Unsatisfied bytes = []
 
 -- the selected part of a file as content
-abbrev pub part_content : Option File → Selection → Content
-part_content None selection = no_content
-part_content (Some file) selection =
-    record { media_type = content_type file.0; bytes = selected_bytes selection file.1 }
+abbrev pub part_content : SiteState → Option File → Selection → Content
+part_content site None selection = no_content
+part_content site (Some file) selection = record {
+  media_type = media_type_of site.options file.0;
+  bytes = selected_bytes selection file.1;
+}
 
 -- the line of text that tells a status
 abbrev pub status_content : Status → Content
 status_content status = record { media_type = plain_text; bytes = fixed_body status }
 
 -- the content by what that of the status is
-abbrev pub content_by : Body → Status → Option File → Selection → Content
-content_by Nothing status file selection = no_content
-content_by WholeFile status file selection = file_content file
-content_by PartOfFile status file selection = part_content file selection
-content_by StatusText status file selection = status_content status
+abbrev pub content_by : Body → SiteState → Status → Option File → Selection → Content
+content_by Nothing site status file selection = no_content
+content_by WholeFile site status file selection = file_content site file
+content_by PartOfFile site status file selection = part_content site file selection
+content_by StatusText site status file selection = status_content status
 
 -- the content of the response with this status
-abbrev pub content_of : Status → Option File → Selection → Content
-content_of status file selection = content_by (row_of status).body status file selection
+abbrev pub content_of : SiteState → Status → Option File → Selection → Content
+content_of site status file selection = content_by (row_of status).body site status file selection
 
 -- which part of a file of so many bytes is sent, or that it has none such (RFC 9110, section 14.4)
 abbrev pub selected_range : Selection → ℕ → Option ContentRange
@@ -91,16 +93,16 @@ range_of (Some file) selection = selected_range selection (length file.1)
 
 -- for HEAD the content is left out, and all lines stay (RFC 9110, section 9.3.2); the target isn't
 -- known here
-unfoldable pub response : Option HttpDate → Status → Option File → Selection → Bool → Bool → Answer
-response date status file selection closes is_head =
-    let content = content_of status file selection in
+unfoldable pub response : SiteState → Status → Option File → Selection → Bool → Bool → Answer
+response site status file selection closes is_head =
+    let content = content_of site status file selection in
     record {
       code = code_of status;
       closes = closes;
       head = head_text (record {
         status = status;
         closes = closes;
-        date = date;
+        date = site.date;
         range = range_of file selection;
         media_type = content.media_type;
         len = length content.bytes;
@@ -121,13 +123,13 @@ request_answer site asked last =
     let status = request_status site asked in
     let file = file_for site asked in
     let closes = (row_of status).closes || is_closing asked || last in
-    response site.date status file (selection_for asked file) closes (is_head_request asked)
+    response site status file (selection_for asked file) closes (is_head_request asked)
 
 -- the response to what was asked; of what is no request no method is known, so its body is sent
 abbrev pub response_to : SiteState → Asked → Bool → Answer
 response_to site (request asked) last = request_answer site asked last
-response_to site not_request last = response site.date BadRequest None Whole true false
-response_to site too_long last = response site.date HeaderFieldsTooLarge None Whole true false
+response_to site not_request last = response site BadRequest None Whole true false
+response_to site too_long last = response site HeaderFieldsTooLarge None Whole true false
 
 -- the target that was asked for, as the request line has it (RFC 9112, section 3.2), or `-` where
 -- there is no request

@@ -35,7 +35,7 @@ other_methods =
 
 -- the file that the request names
 abbrev pub file_for : SiteState → Request → Option File
-file_for site asked = option_and_then (λ name. file_named name site.files) (name_of asked.target)
+file_for site asked = option_and_then (λ name. file_named name site.files) (name_of site.options asked.target)
 
 -- the status of the first case that holds
 abbrev pub first_case : List (Bool × Status) → Status → Status

@@ -20,11 +20,11 @@ status_by Unsatisfied = RangeNotSatisfiable
 
 -- the answer to a request for the file
 abbrev pub file_answer : SiteState → Request → Option File → Bool → Bool → Answer
-file_answer site asked None closes is_head = response site.date NotFound None Whole closes is_head
+file_answer site asked None closes is_head = response site NotFound None Whole closes is_head
 file_answer site asked (Some file) closes is_head =
     let selection = selection_in asked (length file.1) in
-    response site.date (if is_unmodified site.date asked.fields then NotModified else status_by
-    selection) (Some file) selection closes is_head
+    response site (if is_unmodified site.date asked.fields then NotModified else status_by selection)
+    (Some file) selection closes is_head
 
 -- the answer to a request that names a file by this name
 abbrev pub name_answer : SiteState → Request → List ℕ → Bool → Bool → Answer

@@ -1,5 +1,6 @@
 pub mod Fields
 pub mod Targets
+pub mod DotSteps
 pub mod Conditions
 pub mod Closing
 pub mod Ranges

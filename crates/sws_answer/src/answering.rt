@@ -1,16 +1,14 @@
 //! The answer to one head.
-ghost use Rattle.std.specs.Prelude.{◌≡◌, ◌≤◌, ◌<◌, IsTrue, Bool, true, false, not, ◌||◌, length, [], codes, if◌then◌else◌, None, Some};
+ghost use Rattle.std.specs.Prelude.{◌≡◌, ◌≤◌, ◌<◌, ◌∷◌, IsTrue, Bool, true, false, not, ◌||◌, length, [], codes, if◌then◌else◌, None, Some};
 ghost use Rattle.sws_site.specs.declared.statuses.Status.{Status as StatusValue};
-ghost use Rattle.sws_site.specs.Page.{PageState};
 ghost use Rattle.sws_answer.specs.Cases.{lacks_host, is_one_of, file_methods, other_methods};
 ghost use Rattle.sws_answer.specs.Answers.{is_head_request, response, request_answer, answer_of};
 ghost use Rattle.sws_answer.specs.FileAnswers.{file_answer, name_answer};
 ghost use Rattle.sws_answer.specs.declared.ranges.Selection.{Selection as SelectionValue};
 ghost use Rattle.sws_answer.specs.declared.ranges.Selection.TheVariants.{Whole, Part, Unsatisfied};
 ghost use Rattle.sws_site.specs.Fixed.{is_fixed};
-ghost use Rattle.percent_encoding.specs.Percent.{percent_decode as decoded};
-ghost use Rattle.sws_answer.specs.Targets.{with_index};
-ghost use Rattle.sws_answer.specs.AnswerValues.{asked_value, Sends};
+ghost use Rattle.sws_answer.specs.Targets.{slash, name_said_by};
+ghost use Rattle.sws_answer.specs.AnswerValues.{asked_value, IsPageOf, Sends};
 ghost use Rattle.sws_answer.specs.Closing.{is_closing};
 
 use crate::answers::Answer;
@@ -85,7 +83,7 @@ fn own_parts<'s>(head: OwnHead, body: &'s [u8], is_head: bool) -> Parts<'s>
 /// The response that refuses with this status: its content says the status, in one line.
 fn refuse<'s>(site: &'s Site, status: Status, closes: bool, is_head: bool) -> Answer<'s>
     requires { IsTrue (is_fixed status) }
-    ensures { Sends result (response site.now.date status None Whole closes is_head) }
+    ensures { Sends result (response site.now status None Whole closes is_head) }
 {
     let (head, body) = site.refusal(status, closes);
     Answer {
@@ -96,8 +94,9 @@ fn refuse<'s>(site: &'s Site, status: Status, closes: bool, is_head: bool) -> An
 }
 
 /// The response that sends a file whole.
-fn send_file<'s>(page: &Page<'s>, closes: bool, is_head: bool) -> Answer<'s>
-    ensures { Sends result (response page.now.date StatusValue.Success (Some page.now.file)
+fn send_file<'s>(site: &'s Site, page: &Page<'s>, closes: bool, is_head: bool) -> Answer<'s>
+    requires { IsPageOf site.now page.now }
+    ensures { Sends result (response site.now StatusValue.Success (Some page.now.file)
         Whole closes is_head) }
 {
     let head = page.head(HeadKind {
@@ -112,9 +111,10 @@ fn send_file<'s>(page: &Page<'s>, closes: bool, is_head: bool) -> Answer<'s>
 }
 
 /// The response that a file was not modified, whatever part of it is asked for.
-fn say_not_modified<'s>(page: &Page<'s>, closes: bool, is_head: bool) -> Answer<'s>
+fn say_not_modified<'s>(site: &'s Site, page: &Page<'s>, closes: bool, is_head: bool) -> Answer<'s>
+    requires { IsPageOf site.now page.now }
     ensures { (selection : SelectionValue)
-        → Sends result (response page.now.date StatusValue.NotModified (Some page.now.file)
+        → Sends result (response site.now StatusValue.NotModified (Some page.now.file)
         selection closes is_head) }
 {
     let head = page.head(HeadKind {
@@ -137,8 +137,9 @@ fn send_part<'s>(
     closes: bool,
     is_head: bool,
 ) -> Answer<'s>
-    requires { (first ≤ last) × (last < length page.now.file.1) }
-    ensures { Sends result (response site.now.date StatusValue.PartialContent (Some page.now.file)
+    requires page { IsPageOf site.now page.now }
+    requires part { (first ≤ last) × (last < length page.now.file.1) }
+    ensures { Sends result (response site.now StatusValue.PartialContent (Some page.now.file)
         (Part first last) closes is_head) }
 {
     let body = page.body();
@@ -167,7 +168,7 @@ const NO_SUCH_PART: &[u8] = b"416 Range Not Satisfiable\n";
 
 /// The response that a file has no such part as the request asks for.
 fn refuse_range<'s>(site: &'s Site, page: &Page<'s>, closes: bool, is_head: bool) -> Answer<'s>
-    ensures { Sends result (response site.now.date StatusValue.RangeNotSatisfiable
+    ensures { Sends result (response site.now StatusValue.RangeNotSatisfiable
         (Some page.now.file) Unsatisfied closes is_head) }
 {
     let head = write_head(&HeadParts {
@@ -195,14 +196,14 @@ fn answer_file<'s>(
     closes: bool,
     is_head: bool,
 ) -> Answer<'s>
-    requires { page.now.date ≡ site.now.date }
+    requires { IsPageOf site.now page.now }
     ensures { Sends result (file_answer site.now request.now (Some page.now.file) closes is_head) }
 {
     if is_not_modified(site.http_date(), request) {
-        return say_not_modified(page, closes, is_head);
+        return say_not_modified(site, page, closes, is_head);
     }
     match select_part(request, page.body().len()) {
-        Selection::Whole => send_file(page, closes, is_head),
+        Selection::Whole => send_file(site, page, closes, is_head),
         Selection::Part(first, last) => send_part(site, page, first, last, closes, is_head),
         Selection::Unsatisfied => refuse_range(site, page, closes, is_head),
     }
@@ -217,10 +218,10 @@ fn answer_path<'s>(
     is_head: bool,
     room: &mut PathRoom,
 ) -> Answer<'s>
-    ensures { Sends result
-        (name_answer site.now request.now (with_index (decoded path.now)) closes is_head) }
+    ensures { Sends result (name_answer site.now request.now
+        (name_said_by site.now.options (slash ∷ path.now)) closes is_head) }
 {
-    if !write_name(path, room) {
+    if !write_name(site.options(), path, room) {
         site.limits();
         return refuse(site, Status::NotFound, closes, is_head);
     }

@@ -24,6 +24,7 @@ mod answers;
 mod asking;
 mod closing;
 mod conditions;
+mod dot_segments;
 mod fields;
 pub mod laws;
 mod path_room;

@@ -1,5 +1,5 @@
 //! Room for the path that a target decodes to, made once a connection.
-ghost use Rattle.std.specs.Prelude.{◌≡◌, ◌<◌, ◌≤◌, ◌+◌, true, false, [], ◌∷◌, ◌++◌, length, IfOk};
+ghost use Rattle.std.specs.Prelude.{◌≡◌, ◌<◌, ◌≤◌, ◌+◌, true, false, [], ◌∷◌, ◌++◌, length, take, IfOk};
 
 use std::alloc::Global;
 use std::marker::Model;
@@ -47,6 +47,13 @@ impl PathRoom {
         ensures { self.new ≡ [] }
     {
         self.bytes.clear();
+    }
+
+    /// Takes out all but the first bytes, as many as these.
+    pub(crate) fn truncate(&mut self, len: usize)
+        ensures { self.new ≡ take len self.old }
+    {
+        self.bytes.truncate(len);
     }
 
     /// Puts the bytes behind what was put in, where there is room for them,

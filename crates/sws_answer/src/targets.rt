@@ -1,13 +1,16 @@
 //! The file that a target names.
-ghost use Rattle.std.specs.Prelude.{◌≡◌, ◌<◌, ◌≤◌, true, false, [], length, drop, option_map, option_copied, IfSome};
+ghost use Rattle.std.specs.Prelude.{◌≡◌, ◌<◌, ◌≤◌, true, false, [], ◌∷◌, length, drop, option_map, option_copied, IfSome};
 ghost use Rattle.std.specs.List.{position_or_len};
 ghost use Rattle.percent_encoding.specs.Percent.{percent_decode as decoded};
 ghost use Rattle.sws_answer.specs.declared.path_room.TheConstants.{PATH_ROOM};
-ghost use Rattle.sws_answer.specs.Targets.{ends_path, ends_authority, path_of, with_slash, behind_authority, is_absolute, path_and_query, with_index, ends_in_slash as ends_with_slash};
+ghost use Rattle.sws_answer.specs.Targets.{ends_path, ends_authority, path_of, slash, with_slash, behind_authority, is_absolute, path_and_query, path_read, name_said_by, ends_in_slash as ends_with_slash};
 
+use crate::dot_segments::decode_without_dots;
 use crate::fields::is_same_word;
 use crate::path_room::PathRoom;
 use percent_encoding::percent_decode;
+use sws_request::MAX_HEAD;
+use sws_site::SiteOptions;
 
 /// Whether the query or the fragment begins with this byte.
 fn is_path_end(byte: u8) -> bool
@@ -111,6 +114,21 @@ fn decode(path: &[u8], room: &mut PathRoom) -> bool
     true
 }
 
+/// Reads the path, which stands without its first slash, into the room, and says whether there was
+/// room for it.
+fn read_path(options: SiteOptions, path: &[u8], room: &mut PathRoom) -> bool
+    requires { room.old ≡ [] }
+    ensures read { result ≡ true → room.new ≡ path_read options (slash ∷ path.now) }
+    ensures outgrown { result ≡ false
+        → PATH_ROOM < length (path_read options (slash ∷ path.now)) }
+{
+    if options.removes_dot_segments && path.len() < MAX_HEAD {
+        decode_without_dots(path, room);
+        return true;
+    }
+    decode(path, room)
+}
+
 /// Whether nothing stands behind the last slash.
 fn is_folder(name: &[u8]) -> bool
     ensures { result ≡ ends_with_slash name.now }
@@ -120,12 +138,13 @@ fn is_folder(name: &[u8]) -> bool
 
 /// Writes the name that a path says, which stands without its first slash, into the room, and says
 /// whether there was room for it.
-pub fn write_name(path: &[u8], room: &mut PathRoom) -> bool
-    ensures written { result ≡ true → room.new ≡ with_index (decoded path.now) }
-    ensures outgrown { result ≡ false → PATH_ROOM < length (with_index (decoded path.now)) }
+pub fn write_name(options: SiteOptions, path: &[u8], room: &mut PathRoom) -> bool
+    ensures written { result ≡ true → room.new ≡ name_said_by options (slash ∷ path.now) }
+    ensures outgrown { result ≡ false
+        → PATH_ROOM < length (name_said_by options (slash ∷ path.now)) }
 {
     room.clear();
-    if !decode(path, room) {
+    if !read_path(options, path, room) {
         return false;
     }
     if is_folder(room.bytes()) {

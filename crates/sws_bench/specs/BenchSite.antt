@@ -3,6 +3,7 @@ use Rattle.std.specs.Prelude.{ℕ, ◌+◌, ◌*◌, ◌%◌, List, ◌++◌, ma
 use Rattle.std.specs.List.{range_with_len}
 use Rattle.std.specs.Fmt.{decimal}
 use Rattle.sws_site.specs.Files.{File}
+use Rattle.sws_site.specs.Options.{plain_options}
 use Rattle.sws_site.specs.Site.{SiteState}
 
 -- the letters from `a` to `z` over and over, 97 being `a`: a file of a greater number has more of
@@ -22,6 +23,6 @@ file number = (file_name number, contents number)
 unfoldable pub bench_files : List File
 bench_files = map file (range_with_len 0 16)
 
--- the site of a bench
+-- the site of a bench, a plain one
 abbrev pub bench_site : SiteState
-bench_site = record { files = bench_files; date = None }
+bench_site = record { files = bench_files; date = None; options = plain_options }

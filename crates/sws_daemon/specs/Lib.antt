@@ -4,3 +4,4 @@ pub mod Orders
 pub mod Queues
 pub mod Rounds
 pub mod Sums
+pub mod Sites

@@ -3,6 +3,7 @@ ghost use Rattle.std.specs.Arc.{arc_value};
 ghost use Rattle.std.specs.Prelude.{◌≡◌, ◌≤◌, None, IfOk, IfSome, OnErr};
 ghost use Rattle.sws_site.specs.Site.{last_second};
 ghost use Rattle.sws_daemon.specs.Dates.{date_of, latest, IsLater, IsLoaded};
+ghost use Rattle.sws_daemon.specs.Sites.{site_options};
 
 use crate::dating::{next_date, rest_of_second, time_of};
 use crate::notes::Notes;
@@ -12,7 +13,7 @@ use std::time::Duration;
 use std::{fmt, thread};
 use sws_link::{Folder, Opened};
 use sws_net::{FileFolder, FolderMark};
-use sws_site::{Site, SiteFault};
+use sws_site::{Site, SiteFault, SiteOptions};
 
 /// Why a folder isn't loaded.
 #[derive(Clone, Copy, Debug, PartialEq, Eq)]
@@ -94,6 +95,16 @@ fn mark_of(rt: &HostRuntime, path: &str, hidden: bool) -> Result<FolderMark, Loa
     }
 }
 
+/// What a site of this server does beyond a plain one: all that it can.
+fn site_options() -> SiteOptions
+    ensures { result ≡ site_options }
+{
+    SiteOptions {
+        removes_dot_segments: true,
+        knows_more_types: true,
+    }
+}
+
 /// Loads the files of a folder, the hidden ones only where these are asked for, as a site of this
 /// date. What can't be read is noted.
 fn load(
@@ -104,7 +115,8 @@ fn load(
     notes: &mut Notes,
 ) -> Result<Arc<Site>, LoadFault>
     requires { IfSome date (λ secs. secs ≤ last_second) }
-    ensures { IfOk result (λ site. date_of (arc_value site) ≡ date) }
+    ensures date { IfOk result (λ site. date_of (arc_value site) ≡ date) }
+    ensures options { IfOk result (λ site. (arc_value site).options ≡ site_options) }
 {
     *notes = Notes::new(rt.alloc());
     let mut folder = FileFolder::lenient(rt, hidden);
@@ -124,10 +136,11 @@ fn load_from(
     folder: &mut FileFolder<'_>,
 ) -> Result<Site, LoadFault>
     requires { IfSome date (λ secs. secs ≤ last_second) }
-    ensures { IfOk result (λ site. date_of site ≡ date) }
+    ensures date { IfOk result (λ site. date_of site ≡ date) }
+    ensures options { IfOk result (λ site. site.options ≡ site_options) }
 {
     match folder.open(path) {
-        Opened::Ready => Ok(Site::load(rt.alloc(), folder, date)?),
+        Opened::Ready => Ok(Site::load_with(rt.alloc(), folder, date, site_options())?),
         Opened::Failed => Err(LoadFault::Folder),
         Opened::Memory => Err(LoadFault::Memory),
     }

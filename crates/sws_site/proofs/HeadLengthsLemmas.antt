@@ -13,7 +13,8 @@ use Rattle.sws_site.specs.declared.statuses.Status.TheVariants.{Success, Partial
 use Rattle.sws_site.specs.declared.heads.ContentRange.{ContentRange}
 use Rattle.sws_site.specs.declared.heads.ContentRange.TheVariants.{Selected, NoSuch}
 use Rattle.sws_site.specs.Statuses.{row_of}
-use Rattle.sws_site.specs.ContentTypes.{media_types, type_in, extension_of, content_type}
+use Rattle.sws_site.specs.declared.options.SiteOptions.{SiteOptions}
+use Rattle.sws_site.specs.ContentTypes.{media_types, text_types, data_types, image_types, audio_types, video_types, archive_types, document_types, program_types, type_in, type_or, more_type_or, extension_of, content_type, media_type_of}
 use Rattle.sws_site.specs.ResponseHeads.{ResponseHead, status_line, server_line, connection_lines, date_lines, last_modified_lines, allow_lines, content_range_lines, range_lines, media_type_and_len_lines, content_lines, head_lines, line_end, lines_text, head_text}
 
 -- ---- words out of lists
@@ -46,6 +47,64 @@ type_in-short (row ∷ rows) extension short =
 pub content_type-short : (name : List ℕ) → length (content_type name) ≤ 32
 unfolding content_type media_types
 content_type-short name = type_in-short media_types (extension_of name) refl
+
+-- nor is it where the site knows more types
+type_or-short : (rows : List (List ℕ × List ℕ)) (otherwise extension : List ℕ) → list_all (λ row. nat_le (length row.1) 32) rows ≡ true → length otherwise ≤ 32
+    → length (type_or rows otherwise extension) ≤ 32
+type_or-short [] otherwise extension short few = few
+type_or-short (row ∷ rows) otherwise extension short few =
+    by_test (str_eq_ignore_ascii_case extension row.0) (type_or-short rows otherwise extension (parts.1) few)
+  where
+    parts : (nat_le (length row.1) 32 ≡ true) × (list_all (λ row. nat_le (length row.1) 32) rows ≡ true)
+    parts = both (nat_le (length row.1) 32) (list_all (λ row. nat_le (length row.1) 32) rows) short
+
+    by_test : (t : Bool) → length (type_or rows otherwise extension) ≤ 32 → length (if t then row.1 else type_or rows otherwise extension) ≤ 32
+    by_test true later = leb-true (length row.1) 32 parts.0
+    by_test false later = later
+
+program_type-short : (otherwise extension : List ℕ) → length otherwise ≤ 32 → length (type_or program_types otherwise extension) ≤ 32
+unfolding program_types
+program_type-short otherwise extension few = type_or-short program_types otherwise extension refl few
+
+document_type-short : (otherwise extension : List ℕ) → length otherwise ≤ 32 → length (type_or document_types otherwise extension) ≤ 32
+unfolding document_types
+document_type-short otherwise extension few = type_or-short document_types otherwise extension refl few
+
+archive_type-short : (otherwise extension : List ℕ) → length otherwise ≤ 32 → length (type_or archive_types otherwise extension) ≤ 32
+unfolding archive_types
+archive_type-short otherwise extension few = type_or-short archive_types otherwise extension refl few
+
+video_type-short : (otherwise extension : List ℕ) → length otherwise ≤ 32 → length (type_or video_types otherwise extension) ≤ 32
+unfolding video_types
+video_type-short otherwise extension few = type_or-short video_types otherwise extension refl few
+
+audio_type-short : (otherwise extension : List ℕ) → length otherwise ≤ 32 → length (type_or audio_types otherwise extension) ≤ 32
+unfolding audio_types
+audio_type-short otherwise extension few = type_or-short audio_types otherwise extension refl few
+
+image_type-short : (otherwise extension : List ℕ) → length otherwise ≤ 32 → length (type_or image_types otherwise extension) ≤ 32
+unfolding image_types
+image_type-short otherwise extension few = type_or-short image_types otherwise extension refl few
+
+data_type-short : (otherwise extension : List ℕ) → length otherwise ≤ 32 → length (type_or data_types otherwise extension) ≤ 32
+unfolding data_types
+data_type-short otherwise extension few = type_or-short data_types otherwise extension refl few
+
+text_type-short : (otherwise extension : List ℕ) → length otherwise ≤ 32 → length (type_or text_types otherwise extension) ≤ 32
+unfolding text_types
+text_type-short otherwise extension few = type_or-short text_types otherwise extension refl few
+
+pub more_type-short : (otherwise extension : List ℕ) → length otherwise ≤ 32 → length (more_type_or otherwise extension) ≤ 32
+unfolding more_type_or
+more_type-short otherwise extension few =
+    text_type-short _ extension (data_type-short _ extension (image_type-short _ extension (audio_type-short _ extension (video_type-short _ extension (archive_type-short _ extension (document_type-short _ extension (program_type-short _ extension (few))))))))
+
+pub media_type_of-short : (options : SiteOptions) (name : List ℕ) → length (media_type_of options name) ≤ 32
+media_type_of-short options name = by_test options.knows_more_types
+  where
+    by_test : (t : Bool) → length (if t then more_type_or (content_type name) (extension_of name) else content_type name) ≤ 32
+    by_test true = more_type-short (content_type name) (extension_of name) (content_type-short name)
+    by_test false = content_type-short name
 
 day_name-short : (day : ℕ) → length (day_name day) ≤ 3
 day_name-short day =

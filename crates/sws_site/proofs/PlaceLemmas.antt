@@ -7,6 +7,7 @@ use Rattle.std.specs.Map.{lookup}
 use Rattle.std.specs.BTreeMap.{insert_entry}
 use Rattle.sws_site.specs.declared.stored.StoredFile.{StoredFile}
 use Rattle.httpdate.specs.declared.date.HttpDate.{HttpDate}
+use Rattle.sws_site.specs.declared.options.SiteOptions.{SiteOptions}
 use Rattle.std.specs.Prelude.{option_map, slice_get}
 use Rattle.std.proofs.lemmas.List.{length-map}
 use Rattle.std.proofs.lemmas.Option.{slice_get-map, slice_get_read}
@@ -56,37 +57,37 @@ place_from-none (file ∷ files) start name e = by_test (bytes_eq file.name.item
     by_test true here later = absurd (cc)
     by_test false there later = later there
 
-abbrev page_of : Option HttpDate → File → PageState
-page_of date file = record { file = file; date = date }
+abbrev page_of : Option HttpDate → SiteOptions → File → PageState
+page_of date options file = record { file = file; date = date; options = options }
 
-pub found_in-some : (site : SiteState) (files : List StoredFile) (date : Option HttpDate) (k : ℕ) (stored : StoredFile) (name : List ℕ)
-    → record { files = files_of files; date = date } ≡ site → stored ≡ get_or files k stored
+pub found_in-some : (site : SiteState) (files : List StoredFile) (date : Option HttpDate) (options : SiteOptions) (k : ℕ) (stored : StoredFile) (name : List ℕ)
+    → record { files = files_of files; date = date; options = options } ≡ site → stored ≡ get_or files k stored
     → file_named name (files_of files) ≡ Some (file_of (get_or files k stored))
-    → Some (page_of date (file_of stored)) ≡ found_in site name
-found_in-some site files date k stored name shows at found =
-    ap (λ (s : StoredFile). Some (page_of date (file_of s))) at
-    ∙ ap (option_map (page_of date)) (sym found)
+    → Some (page_of date options (file_of stored)) ≡ found_in site name
+found_in-some site files date options k stored name shows at found =
+    ap (λ (s : StoredFile). Some (page_of date options (file_of s))) at
+    ∙ ap (option_map (page_of date options)) (sym found)
     ∙ ap (λ (s : SiteState). found_in s name) shows
 
-pub found_in-none : (site : SiteState) (files : List StoredFile) (date : Option HttpDate) (name : List ℕ)
-    → record { files = files_of files; date = date } ≡ site → file_named name (files_of files) ≡ None
+pub found_in-none : (site : SiteState) (files : List StoredFile) (date : Option HttpDate) (options : SiteOptions) (name : List ℕ)
+    → record { files = files_of files; date = date; options = options } ≡ site → file_named name (files_of files) ≡ None
     → None ≡ found_in site name
-found_in-none site files date name shows none =
-    ap (option_map (page_of date)) (sym none) ∙ ap (λ (s : SiteState). found_in s name) shows
+found_in-none site files date options name shows none =
+    ap (option_map (page_of date options)) (sym none) ∙ ap (λ (s : SiteState). found_in s name) shows
 
 -- ---- the files by their numbers
 
 -- as many files are stored as are shown
-pub stored-count : (site : SiteState) (files : List StoredFile) (date : Option HttpDate) (i : ℕ)
-    → record { files = files_of files; date = date } ≡ site → i < length site.files → i < length files
-stored-count site files date i shows within =
+pub stored-count : (site : SiteState) (files : List StoredFile) (date : Option HttpDate) (options : SiteOptions) (i : ℕ)
+    → record { files = files_of files; date = date; options = options } ≡ site → i < length site.files → i < length files
+stored-count site files date options i shows within =
     subst (λ n. i < n) (sym (ap (λ (s : SiteState). length s.files) shows) ∙ length-map files file_of) within
 
 -- the file that is stored there is shown there
-pub stored-at : (site : SiteState) (files : List StoredFile) (date : Option HttpDate) (i : ℕ) (stored : StoredFile)
-    → record { files = files_of files; date = date } ≡ site → i < length files → stored ≡ get_or files i stored
+pub stored-at : (site : SiteState) (files : List StoredFile) (date : Option HttpDate) (options : SiteOptions) (i : ℕ) (stored : StoredFile)
+    → record { files = files_of files; date = date; options = options } ≡ site → i < length files → stored ≡ get_or files i stored
     → slice_get site.files i ≡ Some (file_of stored)
-stored-at site files date i stored shows within at =
+stored-at site files date options i stored shows within at =
     sym (ap (λ (s : SiteState). slice_get s.files i) shows)
     ∙ slice_get-map file_of files i
     ∙ ap (option_map file_of) (slice_get_read files (length files) i stored refl within at)

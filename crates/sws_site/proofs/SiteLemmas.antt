@@ -4,6 +4,7 @@ use Rattle.httpdate.specs.declared.date.HttpDate.{HttpDate}
 use Rattle.sws_site.specs.declared.statuses.Status.{Status}
 use Rattle.sws_site.specs.declared.statuses.Status.TheVariants.{Success, NotModified}
 use Rattle.sws_site.specs.declared.built_responses.BuiltResponse.{BuiltResponse}
+use Rattle.sws_site.specs.declared.options.SiteOptions.{SiteOptions}
 use Rattle.sws_site.specs.declared.stored.StoredFile.{StoredFile}
 use Rattle.sws_site.specs.Statuses.{status_text}
 use Rattle.sws_site.specs.ResponseHeads.{head_text}
@@ -18,10 +19,10 @@ built_head-text : (status : Status) (date : Option HttpDate) (media_type : List 
 built_head-text status date media_type response true built = built.closing_head
 built_head-text status date media_type response false built = built.open_head
 
-pub built_head-file : (date : Option HttpDate) (stored : StoredFile) (closes : Bool) → HasHeads date stored
-    → built_head stored.response closes ≡ file_head date (file_of stored) closes
+pub built_head-file : (options : SiteOptions) (date : Option HttpDate) (stored : StoredFile) (closes : Bool) → HasHeads options date stored
+    → built_head stored.response closes ≡ file_head options date (file_of stored) closes
 unfolding file_head
-built_head-file date stored closes heads = built_head-text Success date _ stored.response closes heads
+built_head-file options date stored closes has = built_head-text Success date _ stored.response closes has
 
 pub built_head-not_modified : (date : Option HttpDate) (response : BuiltResponse) (closes : Bool) → IsBuilt NotModified date [] response
     → response.body.items ≡ [] → built_head response closes ≡ not_modified_head date closes

@@ -3,7 +3,8 @@ use Rattle.std.specs.Prelude.{ℕ, Bool, List, [], length, find, Option, None}
 use Rattle.std.specs.Str.{bytes_eq}
 use Rattle.httpdate.specs.declared.date.HttpDate.{HttpDate}
 use Rattle.sws_site.specs.declared.statuses.Status.TheVariants.{Success, NotModified}
-use Rattle.sws_site.specs.ContentTypes.{content_type}
+use Rattle.sws_site.specs.declared.options.SiteOptions.{SiteOptions}
+use Rattle.sws_site.specs.ContentTypes.{media_type_of}
 use Rattle.sws_site.specs.ResponseHeads.{head_text}
 
 -- a name and the contents
@@ -14,15 +15,15 @@ File = List ℕ × List ℕ
 abbrev pub file_named : List ℕ → List File → Option File
 file_named name files = find (λ file. bytes_eq file.0 name) files
 
--- the head of the response that sends a file of a site of this date
-unfoldable pub file_head : Option HttpDate → File → Bool → List ℕ
-file_head date file closes =
+-- the head of the response that sends a file of a site with these options and of this date
+unfoldable pub file_head : SiteOptions → Option HttpDate → File → Bool → List ℕ
+file_head options date file closes =
     head_text (record {
       status = Success;
       closes = closes;
       date = date;
       range = None;
-      media_type = content_type file.0;
+      media_type = media_type_of options file.0;
       len = length file.1;
     })
 

@@ -3,6 +3,7 @@ pub mod ContentTypes
 pub mod ResponseHeads
 pub mod Fixed
 pub mod Files
+pub mod Options
 pub mod Page
 pub mod Site
 pub mod Limits

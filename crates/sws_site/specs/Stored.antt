@@ -9,8 +9,9 @@ use Rattle.httpdate.specs.declared.date.HttpDate.{HttpDate}
 use Rattle.sws_link.specs.Told.{FolderContents}
 use Rattle.sws_site.specs.declared.site_faults.SiteFault.{SiteFault}
 use Rattle.sws_site.specs.declared.statuses.Status.TheVariants.{Success}
+use Rattle.sws_site.specs.declared.options.SiteOptions.{SiteOptions}
 use Rattle.sws_site.specs.declared.stored.StoredFile.{StoredFile}
-use Rattle.sws_site.specs.ContentTypes.{content_type}
+use Rattle.sws_site.specs.ContentTypes.{media_type_of}
 use Rattle.sws_site.specs.Files.{File}
 use Rattle.sws_site.specs.Loading.{Loads}
 use Rattle.sws_site.specs.BuiltResponses.{IsBuilt}
@@ -23,13 +24,14 @@ file_of stored = (stored.name.items, stored.response.body.items)
 abbrev pub files_of : List StoredFile → List File
 files_of stored = map file_of stored
 
--- its heads are those of a site of this date
-abbrev pub HasHeads : Option HttpDate → StoredFile → Type 0
-HasHeads date stored = IsBuilt Success date (content_type stored.name.items) stored.response
+-- its heads are those of a site with these options and of this date
+abbrev pub HasHeads : SiteOptions → Option HttpDate → StoredFile → Type 0
+HasHeads options date stored =
+    IsBuilt Success date (media_type_of options stored.name.items) stored.response
 
--- the heads of all files are those of a site of this date
-abbrev pub AllHaveHeads : Option HttpDate → List StoredFile → Type 0
-AllHaveHeads date files = All (HasHeads date) files
+-- the heads of all files are
+abbrev pub AllHaveHeads : SiteOptions → Option HttpDate → List StoredFile → Type 0
+AllHaveHeads options date files = All (HasHeads options date) files
 
 -- `Loads` of the files as they are stored
 abbrev pub LoadsStored : Option FolderContents → Result (Vec StoredFile Global) SiteFault → Type 0

@@ -10,12 +10,16 @@ use Rattle.sws_site.specs.Stored.{files_of, AllHaveHeads, FindsPlaces}
 
 -- a site, of its private fields
 abbrev pub state_of : Inside → SiteState
-state_of site = record { files = files_of site.files.items; date = site.date }
+state_of site = record {
+  files = files_of site.files.items;
+  date = site.date;
+  options = site.options;
+}
 
 -- what a site keeps: its limits, the heads of its files, where each name is found, and its refusals
 pub record IsStored (site : Inside) : Type 0 where
   pub limits : IsWithinLimits (files_of site.files.items)
-  pub heads : AllHaveHeads site.date site.files.items
+  pub heads : AllHaveHeads site.options site.date site.files.items
   pub places : FindsPlaces site.files.items site.places
   pub not_modified : IsBuilt NotModified site.date [] site.not_modified
   pub no_content : site.not_modified.body.items ≡ []

@@ -6,6 +6,7 @@ ghost use Rattle.sws_site.specs.Loading.{IsInitialFolder, IsSameFolder};
 ghost use Rattle.sws_site.specs.Steps.{HasReadMore, HasReadAll, ReadFails, StepsTo, IsWithin, StepFails};
 ghost use Rattle.sws_site.specs.Stored.{file_of, files_of, HasHeads, AllHaveHeads, LoadsStored};
 
+use crate::options::SiteOptions;
 use crate::site_faults::SiteFault;
 use crate::stored::StoredFile;
 use httpdate::HttpDate;
@@ -95,6 +96,7 @@ fn read_file<F: Folder>(
 fn next_file<F: Folder>(
     alloc: Global,
     folder: &mut F,
+    options: SiteOptions,
     date: &Option<HttpDate>,
     number: u32,
     room: usize,
@@ -104,7 +106,7 @@ fn next_file<F: Folder>(
         StepsTo (F.tells folder.old) (F.tells folder.new) (option_map file_of file)) }
     ensures within { IfOk result (λ file.
         IfSome file (λ file. IsWithin number room (file_of file))) }
-    ensures heads { IfOk result (λ file. IfSome file (HasHeads date.now)) }
+    ensures heads { IfOk result (λ file. IfSome file (HasHeads options date.now)) }
     ensures fails { IfErr result (StepFails number room (F.tells folder.old)) }
     ensures same { IsSameFolder (F.tells folder.old) (F.tells folder.new) }
     ensures cause { HasCause (F.faults folder.old) (F.faults folder.new) (result
@@ -124,7 +126,7 @@ fn next_file<F: Folder>(
         return Err(SiteFault::LongName { number });
     }
     let contents = read_file(alloc, folder, number, room)?;
-    let file = StoredFile::new(alloc, date, &name[..len], contents)?;
+    let file = StoredFile::new(alloc, options, date, &name[..len], contents)?;
     Ok(Some(file))
 }
 
@@ -132,12 +134,13 @@ fn next_file<F: Folder>(
 pub(crate) fn read_files<F: Folder>(
     alloc: Global,
     folder: &mut F,
+    options: SiteOptions,
     date: &Option<HttpDate>,
 ) -> Result<Vec<StoredFile>, SiteFault>
     requires { IsInitialFolder (F.tells folder.old) }
     ensures loads { LoadsStored (F.tells folder.old) result }
     ensures limits { IfOk result (λ files. IsWithinLimits (files_of files.items)) }
-    ensures heads { IfOk result (λ files. AllHaveHeads date.now files.items) }
+    ensures heads { IfOk result (λ files. AllHaveHeads options date.now files.items) }
     ensures same { IsSameFolder (F.tells folder.old) (F.tells folder.new) }
     ensures cause { HasCause (F.faults folder.old) (F.faults folder.new) (result
         ≡ Err SiteFault.Fault) }
@@ -146,7 +149,7 @@ pub(crate) fn read_files<F: Folder>(
     let mut room = MAX_BYTES;
     'files: loop {
         let number = files.len() as u32 + 1;
-        match next_file(alloc, folder, date, number, room) {
+        match next_file(alloc, folder, options, date, number, room) {
             Ok(Some(file)) => {
                 room -= file.response.body.len();
                 match files.push(file) {

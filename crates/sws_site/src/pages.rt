@@ -1,13 +1,14 @@
 //! One file of a site.
 ghost use Rattle.std.specs.Prelude.{◌≡◌, ◌≤◌, Option, length};
-ghost use Rattle.sws_site.specs.ContentTypes.{content_type};
+ghost use Rattle.sws_site.specs.ContentTypes.{media_type_of};
 ghost use Rattle.sws_site.specs.Limits.{size_limit};
 ghost use Rattle.sws_site.specs.Site.{page_head};
 
 use crate::built_responses::BuiltResponse;
-use crate::content_types::content_type_of;
+use crate::content_types::media_type_of;
 use crate::head_kinds::HeadKind;
 use crate::heads::MAX_MEDIA_TYPE;
+use crate::options::SiteOptions;
 use crate::stored::StoredFile;
 use httpdate::HttpDate;
 use std::marker::Model;
@@ -19,6 +20,7 @@ pub struct Page<'s> {
     pub(crate) file: &'s StoredFile,
     pub(crate) not_modified: &'s BuiltResponse,
     pub(crate) date: Option<HttpDate>,
+    pub(crate) options: SiteOptions,
 }
 
 impl<'s> Model for Page<'s> {
@@ -44,10 +46,10 @@ impl<'s> Page<'s> {
 
     /// The media type of the file, by its name.
     pub fn media_type(&self) -> &'static [u8]
-        ensures media_type { result.now ≡ content_type self.now.file.0 }
+        ensures media_type { result.now ≡ media_type_of self.now.options self.now.file.0 }
         ensures short { length result.now ≤ MAX_MEDIA_TYPE }
     {
-        content_type_of(&self.file.name)
+        media_type_of(self.options, &self.file.name)
     }
 
     /// The head of the response to a request for the file.

@@ -4,12 +4,14 @@ ghost use Rattle.sws_link.specs.Counts.{HasCause};
 ghost use Rattle.httpdate.specs.declared.date.HttpDate.{HttpDate as Date};
 ghost use Rattle.sws_site.specs.Fixed.{is_fixed, fixed_head, fixed_body, IsFixed, IsFixedHead, IsFixedBody};
 ghost use Rattle.sws_site.specs.Limits.{IsWithinLimits};
+ghost use Rattle.sws_site.specs.Options.{plain_options};
 ghost use Rattle.sws_site.specs.Site.{found_in, last_second, IsDateAt};
 ghost use Rattle.sws_site.specs.Loading.{IsInitialFolder, LoadsSite, IsSameFolder};
 ghost use Rattle.sws_site.specs.Stored.{FindsPlaces, files_of, AllHaveHeads};
 
 use crate::built_responses::BuiltResponse;
 use crate::loading::read_files;
+use crate::options::SiteOptions;
 use crate::pages::Page;
 use crate::refusals::Refusals;
 use crate::site_faults::SiteFault;
@@ -29,6 +31,7 @@ pub struct Site {
     /// The place of the first file of each name.
     places: BTreeMap<Vec<u8>, usize>,
     date: Option<HttpDate>,
+    options: SiteOptions,
     not_modified: BuiltResponse,
     refusals: Refusals,
 }
@@ -73,7 +76,7 @@ fn find_places(alloc: Global, files: &[StoredFile]) -> Result<BTreeMap<Vec<u8>, 
 }
 
 impl Site {
-    /// Loads all files of an open folder, of which none was given yet.
+    /// Loads all files of an open folder, of which none was given yet, as a plain site.
     ///
     /// `date` is when the files were last modified, in seconds after the beginning of
     /// 1970, if that is to be told.
@@ -92,13 +95,37 @@ impl Site {
         requires date { IfSome date (λ secs. secs ≤ last_second) }
         ensures loads { LoadsSite (F.tells folder.old) result }
         ensures date { IfOk result (λ site. IsDateAt date site.date) }
+        ensures options { IfOk result (λ site. site.options ≡ plain_options) }
+        ensures same { IsSameFolder (F.tells folder.old) (F.tells folder.new) }
+        ensures cause { HasCause (F.faults folder.old) (F.faults folder.new) (result
+            ≡ Err SiteFault.Fault) }
+    {
+        Site::load_with(alloc, folder, date, SiteOptions::plain())
+    }
+
+    /// [`Site::load`] of a site that does more than a plain one.
+    ///
+    /// # Errors
+    ///
+    /// As those of [`Site::load`].
+    pub fn load_with<F: Folder>(
+        alloc: Global,
+        folder: &mut F,
+        date: Option<u64>,
+        options: SiteOptions,
+    ) -> Result<Site, SiteFault>
+        requires initial { IsInitialFolder (F.tells folder.old) }
+        requires date { IfSome date (λ secs. secs ≤ last_second) }
+        ensures loads { LoadsSite (F.tells folder.old) result }
+        ensures date { IfOk result (λ site. IsDateAt date site.date) }
+        ensures options { IfOk result (λ site. site.options ≡ options) }
         ensures same { IsSameFolder (F.tells folder.old) (F.tells folder.new) }
         ensures cause { HasCause (F.faults folder.old) (F.faults folder.new) (result
             ≡ Err SiteFault.Fault) }
     {
         let date = http_date(date);
-        let files = read_files(alloc, folder, &date)?;
-        let site = Site::new(alloc, date, files)?;
+        let files = read_files(alloc, folder, options, &date)?;
+        let site = Site::new(alloc, date, options, files)?;
         Ok(site)
     }
 
@@ -106,12 +133,14 @@ impl Site {
     fn new(
         alloc: Global,
         date: Option<HttpDate>,
+        options: SiteOptions,
         files: Vec<StoredFile>,
     ) -> Result<Site, AllocError>
         requires limits { IsWithinLimits (files_of files.items) }
-        requires heads { AllHaveHeads date files.items }
+        requires heads { AllHaveHeads options date files.items }
         ensures files { IfOk result (λ site. site.files ≡ files_of files.items) }
         ensures date { IfOk result (λ site. site.date ≡ date) }
+        ensures options { IfOk result (λ site. site.options ≡ options) }
     {
         let places = find_places(alloc, &files)?;
         let not_modified = BuiltResponse::new(
@@ -126,6 +155,7 @@ impl Site {
             files,
             places,
             date,
+            options,
             not_modified,
             refusals,
         })
@@ -141,6 +171,7 @@ impl Site {
                 file: &self.files[*place],
                 not_modified: &self.not_modified,
                 date: self.date,
+                options: self.options,
             }),
             None => None,
         }
@@ -197,11 +228,13 @@ impl Site {
         requires { i < length self.now.files }
         ensures file { slice_get self.now.files i ≡ Some result.file }
         ensures date { result.date ≡ self.now.date }
+        ensures options { result.options ≡ self.now.options }
     {
         Page {
             file: &self.files[i],
             not_modified: &self.not_modified,
             date: self.date,
+            options: self.options,
         }
     }
 
@@ -220,6 +253,13 @@ impl Site {
         ensures { result.now ≡ self.now.date }
     {
         &self.date
+    }
+
+    /// What the site does beyond sending its files.
+    pub fn options(&self) -> SiteOptions
+        ensures { result ≡ self.now.options }
+    {
+        self.options
     }
 
     /// A law, which does nothing when it runs: every site is within the limits

@@ -3,7 +3,8 @@ ghost use Rattle.std.specs.Prelude.{◌≡◌, IfOk};
 ghost use Rattle.sws_site.specs.Stored.{HasHeads, file_of};
 
 use crate::built_responses::BuiltResponse;
-use crate::content_types::content_type_of;
+use crate::content_types::media_type_of;
+use crate::options::SiteOptions;
 use crate::statuses::Status;
 use httpdate::HttpDate;
 use std::alloc::{AllocError, Global};
@@ -16,17 +17,18 @@ pub(crate) struct StoredFile {
 }
 
 impl StoredFile {
-    /// The file of this name and these contents, of a site of this date.
+    /// The file of this name and these contents, of a site with these options and of this date.
     pub(crate) fn new(
         alloc: Global,
+        options: SiteOptions,
         date: &Option<HttpDate>,
         name: &[u8],
         contents: Vec<u8>,
     ) -> Result<StoredFile, AllocError>
-        ensures heads { IfOk result (HasHeads date.now) }
+        ensures heads { IfOk result (HasHeads options date.now) }
         ensures file { IfOk result (λ stored. file_of stored ≡ (name.now, contents.items)) }
     {
-        let media_type = content_type_of(name);
+        let media_type = media_type_of(options, name);
         let response = BuiltResponse::new(alloc, Status::Success, date, media_type, contents)?;
         let name = Vec::from_slice(alloc, name)?;
         Ok(StoredFile { name, response })

@@ -5,6 +5,7 @@ mod files;
 mod links;
 mod parts;
 mod requests;
+mod site_options;
 mod sites;
 mod texts;
 mod words;

@@ -5,7 +5,6 @@ mod worlds;
 
 use super::files::files_of;
 use std::alloc::{AllocError, Global};
-use std::test::Fail;
 use sws_link::{
     Folder, Got, Link, LinkItem, LinkRead, LinkWrite, MemFolder, MemLink, MemSink, MemSource,
     NextFile, Opened, Put, Sink, Source, SureFolder, SureLink, SureSink, SureSource,
@@ -21,13 +20,29 @@ fn reads_so<R: Source>(source: &mut R, answers: &[Got]) -> bool {
     true
 }
 
+fn sure_source_gives(alloc: Global, bytes: &[u8], answers: &[Got]) -> Result<bool, AllocError> {
+    let mut source = SureSource::new(bytes.to_vec(alloc)?);
+    Ok(reads_so(&mut source, answers))
+}
+
+/// Whether a source whose calls of these numbers fail answers so.
+fn failing_source_gives(
+    alloc: Global,
+    bytes: &[u8],
+    failing: &[u32],
+    answers: &[Got],
+) -> Result<bool, AllocError> {
+    let bytes = bytes.to_vec(alloc)?;
+    let mut source = MemSource::new(bytes, failing.to_vec(alloc)?);
+    Ok(reads_so(&mut source, answers))
+}
+
 #[test]
-fn a_source_gives_its_bytes_and_fails_where_it_is_told_to(rt: HostRuntime) -> Result<(), Fail> {
-    let mut sure = SureSource::new(b"abc".to_vec(rt.alloc())?);
-    assert!(rt; reads_so(&mut sure, &[Got::Took(2), Got::Took(1), Got::End]));
-    let mut failing = MemSource::new(b"abc".to_vec(rt.alloc())?, vec![in rt.alloc(); 2]?);
-    assert!(rt; reads_so(&mut failing, &[Got::Took(2), Got::Failed, Got::Took(1)]));
-    Ok(())
+fn a_source_gives_its_bytes_and_fails_where_it_is_told_to(rt: HostRuntime) {
+    let answers = [Got::Took(2), Got::Took(1), Got::End];
+    assert!(rt; sure_source_gives(rt.alloc(), b"abc", &answers) == Ok(true));
+    let answers = [Got::Took(2), Got::Failed, Got::Took(1)];
+    assert!(rt; failing_source_gives(rt.alloc(), b"abc", &[2], &answers) == Ok(true));
 }
 
 /// Whether writes of `ab` and of `c` answer so, through the bound.
@@ -42,19 +57,18 @@ fn sure_sink_keeps(alloc: Global, written: &[u8]) -> bool {
 
 /// Whether a sink whose first call fails has kept this.
 fn failing_sink_keeps(alloc: Global, written: &[u8]) -> Result<bool, AllocError> {
-    let mut sink = MemSink::new(alloc, vec![in alloc; 1]?);
+    let mut sink = MemSink::new(alloc, [1].to_vec(alloc)?);
     Ok(writes_so(&mut sink, Put::Failed, Put::Done) && sink.written() == written)
 }
 
 #[test]
-fn a_sink_keeps_what_is_written_and_nothing_of_a_failing_call(rt: HostRuntime) -> Result<(), Fail> {
+fn a_sink_keeps_what_is_written_and_nothing_of_a_failing_call(rt: HostRuntime) {
     assert!(rt; sure_sink_keeps(rt.alloc(), b"abc"));
-    assert!(rt; failing_sink_keeps(rt.alloc(), b"c")?);
-    Ok(())
+    assert!(rt; failing_sink_keeps(rt.alloc(), b"c") == Ok(true));
 }
 
 /// A file with contents, and one without.
-const TWO_FILES: [(&[u8], &[u8]); 2] = [(b"index.html", b"hi\n"), (b"empty.css", b"")];
+static TWO_FILES: [(&[u8], &[u8]); 2] = [(b"index.html", b"hi\n"), (b"empty.css", b"")];
 
 /// Whether a folder is opened with this answer and then gives these files, through the bound.
 fn lists_so<F: Folder>(folder: &mut F, opened: Opened, answers: &[NextFile]) -> bool {
@@ -70,28 +84,36 @@ fn lists_so<F: Folder>(folder: &mut F, opened: Opened, answers: &[NextFile]) -> 
 }
 
 /// What the two files are.
-const ALL: [NextFile; 3] = [
+static ALL: [NextFile; 3] = [
     NextFile::File { len: 10 },
     NextFile::File { len: 9 },
     NextFile::End,
 ];
 
 /// What they are where the second step fails.
-const WITH_A_FAILURE: [NextFile; 3] = [
+static WITH_A_FAILURE: [NextFile; 3] = [
     NextFile::File { len: 10 },
     NextFile::Failed,
     NextFile::File { len: 9 },
 ];
 
+/// Whether a folder of the two files gives them all, and again where it is opened again.
+fn sure_folder_lists(alloc: Global) -> Result<bool, AllocError> {
+    let mut folder = SureFolder::new(alloc, files_of(alloc, &TWO_FILES)?);
+    Ok(lists_so(&mut folder, Opened::Ready, &ALL) && lists_so(&mut folder, Opened::Ready, &ALL))
+}
+
+/// Whether a folder of the two files whose calls 1 and 3 fail gives what is left.
+fn failing_folder_lists(alloc: Global) -> Result<bool, AllocError> {
+    let files = files_of(alloc, &TWO_FILES)?;
+    let mut folder = MemFolder::new(alloc, files, [1, 3].to_vec(alloc)?);
+    Ok(lists_so(&mut folder, Opened::Failed, &WITH_A_FAILURE))
+}
+
 #[test]
-fn a_folder_gives_its_files_in_their_order(rt: HostRuntime) -> Result<(), Fail> {
-    let mut sure = SureFolder::new(rt.alloc(), files_of(rt.alloc(), &TWO_FILES)?);
-    assert!(rt; lists_so(&mut sure, Opened::Ready, &ALL));
-    assert!(rt; lists_so(&mut sure, Opened::Ready, &ALL), "opened again");
-    let fails = vec![in rt.alloc(); 1, 3]?;
-    let mut failing = MemFolder::new(rt.alloc(), files_of(rt.alloc(), &TWO_FILES)?, fails);
-    assert!(rt; lists_so(&mut failing, Opened::Failed, &WITH_A_FAILURE));
-    Ok(())
+fn a_folder_gives_its_files_in_their_order(rt: HostRuntime) {
+    assert!(rt; sure_folder_lists(rt.alloc()) == Ok(true));
+    assert!(rt; failing_folder_lists(rt.alloc()) == Ok(true));
 }
 
 /// Whether the next file has this name, and three bytes that are read as two and one.
@@ -106,13 +128,39 @@ fn gives_file(folder: &mut MemFolder, name: &[u8], two: &[u8], one: &[u8]) -> bo
     is_two && is_one && folder.read(&mut room) == Got::End
 }
 
+/// Whether a folder of the two files, once opened, gives a file of this name and these bytes.
+fn folder_gives(alloc: Global, name: &[u8], two: &[u8], one: &[u8]) -> Result<bool, AllocError> {
+    let files = files_of(alloc, &TWO_FILES)?;
+    let mut folder = MemFolder::new(alloc, files, Vec::new(alloc));
+    let is_open = folder.open("site") == Opened::Ready;
+    Ok(is_open && gives_file(&mut folder, name, two, one))
+}
+
 #[test]
-fn a_folder_copies_names_and_lends_bytes(rt: HostRuntime) -> Result<(), Fail> {
-    let files = files_of(rt.alloc(), &TWO_FILES)?;
-    let mut folder = MemFolder::new(rt.alloc(), files, Vec::new(rt.alloc()));
-    assert!(rt; folder.open("site") == Opened::Ready);
-    assert!(rt; gives_file(&mut folder, b"index.html", b"hi", b"\n"));
-    Ok(())
+fn a_folder_copies_names_and_lends_bytes(rt: HostRuntime) {
+    assert!(rt; folder_gives(rt.alloc(), b"index.html", b"hi", b"\n") == Ok(true));
+}
+
+/// An item of a link.
+#[derive(Clone, Copy)]
+enum Item {
+    Bytes(&'static [u8]),
+    Fail,
+}
+
+fn item_of(alloc: Global, item: Item) -> Result<LinkItem, AllocError> {
+    Ok(match item {
+        Item::Bytes(bytes) => LinkItem::Bytes(bytes.to_vec(alloc)?),
+        Item::Fail => LinkItem::Fail,
+    })
+}
+
+fn items_of(alloc: Global, items: &[Item]) -> Result<Vec<LinkItem>, AllocError> {
+    let mut owned = Vec::new(alloc);
+    for item in items {
+        owned.push(item_of(alloc, *item)?)?;
+    }
+    Ok(owned)
 }
 
 /// Whether reads of so many bytes each answer so, through the bound, and copy these bytes.
@@ -130,7 +178,20 @@ fn gives_so<L: Link>(link: &mut L, size: usize, answers: &[(LinkRead, &[u8])]) -
     true
 }
 
-const IN_ORDER: [(LinkRead, &[u8]); 5] = [
+/// Whether reads of two bytes each answer so where the calls of these numbers fail.
+fn failing_link_gives(
+    alloc: Global,
+    items: &[Item],
+    failing: &[u32],
+    answers: &[(LinkRead, &[u8])],
+) -> Result<bool, AllocError> {
+    let items = items_of(alloc, items)?;
+    let mut link = MemLink::new(alloc, items, None, None, failing.to_vec(alloc)?);
+    Ok(gives_so(&mut link, 2, answers))
+}
+
+/// What reads of two bytes give of three bytes, a wait and a byte.
+static IN_ORDER: [(LinkRead, &[u8]); 5] = [
     (LinkRead::Took(2), b"ab"),
     (LinkRead::Took(1), b"c"),
     (LinkRead::NotReady, b""),
@@ -138,18 +199,40 @@ const IN_ORDER: [(LinkRead, &[u8]); 5] = [
     (LinkRead::End, b""),
 ];
 
-#[test]
-fn a_link_gives_its_items_in_order(rt: HostRuntime) -> Result<(), Fail> {
-    let mut items = Vec::new(rt.alloc());
-    items.push(LinkItem::Bytes(b"abc".to_vec(rt.alloc())?))?;
+fn gives_in_order(alloc: Global) -> Result<bool, AllocError> {
+    let mut items = Vec::new(alloc);
+    items.push(LinkItem::Bytes(b"abc".to_vec(alloc)?))?;
     items.push(LinkItem::Wait(1))?;
     items.push(LinkItem::Fill(1))?;
-    let mut link = SureLink::new(rt.alloc(), items, None);
-    assert!(rt; gives_so(&mut link, 2, &IN_ORDER));
-    Ok(())
+    let mut link = SureLink::new(alloc, items, None);
+    Ok(gives_so(&mut link, 2, &IN_ORDER))
 }
 
-const WITH_FAULTS: [(LinkRead, &[u8]); 5] = [
+/// What reads of four bytes give of two bytes and three more.
+static COPIED: [(LinkRead, &[u8]); 3] = [
+    (LinkRead::Took(2), b"xy"),
+    (LinkRead::Took(3), b"aaa"),
+    (LinkRead::End, b""),
+];
+
+fn gives_copies(alloc: Global) -> Result<bool, AllocError> {
+    let mut items = Vec::new(alloc);
+    items.push(LinkItem::Bytes(b"xy".to_vec(alloc)?))?;
+    items.push(LinkItem::Fill(3))?;
+    let mut link = SureLink::new(alloc, items, None);
+    Ok(gives_so(&mut link, 4, &COPIED))
+}
+
+#[test]
+fn a_link_gives_its_items_in_order_and_copies_their_bytes(rt: HostRuntime) {
+    assert!(rt; gives_in_order(rt.alloc()) == Ok(true));
+    assert!(rt; gives_copies(rt.alloc()) == Ok(true));
+}
+
+/// Items with a fault, and what reads of two bytes give of them where the second one fails.
+static FAULTY: [Item; 3] = [Item::Bytes(b"abc"), Item::Fail, Item::Bytes(b"d")];
+
+static WITH_FAULTS: [(LinkRead, &[u8]); 5] = [
     (LinkRead::Took(2), b"ab"),
     (LinkRead::Failed, b""),
     (LinkRead::Took(1), b"c"),
@@ -158,30 +241,8 @@ const WITH_FAULTS: [(LinkRead, &[u8]); 5] = [
 ];
 
 #[test]
-fn a_link_fails_where_it_is_told_to(rt: HostRuntime) -> Result<(), Fail> {
-    let mut items = Vec::new(rt.alloc());
-    items.push(LinkItem::Bytes(b"abc".to_vec(rt.alloc())?))?;
-    items.push(LinkItem::Fail)?;
-    items.push(LinkItem::Bytes(b"d".to_vec(rt.alloc())?))?;
-    let mut link = MemLink::new(rt.alloc(), items, None, None, vec![in rt.alloc(); 2]?);
-    assert!(rt; gives_so(&mut link, 2, &WITH_FAULTS));
-    Ok(())
-}
-
-const COPIED: [(LinkRead, &[u8]); 3] = [
-    (LinkRead::Took(2), b"xy"),
-    (LinkRead::Took(3), b"aaa"),
-    (LinkRead::End, b""),
-];
-
-#[test]
-fn a_link_copies_the_bytes_of_its_items(rt: HostRuntime) -> Result<(), Fail> {
-    let mut items = Vec::new(rt.alloc());
-    items.push(LinkItem::Bytes(b"xy".to_vec(rt.alloc())?))?;
-    items.push(LinkItem::Fill(3))?;
-    let mut link = SureLink::new(rt.alloc(), items, None);
-    assert!(rt; gives_so(&mut link, 4, &COPIED));
-    Ok(())
+fn a_link_fails_where_it_is_told_to(rt: HostRuntime) {
+    assert!(rt; failing_link_gives(rt.alloc(), &FAULTY, &[2], &WITH_FAULTS) == Ok(true));
 }
 
 /// Shuts through the bound.
@@ -208,10 +269,9 @@ fn failing_link_tells(alloc: Global) -> Result<bool, AllocError> {
 }
 
 #[test]
-fn a_link_tells_whether_it_was_shut(rt: HostRuntime) -> Result<(), Fail> {
+fn a_link_tells_whether_it_was_shut(rt: HostRuntime) {
     assert!(rt; sure_link_tells(rt.alloc()));
-    assert!(rt; failing_link_tells(rt.alloc())?);
-    Ok(())
+    assert!(rt; failing_link_tells(rt.alloc()) == Ok(true));
 }
 
 /// A link without items, whose calls of these numbers are to fail.
@@ -254,7 +314,7 @@ fn a_link_takes_as_much_as_its_bounds_allow(rt: HostRuntime) {
 }
 
 /// The steps, the cuts and the failing calls of links, what three writes answer, and what is written.
-const FAULTS: [(Option<u32>, Option<u64>, &[u32], &[LinkWrite], &[u8]); 2] = [
+static FAULTS: [(Option<u32>, Option<u64>, &[u32], &[LinkWrite], &[u8]); 2] = [
     (
         None,
         Some(7),
@@ -271,13 +331,21 @@ const FAULTS: [(Option<u32>, Option<u64>, &[u32], &[LinkWrite], &[u8]); 2] = [
     ),
 ];
 
+fn link_takes(
+    alloc: Global,
+    step: Option<u32>,
+    cut: Option<u64>,
+    failing: &[u32],
+    answers: &[LinkWrite],
+    written: &[u8],
+) -> Result<bool, AllocError> {
+    let mut link = link_of(alloc, step, cut, failing)?;
+    Ok(takes_so(&mut link, answers) && link.written() == written)
+}
+
 #[test]
-fn a_link_fails_at_its_cut_and_writes_nothing_in_a_failing_call(
-    rt: HostRuntime,
-) -> Result<(), Fail> {
+fn a_link_fails_at_its_cut_and_writes_nothing_in_a_failing_call(rt: HostRuntime) {
     for &(step, cut, failing, answers, written) in &FAULTS {
-        let mut link = link_of(rt.alloc(), step, cut, failing)?;
-        assert!(rt; takes_so(&mut link, answers) && link.written() == written);
+        assert!(rt; link_takes(rt.alloc(), step, cut, failing, answers, written) == Ok(true));
     }
-    Ok(())
 }

@@ -13,7 +13,7 @@ fn is_sent_so(parts: &mut Parts<'_>, pieces: &[(usize, &[u8], usize)]) -> bool {
     true
 }
 
-const LENT: [(usize, &[u8], usize); 4] = [
+static LENT: [(usize, &[u8], usize); 4] = [
     (8, b"head", 3),
     (5, b"d", 1),
     (4, b"body", 4),
@@ -26,7 +26,7 @@ fn a_head_and_a_body_are_sent_in_pieces(rt: HostRuntime) {
     assert!(rt; is_sent_so(&mut parts, &LENT));
 }
 
-const OWN: [(usize, &[u8], usize); 4] = [
+static OWN: [(usize, &[u8], usize); 4] = [
     (11, b"part 10", 6),
     (5, b"0", 1),
     (4, b"body", 4),

@@ -1,20 +1,22 @@
-use std::process::Abort;
+use std::alloc::{AllocError, Global};
 use sws_request::{
     Cut, NotARequest, RequestView, Scan, cut, cut_is_stable, empty_lines_change_nothing, scan, view,
 };
 
-/// A text, and then a byte so many times.
-fn padded(rt: &(impl AllocGlobal + Abort), front: &[u8], byte: u8, count: usize) -> Vec<u8> {
-    let mut text = Vec::new(rt.alloc());
-    text.extend_from_slice(front).expect(rt, "memory");
-    for _ in 0..count {
-        text.push(byte).expect(rt, "memory");
-    }
-    text
+/// A text that has a piece so many times between its front and its back.
+fn filled(
+    alloc: Global,
+    front: &[u8],
+    piece: &[u8],
+    count: usize,
+    back: &[u8],
+) -> Result<Vec<u8>, AllocError> {
+    let middle = piece.repeat(alloc, count)?;
+    [front, middle.as_slice(), back].concat(alloc)
 }
 
 /// Bytes, and where their first head ends.
-const CUTS: [(&[u8], Cut); 10] = [
+static CUTS: [(&[u8], Cut); 10] = [
     (b"", Cut::NotYet),
     (b"GET / HTTP/1.1\r\nHost: x\r\n\r\n", Cut::Head { len: 27 }),
     (
@@ -56,7 +58,7 @@ const BLANK: Scan = Scan {
 };
 
 /// Bytes with the search that goes on in them, what it finds, and where it stops.
-const SEARCHES: [(&[u8], Scan, Cut, Scan); 3] = [
+static SEARCHES: [(&[u8], Scan, Cut, Scan); 3] = [
     (b"GET / HTTP/1.1\r\nHo", START, Cut::NotYet, IN_LINE),
     (b"Host: x\r\n\r\n", IN_LINE, Cut::Head { len: 27 }, START),
     (b"\r\n\n\r", START, Cut::NotYet, BLANK),
@@ -71,27 +73,69 @@ fn scans_so(bytes: &[u8], from: Scan, want: Cut, stop: Scan) -> bool {
     found == want && next == stop
 }
 
+/// Whether a search goes on so in so many bytes of a line.
+fn fills_so(
+    alloc: Global,
+    count: usize,
+    from: Scan,
+    want: Cut,
+    stop: Scan,
+) -> Result<bool, AllocError> {
+    let rest = b"x".repeat(alloc, count)?;
+    Ok(scans_so(&rest, from, want, stop))
+}
+
 #[test]
 fn a_search_goes_on_where_it_stopped(rt: HostRuntime) {
     assert!(rt; Scan::start() == START);
     for &(bytes, from, want, stop) in &SEARCHES {
         assert!(rt; scans_so(bytes, from, want, stop));
     }
-    let rest = padded(&rt, b"", b'x', 8189);
-    assert!(rt; scans_so(&rest, BLANK, Cut::TooLong, START));
+    assert!(rt; fills_so(rt.alloc(), 8189, BLANK, Cut::TooLong, START) == Ok(true));
+}
+
+/// The front and the back of a head that is filled up.
+const LONG: &[u8] = b"GET / HTTP/1.1\r\nHost: x\r\nX:";
+
+const LINE_ENDS: &[u8] = b"\r\n\r\n";
+
+/// Fronts, how many bytes follow each, the backs, and where the head ends.
+static LENGTHS: [(&[u8], usize, &[u8], Cut); 4] = [
+    (LONG, 8161, LINE_ENDS, Cut::Head { len: 8192 }),
+    (LONG, 8162, LINE_ENDS, Cut::TooLong),
+    (b"", 8191, b"", Cut::NotYet),
+    (b"", 8192, b"", Cut::TooLong),
+];
+
+fn is_cut_so(
+    alloc: Global,
+    front: &[u8],
+    count: usize,
+    back: &[u8],
+    want: Cut,
+) -> Result<bool, AllocError> {
+    let text = filled(alloc, front, b"x", count, back)?;
+    Ok(cut(&text) == want)
+}
+
+/// Whether a text that has a piece so many times between its front and its back is a request.
+fn is_request(
+    alloc: Global,
+    front: &[u8],
+    piece: &[u8],
+    count: usize,
+    back: &[u8],
+) -> Result<bool, AllocError> {
+    let text = filled(alloc, front, piece, count, back)?;
+    Ok(view(&text).is_ok())
 }
 
 #[test]
 fn a_head_has_at_most_8192_bytes(rt: HostRuntime) {
-    let mut longest = padded(&rt, b"GET / HTTP/1.1\r\nHost: x\r\nX:", b'x', 8161);
-    longest.extend_from_slice(b"\r\n\r\n").expect(&rt, "memory");
-    assert!(rt; cut(&longest) == (Cut::Head { len: 8192 }));
-    assert!(rt; view(&longest).is_ok());
-    let mut longer = padded(&rt, b"GET / HTTP/1.1\r\nHost: x\r\nX:", b'x', 8162);
-    longer.extend_from_slice(b"\r\n\r\n").expect(&rt, "memory");
-    assert!(rt; cut(&longer) == Cut::TooLong);
-    assert!(rt; cut(&padded(&rt, b"", b'x', 8191)) == Cut::NotYet);
-    assert!(rt; cut(&padded(&rt, b"", b'x', 8192)) == Cut::TooLong);
+    for &(front, count, back, want) in &LENGTHS {
+        assert!(rt; is_cut_so(rt.alloc(), front, count, back, want) == Ok(true));
+    }
+    assert!(rt; is_request(rt.alloc(), LONG, b"x", 8161, LINE_ENDS) == Ok(true));
 }
 
 /// Whether a request has this field at a place.
@@ -121,7 +165,7 @@ fn a_view_shows_the_parts_of_a_request(rt: HostRuntime) {
 }
 
 /// What is no request.
-const REFUSED: [&[u8]; 7] = [
+static REFUSED: [&[u8]; 7] = [
     b"",
     b"GET / HTTP/1.1\r\nHost: x\r\n",
     b"GET / HTTP/1.1\r\nHost: x\r\n\r\nG",
@@ -138,18 +182,13 @@ fn what_the_grammar_refuses_is_no_request(rt: HostRuntime) {
     }
 }
 
-/// A head with so many fields.
-fn with_fields(rt: &(impl AllocGlobal + Abort), count: usize) -> Vec<u8> {
-    let mut head = padded(rt, b"GET / HTTP/1.1\r\n", b'x', 0);
-    for _ in 0..count {
-        head.extend_from_slice(b"a:\r\n").expect(rt, "memory");
-    }
-    head.extend_from_slice(b"\r\n").expect(rt, "memory");
-    head
-}
+/// How many fields a head has, and whether it is a request.
+static FIELDS: [(usize, bool); 2] = [(64, true), (65, false)];
 
 #[test]
 fn a_request_has_at_most_64_fields(rt: HostRuntime) {
-    assert!(rt; view(&with_fields(&rt, 64)).is_ok());
-    assert!(rt; view(&with_fields(&rt, 65)).is_err());
+    let front = b"GET / HTTP/1.1\r\n";
+    for &(count, want) in &FIELDS {
+        assert!(rt; is_request(rt.alloc(), front, b"a:\r\n", count, b"\r\n") == Ok(want));
+    }
 }

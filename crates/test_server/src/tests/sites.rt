@@ -1,9 +1,7 @@
 //! What loading, looking up and the prebuilt heads give with ample memory.
 
 use super::files::{THREE_FILES, files_of, site_of};
-use std::alloc::{AllocError, Global};
-use std::process::Abort;
-use std::test::Fail;
+use std::alloc::Global;
 use sws_link::{Folder, Got, MemFolder, NextFile, Opened};
 use sws_site::{HeadKind, Site, SiteFault};
 
@@ -36,31 +34,42 @@ fn has_file_at(site: &Site, place: usize, name: &[u8], contents: &[u8]) -> bool 
 const TEXT_HEAD: &[u8] =
     b"HTTP/1.1 200 OK\r\nServer: sws\r\nContent-Type: text/plain\r\nContent-Length: 10\r\n\r\n";
 
+/// The site of a folder of these files whose calls of these numbers fail.
+fn loaded_of(alloc: Global, files: &[(&[u8], &[u8])], failing: &[u32]) -> Result<Site, SiteFault> {
+    let files = files_of(alloc, files)?;
+    let mut folder = MemFolder::new(alloc, files, failing.to_vec(alloc)?);
+    if folder.open("site") != Opened::Ready {
+        return Err(SiteFault::Memory);
+    }
+    Site::load(alloc, &mut folder, None)
+}
+
+/// Whether the site of the three files has no date, no other file, and a text with its head.
+fn has_three_files(alloc: Global) -> Result<bool, SiteFault> {
+    let site = loaded_of(alloc, &THREE_FILES, &[])?;
+    let are_three = site.files() == 3 && site.date() == None && site.lookup(b"a").is_none();
+    let has_file = has_file(&site, b"a/b.txt", b"0123456789");
+    Ok(are_three && has_file && has_head(&site, b"a/b.txt", OPEN, TEXT_HEAD))
+}
+
 #[test]
-fn three_files_are_loaded_and_found(rt: HostRuntime) -> Result<(), Fail> {
-    let files = files_of(rt.alloc(), &THREE_FILES)?;
-    let mut folder = MemFolder::new(rt.alloc(), files, Vec::new(rt.alloc()));
-    assert!(rt; folder.open("site") == Opened::Ready);
-    let site = Site::load(rt.alloc(), &mut folder, None)?;
-    assert!(rt; site.files() == 3);
-    assert!(rt; site.date() == None);
-    assert!(rt; site.lookup(b"a").is_none());
-    assert!(rt; has_file(&site, b"a/b.txt", b"0123456789"));
-    assert!(rt; has_head(&site, b"a/b.txt", OPEN, TEXT_HEAD));
-    Ok(())
+fn three_files_are_loaded_and_found(rt: HostRuntime) {
+    assert!(rt; has_three_files(rt.alloc()) == Ok(true));
 }
 
 /// Two files of a name, and another between them.
-const TWO_OF_A_NAME: [(&[u8], &[u8]); 3] = [(b"a", b"first"), (b"b", b"other"), (b"a", b"second")];
+static TWO_OF_A_NAME: [(&[u8], &[u8]); 3] = [(b"a", b"first"), (b"b", b"other"), (b"a", b"second")];
+
+/// Whether the first of two files of a name is found, and each has its place.
+fn finds_the_first(alloc: Global) -> Result<bool, SiteFault> {
+    let site = site_of(alloc, &TWO_OF_A_NAME, None)?;
+    let are_there = has_file_at(&site, 1, b"b", b"other") && has_file_at(&site, 2, b"a", b"second");
+    Ok(site.files() == 3 && are_there && has_file(&site, b"a", b"first"))
+}
 
 #[test]
-fn the_first_of_two_files_of_a_name_is_found(rt: HostRuntime) -> Result<(), Fail> {
-    let site = site_of(rt.alloc(), &TWO_OF_A_NAME, None)?;
-    assert!(rt; site.files() == 3);
-    assert!(rt; has_file_at(&site, 1, b"b", b"other"));
-    assert!(rt; has_file_at(&site, 2, b"a", b"second"));
-    assert!(rt; has_file(&site, b"a", b"first"));
-    Ok(())
+fn the_first_of_two_files_of_a_name_is_found(rt: HostRuntime) {
+    assert!(rt; finds_the_first(rt.alloc()) == Ok(true));
 }
 
 const UNCHANGED: HeadKind = HeadKind {
@@ -69,7 +78,7 @@ const UNCHANGED: HeadKind = HeadKind {
 };
 
 /// The heads of a site with a date: whether the file is sent, and the head.
-const DATED_HEADS: [(HeadKind, &[u8]); 2] = [
+static DATED_HEADS: [(HeadKind, &[u8]); 2] = [
     (
         OPEN,
         b"HTTP/1.1 200 OK\r\nServer: sws\r\nLast-Modified: Sun, 06 Nov 1994 08:49:37 GMT\r\nContent-Type: text/html\r\nContent-Length: 3\r\n\r\n",
@@ -80,24 +89,27 @@ const DATED_HEADS: [(HeadKind, &[u8]); 2] = [
     ),
 ];
 
+/// Whether a site with a date says it, and sends an index with this head.
+fn has_dated_head(alloc: Global, kind: HeadKind, head: &[u8]) -> Result<bool, SiteFault> {
+    let site = site_of(alloc, &[(b"index.html", b"hi\n")], Some(784111777))?;
+    Ok(site.date() == Some(784111777) && has_head(&site, b"index.html", kind, head))
+}
+
 #[test]
-fn a_site_with_a_date_says_when_it_was_modified(rt: HostRuntime) -> Result<(), Fail> {
-    let site = site_of(rt.alloc(), &[(b"index.html", b"hi\n")], Some(784111777))?;
-    assert!(rt; site.date() == Some(784111777));
+fn a_site_with_a_date_says_when_it_was_modified(rt: HostRuntime) {
     for &(kind, head) in &DATED_HEADS {
-        assert!(rt; has_head(&site, b"index.html", kind, head));
+        assert!(rt; has_dated_head(rt.alloc(), kind, head) == Ok(true));
     }
-    Ok(())
 }
 
 /// The head and the body that refuse a method.
-const NOT_ALLOWED: (&[u8], &[u8]) = (
+static NOT_ALLOWED: (&[u8], &[u8]) = (
     b"HTTP/1.1 405 Method Not Allowed\r\nServer: sws\r\nConnection: close\r\nAllow: GET, HEAD\r\nContent-Type: text/plain\r\nContent-Length: 23\r\n\r\n",
     b"405 Method Not Allowed\n",
 );
 
 /// Codes, whether the response closes, and how many bytes it has.
-const LENGTHS: [(u16, bool, usize); 5] = [
+static LENGTHS: [(u16, bool, usize); 5] = [
     (400, true, 122),
     (404, false, 99),
     (405, true, 154),
@@ -105,25 +117,37 @@ const LENGTHS: [(u16, bool, usize); 5] = [
     (501, false, 111),
 ];
 
-#[test]
-fn responses_that_refuse_are_the_same_for_each_site(rt: HostRuntime) -> Result<(), Fail> {
-    let site = site_of(rt.alloc(), &[], Some(784111777))?;
-    assert!(rt; site.fixed(405, true) == NOT_ALLOWED);
-    for &(code, closes, len) in &LENGTHS {
-        assert!(rt; fixed_length(&rt, &site, code, closes) == len);
+/// Whether the code is one that `fixed` takes, and its response has so many bytes.
+fn is_fixed_length(site: &Site, code: u16, closes: bool, len: usize) -> bool {
+    if !matches!(code, 400 | 404 | 405 | 431 | 501) {
+        return false;
     }
-    Ok(())
+    let (head, body) = site.fixed(code, closes);
+    head.len().saturating_add(body.len()) == len
 }
 
-/// How many bytes `fixed` gives where the code is one that it takes.
-fn fixed_length(rt: &impl Abort, site: &Site, code: u16, closes: bool) -> usize {
-    assert!(rt; matches!(code, 400 | 404 | 405 | 431 | 501));
-    let (head, body) = site.fixed(code, closes);
-    head.len().saturating_add(body.len())
+/// Whether a site without files has this response that refuses a method, and one of so many bytes.
+fn refuses_so(
+    alloc: Global,
+    refusal: &(&[u8], &[u8]),
+    code: u16,
+    closes: bool,
+    len: usize,
+) -> Result<bool, SiteFault> {
+    let site = site_of(alloc, &[], Some(784111777))?;
+    let is_fixed = is_fixed_length(&site, code, closes, len);
+    Ok(is_fixed && site.fixed(405, true) == *refusal)
+}
+
+#[test]
+fn responses_that_refuse_are_the_same_for_each_site(rt: HostRuntime) {
+    for &(code, closes, len) in &LENGTHS {
+        assert!(rt; refuses_so(rt.alloc(), &NOT_ALLOWED, code, closes, len) == Ok(true));
+    }
 }
 
 /// Names, and the media type of each.
-const MEDIA_TYPES: [(&[u8], &[u8]); 8] = [
+static MEDIA_TYPES: [(&[u8], &[u8]); 8] = [
     (b"a/index.HTML", b"text/html"),
     (b"x.Woff2", b"font/woff2"),
     (b"photo.jpeg", b"image/jpeg"),
@@ -134,40 +158,39 @@ const MEDIA_TYPES: [(&[u8], &[u8]); 8] = [
     (b"js", b"application/octet-stream"),
 ];
 
-/// The head of a response with an empty file of this media type.
-fn empty_head(alloc: Global, kind: &[u8]) -> Result<Vec<u8>, AllocError> {
-    let mut head = b"HTTP/1.1 200 OK\r\nServer: sws\r\nContent-Type: ".to_vec(alloc)?;
-    head.extend_from_slice(kind)?;
-    head.extend_from_slice(b"\r\nContent-Length: 0\r\n\r\n")?;
-    Ok(head)
+/// Whether an empty file of this name is sent with the head for this media type.
+fn has_media_type(alloc: Global, name: &[u8], kind: &[u8]) -> Result<bool, SiteFault> {
+    let site = site_of(alloc, &[(name, b"")], None)?;
+    let front = b"HTTP/1.1 200 OK\r\nServer: sws\r\nContent-Type: ".as_slice();
+    let head = [front, kind, b"\r\nContent-Length: 0\r\n\r\n"].concat(alloc)?;
+    Ok(has_head(&site, name, OPEN, &head))
 }
 
 #[test]
-fn the_extension_of_a_name_says_the_media_type(rt: HostRuntime) -> Result<(), Fail> {
+fn the_extension_of_a_name_says_the_media_type(rt: HostRuntime) {
     for &(name, kind) in &MEDIA_TYPES {
-        let site = site_of(rt.alloc(), &[(name, b"")], None)?;
-        let head = empty_head(rt.alloc(), kind)?;
-        assert!(rt; has_head(&site, name, OPEN, &head));
+        assert!(rt; has_media_type(rt.alloc(), name, kind) == Ok(true));
     }
-    Ok(())
 }
 
-/// Whether loading two files is a fault where the call of this number fails.
-fn load_fails(rt: &impl Abort, alloc: Global, failing: u32) -> Result<bool, Fail> {
-    let files = files_of(alloc, &[(b"a", b"1"), (b"b", b"2")])?;
-    let mut folder = MemFolder::new(alloc, files, vec![in alloc; failing]?);
-    assert!(rt; folder.open("site") == Opened::Ready);
-    Ok(matches!(Site::load(alloc, &mut folder, None), Err(SiteFault::Fault)))
+/// Two files of one byte.
+static TWO_FILES: [(&[u8], &[u8]); 2] = [(b"a", b"1"), (b"b", b"2")];
+
+/// Why two files are not loaded where the call of this number fails.
+fn fault_at(alloc: Global, failing: u32) -> Option<SiteFault> {
+    loaded_of(alloc, &TWO_FILES, &[failing]).err()
 }
 
 #[test]
-fn a_call_that_fails_ends_the_load(rt: HostRuntime) -> Result<(), Fail> {
+fn a_call_that_fails_ends_the_load(rt: HostRuntime) {
     // After `open`: the step to a file, a read of it and the read that meets its end,
     // twice; and the last step.
     for failing in 2..9 {
-        assert!(rt; load_fails(&rt, rt.alloc(), failing)?, "call {failing}");
+        assert!(rt;
+            fault_at(rt.alloc(), failing) == Some(SiteFault::Fault),
+            "call {failing}"
+        );
     }
-    Ok(())
 }
 
 /// A folder that gives files of the same length without holding them. Their names have one
@@ -243,7 +266,7 @@ fn a_site_holds_as_much_as_its_limits_say(rt: HostRuntime) {
 }
 
 /// Folders that a limit refuses: how many files, how long the last one's name is, and the fault.
-const BEYOND: [(u32, usize, SiteFault); 3] = [
+static BEYOND: [(u32, usize, SiteFault); 3] = [
     (4097, 1, SiteFault::TooManyFiles { count: 4097 }),
     (4097, 1025, SiteFault::TooManyFiles { count: 4097 }),
     (2, 1025, SiteFault::LongName { number: 2 }),

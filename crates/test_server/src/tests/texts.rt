@@ -1,9 +1,9 @@
-use std::process::Abort;
+use std::alloc::{AllocError, Global};
 use std::test::*;
 use sws_text::{ShownLines, push_text, read_text};
 
 /// Bytes, and the text that is written for them.
-const WRITTEN: [(&[u8], &[u8]); 7] = [
+static WRITTEN: [(&[u8], &[u8]); 7] = [
     (b"", b""),
     (
         b"GET / HTTP/1.1\r\nHost: x\r\n\r\n",
@@ -17,14 +17,14 @@ const WRITTEN: [(&[u8], &[u8]); 7] = [
 ];
 
 /// Texts that nobody writes, and the bytes for which they stand.
-const READ: [(&[u8], &[u8]); 3] = [
+static READ: [(&[u8], &[u8]); 3] = [
     (b"\\x41\\x7e\\x5c", b"A~\\"),
     (b"\\r\\n\\x0d\\x0a", b"\r\n\r\n"),
     (b"\\\\n", b"\\n"),
 ];
 
 /// What is no text.
-const REFUSED: [&[u8]; 8] = [
+static REFUSED: [&[u8]; 8] = [
     b"\\",
     b"\\a",
     b"\\x4",
@@ -35,34 +35,45 @@ const REFUSED: [&[u8]; 8] = [
     b"\xc3\xa9",
 ];
 
-fn reads(rt: &(impl AllocGlobal + Abort), text: &[u8], bytes: &[u8]) {
-    let read = read_text(rt.alloc(), text).ok().expect(rt, "memory");
-    let read = read.expect(rt, "a text");
-    assert!(rt; read.as_slice() == bytes);
+/// Whether a text stands for these bytes.
+fn is_read_as(alloc: Global, text: &[u8], bytes: &[u8]) -> Result<bool, AllocError> {
+    match read_text(alloc, text)? {
+        Some(read) => Ok(read.as_slice() == bytes),
+        None => Ok(false),
+    }
+}
+
+/// Whether bytes are written as this text.
+fn is_written_as(alloc: Global, bytes: &[u8], text: &[u8]) -> Result<bool, AllocError> {
+    let mut written = Vec::new(alloc);
+    push_text(&mut written, bytes)?;
+    Ok(written.as_slice() == text)
+}
+
+/// Whether a text is none.
+fn is_refused(alloc: Global, text: &[u8]) -> Result<bool, AllocError> {
+    Ok(read_text(alloc, text)?.is_none())
 }
 
 #[test]
 fn what_is_written_is_read(rt: HostRuntime) {
     for &(bytes, text) in &WRITTEN {
-        let mut written = Vec::new(rt.alloc());
-        push_text(&mut written, bytes).ok().expect(&rt, "memory");
-        assert!(rt; written.as_slice() == text);
-        reads(&rt, text, bytes);
+        assert!(rt; is_written_as(rt.alloc(), bytes, text) == Ok(true));
+        assert!(rt; is_read_as(rt.alloc(), text, bytes) == Ok(true));
     }
 }
 
 #[test]
 fn other_spellings_are_read(rt: HostRuntime) {
     for &(text, bytes) in &READ {
-        reads(&rt, text, bytes);
+        assert!(rt; is_read_as(rt.alloc(), text, bytes) == Ok(true));
     }
 }
 
 #[test]
 fn what_is_no_text_is_refused(rt: HostRuntime) {
     for &text in &REFUSED {
-        let read = read_text(rt.alloc(), text).ok().expect(&rt, "memory");
-        assert!(rt; read.is_none());
+        assert!(rt; is_refused(rt.alloc(), text) == Ok(true));
     }
 }
 
@@ -71,12 +82,17 @@ const RESPONSE: &[u8] = b"HTTP/1.1 200 OK\r\n\r\nhi\nlast";
 
 const SHOWN: &[u8] = b"| HTTP/1.1 200 OK~\n| ~\n| hi\\n\n| last\n";
 
+/// Whether a hundred calls show bytes by these lines.
+fn is_shown_as(alloc: Global, bytes: &[u8], lines: &[u8]) -> Result<bool, AllocError> {
+    let mut text = Vec::new(alloc);
+    let mut shown = ShownLines::new(bytes);
+    for _ in 0..100 {
+        shown.push_next(&mut text)?;
+    }
+    Ok(text.as_slice() == lines)
+}
+
 #[test]
 fn lines_are_shown_a_few_bytes_at_a_time(rt: HostRuntime) {
-    let mut text = Vec::new(rt.alloc());
-    let mut lines = ShownLines::new(RESPONSE);
-    for _ in 0..100 {
-        lines.push_next(&mut text).ok().expect(&rt, "memory");
-    }
-    assert!(rt; text.as_slice() == SHOWN);
+    assert!(rt; is_shown_as(rt.alloc(), RESPONSE, SHOWN) == Ok(true));
 }

@@ -1,6 +1,5 @@
 //! Words that are a command line, and words that are none.
 use std::alloc::{AllocError, Global};
-use std::test::Fail;
 use sws_words::{Order, WordFault, read_words};
 
 /// The words of a line, which stand one space apart.
@@ -166,91 +165,106 @@ static BAD: [&str; 109] = [
     "replay S --host h",
 ];
 
+/// What a line orders.
+fn ordered(alloc: Global, line: &str) -> Result<Order, WordFault> {
+    let words = words_of(alloc, line).ok().ok_or(WordFault::Memory)?;
+    read_words(alloc, words.as_slice())
+}
+
+/// Why a line orders nothing.
+fn fault_of(alloc: Global, line: &str) -> Option<WordFault> {
+    ordered(alloc, line).err()
+}
+
 #[test]
-fn command_lines_are_read(rt: HostRuntime) -> Result<(), Fail> {
+fn command_lines_are_read(rt: HostRuntime) {
     for line in GOOD.as_slice() {
-        let words = words_of(rt.alloc(), line)?;
-        assert!(rt; read_words(rt.alloc(), words.as_slice()).is_ok(), "{line}");
+        assert!(rt; fault_of(rt.alloc(), line) == None, "{line}");
     }
-    Ok(())
 }
 
 #[test]
-fn other_lines_are_no_command_lines(rt: HostRuntime) -> Result<(), Fail> {
+fn other_lines_are_no_command_lines(rt: HostRuntime) {
     for line in BAD.as_slice() {
-        let words = words_of(rt.alloc(), line)?;
-        match read_words(rt.alloc(), words.as_slice()) {
-            Err(WordFault::Usage) => {}
-            _ => panic!(rt; "{line}"),
-        }
+        assert!(rt;
+            fault_of(rt.alloc(), line) == Some(WordFault::Usage),
+            "{line}"
+        );
     }
-    Ok(())
+}
+
+/// Whether a line orders a replay of these values, with the shape's defaults but for two.
+fn is_replay(alloc: Global, line: &str) -> bool {
+    let Ok(order) = ordered(alloc, line) else {
+        return false;
+    };
+    match order {
+        Order::Replay {
+            folder,
+            shape,
+            date,
+            journal,
+            schedule,
+            log,
+        } => {
+            folder.as_str() == "S"
+                && date == Some(7)
+                && (journal, schedule, log) == (true, false, true)
+                && (shape.cores, shape.shards, shape.batch) == (2, 1, 10)
+                && (shape.group, shape.steal_cost) == (4, 5)
+        }
+        _ => false,
+    }
+}
+
+/// Whether a line orders Gopher, with these values.
+fn is_gopher(alloc: Global, line: &str) -> bool {
+    let Ok(order) = ordered(alloc, line) else {
+        return false;
+    };
+    match order {
+        Order::Gopher {
+            folder,
+            host,
+            port,
+            connections,
+            shape,
+            journal,
+        } => {
+            folder.as_str() == "S"
+                && host.as_str() == "h.x"
+                && (port, connections) == (70, None)
+                && (journal, shape.cores) == (true, 2)
+        }
+        _ => false,
+    }
 }
 
 #[test]
-fn defaults_and_values_come_where_they_belong(rt: HostRuntime) -> Result<(), Fail> {
+fn defaults_and_values_come_where_they_belong(rt: HostRuntime) {
     let line = "replay --cost=5 --journal S --workers +2 --date 007 --log";
-    let words = words_of(rt.alloc(), line)?;
-    match read_words(rt.alloc(), words.as_slice()) {
-        Ok(
-            Order::Replay {
-                folder,
-                shape,
-                date,
-                journal,
-                schedule,
-                log,
-            },
-        ) => {
-            assert!(rt; folder.as_str() == "S" && date == Some(7) && journal && !schedule && log);
-            assert!(rt; shape.cores == 2 && shape.shards == 1 && shape.batch == 10);
-            assert!(rt; shape.group == 4 && shape.steal_cost == 5);
-        }
-        _ => panic!(rt; "{line}"),
-    }
-    Ok(())
-}
-
-/// The words of `gopher` for a host's name of so many bytes.
-fn host_of(alloc: Global, count: usize) -> Result<Vec<String>, AllocError> {
-    let mut words = words_of(alloc, "gopher S --port 70 --host")?;
-    let mut host = String::new(alloc);
-    for _ in 0..count {
-        host.push_str("h")?;
-    }
-    words.push(host)?;
-    Ok(words)
-}
-
-#[test]
-fn a_name_of_a_host_has_255_bytes_at_most(rt: HostRuntime) -> Result<(), Fail> {
-    for (count, is_read) in [(1, true), (255, true), (256, false)] {
-        let words = host_of(rt.alloc(), count)?;
-        let read = read_words(rt.alloc(), words.as_slice());
-        assert!(rt; read.is_ok() == is_read, "{count} bytes");
-    }
-    Ok(())
-}
-
-#[test]
-fn the_values_of_gopher_come_where_they_belong(rt: HostRuntime) -> Result<(), Fail> {
+    assert!(rt; is_replay(rt.alloc(), line));
     let line = "gopher --journal S --port 70 --host h.x --workers 2";
-    let words = words_of(rt.alloc(), line)?;
-    match read_words(rt.alloc(), words.as_slice()) {
-        Ok(
-            Order::Gopher {
-                folder,
-                host,
-                port,
-                connections,
-                shape,
-                journal,
-            },
-        ) => {
-            assert!(rt; folder.as_str() == "S" && host.as_str() == "h.x" && port == 70);
-            assert!(rt; connections.is_none() && journal && shape.cores == 2);
-        }
-        _ => panic!(rt; "{line}"),
+    assert!(rt; is_gopher(rt.alloc(), line));
+}
+
+/// Why the words of `gopher` give no order where its host's name has so many bytes.
+fn host_fault(alloc: Global, count: usize) -> Result<Option<WordFault>, AllocError> {
+    let host = "h".repeat(alloc, count)?;
+    let line = ["gopher S --port 70 --host ", host.as_str()].concat(alloc)?;
+    Ok(fault_of(alloc, line.as_str()))
+}
+
+/// How many bytes the name of a host has, and why that gives no order.
+static HOSTS: [(usize, Option<WordFault>); 3] = [
+    (1, None),
+    (255, None),
+    (256, Some(WordFault::Usage)),
+];
+
+#[test]
+fn a_name_of_a_host_has_255_bytes_at_most(rt: HostRuntime) {
+    for &(count, fault) in &HOSTS {
+        assert!(rt; host_fault(rt.alloc(), count) == Ok(fault), "{count} bytes");
     }
-    Ok(())
 }

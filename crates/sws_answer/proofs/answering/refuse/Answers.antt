@@ -9,7 +9,7 @@ unfolding response
 returns c = record {
   code = c.code.ensures;
   closes = refl;
-  head = c.parts_of.ensures.head ∙ c.refusal.ensures.head ∙ response-refusal_head c.args.site.now.date c.args.status c.args.closes c.args.is_head c.requires;
+  head = c.parts_of.ensures.head ∙ c.refusal.ensures.head ∙ response-refusal_head c.args.site.now c.args.status c.args.closes c.args.is_head c.requires;
   body = c.parts_of.ensures.body ∙ ap (λ body. if c.args.is_head then [] else body) c.refusal.ensures.body
-      ∙ response-refusal_body c.args.site.now.date c.args.status c.args.closes c.args.is_head c.requires;
+      ∙ response-refusal_body c.args.site.now c.args.status c.args.closes c.args.is_head c.requires;
 }

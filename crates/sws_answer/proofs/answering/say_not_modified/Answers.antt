@@ -1,4 +1,4 @@
-use Rattle.std.proofs.Common.{refl, ◌∙◌}
+use Rattle.std.proofs.Common.{refl, ap, ◌∙◌}
 use Rattle.sws_site.specs.Files.{not_modified_head}
 use Rattle.sws_site.specs.ResponseHeads.{head_text}
 use Rattle.sws_answer.specs.Answers.{response}
@@ -9,6 +9,6 @@ unfolding response not_modified_head head_text
 returns c = λ selection. record {
   code = c.code.ensures;
   closes = refl;
-  head = c.parts_of.ensures.head ∙ c.head-head.ensures;
+  head = c.parts_of.ensures.head ∙ c.head-head.ensures ∙ ap (λ date. not_modified_head date c.args.closes) c.requires.date;
   body = c.parts_of.ensures.body;
 }

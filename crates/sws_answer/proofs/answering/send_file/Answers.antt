@@ -9,6 +9,8 @@ unfolding response file_head
 returns c = record {
   code = c.code.ensures;
   closes = refl;
-  head = c.parts_of.ensures.head ∙ c.head-head.ensures;
+  head = c.parts_of.ensures.head ∙ c.head-head.ensures
+      ∙ ap (λ date. file_head c.args.page.now.options date c.args.page.now.file c.args.closes) c.requires.date
+      ∙ ap (λ options. file_head options c.args.site.now.date c.args.page.now.file c.args.closes) c.requires.options;
   body = c.parts_of.ensures.body ∙ ap (λ b. if c.args.is_head then [] else b) c.body.ensures.contents;
 }

@@ -3,6 +3,7 @@ use Rattle.std.proofs.lemmas.List.{map-append, length-map}
 use Rattle.std.proofs.lemmas.List.Elements.{All-append}
 use Rattle.sws_link.proofs.CountLemmas.{HasCause-as}
 use Rattle.httpdate.specs.declared.date.HttpDate.{HttpDate}
+use Rattle.sws_site.specs.declared.options.SiteOptions.{SiteOptions}
 use Rattle.sws_site.specs.declared.stored.StoredFile.{StoredFile}
 use Rattle.sws_site.specs.Files.{File}
 use Rattle.sws_site.specs.Limits.{IsWithinLimits, bytes_of}
@@ -12,12 +13,12 @@ use Rattle.sws_site.proofs.LimitLemmas.{IsWithinLimits-nil, IsWithinLimits-push,
 use Rattle.sws_site.proofs.LoadLemmas.{HasLoaded-nil, HasLoaded-step, HasLoaded-fails, IsSameFolder-refl, IsSameFolder-trans}
 use Rattle.sws_site.proofs.loading.read_files.Goals as goal
 
-AllHaveHeads-nil : (date : Option HttpDate) → AllHaveHeads date []
-AllHaveHeads-nil date k d h = absurd (omega arith)
+AllHaveHeads-nil : (options : SiteOptions) (date : Option HttpDate) → AllHaveHeads options date []
+AllHaveHeads-nil options date k d h = absurd (omega arith)
 
-AllHaveHeads-one : (date : Option HttpDate) (file : StoredFile) → HasHeads date file → AllHaveHeads date (file ∷ [])
-AllHaveHeads-one date file has zero d h = has
-AllHaveHeads-one date file has (suc k) d h = absurd (omega arith)
+AllHaveHeads-one : (options : SiteOptions) (date : Option HttpDate) (file : StoredFile) → HasHeads options date file → AllHaveHeads options date (file ∷ [])
+AllHaveHeads-one options date file has zero d h = has
+AllHaveHeads-one options date file has (suc k) d h = absurd (omega arith)
 
 pub files-init : goal.files-init
 files-init g c =
@@ -25,7 +26,7 @@ files-init g c =
       loaded = HasLoaded-nil (g.F.Folder.tells c.args.folder.now) (files_of c.new-files.result.items) c.requires none;
       limits = subst IsWithinLimits (sym none) IsWithinLimits-nil;
       room = ap (λ (files : List File). bytes_of files + 268435456) none;
-      heads = subst (AllHaveHeads c.args.date.now) (sym c.new-files.ensures.items) (AllHaveHeads-nil c.args.date.now);
+      heads = subst (AllHaveHeads c.args.options c.args.date.now) (sym c.new-files.ensures.items) (AllHaveHeads-nil c.args.options c.args.date.now);
       same = IsSameFolder-refl (g.F.Folder.tells c.args.folder.now);
       same_faults = refl;
     }
@@ -47,9 +48,9 @@ files-preserved g c =
           c.files.invariant.loaded steps count within.name bytes);
       limits = subst IsWithinLimits (sym more) (IsWithinLimits-push files file c.files.invariant.limits count within.name bytes);
       room = (let total = ap bytes_of more ∙ bytes_of-push files file in let room = c.files.invariant.room in omega arith);
-      heads = subst (AllHaveHeads c.args.date.now) (sym c.in-Ok.ensures.items)
-          (All-append (HasHeads c.args.date.now) c.files.files.items (c.in-Ok-Some.file ∷ []) c.files.invariant.heads
-          (AllHaveHeads-one c.args.date.now c.in-Ok-Some.file heads));
+      heads = subst (AllHaveHeads c.args.options c.args.date.now) (sym c.in-Ok.ensures.items)
+          (All-append (HasHeads c.args.options c.args.date.now) c.files.files.items (c.in-Ok-Some.file ∷ []) c.files.invariant.heads
+          (AllHaveHeads-one c.args.options c.args.date.now c.in-Ok-Some.file heads));
       same = IsSameFolder-trans (g.F.Folder.tells c.args.folder.now) (g.F.Folder.tells c.files.folder) (g.F.Folder.tells c.next_file.new.folder)
           c.files.invariant.same c.in-Ok-Some.ensures.same;
       same_faults = c.next_file.ensures.cause.stays (λ fails. (cc)) ∙ c.files.invariant.same_faults;

@@ -10,7 +10,7 @@ invariant-files g l = record {
   loaded : HasLoaded (g.F.Folder.tells l.fn.folder) (g.F.Folder.tells l.folder) (files_of l.files.items);
   limits : IsWithinLimits (files_of l.files.items);
   room : bytes_of (files_of l.files.items) + l.room ≡ size_limit;
-  heads : AllHaveHeads l.date l.files.items;
+  heads : AllHaveHeads l.options l.date l.files.items;
   same : IsSameFolder (g.F.Folder.tells l.fn.folder) (g.F.Folder.tells l.folder);
   same_faults : g.F.Folder.faults l.folder ≡ g.F.Folder.faults l.fn.folder;
 }

@@ -3,24 +3,24 @@ ghost use Rattle.std.specs.Prelude.{◌≡◌, ◌<◌, ◌≤◌, ◌+◌, IfOk
 ghost use Rattle.sws_link.specs.MemWorlds.{mem_world_tells, sure_world_tells};
 
 use std::alloc::{AllocError, Global};
-use std::test::Fail;
 use sws_link::{
     Accepted, Link, LinkItem, LinkRead, MemLink, MemWorld, Opened, Polled, SureLink, SureWorld,
     World,
 };
+
+/// The items of a link with so many bytes to read.
+fn filled(alloc: Global, count: u32) -> Result<Vec<LinkItem>, AllocError> {
+    Ok(vec![in alloc; LinkItem::Fill(count)]?)
+}
 
 /// A world of a link with one byte to read, and one with two, whose calls of these numbers fail.
 fn two_links(alloc: Global, failing: &[u32]) -> Result<MemWorld, AllocError>
     ensures total { IfOk result (λ world. (mem_world_tells world).total ≡ 2) }
     ensures accepted { IfOk result (λ world. (mem_world_tells world).accepted ≡ 0) }
 {
-    let mut one = Vec::new(alloc);
-    one.push(LinkItem::Fill(1))?;
-    let mut two = Vec::new(alloc);
-    two.push(LinkItem::Fill(2))?;
-    let mut links = Vec::new(alloc);
-    links.push(MemLink::new(alloc, one, None, None, Vec::new(alloc)))?;
-    links.push(MemLink::new(alloc, two, None, None, Vec::new(alloc)))?;
+    let one = MemLink::new(alloc, filled(alloc, 1)?, None, None, Vec::new(alloc));
+    let two = MemLink::new(alloc, filled(alloc, 2)?, None, None, Vec::new(alloc));
+    let links = vec![in alloc; one, two]?;
     Ok(MemWorld::new(links, failing.to_vec(alloc)?))
 }
 
@@ -31,9 +31,8 @@ fn one_link(alloc: Global) -> Result<SureWorld, AllocError>
 {
     let mut one = Vec::new(alloc);
     one.push(LinkItem::Fill(1))?;
-    let mut links = Vec::new(alloc);
-    links.push(SureLink::new(alloc, one, None))?;
-    Ok(SureWorld::new(links))
+    let link = SureLink::new(alloc, one, None);
+    Ok(SureWorld::new(vec![in alloc; link]?))
 }
 
 /// A call of a world, with what it answers.
@@ -109,7 +108,7 @@ const ONE: Option<LinkRead> = Some(LinkRead::Took(1));
 
 /// What a world of two links answers, by the numbers of its calls that fail. The number of links is
 /// asked without a counted call.
-const ROWS: [(&str, &[u32], &[Call]); 6] = [
+static ROWS: [(&str, &[u32], &[Call]); 6] = [
     (
         "its links come in order",
         &[],
@@ -165,16 +164,23 @@ const ROWS: [(&str, &[u32], &[Call]); 6] = [
     ),
 ];
 
-#[test]
-fn a_world_answers_in_order_and_fails_where_it_is_told_to(rt: HostRuntime) -> Result<(), Fail> {
-    for &(what, failing, calls) in &ROWS {
-        let mut world = two_links(rt.alloc(), failing)?;
-        assert!(rt; plays(&mut world, calls), "{what}");
-    }
-    Ok(())
+/// Whether a world of two links whose calls of these numbers fail answers all these calls so.
+fn world_plays(alloc: Global, failing: &[u32], calls: &[Call]) -> Result<bool, AllocError> {
+    let mut world = two_links(alloc, failing)?;
+    Ok(plays(&mut world, calls))
 }
 
-const SURE: [Call; 6] = [
+#[test]
+fn a_world_answers_in_order_and_fails_where_it_is_told_to(rt: HostRuntime) {
+    for &(what, failing, calls) in &ROWS {
+        assert!(rt;
+            world_plays(rt.alloc(), failing, calls) == Ok(true),
+            "{what}"
+        );
+    }
+}
+
+static SURE: [Call; 6] = [
     Call::Total(1),
     Call::Poll(&[], Polled::Quiet),
     Call::Poll(&[7, 3], Polled::Ready(7)),
@@ -183,19 +189,26 @@ const SURE: [Call; 6] = [
     Call::Open(1, Opened::Ready),
 ];
 
-#[test]
-fn a_sure_world_never_fails(rt: HostRuntime) -> Result<(), Fail> {
-    let mut world = one_link(rt.alloc())?;
-    assert!(rt; plays(&mut world, &SURE));
-    Ok(())
+fn sure_world_plays(alloc: Global, calls: &[Call]) -> Result<bool, AllocError> {
+    let mut world = one_link(alloc)?;
+    Ok(plays(&mut world, calls))
 }
 
 #[test]
-fn a_link_that_comes_is_not_shut(rt: HostRuntime) -> Result<(), Fail> {
-    let mut world = two_links(rt.alloc(), &[])?;
-    match world.accept() {
-        Accepted::Link(link) => assert!(rt; !link.is_shut()),
-        Accepted::NotYet | Accepted::Failed => assert!(rt; false, "it comes at once"),
-    }
-    Ok(())
+fn a_sure_world_never_fails(rt: HostRuntime) {
+    assert!(rt; sure_world_plays(rt.alloc(), &SURE) == Ok(true));
+}
+
+/// Whether the first link of a world comes at once, and isn't shut.
+fn first_link_is_open(alloc: Global) -> Result<bool, AllocError> {
+    let mut world = two_links(alloc, &[])?;
+    Ok(match world.accept() {
+        Accepted::Link(link) => !link.is_shut(),
+        Accepted::NotYet | Accepted::Failed => false,
+    })
+}
+
+#[test]
+fn a_link_that_comes_is_not_shut(rt: HostRuntime) {
+    assert!(rt; first_link_is_open(rt.alloc()) == Ok(true));
 }

@@ -6,7 +6,7 @@ use Rattle.sws_site.proofs.pages.Page.head.Goals as goal
 pub returns-then-kind : goal.returns-then-kind
 returns-then-kind c =
     c.head.ensures
-    ∙ built_head-file c.self.inside.date c.self.inside.file.now c.args.kind.closes c.self.invariant.heads
+    ∙ built_head-file c.self.inside.options c.self.inside.date c.self.inside.file.now c.args.kind.closes c.self.invariant.heads
     ∙ (λ i. page_head (c.self.view_is i) (sym c.if-kind.true i) c.args.kind.closes)
 
 pub returns : goal.returns

@@ -6,13 +6,13 @@ use Rattle.sws_site.proofs.PlaceLemmas.{place_from-some, place_from-none, found_
 use Rattle.sws_site.proofs.sites.Site.lookup.Goals as goal
 
 pub returns-in-None : goal.returns-in-None
-returns-in-None c = found_in-none c.args.self.now c.self.inside.files.items c.self.inside.date c.args.name.now c.self.view_is
+returns-in-None c = found_in-none c.args.self.now c.self.inside.files.items c.self.inside.date c.self.inside.options c.args.name.now c.self.view_is
     (place_from-none c.self.inside.files.items 0 c.args.name.now (sym (c.in-None.ensures.value ∙ c.self.invariant.places c.args.name.now)))
 
 pub returns-in-Some : goal.returns-in-Some
 returns-in-Some c =
     let found = place_from-some c.self.inside.files.items 0 c.in-Some.place.now c.args.name.now (sym (c.in-Some.ensures.value ∙ c.self.invariant.places c.args.name.now)) in
-    found_in-some c.args.self.now c.self.inside.files.items c.self.inside.date found.0 c.index.result.now c.args.name.now c.self.view_is
+    found_in-some c.args.self.now c.self.inside.files.items c.self.inside.date c.self.inside.options found.0 c.index.result.now c.args.name.now c.self.view_is
     (c.index.ensures ∙ ap (λ n. get_or c.self.inside.files.items n c.index.result.now) (let e : c.in-Some.place.now ≡ found.0 = (let s = found.1 in omega arith) in e)) (found.3 c.index.result.now)
 
 pub index-requires : goal.index-requires
@@ -24,7 +24,7 @@ pub invariant_of-result : goal.invariant_of-result
 invariant_of-result c =
     let found = place_from-some c.self.inside.files.items 0 c.in-Some.place.now c.args.name.now (sym (c.in-Some.ensures.value ∙ c.self.invariant.places c.args.name.now)) in
     record {
-      heads = subst (HasHeads c.self.inside.date) (sym c.index.ensures)
+      heads = subst (HasHeads c.self.inside.options c.self.inside.date) (sym c.index.ensures)
           (c.self.invariant.heads c.in-Some.place.now c.index.result.now (omega (arith, found.1, found.2)));
       not_modified = c.self.invariant.not_modified;
       no_content = c.self.invariant.no_content;
